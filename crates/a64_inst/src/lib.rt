@@ -1,0 +1,10 @@
+//! AArch64 instructions, and what emission is told beside them.
+#![tactic(auto)]
+
+mod emission;
+mod frame;
+mod inst;
+
+pub use emission::{EmitFlags, EmitInfo, EmitState};
+pub use frame::FrameLayout;
+pub use inst::Inst;
