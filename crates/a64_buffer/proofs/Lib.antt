@@ -1,0 +1,11 @@
+pub mod Fields
+pub mod Labels
+pub mod Walks
+pub mod Bytes
+pub mod Settling
+pub mod Uses
+pub mod Sounds
+pub mod Chains
+pub mod Unbound
+pub mod Listed
+pub mod Final

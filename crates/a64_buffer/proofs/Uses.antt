@@ -1,0 +1,52 @@
+-- Lemmas on lists of uses: one more use, and uses that are closed.
+use Rattle.std.proofs.Common.{ℕ, ◌≡◌, ◌<◌, List, [], ◌∷◌, ◌++◌, length, get_or, map, true, false, cond, nat_eq, ◌&&◌, is_none, refl, sym, ◌∙◌, ap, arith, inl, inr}
+use Rattle.std.proofs.lemmas.Bool.{cases_lt}
+use Rattle.std.proofs.lemmas.List.{length_push, length-map, get_or-map, get_or_push, get_or_append_left, with_items_is}
+use Rattle.std.specs.Global.{Vec}
+use Rattle.std.specs.Vec.{with_items}
+use Rattle.a64_buffer.specs.declared.site.Use.{Use}
+use Rattle.a64_buffer.specs.Kinds.{Kinds}
+use Rattle.a64_buffer.specs.Buffer.{label_of, reached, closed_at, IsFree}
+use Rattle.a64_buffer.specs.Chain.{labels_of}
+use Rattle.a64_buffer.specs.Sound.{AreApart}
+
+module _ {K : Type 0} where
+  pub apart_push : (uses : List (Use K)) (u : Use K) → AreApart uses → IsFree uses u.offset → AreApart (uses ++ u ∷ [])
+  apart_push uses u a f j k d lt h =
+      elim (cases_lt k (length uses)) [
+        | inl below ↦
+            let first : j < length uses = omega arith in
+            λ e. a j k d lt below (ap (λ v. v.offset) (sym (get_or_append_left uses (u ∷ []) d j first)) ∙ (e ∙ ap (λ v. v.offset) (get_or_append_left uses (u ∷ []) d k below)))
+        | inr past ↦
+            let last : length uses ≡ k = omega (arith, length_push uses u) in
+            let first : j < length uses = omega arith in
+            λ e. f j d first (ap (λ v. v.offset) (sym (get_or_append_left uses (u ∷ []) d j first)) ∙ (e ∙ ap (λ v. v.offset) (get_or_push uses u d k last)))
+      ]
+
+  pub apart_map : (f : Use K → Use K) → ((u : Use K) → (f u).offset ≡ u.offset) → (uses : List (Use K)) → AreApart uses → AreApart (map f uses)
+  apart_map f same uses a j k d lt h =
+      let second : k < length uses = omega (arith, length-map uses f) in
+      let first : j < length uses = omega arith in
+      λ e. a j k d lt second (sym (ap (λ v. v.offset) (get_or-map f uses j d d first) ∙ same (get_or uses j d)) ∙ (e ∙ (ap (λ v. v.offset) (get_or-map f uses k d d second) ∙ same (get_or uses k d))))
+
+module _ {K : Type 0} (r : Kinds K) (label place : ℕ) where
+  pub closed_offset : (u : Use K) → (closed_at r label place u).offset ≡ u.offset
+  closed_offset u = elim (nat_eq (label_of u.target) label && is_none u.stop) as (λ t. (cond t (record u { stop = reached r u.kind u.offset place }) u).offset ≡ u.offset) [ true ↦ refl | false ↦ refl ]
+
+  pub closed_target : (u : Use K) → (closed_at r label place u).target ≡ u.target
+  closed_target u = elim (nat_eq (label_of u.target) label && is_none u.stop) as (λ t. (cond t (record u { stop = reached r u.kind u.offset place }) u).target ≡ u.target) [ true ↦ refl | false ↦ refl ]
+
+  -- uses that are closed have the labels that they had
+  pub closed_labels : (uses : List (Use K)) → labels_of (map (closed_at r label place) uses) ≡ labels_of uses
+  closed_labels [] = refl
+  closed_labels (u ∷ us) = ap (λ t. label_of t ∷ labels_of (map (closed_at r label place) us)) (closed_target u) ∙ ap (λ ls. label_of u.target ∷ ls) (closed_labels us)
+
+-- the labels of uses, and of one more
+pub labels_push : {K : Type 0} (uses : List (Use K)) (u : Use K) → labels_of (uses ++ u ∷ []) ≡ labels_of uses ++ label_of u.target ∷ []
+labels_push [] u = refl
+labels_push (v ∷ uses) u = ap (λ ls. label_of v.target ∷ ls) (labels_push uses u)
+
+-- the uses of a vector that were closed in place
+pub closed_in_place : {K : Type 0} (r : Kinds K) (v : Vec (Use K)) (label place end : ℕ) (closed before : List (Use K)) → length closed ≡ v.len → closed ≡ map (closed_at r label place) before → before ≡ v.items → place ≡ end → (with_items v closed).items ≡ map (closed_at r label end) v.items
+closed_in_place r v label place end closed before l c b e =
+    with_items_is v closed l ∙ (c ∙ (ap (map (closed_at r label place)) b ∙ ap (λ p. map (closed_at r label p) v.items) e))

@@ -1,0 +1,74 @@
+-- What a buffer of code is to its callers.
+use Rattle.std.specs.Prelude.{ℕ, ◌≡◌, ◌≢◌, ◌*◌, ◌+◌, ◌≤◌, ◌&&◌, Bool, nat_eq, nat_le, if◌then◌else◌, List, [], All, length, Option, None, Some, is_none, option_and_then, IsSome, IsSomeAnd, MatchOption, Any}
+use Rattle.std.specs.Ordering.{nat_cmp}
+use Rattle.std.specs.FinMap.{FinMap, get, empty}
+use Rattle.a64_base.specs.declared.entity.MachLabel.{MachLabel}
+use Rattle.a64_buffer.specs.declared.site.Target.{Target}
+use Rattle.a64_buffer.specs.declared.site.Target.TheVariants.{Label}
+use Rattle.a64_buffer.specs.declared.site.Use.{Use}
+use Rattle.a64_buffer.specs.Kinds.{Kinds, IsWithin}
+
+-- the words as they were put, the uses in the order in which they were made, the places of the
+-- bound labels by their numbers, and the bytes of the constants by theirs
+pub record Buffer (K : Type 0) : Type 0 where
+  pub words : List ℕ
+  pub uses : List (Use K)
+  pub labels : FinMap nat_cmp ℕ
+  pub constants : FinMap nat_cmp (List ℕ)
+
+-- the length of the code, in bytes
+abbrev pub end_of : {K : Type 0} → Buffer K → ℕ
+end_of b = 4 * length b.words
+
+-- a buffer without code
+abbrev pub new_buffer : {K : Type 0} → FinMap nat_cmp (List ℕ) → Buffer K
+new_buffer constants = record { words = []; uses = []; labels = empty; constants = constants }
+
+-- the number of the label that is a use's target
+abbrev pub label_of : Target → ℕ
+label_of (Label label) = label.0
+
+-- no use stands at a place
+abbrev pub IsFree : {K : Type 0} → List (Use K) → ℕ → Type 0
+IsFree uses place = All (λ u. u.offset ≢ place) uses
+
+-- the label of a use is bound
+abbrev pub IsBound : {K : Type 0} → FinMap nat_cmp ℕ → Use K → Type 0
+IsBound labels u = IsSome (get labels (label_of u.target))
+
+-- the used label of least number that is not bound
+abbrev pub IsFirstUnbound : {K : Type 0} → Buffer K → Option MachLabel → Type 0
+IsFirstUnbound {K} b result =
+    MatchOption result
+    (All (IsBound b.labels) b.uses)
+    (λ label. (get b.labels label.0 ≡ None)
+    × Any (λ u. label_of u.target ≡ label.0) b.uses
+    × All (λ (u : Use K). get b.labels (label_of u.target) ≡ None → label.0 ≤ label_of u.target) b.uses)
+
+module _ {K : Type 0} (r : Kinds K) where
+  -- a place is in the range of a use of this kind at an offset
+  abbrev pub is_within : K → ℕ → ℕ → Bool
+  is_within kind offset place = nat_le place (offset + r.forward kind) && nat_le offset (place + r.backward kind)
+
+  -- the place, where it is in range
+  abbrev pub reached : K → ℕ → ℕ → Option ℕ
+  reached kind offset place = if is_within kind offset place then Some place else None
+
+  -- where a use stops that is made now: at its label, where that is bound in its range
+  abbrev pub stop_of : FinMap nat_cmp ℕ → K → ℕ → Target → Option ℕ
+  stop_of labels kind offset target = option_and_then (λ place. reached kind offset place) (get labels (label_of target))
+
+  -- a use that is made now
+  abbrev pub made_use : FinMap nat_cmp ℕ → ℕ → Target → K → Use K
+  made_use labels offset target kind = record { offset = offset; target = target; kind = kind; stop = stop_of labels kind offset target }
+
+  -- a use once its label is bound to a place: it stops there, where it has no stop and reaches it
+  abbrev pub closed_at : ℕ → ℕ → Use K → Use K
+  closed_at label place u =
+      if nat_eq (label_of u.target) label && is_none u.stop
+      then record u { stop = reached u.kind u.offset place }
+      else u
+
+  -- the label of a use is bound in its range
+  abbrev pub IsReached : FinMap nat_cmp ℕ → Use K → Type 0
+  IsReached labels u = IsSomeAnd (get labels (label_of u.target)) (λ place. IsWithin (r.forward u.kind) (r.backward u.kind) u.offset place)

@@ -1,0 +1,60 @@
+//! The uses of each label in a chain, so that binding a label visits no other uses.
+
+ghost use Rattle.std.specs.Prelude.{◌≡◌, ◌<◌, length, map, slice_set, slice_index_or};
+ghost use Rattle.std.specs.FinMap.{from_entries};
+ghost use Rattle.a64_buffer.specs.Buffer.{reached, closed_at};
+ghost use Rattle.a64_buffer.specs.Chain.{with_stop, labels_of, IsChained, IsLast};
+
+use crate::label_use::MachInstLabelUse;
+use crate::site::Use;
+use std::collections::BTreeMap;
+
+/// The place, where a use of this kind at an offset reaches it.
+pub fn reached<K: MachInstLabelUse>(kind: K, offset: u32, place: u32) -> Option<u32>
+    ensures { result ≡ reached K.kinds kind offset place }
+{
+    let ahead = u64::from(place) <= u64::from(offset) + u64::from(kind.max_pos_range());
+    let behind = u64::from(offset) <= u64::from(place) + u64::from(kind.max_neg_range());
+    if ahead && behind { Some(place) } else { None }
+}
+
+/// One more than the index of the last use of a label, or 0 where it has none.
+fn last_use(heads: &BTreeMap<u32, usize>, label: u32) -> usize
+    ensures { (labels : _) (earlier : _) → IsChained labels earlier (from_entries heads.now.entries)
+        → IsLast labels label (length labels) result }
+{
+    match heads.get(&label) {
+        Some(last) => *last,
+        None => 0,
+    }
+}
+
+/// Lets a use that has no stop stop at a place, where it reaches that.
+fn close_use<K: MachInstLabelUse>(uses: &mut [Use<K>], index: usize, place: u32)
+    requires { index < length uses.old }
+    ensures { (d : _) → uses.new ≡ slice_set uses.old index (with_stop K.kinds place (slice_index_or uses.old index d)) }
+{
+    let site = uses[index];
+    if site.stop.is_none() {
+        uses[index].stop = reached(site.kind, site.offset, place);
+    }
+}
+
+/// Lets each use of a label that has no stop stop at the label's place, where it reaches that.
+pub fn close_label<K: MachInstLabelUse>(
+    uses: &mut [Use<K>],
+    earlier: &[usize],
+    heads: &BTreeMap<u32, usize>,
+    label: u32,
+    place: u32,
+)
+    requires { IsChained (labels_of uses.old) earlier.now (from_entries heads.now.entries) }
+    ensures { uses.new ≡ map (closed_at K.kinds label place) uses.old }
+{
+    let mut at = last_use(heads, label);
+    while at != 0 {
+        let index = at - 1;
+        close_use(uses, index, place);
+        at = earlier[index];
+    }
+}

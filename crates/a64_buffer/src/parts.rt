@@ -1,0 +1,216 @@
+//! The parts of a buffer of code, and what changes them.
+
+ghost use Rattle.std.specs.Prelude.{◌≡◌, ◌+◌, ◌%◌, ◌^◌, ◌<◌, ◌≤◌, All, IfOk, OnOk, OnErr, [], ◌∷◌, ◌++◌, None, MatchOption, is_some, map, min, vec_len, vec_capacity};
+ghost use Rattle.std.specs.FinMap as finmap;
+ghost use Rattle.a64_buffer.specs.declared.site.Target.TheVariants.{Label};
+ghost use Rattle.a64_buffer.specs.Buffer.{label_of};
+
+use crate::chain::{close_label, reached};
+use crate::constants::Constants;
+use crate::finish::Finished;
+use crate::label_use::MachInstLabelUse;
+use crate::settle::{bytes_of, labels_in_order, settle};
+use crate::site::{Target, Use};
+use a64_base::MachLabel;
+use std::alloc::{AllocError, Global};
+use std::collections::BTreeMap;
+
+/// The parts of a buffer of code.
+#[derive(Drop)]
+pub struct Parts<'c, K> {
+    /// The words, as they were put.
+    pub words: Vec<u32>,
+    /// The uses, in the order in which they were made.
+    pub uses: Vec<Use<K>>,
+    /// The places of the bound labels by number, in bytes from the start of the code.
+    pub labels: BTreeMap<u32, u32>,
+    /// For each use, one more than the index of the use of the same label before it, or 0.
+    pub earlier: Vec<usize>,
+    /// For each label that is used, one more than the index of its last use.
+    pub heads: BTreeMap<u32, usize>,
+    /// The constants that the code may load.
+    pub constants: &'c Constants,
+    /// Where memory comes from.
+    pub alloc: Global,
+}
+
+/// Adds to a vector that has room.
+fn push_reserved<T: Drop>(items: &mut Vec<T>, item: T)
+    requires { vec_len items.old < vec_capacity items.old }
+    ensures { items.new.items ≡ items.old.items ++ item ∷ [] }
+{
+    match items.push(item) {
+        Ok(()) => {}
+        Err(_) => unreachable!(),
+    }
+}
+
+/// The label that is a target.
+fn target_label(target: Target) -> MachLabel
+    ensures { result.0 ≡ label_of target }
+{
+    match target {
+        Target::Label(label) => label,
+    }
+}
+
+/// The label of lesser number.
+fn lesser(first: Option<MachLabel>, label: MachLabel) -> MachLabel
+    ensures { MatchOption first (result ≡ label) (λ f. result.0 ≡ min f.0 label.0) }
+{
+    match first {
+        Some(first) if first.0 < label.0 => first,
+        _ => label,
+    }
+}
+
+impl<'c, K: MachInstLabelUse> Parts<'c, K> {
+    ghost use Rattle.a64_buffer.specs.Buffer.{new_buffer, end_of, stop_of, IsFree, IsFirstUnbound, made_use, closed_at, IsReached};
+    ghost use Rattle.a64_buffer.specs.Sound.{seen, IsSound, AreSound};
+    ghost use Rattle.a64_buffer.specs.Finished.{IsFinished};
+
+    /// The parts of a buffer without code.
+    pub fn new(alloc: Global, constants: &'c Constants) -> Self
+        ensures seen { seen result ≡ new_buffer constants.now }
+        ensures sound { AreSound K.kinds result }
+    {
+        Parts {
+            words: Vec::new(alloc),
+            uses: Vec::new(alloc),
+            labels: BTreeMap::new(alloc),
+            earlier: Vec::new(alloc),
+            heads: BTreeMap::new(alloc),
+            constants,
+            alloc,
+        }
+    }
+
+    /// Where the next word will stand.
+    pub fn end(&self) -> u32
+        requires { end_of (seen self.now) < 2 ^ 31 }
+        ensures { result ≡ end_of (seen self.now) }
+    {
+        4 * self.words.len() as u32
+    }
+
+    /// Adds a word.
+    pub fn put(&mut self, word: u32) -> Result<(), AllocError>
+        requires sound { AreSound K.kinds self.old }
+        requires short { end_of (seen self.old) + 4 < 2 ^ 31 }
+        ensures sound { AreSound K.kinds self.new }
+        ensures ok { OnOk result (seen self.new ≡ record (seen self.old) { words = self.old.words.items ++ word ∷ [] }) }
+        ensures err { OnErr result (seen self.new ≡ seen self.old) }
+    {
+        self.words.push(word)?;
+        Ok(())
+    }
+
+    /// Where a use that is made now stops.
+    fn stop_of(&self, offset: u32, label: MachLabel, kind: K) -> Option<u32>
+        ensures { result ≡ stop_of K.kinds (seen self.now).labels kind offset (Label label) }
+    {
+        match self.labels.get(&label.0) {
+            Some(place) => reached(kind, offset, *place),
+            None => None,
+        }
+    }
+
+    /// Adds a use.
+    pub fn add_use(&mut self, offset: u32, label: MachLabel, kind: K) -> Result<(), AllocError>
+        requires sound { AreSound K.kinds self.old }
+        requires aligned { offset % 4 ≡ 0 }
+        requires inside { offset < end_of (seen self.old) }
+        requires free { IsFree self.old.uses.items offset }
+        ensures sound { AreSound K.kinds self.new }
+        ensures ok { OnOk result (seen self.new ≡ record (seen self.old) {
+          uses = self.old.uses.items ++ made_use K.kinds (seen self.old).labels offset (Label label) kind ∷ [];
+        }) }
+        ensures err { OnErr result (seen self.new ≡ seen self.old) }
+    {
+        self.uses.reserve(1)?;
+        self.earlier.reserve(1)?;
+        let number = self.uses.len() + 1;
+        let earlier = self.heads.insert(label.0, number)?.unwrap_or(0);
+        push_reserved(&mut self.earlier, earlier);
+        let stop = self.stop_of(offset, label, kind);
+        let target = Target::Label(label);
+        push_reserved(
+            &mut self.uses,
+            Use {
+                offset,
+                target,
+                kind,
+                stop,
+            },
+        );
+        Ok(())
+    }
+
+    /// Binds a label to the end.
+    pub fn bind(&mut self, label: MachLabel) -> Result<(), AllocError>
+        requires sound { AreSound K.kinds self.old }
+        requires unbound { finmap.get (seen self.old).labels label.0 ≡ None }
+        ensures sound { AreSound K.kinds self.new }
+        ensures ok { OnOk result (seen self.new ≡ record (seen self.old) {
+          uses = map (closed_at K.kinds label.0 (end_of (seen self.old))) self.old.uses.items;
+          labels = finmap.insert (seen self.old).labels label.0 (end_of (seen self.old));
+        }) }
+        ensures err { OnErr result (seen self.new ≡ seen self.old) }
+    {
+        let place = self.end();
+        self.labels.insert(label.0, place)?;
+        close_label(&mut self.uses, &self.earlier, &self.heads, label.0, place);
+        Ok(())
+    }
+
+    /// Whether the label of a use is bound.
+    fn is_bound(&self, site: &Use<K>) -> bool
+        requires { site.now.stop ≡ stop_of K.kinds (seen self.now).labels site.now.kind site.now.offset site.now.target }
+        ensures { result ≡ is_some (finmap.get (seen self.now).labels (label_of site.now.target)) }
+    {
+        site.stop.is_some() || self.labels.contains_key(&target_label(site.target).0)
+    }
+
+    /// The used label of least number that is not bound.
+    pub fn first_unbound(&self) -> Option<MachLabel>
+        requires { IsSound K.kinds (seen self.now) }
+        ensures { IsFirstUnbound (seen self.now) result }
+    {
+        let mut first: Option<MachLabel> = None;
+        for site in &self.uses {
+            if self.is_bound(site) {
+                continue;
+            }
+            first = Some(lesser(first, target_label(site.target)));
+        }
+        first
+    }
+
+    /// The finished code.
+    pub fn finish(self) -> Result<Finished, AllocError>
+        requires sound { IsSound K.kinds (seen self) }
+        requires reached { All (IsReached K.kinds (seen self).labels) self.uses.items }
+        ensures { IfOk result (λ code. IsFinished K.kinds (seen self.entry) code) }
+    {
+        let pool = self.end();
+        let Parts {
+            mut words,
+            uses,
+            labels,
+            alloc,
+            ..
+        } = self;
+        settle(&mut words, &uses);
+        Ok(Finished {
+            bytes: bytes_of(alloc, &words)?,
+            labels: labels_in_order(alloc, &labels)?,
+            islands: Vec::new(alloc),
+            pool,
+            relocs: Vec::new(alloc),
+            traps: Vec::new(alloc),
+            calls: Vec::new(alloc),
+            patchable: Vec::new(alloc),
+            maps: Vec::new(alloc),
+        })
+    }
+}

@@ -1,0 +1,77 @@
+//! Words that lead to the stops of their uses, and what finished code is made of.
+
+ghost use Rattle.std.specs.Prelude.{◌≡◌, ◌*◌, ◌/◌, ◌%◌, ◌^◌, ◌<◌, length, All, IfOk};
+ghost use Rattle.std.specs.FinMap.{from_entries};
+ghost use Rattle.a64_buffer.specs.Word.{outside};
+ghost use Rattle.a64_buffer.specs.Kinds.{IsWithin, GoesTo};
+ghost use Rattle.a64_buffer.specs.Sound.{IsPlaced, AreApart};
+ghost use Rattle.a64_buffer.specs.Settled.{IsCodeOf, Reaches, HasStop, Patches, AreSettled};
+ghost use Rattle.a64_buffer.specs.Finished.{Lists};
+
+use crate::label_use::MachInstLabelUse;
+use crate::site::Use;
+use a64_base::MachLabel;
+use std::alloc::{AllocError, Global};
+use std::collections::BTreeMap;
+
+/// The word of a use, made to lead to a place.
+fn patched<K: MachInstLabelUse>(word: u32, kind: K, use_offset: u32, place: u32) -> u32
+    requires { Reaches K.kinds kind use_offset place }
+    ensures rest { outside (K.kinds.mask kind) result ≡ outside (K.kinds.mask kind) word }
+    ensures leads { GoesTo K.kinds kind word result use_offset place }
+{
+    let mut bytes = word.to_le_bytes();
+    kind.patch(&mut bytes, use_offset, place);
+    u32::from_le_bytes(bytes)
+}
+
+/// Makes the word of one use lead to a place.
+fn settle_use<K: MachInstLabelUse>(words: &mut [u32], kind: K, use_offset: u32, place: u32)
+    requires inside { use_offset / 4 < length words.old }
+    requires reaches { Reaches K.kinds kind use_offset place }
+    ensures { Patches K.kinds kind use_offset place words.old words.new }
+{
+    let index = (use_offset / 4) as usize;
+    words[index] = patched(words[index], kind, use_offset, place);
+}
+
+/// Makes the words of all uses lead to their stops.
+pub fn settle<K: MachInstLabelUse>(words: &mut [u32], uses: &[Use<K>])
+    requires placed { All (IsPlaced (4 * length words.old)) uses.now }
+    requires apart { AreApart uses.now }
+    requires stopped { All (HasStop K.kinds) uses.now }
+    ensures { AreSettled K.kinds words.old uses.now words.new }
+{
+    for site in uses {
+        match site.stop {
+            Some(place) => settle_use(words, site.kind, site.offset, place),
+            None => unreachable!(),
+        }
+    }
+}
+
+/// The words as bytes, each with its least byte first.
+pub fn bytes_of(alloc: Global, words: &[u32]) -> Result<Vec<u8>, AllocError>
+    requires { length words.now < 2 ^ 29 }
+    ensures { IfOk result (λ bytes. IsCodeOf words.now bytes.items) }
+{
+    let mut bytes = Vec::with_capacity(alloc, 4 * words.len())?;
+    for word in words {
+        bytes.extend_from_slice(&word.to_le_bytes())?;
+    }
+    Ok(bytes)
+}
+
+/// The labels of a map with their places, by number.
+pub fn labels_in_order(
+    alloc: Global,
+    labels: &BTreeMap<u32, u32>,
+) -> Result<Vec<(MachLabel, u32)>, AllocError>
+    ensures { IfOk result (λ list. Lists (from_entries labels.now.entries) list.items) }
+{
+    let mut list = Vec::with_capacity(alloc, labels.len())?;
+    for (label, place) in labels {
+        list.push((MachLabel(*label), *place))?;
+    }
+    Ok(list)
+}
