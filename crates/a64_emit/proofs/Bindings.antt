@@ -1,0 +1,132 @@
+-- The labels that items bind and use, one item after another.
+use Rattle.std.proofs.Common.{ℕ, ◌≡◌, ◌+◌, ◌<◌, ◌≤◌, Bool, true, false, cond, not, List, [], ◌∷◌, ◌++◌, length, get_or, take, drop, map, suc, zero, option_map, Option, None, Some, refl, sym, ap, ◌∙◌, subst, arith, eqb, nat_cmp, append_assoc}
+use Rattle.std.specs.Prelude.{◌||◌}
+use Rattle.std.specs.Cmp.{unsigned_tied}
+use Rattle.std.specs.Ordering.{eq_by_cmp, is_eq}
+use Rattle.std.specs.BTreeMap.{is_at}
+use Rattle.std.specs.BTreeSet.{BTreeSet, contains, Updates, IsEmpty}
+use Rattle.std.specs.List.{filter_map, flat_map, list_any, find}
+use Rattle.std.specs.Option.{option_or, option_to_list}
+use Rattle.a64_base.specs.Target.{label_of}
+use Rattle.a64_base.specs.declared.target.BranchTarget.{BranchTarget}
+use Rattle.a64_base.specs.declared.target.BranchTarget.TheVariants as branch_targets
+use Rattle.std.proofs.lemmas.List.{take_more, drop_more, take_all, append-nil}
+use Rattle.std.proofs.lemmas.List.Elements.{filter_map-append}
+use Rattle.std.proofs.lemmas.List.Folds.{list_any-append, find-append}
+use Rattle.std.proofs.lemmas.List.Concat.{flat_map-append}
+use Rattle.a64_base.specs.declared.entity.MachLabel.{MachLabel}
+use Rattle.a64_base.specs.declared.entity.UserStackMap.{UserStackMap}
+use Rattle.a64_inst.specs.declared.emission.EmitFlags.{EmitFlags}
+use Rattle.a64_inst.specs.declared.frame.FrameLayout.{FrameLayout}
+use Rattle.a64_inst.specs.declared.inst.Inst.{Inst}
+use Rattle.a64_emit.specs.declared.item.Item.{Item}
+use Rattle.a64_emit.specs.declared.item.Item.TheVariants.{Bind, Emit}
+use Rattle.a64_emit.specs.declared.error.EmitError.{EmitError}
+use Rattle.a64_emit.specs.declared.error.EmitError.TheVariants.{LabelBoundTwice, UnboundLabel}
+use Rattle.a64_emit.specs.Cells.{Cell, cells_of, all_cells, inst_cells, jump_cells}
+use Rattle.a64_emit.specs.Faults.{binding_of, bindings, used_label, is_among, first_repeat, HasLabels, first_missing, second_binding, unbound_use, used_labels}
+
+-- ---- lists of items, by one more
+
+-- the bindings of one more item
+pub bindings_more : (items : List Item) (i : ℕ) (d x : Item) → i < length items → get_or items i d ≡ x → bindings (take (i + 1) items) ≡ bindings (take i items) ++ bindings (x ∷ [])
+bindings_more items i d x within is =
+    ap bindings (take_more items i d within) ∙ filter_map-append binding_of (take i items) (get_or items i d ∷ [])
+    ∙ ap (λ (y : Item). bindings (take i items) ++ bindings (y ∷ [])) is
+
+pub drop_item : (items : List Item) (i : ℕ) (d x : Item) → i < length items → get_or items i d ≡ x → drop i items ≡ x ∷ drop (i + 1) items
+drop_item items i d x within is = drop_more items i d within ∙ ap (λ (y : Item). y ∷ drop (i + 1) items) is
+
+pub drop_all : (items : List Item) (i : ℕ) → length items ≤ i → drop i items ≡ []
+drop_all [] zero h = refl
+drop_all [] (suc i) h = refl
+drop_all (x ∷ items) zero h = absurd (omega arith)
+drop_all (x ∷ items) (suc i) h = drop_all items i (omega arith)
+
+-- ---- second bindings
+
+-- the set has the labels so far, and the first second binding of all is that of what is left
+pub record IsScanned (items : List Item) (i : ℕ) (bound : BTreeSet ℕ) : Type 0 where
+  pub same : HasLabels bound (bindings (take i items))
+  pub rest : first_repeat (bindings (take i items)) (bindings (drop i items)) ≡ first_repeat [] (bindings items)
+
+pub scanned_none : (items : List Item) (bound : BTreeSet ℕ) → IsEmpty bound → IsScanned items 0 bound
+scanned_none items bound empty = record { same = λ label. ap (list_any (is_at (nat_cmp label.0))) empty; rest = refl }
+
+-- an item that binds nothing
+pub scanned_other : (items : List Item) (i : ℕ) (bound : BTreeSet ℕ) (d x : Item) → i < length items → get_or items i d ≡ x → bindings (x ∷ []) ≡ [] → IsScanned items i bound → IsScanned items (i + 1) bound
+scanned_other items i bound d x within is none s =
+    let more : bindings (take (i + 1) items) ≡ bindings (take i items) = bindings_more items i d x within is ∙ ap (λ ls. bindings (take i items) ++ ls) none ∙ append-nil (bindings (take i items)) in
+    let left : bindings (drop i items) ≡ bindings (drop (i + 1) items) =
+    ap bindings (drop_item items i d x within is) ∙ filter_map-append binding_of (x ∷ []) (drop (i + 1) items) ∙ ap (λ ls. ls ++ bindings (drop (i + 1) items)) none in
+    record {
+      same = λ label. s.same label ∙ ap (λ ls. is_among ls label) (sym more);
+      rest = ap (λ ls. first_repeat ls (bindings (drop (i + 1) items))) more ∙ ap (first_repeat (bindings (take i items))) (sym left) ∙ s.rest;
+    }
+
+-- what a new key makes of the set
+among_push : (before : List MachLabel) (label q : MachLabel) (b : Bool) → b ≡ is_among before q → cond (eq_by_cmp nat_cmp label.0 q.0) true b ≡ is_among (before ++ label ∷ []) q
+among_push before label q b e =
+    ap (λ t. cond t true b) (unsigned_tied label.0 q.0)
+    ∙ (ap (cond (eqb label.0 q.0) true) e ∙ (swap (eqb label.0 q.0) (is_among before q) ∙ sym (list_any-append (λ (l : MachLabel). eqb l.0 q.0) before (label ∷ []))))
+  where
+    swap : (a b : Bool) → cond a true b ≡ (b || (a || false))
+    swap true true = refl
+    swap true false = refl
+    swap false true = refl
+    swap false false = refl
+
+-- an item that binds a label for the first time
+pub scanned_bind : (items : List Item) (i : ℕ) (bound bound' : BTreeSet ℕ) (d x : Item) (label : MachLabel) → i < length items → get_or items i d ≡ x → x ≡ Bind label → contains nat_cmp bound label.0 ≡ false → Updates nat_cmp bound bound' label.0 true → IsScanned items i bound → IsScanned items (i + 1) bound'
+scanned_bind items i bound bound' d x label within is binds fresh updates s =
+    let more : bindings (take (i + 1) items) ≡ bindings (take i items) ++ label ∷ [] = bindings_more items i d x within is ∙ ap (λ y. bindings (take i items) ++ bindings (y ∷ [])) binds in
+    let left : bindings (drop i items) ≡ label ∷ bindings (drop (i + 1) items) = ap bindings (drop_item items i d x within is) ∙ ap (λ y. bindings (y ∷ drop (i + 1) items)) binds in
+    let not_yet : is_among (bindings (take i items)) label ≡ false = sym (s.same label) ∙ fresh in
+    record {
+      same = λ q. updates.0 q.0 ∙ among_push (bindings (take i items)) label q (contains nat_cmp bound q.0) (s.same q) ∙ ap (λ ls. is_among ls q) (sym more);
+      rest = ap (λ ls. first_repeat ls (bindings (drop (i + 1) items))) more
+          ∙ sym (ap (λ b. cond b (Some label) (first_repeat (bindings (take i items) ++ label ∷ []) (bindings (drop (i + 1) items)))) not_yet)
+          ∙ ap (first_repeat (bindings (take i items))) (sym left) ∙ s.rest;
+    }
+
+-- an item that binds a label again
+pub scanned_twice : (items : List Item) (i : ℕ) (bound : BTreeSet ℕ) (d x : Item) (label : MachLabel) → i < length items → get_or items i d ≡ x → x ≡ Bind label → contains nat_cmp bound label.0 ≡ true → IsScanned items i bound → second_binding items ≡ Some (LabelBoundTwice label)
+scanned_twice items i bound d x label within is binds again s =
+    let left : bindings (drop i items) ≡ label ∷ bindings (drop (i + 1) items) = ap bindings (drop_item items i d x within is) ∙ ap (λ y. bindings (y ∷ drop (i + 1) items)) binds in
+    let already : is_among (bindings (take i items)) label ≡ true = sym (s.same label) ∙ again in
+    ap (option_map LabelBoundTwice) (sym s.rest ∙ ap (first_repeat (bindings (take i items))) left
+    ∙ ap (λ b. cond b (Some label) (first_repeat (bindings (take i items) ++ label ∷ []) (bindings (drop (i + 1) items)))) already)
+
+pub scanned_all : (items : List Item) (i : ℕ) (bound : BTreeSet ℕ) → length items ≤ i → IsScanned items i bound → (second_binding items ≡ None) × HasLabels bound (bindings items)
+scanned_all items i bound all s = (
+  ap (option_map LabelBoundTwice) (sym s.rest ∙ ap (λ xs. first_repeat (bindings (take i items)) (bindings xs)) (drop_all items i all)),
+  λ label. s.same label ∙ ap (λ xs. is_among (bindings xs) label) (take_all i items all),
+)
+
+-- ---- uses of labels that are not bound
+
+module _ (frame : FrameLayout) (flags : EmitFlags) (bound : List MachLabel) where
+  -- the first label that the cells of these items use and that is not bound
+  abbrev pub missing_of : List Item → Option MachLabel
+  missing_of items = first_missing bound (used_labels frame flags items)
+
+  pub missing_cons : (x : Item) (items : List Item) → missing_of (x ∷ items) ≡ option_or (first_missing bound (filter_map used_label (cells_of frame flags x))) (missing_of items)
+  missing_cons x items =
+      ap (first_missing bound) (filter_map-append used_label (cells_of frame flags x) (all_cells frame flags items))
+      ∙ find-append (λ label. not (is_among bound label)) (filter_map used_label (cells_of frame flags x)) (used_labels frame flags items)
+
+  -- an item that uses no label that is not bound
+  pub missing_skip : (items : List Item) (i : ℕ) (d x : Item) → i < length items → get_or items i d ≡ x → first_missing bound (filter_map used_label (cells_of frame flags x)) ≡ None → missing_of (drop (i + 1) items) ≡ missing_of (drop i items)
+  missing_skip items i d x within is none = sym (ap missing_of (drop_item items i d x within is) ∙ missing_cons x (drop (i + 1) items) ∙ ap (λ o. option_or o (missing_of (drop (i + 1) items))) none)
+
+  -- an item that uses one
+  pub missing_found : (items : List Item) (i : ℕ) (d x : Item) (label : MachLabel) → i < length items → get_or items i d ≡ x → first_missing bound (filter_map used_label (cells_of frame flags x)) ≡ Some label → missing_of (drop i items) ≡ Some label
+  missing_found items i d x label within is some = ap missing_of (drop_item items i d x within is) ∙ missing_cons x (drop (i + 1) items) ∙ ap (λ o. option_or o (missing_of (drop (i + 1) items))) some
+
+  pub missing_end : (items : List Item) (i : ℕ) → length items ≤ i → missing_of (drop i items) ≡ None
+  missing_end items i all = ap missing_of (drop_all items i all)
+
+-- the labels that a jump uses
+pub jump_labels : (dest : BranchTarget) → filter_map used_label (jump_cells dest) ≡ option_to_list (label_of dest)
+unfolding jump_cells
+jump_labels (branch_targets.Label label) = refl

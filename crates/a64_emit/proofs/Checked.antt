@@ -1,0 +1,160 @@
+-- What the checks before emission leave to be relied on.
+use Rattle.std.proofs.Common.{ℕ, ◌≡◌, ◌≢◌, ◌+◌, ◌*◌, ◌^◌, ◌<◌, ◌≤◌, suc, zero, Bool, true, false, cond, not, leb, List, [], ◌∷◌, ◌++◌, length, get_or, take, drop, map, option_map, Option, None, Some, refl, sym, ap, ◌∙◌, subst, arith, inl, inr, ◌⊎◌, eqb, append_assoc, take_all}
+use Rattle.std.specs.Prelude.{◌||◌, nat_le, min}
+use Rattle.std.specs.Option.{option_map_or}
+use Rattle.std.specs.List.{slice_get, flat_map, filter_map, list_any, find, Any}
+use Rattle.std.proofs.lemmas.Bool.{eqb-true, eq-eqb, false≢true, leb-true, le-leb, cases_lt}
+use Rattle.std.proofs.lemmas.List.{take-append-drop, drop_more, length-append, append-nil}
+use Rattle.std.proofs.lemmas.List.Elements.{filter_map-append}
+use Rattle.std.proofs.lemmas.List.Concat.{flat_map-append, length-flat_map}
+use Rattle.std.proofs.lemmas.List.Sums.{sum_by-cons, sum_by-take-le}
+use Rattle.a64_base.specs.declared.entity.MachLabel.{MachLabel}
+use Rattle.a64_inst.specs.declared.emission.EmitFlags.{EmitFlags}
+use Rattle.a64_inst.specs.declared.frame.FrameLayout.{FrameLayout}
+use Rattle.a64_emit.specs.declared.item.Item.{Item}
+use Rattle.a64_emit.specs.declared.item.Item.TheVariants.{Bind, Emit}
+use Rattle.a64_emit.specs.declared.error.EmitError.{EmitError}
+use Rattle.a64_emit.specs.declared.error.EmitError.TheVariants.{LabelBoundTwice, UnboundLabel, TooLarge}
+use Rattle.a64_emit.specs.Cells.{Cell, cells_of, all_cells}
+use Rattle.a64_emit.specs.Bounds.{size_of, charge_of, whole, shortest, least, lesser, ranges_in}
+use Rattle.a64_emit.specs.Faults.{binding_of, bindings, is_among, first_repeat, first_missing, second_binding, unbound_use, used_labels, too_large, is_too_large, or_else, fault_of}
+
+-- ---- no label is bound twice
+
+mapped_none : {A B : Type 0} (f : A → B) (o : Option A) → option_map f o ≡ None → o ≡ None
+mapped_none f None e = refl
+mapped_none f (Some x) e = absurd cc
+
+repeat_split : (before xs : List MachLabel) (l : MachLabel) (ys : List MachLabel) → first_repeat before (xs ++ l ∷ ys) ≡ None → is_among (before ++ xs) l ≡ false
+repeat_split before [] l ys e = ap (λ (ls : List MachLabel). is_among ls l) (append-nil before) ∙ case (is_among before l) e
+  where
+    case : (b : Bool) → cond b (Some l) (first_repeat (before ++ l ∷ []) ys) ≡ None → b ≡ false
+    case true f = absurd cc
+    case false f = refl
+repeat_split before (x ∷ xs) l ys e =
+    ap (λ (ls : List MachLabel). is_among ls l) (sym (append_assoc before (x ∷ []) xs)) ∙ repeat_split (before ++ x ∷ []) xs l ys (case (is_among before x) e)
+  where
+    case : (b : Bool) → cond b (Some x) (first_repeat (before ++ x ∷ []) (xs ++ l ∷ ys)) ≡ None → first_repeat (before ++ x ∷ []) (xs ++ l ∷ ys) ≡ None
+    case true f = absurd cc
+    case false f = f
+
+-- an item that binds a label is found among the bindings
+pub among_bindings : (items : List Item) (i : ℕ) (a q : MachLabel) → slice_get items i ≡ Some (Bind a) → a.0 ≡ q.0 → is_among (bindings items) q ≡ true
+among_bindings [] i a q e same = absurd cc
+among_bindings (Bind l ∷ items) zero a q e same =
+    let l_is : l ≡ a = cc in
+    ap (λ b. b || is_among (bindings items) q) (eq-eqb l.0 q.0 (ap (λ (t : MachLabel). t.0) l_is ∙ same))
+among_bindings (Emit inst kept ∷ items) zero a q e same = absurd cc
+among_bindings (Bind l ∷ items) (suc i) a q e same = ap (λ b. eqb l.0 q.0 || b) (among_bindings items i a q e same) ∙ or_true (eqb l.0 q.0)
+  where
+    or_true : (b : Bool) → (b || true) ≡ true
+    or_true true = refl
+    or_true false = refl
+among_bindings (Emit inst kept ∷ items) (suc i) a q e same = among_bindings items i a q e same
+
+-- the next item binds a label that no item before it binds
+pub not_bound_before : (items : List Item) (n : ℕ) (d : Item) (label : MachLabel) → second_binding items ≡ None → n < length items → get_or items n d ≡ Bind label → is_among (bindings (take n items)) label ≡ false
+not_bound_before items n d label none within is =
+    let parts : items ≡ take n items ++ (Bind label ∷ drop (n + 1) items) = sym (take-append-drop n items) ∙ ap (λ (t : List Item). take n items ++ t) (drop_more items n d within ∙ ap (λ (x : Item). x ∷ drop (n + 1) items) is) in
+    let split : bindings items ≡ bindings (take n items) ++ (label ∷ bindings (drop (n + 1) items)) = ap bindings parts ∙ filter_map-append binding_of (take n items) (Bind label ∷ drop (n + 1) items) in
+    repeat_split [] (bindings (take n items)) label (bindings (drop (n + 1) items)) (sym (ap (first_repeat []) split) ∙ mapped_none LabelBoundTwice (first_repeat [] (bindings items)) none)
+
+-- ---- each used label is bound
+
+-- an item that binds a label that is among the bindings
+pub record IsBinding (items : List Item) (q : MachLabel) : Type 0 where
+  pub index : ℕ
+  pub label : MachLabel
+  pub binds : slice_get items index ≡ Some (Bind label)
+  pub same : label.0 ≡ q.0
+
+pub binding_among : (items : List Item) (q : MachLabel) → is_among (bindings items) q ≡ true → IsBinding items q
+binding_among [] q e = absurd (false≢true e)
+binding_among (Bind l ∷ items) q e = case (binding_among items q) (eqb l.0 q.0) refl
+  where
+    case : (is_among (bindings items) q ≡ true → IsBinding items q) → (b : Bool) → eqb l.0 q.0 ≡ b → IsBinding (Bind l ∷ items) q
+    case later true t = record { index = 0; label = l; binds = refl; same = eqb-true l.0 q.0 t }
+    case later false t =
+        let r = later (sym (ap (λ b. b || is_among (bindings items) q) t) ∙ e) in
+        record { index = suc r.index; label = r.label; binds = r.binds; same = r.same }
+binding_among (Emit inst kept ∷ items) q e =
+    let r = binding_among items q e in
+    record { index = suc r.index; label = r.label; binds = r.binds; same = r.same }
+
+missing_none : (bound ls : List MachLabel) (k : ℕ) (d : MachLabel) → first_missing bound ls ≡ None → k < length ls → is_among bound (get_or ls k d) ≡ true
+missing_none bound [] k d e h = absurd (omega arith)
+missing_none bound (l ∷ ls) zero d e h = case (is_among bound l) e
+  where
+    case : (b : Bool) → cond (not b) (Some l) (first_missing bound ls) ≡ None → b ≡ true
+    case true f = refl
+    case false f = absurd cc
+missing_none bound (l ∷ ls) (suc k) d e h = missing_none bound ls k d (case (is_among bound l) e) (omega arith)
+  where
+    case : (b : Bool) → cond (not b) (Some l) (first_missing bound ls) ≡ None → first_missing bound ls ≡ None
+    case true f = f
+    case false f = absurd cc
+
+-- ---- the code is small
+
+neither : (a b : Bool) → (a || b) ≡ false → (a ≡ false) × (b ≡ false)
+neither true b h = absurd cc
+neither false b h = (refl, h)
+
+not_le : (m n : ℕ) → nat_le m n ≡ false → n < m
+not_le m n e = elim (cases_lt n m) [ inl lt ↦ lt | inr le ↦ absurd (false≢true (sym e ∙ le-leb m n le)) ]
+
+above : (y n : ℕ) → n < y → nat_le y n ≡ false
+above y n lt = case (nat_le y n) refl
+  where
+    case : (b : Bool) → nat_le y n ≡ b → b ≡ false
+    case true t = absurd (let le : y ≤ n = leb-true y n t in omega arith)
+    case false t = refl
+
+-- what is below the lesser of two is below both
+below_both : (x n : ℕ) (o : Option ℕ) → option_map_or (λ range. nat_le range n) (lesser (Some x) o) false ≡ false → (n < x) × (option_map_or (λ range. nat_le range n) o false ≡ false)
+below_both x n None f = (not_le x n f, refl)
+below_both x n (Some y) f = let lt : n < min x y = not_le (min x y) n f in (omega arith, above y n (omega arith))
+
+-- what is below the least is below all
+below_all : (xs : List ℕ) (n : ℕ) → option_map_or (λ range. nat_le range n) (least xs) false ≡ false → (k : ℕ) → k < length xs → n < get_or xs k 0
+below_all [] n e k h = absurd (omega arith)
+below_all (x ∷ xs) n e zero h = (below_both x n (least xs) e).0
+below_all (x ∷ xs) n e (suc k) h = below_all xs n (below_both x n (least xs) e).1 k (omega arith)
+
+module _ (frame : FrameLayout) (flags : EmitFlags) (items : List Item) where
+  pub uses_bound : unbound_use frame flags items ≡ None → (k : ℕ) (d : MachLabel) → k < length (used_labels frame flags items) → IsBinding items (get_or (used_labels frame flags items) k d)
+  uses_bound none k d h = binding_among items (get_or (used_labels frame flags items) k d) (missing_none (bindings items) (used_labels frame flags items) k d (mapped_none UnboundLabel (first_missing (bindings items) (used_labels frame flags items)) none) h)
+
+  small : too_large frame flags items ≡ None → is_too_large frame flags items ≡ false
+  small none = case (is_too_large frame flags items) none
+    where
+      case : (b : Bool) → cond b (Some TooLarge) None ≡ None → b ≡ false
+      case true f = absurd cc
+      case false f = refl
+
+  -- the whole code can be addressed
+  pub addressable : too_large frame flags items ≡ None → whole frame flags items < 2 ^ 31
+  addressable none = not_le (2 ^ 31) (whole frame flags items) (neither (nat_le (2 ^ 31) (whole frame flags items)) (option_map_or (λ range. nat_le range (whole frame flags items)) (shortest frame flags items) false) (small none)).0
+
+  -- and each range is longer than it
+  pub within_ranges : too_large frame flags items ≡ None → (k : ℕ) → k < length (ranges_in (all_cells frame flags items)) → whole frame flags items < get_or (ranges_in (all_cells frame flags items)) k 0
+  within_ranges none k h = below_all (ranges_in (all_cells frame flags items)) (whole frame flags items) (neither (nat_le (2 ^ 31) (whole frame flags items)) (option_map_or (λ range. nat_le range (whole frame flags items)) (shortest frame flags items) false) (small none)).1 k h
+
+  -- the sizes are part of the whole
+  pub sizes_in_whole : (n : ℕ) → 4 * length (all_cells frame flags (take n items)) ≤ whole frame flags items
+  sizes_in_whole n = omega (arith, sizes (take n items), sum_by-take-le (λ item. size_of (cells_of frame flags item) + charge_of (cells_of frame flags item)) items n)
+    where
+      sizes : (xs : List Item) → 4 * length (all_cells frame flags xs) ≤ whole frame flags xs
+      sizes [] = omega arith
+      sizes (x ∷ xs) = omega (arith, sizes xs, length-append (cells_of frame flags x) (all_cells frame flags xs), sum_by-cons (λ item. size_of (cells_of frame flags item) + charge_of (cells_of frame flags item)) x xs)
+
+  -- no fault, by the three checks
+  pub faultless : second_binding items ≡ None → unbound_use frame flags items ≡ None → too_large frame flags items ≡ None → fault_of frame flags items ≡ None
+  faultless a b c = ap (λ o. or_else o (or_else (unbound_use frame flags items) (too_large frame flags items))) a ∙ ap (λ o. or_else o (too_large frame flags items)) b ∙ c
+
+  -- the first fault, where the checks before it found none
+  pub fault_at_use : (error : EmitError) → second_binding items ≡ None → unbound_use frame flags items ≡ Some error → fault_of frame flags items ≡ Some error
+  fault_at_use error a b = ap (λ o. or_else o (or_else (unbound_use frame flags items) (too_large frame flags items))) a ∙ ap (λ o. or_else o (too_large frame flags items)) b
+
+  pub fault_at_size : (error : EmitError) → second_binding items ≡ None → unbound_use frame flags items ≡ None → too_large frame flags items ≡ Some error → fault_of frame flags items ≡ Some error
+  fault_at_size error a b c = ap (λ o. or_else o (or_else (unbound_use frame flags items) (too_large frame flags items))) a ∙ ap (λ o. or_else o (too_large frame flags items)) b ∙ c

@@ -1,0 +1,9 @@
+pub mod Bindings
+pub mod Sizes
+pub mod Lists
+pub mod Emitted
+pub mod Checked
+pub mod Sites
+pub mod Composed
+pub mod Recorded
+pub mod Steps

@@ -1,0 +1,76 @@
+-- Why a list of items is refused.
+use Rattle.std.specs.Prelude.{ℕ, ◌≡◌, ◌^◌, Bool, true, false, not, ◌||◌, ◌==◌, nat_le, if◌then◌else◌, List, [], ◌∷◌, ◌++◌, find, map, Option, None, Some, option_map}
+use Rattle.std.specs.List.{filter_map, list_any}
+use Rattle.std.specs.Option.{option_map_or}
+use Rattle.std.specs.Ordering.{nat_cmp}
+use Rattle.std.specs.BTreeSet.{BTreeSet, contains}
+use Rattle.a64_base.specs.declared.entity.MachLabel.{MachLabel}
+use Rattle.a64_inst.specs.declared.emission.EmitFlags.{EmitFlags}
+use Rattle.a64_inst.specs.declared.frame.FrameLayout.{FrameLayout}
+use Rattle.a64_buffer.specs.declared.site.Target.TheVariants.{Label}
+use Rattle.a64_emit.specs.declared.item.Item.{Item}
+use Rattle.a64_emit.specs.declared.item.Item.TheVariants.{Bind, Emit}
+use Rattle.a64_emit.specs.declared.error.EmitError.{EmitError}
+use Rattle.a64_emit.specs.declared.error.EmitError.TheVariants.{LabelBoundTwice, UnboundLabel, TooLarge}
+use Rattle.a64_emit.specs.Cells.{Cell, all_cells}
+use Rattle.a64_emit.specs.Bounds.{whole, shortest}
+
+-- the label that an item binds
+abbrev pub binding_of : Item → Option MachLabel
+binding_of (Bind label) = Some label
+binding_of (Emit inst map) = None
+
+-- the labels that items bind, in order
+abbrev pub bindings : List Item → List MachLabel
+bindings items = filter_map binding_of items
+
+-- the label that a cell uses
+abbrev pub used_label : Cell → Option MachLabel
+used_label cell = elim cell.site [ None ↦ None | Some site ↦ elim site.target [ Label label ↦ Some label ] ]
+
+-- a label is one of these
+abbrev pub is_among : List MachLabel → MachLabel → Bool
+is_among labels label = list_any (λ (l : MachLabel). l.0 == label.0) labels
+
+-- the first of some labels that stands among those before it, or among `before`
+abbrev pub first_repeat : List MachLabel → List MachLabel → Option MachLabel
+first_repeat before [] = None
+first_repeat before (l ∷ ls) = if is_among before l then Some l else first_repeat (before ++ l ∷ []) ls
+
+-- the first fault, where there is one, else the second
+abbrev pub or_else : Option EmitError → Option EmitError → Option EmitError
+or_else None later = later
+or_else (Some fault) later = Some fault
+
+-- the set has the numbers of these labels
+abbrev pub HasLabels : BTreeSet ℕ → List MachLabel → Type 0
+HasLabels set labels = (label : MachLabel) → contains nat_cmp set label.0 ≡ is_among labels label
+
+-- the first of some labels that is not among these
+abbrev pub first_missing : List MachLabel → List MachLabel → Option MachLabel
+first_missing bound labels = find (λ label. not (is_among bound label)) labels
+
+-- the first second binding of a label
+abbrev pub second_binding : List Item → Option EmitError
+second_binding items = option_map LabelBoundTwice (first_repeat [] (bindings items))
+
+module _ (frame : FrameLayout) (flags : EmitFlags) (items : List Item) where
+  -- the labels that the items use, by item and cell
+  abbrev pub used_labels : List MachLabel
+  used_labels = filter_map used_label (all_cells frame flags items)
+
+  -- the first use of a label that no item binds
+  abbrev pub unbound_use : Option EmitError
+  unbound_use = option_map UnboundLabel (first_missing (bindings items) used_labels)
+
+  -- the code could not be addressed, or a use could want a veneer
+  abbrev pub is_too_large : Bool
+  is_too_large = nat_le (2 ^ 31) (whole frame flags items)
+      || option_map_or (λ range. nat_le range (whole frame flags items)) (shortest frame flags items) false
+
+  abbrev pub too_large : Option EmitError
+  too_large = if is_too_large then Some TooLarge else None
+
+  -- the first fault that applies
+  abbrev pub fault_of : Option EmitError
+  fault_of = or_else (second_binding items) (or_else unbound_use too_large)

@@ -1,0 +1,47 @@
+-- What the kinds of label uses of A64 code mean.
+use Rattle.std.specs.Prelude.{ℕ, ℤ, pos, ◌*ℤ◌, ◌-◌, ◌^◌, ◌≡◌, Bool, true, false, IsTrue}
+use Rattle.a64_buffer.specs.Word.{signed, field_bits, mask_of}
+use Rattle.a64_buffer.specs.Kinds.{Kinds, IsLawful}
+use Rattle.a64_emit.specs.declared.label_use.LabelUse.{LabelUse}
+use Rattle.a64_emit.specs.declared.label_use.LabelUse.TheVariants as uses
+
+-- the bits of the word that have the distance
+abbrev pub mask_for : LabelUse → ℕ
+mask_for uses.Branch26 = mask_of 0 26
+
+-- the signed distance in bytes that a word says
+abbrev pub distance_in : LabelUse → ℕ → ℤ
+distance_in uses.Branch26 word = signed 26 (field_bits 0 26 word) *ℤ pos 4
+
+-- how far ahead a label may be
+abbrev pub forward_range : LabelUse → ℕ
+forward_range uses.Branch26 = 2 ^ 27 - 1
+
+-- how far behind a label may be
+abbrev pub backward_range : LabelUse → ℕ
+backward_range uses.Branch26 = 2 ^ 27
+
+-- whether the distance is added to the word
+abbrev pub adds_distance : LabelUse → Bool
+adds_distance uses.Branch26 = false
+
+-- whether the distance counts words
+abbrev pub counts_in_words : LabelUse → Bool
+counts_in_words uses.Branch26 = true
+
+abbrev pub label_kinds : Kinds LabelUse
+label_kinds = record {
+  mask = mask_for;
+  field = distance_in;
+  forward = forward_range;
+  backward = backward_range;
+  adds = adds_distance;
+  counts_words = counts_in_words;
+}
+
+-- no kind adds its distance, so the law holds of all that do
+pub label_kinds_lawful : IsLawful label_kinds
+label_kinds_lawful = record { whole_mask = law }
+  where
+    law : (kind : LabelUse) → IsTrue (adds_distance kind) → mask_for kind ≡ 2 ^ 32 - 1
+    law uses.Branch26 adds = cc

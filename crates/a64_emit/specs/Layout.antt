@@ -1,0 +1,106 @@
+-- Where the items of finished code stand, and where their uses lead.
+use Rattle.std.specs.Prelude.{ℕ, pos, ◌+ℤ◌, ◌≡◌, ◌≢◌, ◌⊎◌, ◌↔◌, ◌+◌, ◌*◌, ◌%◌, ◌<◌, ◌≤◌, List, [], ◌∷◌, ◌++◌, All, Contains, map, length, slice_index, slice_index_or, slice_get, Option, None, Some, IfSome}
+use Rattle.std.specs.List.Sorted.{IsStrictlyIncreasing}
+use Rattle.a64_base.specs.declared.entity.MachLabel.{MachLabel}
+use Rattle.a64_inst.specs.declared.emission.EmitFlags.{EmitFlags}
+use Rattle.a64_inst.specs.declared.frame.FrameLayout.{FrameLayout}
+use Rattle.a64_buffer.specs.declared.site.Target.{Target}
+use Rattle.a64_buffer.specs.declared.site.Target.TheVariants.{Label}
+use Rattle.a64_buffer.specs.Word.{outside, word_at}
+use Rattle.a64_buffer.specs.Kinds.{GoesTo}
+use Rattle.a64_emit.specs.declared.label_use.LabelUse.{LabelUse}
+use Rattle.a64_emit.specs.declared.label_use.LabelUse.TheVariants as uses
+use Rattle.a64_emit.specs.declared.item.Item.{Item}
+use Rattle.a64_emit.specs.declared.item.Item.TheVariants.{Bind}
+use Rattle.a64_emit.specs.declared.code.Code.{Code}
+use Rattle.a64_emit.specs.LabelUses.{label_kinds, mask_for, distance_in}
+use Rattle.a64_emit.specs.Cells.{Cell, Site, cell_word, cells_of}
+
+-- cells that stand one behind another from a place on, each with its own place
+abbrev pub placed : ℕ → List Cell → List (ℕ × Cell)
+placed place [] = []
+placed place (c ∷ cs) = (place, c) ∷ placed (place + 4) cs
+
+-- the cells of all items, each with its place
+abbrev pub standing : List (List Cell) → List ℕ → List (ℕ × Cell)
+standing (cs ∷ css) (place ∷ places) = placed place cs ++ standing css places
+standing _ _ = []
+
+-- the bits of a cell's word that its use may change
+abbrev pub site_mask : Option Site → ℕ
+site_mask None = 0
+site_mask (Some site) = mask_for site.kind
+
+-- at a cell's place stands its word, in all bits outside of the field of its use
+abbrev pub Stands : List ℕ → ℕ × Cell → Type 0
+Stands bytes s = outside (site_mask s.1.site) (word_at bytes s.0) ≡ outside (site_mask s.1.site) (cell_word s.1)
+
+-- a `Bind` item of the label stands at the place
+abbrev pub IsBoundAt : List Item → List ℕ → MachLabel → ℕ → Type 0
+IsBoundAt items places label place = (i : ℕ) × (slice_get items i ≡ Some (Bind label)) × (slice_get places i ≡ Some place)
+
+module _ (frame : FrameLayout) (flags : EmitFlags) (items : List Item) (code : Code) where
+  -- the cells of each item
+  abbrev pub item_cells : List (List Cell)
+  item_cells = map (cells_of frame flags) items
+
+  -- the places of the items, and of the pool behind the last one
+  abbrev pub stations : List ℕ
+  stations = code.places.items ++ code.pool ∷ []
+
+  -- the end of item i: its place plus four bytes for each cell
+  abbrev pub end_of_item : ℕ → ℕ
+  end_of_item i = slice_index stations i + 4 * length (slice_index_or item_cells i [])
+
+  -- a jump from a place over all that stands before the other
+  abbrev pub JumpsOver : ℕ → ℕ → Type 0
+  JumpsOver from to =
+      (outside (mask_for uses.Branch26) (word_at code.bytes.items from) ≡ 0x14000000)
+      × (pos from +ℤ distance_in uses.Branch26 (word_at code.bytes.items from) ≡ pos to)
+
+  -- a listed island stands behind item i, which has words, and is jumped over
+  pub record IsIslandAfter (i : ℕ) (island : ℕ × ℕ) : Type 0 where
+    pub listed : Contains code.islands.items island
+    pub begins : island.0 ≡ end_of_item i
+    pub ends : island.1 ≡ slice_index stations (i + 1)
+    pub has_words : slice_index_or item_cells i [] ≢ []
+    pub jumped : JumpsOver island.0 island.1
+
+  -- the next item, or the pool, stands at the end of item i, or behind an island there
+  abbrev pub IsFollowed : ℕ → Type 0
+  IsFollowed i =
+      (slice_index stations (i + 1) ≡ end_of_item i)
+      ⊎ IsIslandAfter i (end_of_item i, slice_index stations (i + 1))
+
+  -- an island stands after exactly one item
+  pub record StandsOnce (island : ℕ × ℕ) : Type 0 where
+    pub after : ℕ
+    pub within : after < length items
+    pub stands : IsIslandAfter after island
+    pub once : (i : ℕ) → i < length items → IsIslandAfter i island → i ≡ after
+
+  -- the items stand at their places, in order, with only jumped-over islands between them and one
+  -- pool behind them
+  pub record Laid : Type 0 where
+    pub count : length code.places.items ≡ length items
+    pub first : slice_index stations 0 ≡ 0
+    pub next : (i : ℕ) → i < length items → IsFollowed i
+    pub islands : All StandsOnce code.islands.items
+    pub cells : All (Stands code.bytes.items) (standing item_cells code.places.items)
+    pub labels_ordered : IsStrictlyIncreasing (map (λ e. e.0.0) code.labels.items)
+    pub labels : (label : MachLabel) (place : ℕ) → Contains code.labels.items (label, place) ↔ IsBoundAt items code.places.items label place
+    pub whole_words : length code.bytes.items % 4 ≡ 0
+    pub pool : code.pool ≤ length code.bytes.items
+
+  -- the use of a label leads there: its word says the distance
+  abbrev pub LeadsTo : LabelUse → ℕ → ℕ → ℕ → Type 0
+  LeadsTo kind put place goal = GoesTo label_kinds kind put (word_at code.bytes.items place) place goal
+
+  -- a use leads to its target
+  abbrev pub SiteLeads : ℕ → ℕ → Site → Type 0
+  SiteLeads place put site =
+      elim site.target [ Label label ↦ (goal : ℕ) × Contains code.labels.items (label, goal) × LeadsTo site.kind put place goal ]
+
+  -- each use of each cell leads to its target
+  abbrev pub Leads : Type 0
+  Leads = All (λ s. IfSome s.1.site (SiteLeads s.0 (cell_word s.1))) (standing item_cells code.places.items)

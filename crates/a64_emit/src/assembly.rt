@@ -1,0 +1,134 @@
+//! The assembly of whole lists of items.
+
+ghost use Rattle.std.specs.Prelude.{◌≡◌, None, [], ◌^◌, ◌<◌, length, IfOk, IfErr, OnOk};
+ghost use Rattle.std.specs.FinMap.{empty};
+ghost use Rattle.a64_buffer.specs.declared.force.ForceVeneers.TheVariants.{No};
+ghost use Rattle.a64_emit.specs.Bounds.{whole};
+ghost use Rattle.a64_emit.specs.Cells.{cells_of};
+ghost use Rattle.a64_emit.specs.Emission.{HasRoom, IsUnbound, stepped, HasEmitted};
+ghost use Rattle.a64_emit.specs.Faults.{second_binding};
+ghost use Rattle.a64_emit.specs.Assembled.{IsAssembled, IsRefusal};
+
+use crate::code::Code;
+use crate::emit::MachInstEmit;
+use crate::error::EmitError;
+use crate::faults::{bound_labels, check_size, check_uses};
+use crate::item::Item;
+use crate::label_use::LabelUse;
+use a64_buffer::{Constants, Finished, ForceVeneers, MachBuffer};
+use a64_inst::{EmitInfo, EmitState, FrameLayout};
+use std::alloc::{AllocError, Global};
+
+/// Emits one item at the end of a buffer.
+fn emit_item(
+    item: &Item,
+    buffer: &mut MachBuffer<'_, LabelUse>,
+    info: &EmitInfo,
+    state: &mut EmitState,
+) -> Result<(), AllocError>
+    requires room { HasRoom buffer.old (cells_of state.old.frame info.now item.now) }
+    requires unbound { IsUnbound buffer.old item.now }
+    ensures buffer { OnOk result (buffer.new ≡ stepped state.old.frame info.now buffer.old item.now) }
+    ensures frame { OnOk result (state.new.frame ≡ state.old.frame) }
+{
+    match item {
+        Item::Bind(label) => buffer.bind_label(*label),
+        Item::Emit { inst, map } => {
+            state.pre_safepoint(*map);
+            inst.emit(buffer, info, state)
+        }
+    }
+}
+
+/// Emits items one after another into a buffer without code, and answers their places.
+fn emit_items(
+    alloc: Global,
+    items: &[Item],
+    buffer: &mut MachBuffer<'_, LabelUse>,
+    info: &EmitInfo,
+    state: &mut EmitState,
+) -> Result<Vec<u32>, AllocError>
+    requires words { buffer.old.words ≡ [] }
+    requires uses { buffer.old.uses ≡ [] }
+    requires labels { buffer.old.labels ≡ empty }
+    requires once { second_binding items.now ≡ None }
+    requires short { whole state.old.frame info.now items.now < 2 ^ 31 }
+    ensures { IfOk result (λ places. HasEmitted state.old.frame info.now items.now places.items buffer.new) }
+{
+    let mut places = Vec::with_capacity(alloc, items.len())?;
+    for item in items {
+        places.push(buffer.cur_offset())?;
+        emit_item(item, buffer, info, state)?;
+    }
+    Ok(places)
+}
+
+/// The code of items: each stands at its place, in order, and each use leads to its label.
+///
+/// Islands cannot be forced yet.
+///
+/// # Errors
+///
+/// The first fault of the items, or want of memory.
+pub fn assemble(
+    alloc: Global,
+    items: &[Item],
+    constants: &Constants,
+    info: &EmitInfo,
+    frame: &FrameLayout,
+    force: ForceVeneers,
+) -> Result<Code, EmitError>
+    requires few { length items.now < 2 ^ 32 }
+    requires unforced { force ≡ No }
+    ensures ok { IfOk result (IsAssembled frame.now info.now items.now) }
+    ensures err { IfErr result (IsRefusal frame.now info.now items.now) }
+{
+    let bound = bound_labels(alloc, items)?;
+    check_uses(items, &bound)?;
+    check_size(items)?;
+    let mut state = EmitState::new(frame.try_clone(alloc)?);
+    let mut buffer = MachBuffer::new(alloc, constants);
+    let places = emit_items(alloc, items, &mut buffer, info, &mut state)?;
+    let finished = buffer.finish()?;
+    Ok(code_of(places, finished))
+}
+
+/// The code that a finished buffer is, with the places of its items.
+fn code_of(places: Vec<u32>, finished: Finished) -> Code
+    ensures { result ≡ record {
+      bytes = finished.bytes;
+      places = places;
+      labels = finished.labels;
+      islands = finished.islands;
+      pool = finished.pool;
+      relocs = finished.relocs;
+      traps = finished.traps;
+      calls = finished.calls;
+      patchable = finished.patchable;
+      maps = finished.maps;
+    } }
+{
+    let Finished {
+        bytes,
+        labels,
+        islands,
+        pool,
+        relocs,
+        traps,
+        calls,
+        patchable,
+        maps,
+    } = finished;
+    Code {
+        bytes,
+        places,
+        labels,
+        islands,
+        pool,
+        relocs,
+        traps,
+        calls,
+        patchable,
+        maps,
+    }
+}

@@ -1,0 +1,68 @@
+//! How much an item adds to code.
+
+ghost use Rattle.std.specs.Prelude.{◌≡◌, ◌+◌, ◌^◌, ◌<◌};
+ghost use Rattle.a64_emit.specs.Bounds as bounds;
+ghost use Rattle.a64_emit.specs.Bounds.{IsExtent};
+ghost use Rattle.a64_emit.specs.Cells.{inst_cells, cells_of};
+
+use crate::item::Item;
+use crate::label_use::LabelUse;
+use a64_buffer::MachInstLabelUse;
+use a64_inst::Inst;
+
+/// How much an item may add to code, in bytes.
+#[derive(Clone, Copy)]
+pub struct Extent {
+    /// Its own words.
+    pub size: u32,
+    /// What islands may add because of it.
+    pub charge: u32,
+    /// The shortest forward range of its uses that may want veneers.
+    pub range: Option<u32>,
+}
+
+/// The lesser of two numbers, of which either may be missing.
+pub fn lesser(a: Option<u32>, b: Option<u32>) -> Option<u32>
+    ensures { result ≡ bounds.lesser a b }
+{
+    match (a, b) {
+        (Some(a), Some(b)) => Some(a.min(b)),
+        (None, other) => other,
+        (other, None) => other,
+    }
+}
+
+/// How much an instruction may add to code, whatever the frame and the settings.
+#[tactic(auto, unfolding(crate::specs::Cells::nop4_cells, crate::specs::Cells::ret_cells, crate::specs::Cells::jump_cells))]
+fn inst_extent(inst: &Inst) -> Extent
+    ensures small { result.size + result.charge < 2 ^ 32 }
+    ensures extent { (frame : _) (flags : _) → IsExtent (inst_cells frame flags inst.now) result.size result.charge result.range }
+{
+    match inst {
+        Inst::Nop4 | Inst::Ret => Extent {
+            size: 4,
+            charge: 4,
+            range: None,
+        },
+        Inst::Jump { dest: _ } => Extent {
+            size: 4,
+            charge: 32,
+            range: Some(LabelUse::Branch26.max_pos_range()),
+        },
+    }
+}
+
+/// How much an item may add to code, whatever the frame and the settings.
+pub fn extent_of(item: &Item) -> Extent
+    ensures small { result.size + result.charge < 2 ^ 32 }
+    ensures extent { (frame : _) (flags : _) → IsExtent (cells_of frame flags item.now) result.size result.charge result.range }
+{
+    match item {
+        Item::Bind(_) => Extent {
+            size: 0,
+            charge: 0,
+            range: None,
+        },
+        Item::Emit { inst, map: _ } => inst_extent(inst),
+    }
+}

@@ -1,0 +1,135 @@
+//! Why items are refused.
+
+ghost use Rattle.std.specs.Prelude.{◌≡◌, ◌⊎◌, None, Some, IfOk, IfErr, MatchResult, [], ◌∷◌, ◌<◌, ◌^◌, ◌||◌, false, nat_le, length};
+ghost use Rattle.std.specs.List.{filter_map};
+ghost use Rattle.std.specs.Option.{option_map_or};
+ghost use Rattle.a64_emit.specs.declared.error.EmitError.TheVariants.{OutOfMemory};
+ghost use Rattle.a64_emit.specs.Cells.{inst_cells, jump_cells};
+ghost use Rattle.a64_emit.specs.Faults.{HasLabels, bindings, second_binding, first_missing, used_label, unbound_use, too_large};
+
+use crate::error::EmitError;
+use crate::extent::{Extent, extent_of, lesser};
+use crate::item::Item;
+use a64_base::{BranchTarget, MachLabel};
+use a64_inst::Inst;
+use std::alloc::Global;
+use std::collections::BTreeSet;
+
+/// The numbers of the labels that items bind.
+///
+/// # Errors
+///
+/// The first label that is bound twice, or want of memory.
+pub fn bound_labels(alloc: Global, items: &[Item]) -> Result<BTreeSet<u32>, EmitError>
+    ensures ok { IfOk result (λ bound. (second_binding items.now ≡ None) × HasLabels bound (bindings items.now)) }
+    ensures err { IfErr result (λ error. (error ≡ OutOfMemory) ⊎ (second_binding items.now ≡ Some error)) }
+{
+    let mut bound = BTreeSet::new(alloc);
+    for item in items {
+        let Item::Bind(label) = item else {
+            continue;
+        };
+        if !bound.insert(label.0)? {
+            return Err(EmitError::LabelBoundTwice(*label));
+        }
+    }
+    Ok(bound)
+}
+
+/// The label, where it is not bound.
+fn missing(label: MachLabel, bound: &BTreeSet<u32>) -> Option<MachLabel>
+    ensures { (labels : _) → HasLabels bound.now labels → result ≡ first_missing labels (label ∷ []) }
+{
+    if bound.contains(&label.0) {
+        None
+    } else {
+        Some(label)
+    }
+}
+
+/// The label of a jump, where it is not bound.
+#[tactic(auto, unfolding(crate::specs::Cells::jump_cells))]
+fn missing_in_jump(dest: BranchTarget, bound: &BTreeSet<u32>) -> Option<MachLabel>
+    ensures { (labels : _) → HasLabels bound.now labels
+        → result ≡ first_missing labels (filter_map used_label (jump_cells dest)) }
+{
+    match dest.as_label() {
+        Some(label) => missing(label, bound),
+        None => None,
+    }
+}
+
+/// The first label that an instruction uses and that is not bound.
+#[tactic(auto, unfolding(crate::specs::Cells::nop4_cells, crate::specs::Cells::ret_cells))]
+fn missing_in(inst: &Inst, bound: &BTreeSet<u32>) -> Option<MachLabel>
+    ensures { (frame : _) (flags : _) (labels : _) → HasLabels bound.now labels
+        → result ≡ first_missing labels (filter_map used_label (inst_cells frame flags inst.now)) }
+{
+    match inst {
+        Inst::Nop4 | Inst::Ret => None,
+        Inst::Jump { dest } => missing_in_jump(*dest, bound),
+    }
+}
+
+/// Whether each label that items use is bound.
+///
+/// # Errors
+///
+/// The first label that is not.
+pub fn check_uses(items: &[Item], bound: &BTreeSet<u32>) -> Result<(), EmitError>
+    requires { HasLabels bound.now (bindings items.now) }
+    ensures { (frame : _) (flags : _) → MatchResult result
+        (λ _. unbound_use frame flags items.now ≡ None)
+        (λ error. unbound_use frame flags items.now ≡ Some error) }
+{
+    for item in items {
+        let Item::Emit { inst, map: _ } = item else {
+            continue;
+        };
+        if let Some(label) = missing_in(inst, bound) {
+            return Err(EmitError::UnboundLabel(label));
+        }
+    }
+    Ok(())
+}
+
+/// Whether so many bytes are too many to be addressed, or for a use of this range.
+fn exceeds(whole: u64, shortest: Option<u32>) -> bool
+    ensures { result ≡ (nat_le (2 ^ 31) whole || option_map_or (λ range. nat_le range whole) shortest false) }
+{
+    if whole >= 1 << 31 {
+        return true;
+    }
+    match shortest {
+        Some(range) => u64::from(range) <= whole,
+        None => false,
+    }
+}
+
+/// Whether code of the items can be addressed, and each of its uses reaches its label.
+///
+/// # Errors
+///
+/// It may be too large for that.
+pub fn check_size(items: &[Item]) -> Result<(), EmitError>
+    requires { length items.now < 2 ^ 32 }
+    ensures { (frame : _) (flags : _) → MatchResult result
+        (λ _. too_large frame flags items.now ≡ None)
+        (λ error. too_large frame flags items.now ≡ Some error) }
+{
+    let mut whole: u64 = 0;
+    let mut shortest = None;
+    for item in items {
+        let Extent {
+            size,
+            charge,
+            range,
+        } = extent_of(item);
+        whole += u64::from(size + charge);
+        shortest = lesser(shortest, range);
+    }
+    if exceeds(whole, shortest) {
+        return Err(EmitError::TooLarge);
+    }
+    Ok(())
+}

@@ -1,0 +1,87 @@
+//! What no clause says: that ample memory is enough, and words from outside.
+
+ghost use Rattle.std.specs.Prelude.{◌<◌, ◌^◌, length};
+
+use crate::{Code, EmitError, Item, LabelUse, assemble};
+use a64_base::{BranchTarget, MachLabel};
+use a64_buffer::{Constants, ForceVeneers, MachInstLabelUse};
+use a64_inst::{EmitFlags, EmitInfo, FrameLayout, Inst};
+use a64_list::ListVec;
+use std::alloc::Global;
+use std::test::Fail;
+
+fn item(inst: Inst) -> Item {
+    Item::Emit { inst, map: None }
+}
+
+fn jump(label: u32) -> Item {
+    item(Inst::Jump {
+        dest: BranchTarget::Label(MachLabel(label)),
+    })
+}
+
+fn bind(label: u32) -> Item {
+    Item::Bind(MachLabel(label))
+}
+
+fn assembled(alloc: Global, items: &[Item]) -> Result<Code, EmitError>
+    requires { length items.now < 2 ^ 32 }
+{
+    let constants = Constants::new(alloc);
+    let info = EmitInfo::new(EmitFlags {
+        enable_probestack: false,
+        enable_table_access_spectre_mitigation: false,
+        use_csdb: false,
+    });
+    let frame = FrameLayout {
+        setup_area_size: 0,
+        tail_args_size: 0,
+        clobber_size: 0,
+        fixed_frame_storage_size: 0,
+        outgoing_args_size: 0,
+        restore: ListVec::new(alloc),
+    };
+    assemble(alloc, items, &constants, &info, &frame, ForceVeneers::No)
+}
+
+#[test]
+fn words_of_jumps(rt: HostRuntime) -> Result<(), Fail> {
+    let alloc = rt.alloc();
+    let items = [
+        bind(7),
+        jump(1),
+        item(Inst::Nop4),
+        jump(7),
+        bind(1),
+        item(Inst::Ret),
+    ];
+    let code = assembled(alloc, &items)?;
+    assert_eq!(rt; code.places.as_slice(), [0, 0, 4, 8, 12, 12].as_slice());
+    assert_eq!(rt;
+        code.labels.as_slice(),
+        [(MachLabel(1), 12), (MachLabel(7), 0)].as_slice()
+    );
+    assert_eq!(rt; code.pool, 16);
+    // b #12; nop; b #-8; ret
+    let words = [
+        3, 0, 0, 0x14, 0x1f, 0x20, 0x03, 0xd5, 0xfe, 0xff, 0xff, 0x17, 0xc0, 0x03, 0x5f, 0xd6,
+    ];
+    assert_eq!(rt; code.bytes.as_slice(), words.as_slice());
+    Ok(())
+}
+
+#[test]
+fn refusals(rt: HostRuntime) -> Result<(), Fail> {
+    let alloc = rt.alloc();
+    assert_eq!(rt;
+        assembled(alloc, &[jump(7), jump(8)]).err(),
+        Some(EmitError::UnboundLabel(MachLabel(7)))
+    );
+    assert_eq!(rt;
+        assembled(alloc, &[jump(7), bind(1), bind(1)]).err(),
+        Some(EmitError::LabelBoundTwice(MachLabel(1)))
+    );
+    assert_eq!(rt; LabelUse::Branch26.read(0x17ff_ffff), -4);
+    assert_eq!(rt; LabelUse::Branch26.patch_size(), LabelUse::ALIGN);
+    Ok(())
+}
