@@ -1,0 +1,9 @@
+pub mod Decimals
+pub mod Splits
+pub mod Entries
+pub mod Sequences
+pub mod Lines
+pub mod Ending
+pub mod Numbered
+pub mod Parsing
+pub mod Taking

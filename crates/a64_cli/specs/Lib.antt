@@ -1,0 +1,12 @@
+pub mod Reads
+pub mod Fields
+pub mod Plain
+pub mod Words
+pub mod ReadsAs
+pub mod FileText
+pub mod AddsLine
+pub mod Reading
+pub mod Report
+pub mod Streams
+pub mod Run
+pub mod Stages

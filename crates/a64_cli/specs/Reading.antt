@@ -1,0 +1,31 @@
+-- What reading a file answers.
+use Rattle.std.specs.Prelude.{◌≡◌, ℕ, List, Result, Ok, Err, IfOk, IfErr}
+use Rattle.a64_cli.specs.declared.entry.Entry.{Entry}
+use Rattle.a64_cli.specs.declared.file.File.{File}
+use Rattle.a64_cli.specs.declared.file.FileError.{FileError}
+use Rattle.a64_cli.specs.declared.file.FileError.TheVariants.{BadLine, OutOfMemory}
+use Rattle.a64_cli.specs.FileText.{AreEntries, Holds, IsFile, IsFirstBad, lines_of}
+
+-- a fact about the line of a bad line
+abbrev pub IfBadLine : (ℕ → Type 0) → FileError → Type 0
+IfBadLine P (BadLine n) = P n
+IfBadLine P OutOfMemory = Unit {0}
+
+-- the answer is the file of these entries, unless memory ran out
+abbrev pub Gives : List Entry → Result File FileError → Type 0
+Gives es (Ok file) = Holds file es
+Gives es (Err (BadLine n)) = ⊥
+Gives es (Err OutOfMemory) = Unit {0}
+
+-- the answer is that line n is bad, unless memory ran out
+abbrev pub GivesBad : ℕ → Result File FileError → Type 0
+GivesBad n (Ok file) = ⊥
+GivesBad n (Err (BadLine m)) = m ≡ n
+GivesBad n (Err OutOfMemory) = Unit {0}
+
+-- what reading answers, in both directions
+pub record Answers (bytes : List ℕ) (result : Result File FileError) : Type 0 where
+  pub ok : IfOk result (λ file. IsFile bytes file)
+  pub bad : IfErr result (IfBadLine (IsFirstBad bytes))
+  pub only_ok : (es : List Entry) → AreEntries (lines_of bytes) es → Gives es result
+  pub only_bad : (n : ℕ) → IsFirstBad bytes n → GivesBad n result

@@ -1,0 +1,113 @@
+-- What the parts of a run answer.
+use Rattle.std.specs.Prelude.{ℕ, ◌≡◌, ◌<◌, ◌≤◌, ◌^◌, ◌++◌, List, [], take, drop, length, Option, None, Some, IfSome, IsSomeAnd, Result, IfOk, IfErr, ⊤}
+use Rattle.std.specs.Fmt.{decimal}
+use Rattle.a64_emit.specs.declared.code.Code.{Code}
+use Rattle.a64_cli.specs.declared.file.File.{File}
+use Rattle.a64_cli.specs.declared.ran.Fault.{Fault}
+use Rattle.a64_cli.specs.declared.ran.Fault.TheVariants as faults
+use Rattle.a64_cli.specs.FileText.{IsFile, IsFirstBad}
+use Rattle.a64_cli.specs.Report.{report_of}
+use Rattle.a64_cli.specs.Streams.{HasFailed, Takes, TakesPart}
+use Rattle.a64_cli.specs.Run.{limit, Held, IsDueAnswer, IsCodeOf, file_fault}
+
+-- these bytes were taken from the front of a text, and what follows them is left
+pub record HasTaken (text bytes : List ℕ) (left : Option (List ℕ)) : Type 0 where
+  pub front : bytes ≡ take (length bytes) text
+  pub rest : left ≡ Some (drop (length bytes) text)
+
+-- the first bytes of a text were read, up to one past the limit
+pub record HasRead (text bytes : List ℕ) (left : Option (List ℕ)) : Type 0 where
+  pub taken : HasTaken text bytes left
+  pub ended : length bytes ≤ limit → text ≡ bytes
+
+-- some more bytes, at most `most`, were taken from the front of a source
+abbrev pub TakesAtMost : ℕ → Option (List ℕ) → Option (List ℕ) → Type 0
+TakesAtMost most left left' = IfSome left (λ text. (n : ℕ) × (n ≤ most) × (left' ≡ Some (drop n text)))
+
+-- a read took n bytes and put them behind those before; n is 0 exactly at the end
+pub record TakesBehind (text : List ℕ) (n : ℕ) (before bytes : List ℕ) (left : Option (List ℕ)) : Type 0 where
+  pub moved : bytes ≡ before ++ take n text
+  pub rest : left ≡ Some (drop n text)
+  pub ended : n ≡ 0 → text ≡ []
+
+-- all bytes of a source were taken, and they are no more than the limit
+pub record IsWhole (left left' : Option (List ℕ)) (bytes : List ℕ) : Type 0 where
+  pub same : IfSome left (λ text. text ≡ bytes)
+  pub short : length bytes ≤ limit
+  pub nothing_left : IfSome left (λ text. left' ≡ Some [])
+
+-- why bytes were not read: a failed read, or want of memory
+abbrev pub IsReadFault : ℕ → ℕ → Fault → Type 0
+IsReadFault old new faults.Read = HasFailed old new
+IsReadFault old new faults.Memory = ⊤
+IsReadFault old new _ = ⊥
+
+-- why a source was not read to its end
+abbrev pub IsTextFault : ℕ → ℕ → Fault → Type 0
+IsTextFault old new faults.Read = HasFailed old new
+IsTextFault old new faults.Memory = ⊤
+IsTextFault old new faults.TooLong = ⊤
+IsTextFault old new _ = ⊥
+
+-- why no file was read
+abbrev pub IsInputFault : ℕ → ℕ → Fault → Type 0
+IsInputFault old new faults.Read = HasFailed old new
+IsInputFault old new faults.Memory = ⊤
+IsInputFault old new faults.TooLong = ⊤
+IsInputFault old new (faults.Line n) = ⊤
+IsInputFault old new _ = ⊥
+
+-- a text is a file with the faults of this one, and nothing else is due
+pub record IsFileOf (text : List ℕ) (file : File) : Type 0 where
+  pub short : length text ≤ limit
+  pub good : (n : ℕ) → IsFirstBad text n → ⊥
+  pub same : (other : File) → IsFile text other → file_fault other ≡ file_fault file
+
+-- why bytes are no file
+abbrev pub IsLineFault : Fault → Type 0
+IsLineFault (faults.Line n) = ⊤
+IsLineFault faults.Memory = ⊤
+IsLineFault _ = ⊥
+
+-- what is answered for the bytes of a file
+pub record IsParsed (bytes : List ℕ) (result : Result File Fault) : Type 0 where
+  pub ok : IfOk result (IsFile bytes)
+  pub items : IfOk result (λ file. length file.items.items < 2 ^ 32)
+  pub held : IfErr result (λ fault. Held (Some bytes) (Some fault))
+  pub cause : IfErr result IsLineFault
+  pub due_ok : IfOk result (IsFileOf bytes)
+  pub due_err : IfErr result (λ fault. IsDueAnswer bytes (Some fault))
+
+-- why a file has no report
+abbrev pub IsAssemblyFault : File → Fault → Type 0
+IsAssemblyFault file (faults.Assembly error) = file_fault file ≡ Some error
+IsAssemblyFault file faults.Memory = ⊤
+IsAssemblyFault file _ = ⊥
+
+-- code of a file, and its report
+pub record IsReported (file : File) (code : Code) (bytes : List ℕ) : Type 0 where
+  pub assembled : IsCodeOf file code
+  pub report : bytes ≡ report_of code
+
+module _ (taken taken' : Option (List ℕ)) (file : File) where
+  -- the report of the file's code was written
+  pub record IsWritten (code : Code) : Type 0 where
+    pub assembled : IsCodeOf file code
+    pub report : Takes taken taken' (report_of code)
+
+  -- the report of the file's code was written in part
+  pub record IsPartWritten (code : Code) : Type 0 where
+    pub assembled : IsCodeOf file code
+    pub report : TakesPart taken taken' (report_of code)
+
+  -- how the run of a file ends: what the sink has taken, and the code that is kept
+  abbrev pub Ends : Option Fault → Option Code → Type 0
+  Ends None code = IsSomeAnd code IsWritten
+  Ends (Some faults.Write) code = IsSomeAnd code IsPartWritten
+  Ends (Some (faults.Assembly error)) code = (file_fault file ≡ Some error) × (code ≡ None) × (taken' ≡ taken)
+  Ends (Some faults.Memory) code = (code ≡ None) × (taken' ≡ taken)
+  Ends (Some _) code = ⊥
+
+-- a text, a number, and a text
+abbrev pub numbered_text : List ℕ → ℕ → List ℕ → List ℕ
+numbered_text before number after = before ++ decimal number ++ after

@@ -1,0 +1,69 @@
+-- The line of an entry: its name and its fields, with one space between.
+use Rattle.std.specs.Prelude.{ℕ, ◌≡◌, List, [], ◌∷◌, Option, None, codes}
+use Rattle.std.specs.List.{join_with_byte}
+use Rattle.a64_base.specs.declared.entity.UserStackMap.{UserStackMap}
+use Rattle.a64_inst.specs.declared.inst.Inst.{Inst}
+use Rattle.a64_inst.specs.declared.inst.Inst.TheVariants as insts
+use Rattle.a64_emit.specs.declared.item.Item.{Item}
+use Rattle.a64_emit.specs.declared.item.Item.TheVariants.{Bind, Emit}
+use Rattle.a64_cli.specs.declared.entry.Entry.{Entry}
+use Rattle.a64_cli.specs.declared.entry.Entry.TheVariants as entries
+use Rattle.a64_cli.specs.declared.name.Name.{Name}
+use Rattle.a64_cli.specs.declared.name.Name.TheVariants as names
+use Rattle.a64_cli.specs.Fields.{label_text, IsLabel, target_text, IsTarget}
+
+-- the names of entries
+abbrev pub name_text : Name → List ℕ
+name_text names.Nop4 = codes "Nop4"
+name_text names.Ret = codes "Ret"
+name_text names.Jump = codes "Jump"
+name_text names.Bind = codes "bind"
+
+abbrev pub inst_name : Inst → Name
+inst_name insts.Nop4 = names.Nop4
+inst_name insts.Ret = names.Ret
+inst_name (insts.Jump dest) = names.Jump
+
+abbrev pub item_name : Item → Name
+item_name (Bind label) = names.Bind
+item_name (Emit inst map) = inst_name inst
+
+abbrev pub name_of : Entry → Name
+name_of (entries.Item item) = item_name item
+
+-- the fields of an entry
+abbrev pub inst_fields : Inst → List (List ℕ)
+inst_fields insts.Nop4 = []
+inst_fields insts.Ret = []
+inst_fields (insts.Jump dest) = target_text dest ∷ []
+
+abbrev pub item_fields : Item → List (List ℕ)
+item_fields (Bind label) = label_text label ∷ []
+item_fields (Emit inst map) = inst_fields inst
+
+abbrev pub fields_of : Entry → List (List ℕ)
+fields_of (entries.Item item) = item_fields item
+
+-- an entry whose fields have texts
+abbrev pub IsInst : Inst → Type 0
+IsInst insts.Nop4 = Unit {0}
+IsInst insts.Ret = Unit {0}
+IsInst (insts.Jump dest) = IsTarget dest
+
+-- no instruction so far has a map
+abbrev pub IsMap : Inst → Option UserStackMap → Type 0
+IsMap inst map = map ≡ None
+
+abbrev pub IsItem : Item → Type 0
+IsItem (Bind label) = IsLabel label
+IsItem (Emit inst map) = IsInst inst × IsMap inst map
+
+abbrev pub IsEntry : Entry → Type 0
+IsEntry (entries.Item item) = IsItem item
+
+-- the words of an entry, and its line
+abbrev pub words_of : Entry → List (List ℕ)
+words_of entry = name_text (name_of entry) ∷ fields_of entry
+
+abbrev pub line_of : Entry → List ℕ
+line_of entry = join_with_byte 32 (words_of entry)

@@ -1,0 +1,40 @@
+//! Assembles a file, and makes the report of its code.
+
+ghost use Rattle.std.specs.Prelude.{◌^◌, ◌<◌, length, IfOk, IfErr};
+ghost use Rattle.a64_cli.specs.Stages.{IsReported, IsAssemblyFault};
+
+use crate::file::File;
+use crate::ran::Fault;
+use crate::report::report;
+use a64_buffer::ForceVeneers;
+use a64_emit::{Code, EmitError, assemble};
+use std::alloc::Global;
+
+/// The code of a file, and its report.
+///
+/// # Errors
+///
+/// The first fault of the file, or want of memory.
+pub fn assemble_file(alloc: Global, file: &File) -> Result<(Code, Vec<u8>), Fault>
+    requires { length file.now.items.items < 2 ^ 32 }
+    ensures ok { IfOk result (λ made. IsReported file.now made.0 made.1.items) }
+    ensures err { IfErr result (IsAssemblyFault file.now) }
+{
+    let force = ForceVeneers::No;
+    let code = match assemble(
+        alloc,
+        &file.items,
+        &file.constants,
+        &file.info,
+        &file.frame,
+        force,
+    ) {
+        Ok(code) => code,
+        Err(EmitError::OutOfMemory) => return Err(Fault::Memory),
+        Err(error) => return Err(Fault::Assembly(error)),
+    };
+    match report(alloc, &code) {
+        Ok(bytes) => Ok((code, bytes)),
+        Err(_) => Err(Fault::Memory),
+    }
+}

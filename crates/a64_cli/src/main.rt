@@ -1,0 +1,58 @@
+//! The program `asm`: reads a file of items from the standard input, and writes the report of its
+//! code to the standard output.
+#![tactic(auto)]
+
+mod adapter;
+mod assembling;
+mod command;
+mod entry;
+mod file;
+mod input;
+mod memory;
+mod message;
+mod name;
+mod output;
+mod ran;
+mod read;
+mod report;
+mod run;
+mod stream;
+#[cfg(test)]
+mod tests;
+mod text;
+#[cfg(test)]
+mod whole_run_tests;
+
+use adapter::{ReadSource, WriteSink};
+use run::run;
+use std::alloc::AllocError;
+use std::env;
+use std::io::ErrorKind;
+use std::process::ExitCode;
+
+/// The status where there is no memory for the words.
+const NO_MEMORY: u8 = 5;
+
+/// The words behind the program's name. Where they are no text, one word that no command has stands
+/// for them.
+fn words_of(rt: &HostRuntime) -> Result<Vec<String>, AllocError> {
+    match env::args(rt) {
+        Ok(words) => words.skip(1).collect(rt.alloc()),
+        Err(error) if error.kind() == ErrorKind::InvalidData => {
+            let word = String::from_str(rt.alloc(), "\u{fffd}")?;
+            Ok(Vec::from_array(rt.alloc(), [word])?)
+        }
+        Err(_) => Err(AllocError),
+    }
+}
+
+fn main(rt: HostRuntime) -> ExitCode {
+    let Ok(words) = words_of(&rt) else {
+        return ExitCode::from(NO_MEMORY);
+    };
+    let mut source = ReadSource::new(rt.stdin());
+    let mut sink = WriteSink::new(rt.stdout());
+    let mut errs = WriteSink::new(rt.stderr());
+    let ran = run(rt.alloc(), &words, &mut source, &mut sink, &mut errs);
+    ExitCode::from(ran.status)
+}

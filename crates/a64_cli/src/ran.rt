@@ -1,0 +1,55 @@
+//! How a run ended.
+
+ghost use Rattle.std.specs.Prelude.{◌≡◌, Some};
+ghost use Rattle.a64_cli.specs.Run.{status_of};
+
+use crate::file::File;
+use a64_emit::{Code, EmitError};
+
+/// Why a run did not end with status 0.
+#[derive(Debug, Drop)]
+pub enum Fault {
+    /// The words are no command: status 2.
+    Usage,
+    /// A read failed: status 3.
+    Read,
+    /// The source holds more than 16,777,216 bytes: status 1.
+    TooLong,
+    /// The line of this number, counted from 1, is the first that is no entry: status 1.
+    Line(u64),
+    /// The items are refused: status 1.
+    Assembly(EmitError),
+    /// A write failed: status 4.
+    Write,
+    /// Want of memory: status 5.
+    Memory,
+}
+
+impl Fault {
+    /// The status with which the program ends.
+    pub fn status(&self) -> u8
+        ensures { result ≡ status_of (Some self.now) }
+    {
+        match self {
+            Fault::TooLong | Fault::Line(_) | Fault::Assembly(_) => 1,
+            Fault::Usage => 2,
+            Fault::Read => 3,
+            Fault::Write => 4,
+            Fault::Memory => 5,
+        }
+    }
+}
+
+/// How a run ended, and what is kept of it.
+#[derive(Drop)]
+pub struct Ran {
+    /// The status: 0 done, 1 refused input, 2 other words, 3 a failed read, 4 a failed write, 5 want
+    /// of memory.
+    pub status: u8,
+    /// The file that was read.
+    pub file: Option<File>,
+    /// The code that was assembled.
+    pub code: Option<Code>,
+    /// Why the status is not 0.
+    pub fault: Option<Fault>,
+}

@@ -1,0 +1,163 @@
+//! Reads files.
+
+ghost use Rattle.std.specs.Prelude.{◌≡◌, [], IfOk, OnOk};
+ghost use Rattle.a64_cli.specs.FileText.{Holds};
+ghost use Rattle.a64_cli.specs.FileText as FileText;
+ghost use Rattle.a64_cli.specs.AddsLine.{Adds, AddsLine};
+ghost use Rattle.a64_cli.specs.Reading.{Answers};
+
+mod decimal;
+mod entry;
+mod field;
+mod label;
+mod line;
+mod name;
+mod split;
+
+use crate::entry::Entry;
+use crate::file::{File, FileError};
+use crate::read::line::read_line;
+use crate::read::split::cut;
+use a64_buffer::Constants;
+use a64_inst::{EmitFlags, EmitInfo, FrameLayout};
+use a64_list::ListVec;
+use std::alloc::{AllocError, Global};
+
+/// The file that says nothing. It takes no memory.
+fn empty_file(alloc: Global) -> File
+    ensures { Holds result [] }
+{
+    File {
+        items: Vec::new(alloc),
+        constants: Constants::new(alloc),
+        frame: FrameLayout {
+            setup_area_size: 0,
+            tail_args_size: 0,
+            clobber_size: 0,
+            fixed_frame_storage_size: 0,
+            outgoing_args_size: 0,
+            restore: ListVec::new(alloc),
+        },
+        info: EmitInfo::new(EmitFlags {
+            enable_probestack: false,
+            enable_table_access_spectre_mitigation: false,
+            use_csdb: false,
+        }),
+    }
+}
+
+/// Whether the line means nothing.
+fn is_blank(line: &[u8]) -> bool
+    ensures { result ≡ FileText.is_blank line.now }
+{
+    match line {
+        [] => true,
+        [first, ..] => *first == b';',
+    }
+}
+
+/// Adds what the entry says to the file.
+fn add_entry(file: &mut File, entry: Entry) -> Result<(), AllocError>
+    ensures { OnOk result (Adds file.old file.new entry) }
+{
+    match entry {
+        Entry::Item(item) => {
+            file.items.push(item)?;
+            Ok(())
+        }
+    }
+}
+
+/// Takes what the line says into the file. False: it is no entry that may stand there.
+fn add_line(file: &mut File, line: &[u8]) -> Result<bool, AllocError>
+    ensures { IfOk result (AddsLine file.old file.new line.now) }
+{
+    match read_line(line) {
+        None => Ok(false),
+        Some(entry) => {
+            add_entry(file, entry)?;
+            Ok(true)
+        }
+    }
+}
+
+/// The file that the bytes are.
+///
+/// # Errors
+///
+/// The number of the first line that is no entry, or want of memory.
+pub fn read_file(alloc: Global, bytes: &[u8]) -> Result<File, FileError>
+    ensures { Answers bytes.now result }
+{
+    let mut file = empty_file(alloc);
+    let mut number: u64 = 0;
+    let mut rest = Some(bytes);
+    while let Some(text) = rest {
+        let (line, after) = cut(text, b'\n');
+        number += 1;
+        if !is_blank(line) {
+            let added = add_line(&mut file, line)?;
+            if !added {
+                return Err(FileError::BadLine(number));
+            }
+        }
+        rest = after;
+    }
+    Ok(file)
+}
+
+#[cfg(test)]
+mod tests {
+    use super::*;
+    use std::test::Fail;
+
+    #[test]
+    fn takes_entries(rt: HostRuntime) -> Result<(), Fail> {
+        for (text, items) in [
+            ("", 0),
+            ("\n", 0),
+            ("; x", 0),
+            ("Nop4", 1),
+            ("Nop4\n", 1),
+            ("Ret\n", 1),
+            ("Jump L4294967295\n", 1),
+            ("bind L0\n", 1),
+            ("; x\n\nbind L7\n;Nop5\nNop4\n\nJump L7\nRet", 4),
+        ] {
+            let file = read_file(rt.alloc(), text.as_bytes())?;
+            assert_eq!(rt; file.items.len(), items, "{text:?}");
+        }
+        Ok(())
+    }
+
+    #[test]
+    fn reports_the_first_bad_line(rt: HostRuntime) {
+        for (text, line) in [
+            ("Nop4 x\n", 1),
+            ("Nop4 \n", 1),
+            ("Nop4\r\n", 1),
+            (" Nop4\n", 1),
+            (" ; x\n", 1),
+            ("nop4\n", 1),
+            ("Jump\n", 1),
+            ("Jump L01\n", 1),
+            ("Jump L4294967296\n", 1),
+            ("Jump L\n", 1),
+            ("Jump l1\n", 1),
+            ("Jump 1\n", 1),
+            ("Jump  L1\n", 1),
+            ("Jump L1 L2\n", 1),
+            ("jump L1\n", 1),
+            ("bind\n", 1),
+            ("Ret 1\n", 1),
+            ("Ret 1 2 3 4 5 6 7 8 9 10 11 12\n", 1),
+            ("; x\n\nNop4\nNop4 x", 4),
+            ("Nop4\nNop5\nNop6\n", 2),
+        ] {
+            match read_file(rt.alloc(), text.as_bytes()) {
+                Err(FileError::BadLine(number)) => assert_eq!(rt; number, line, "{text:?}"),
+                _ => assert!(rt; false, "{text:?}"),
+            }
+        }
+    }
+}

@@ -1,0 +1,38 @@
+//! Reads decimal numbers.
+
+ghost use Rattle.std.specs.Fmt.{decimal};
+ghost use Rattle.a64_cli.specs.Reads.{Reads, IsU32, IsU64};
+
+/// The number below 2^64 whose decimal text the word is. No text has a sign, or a needless `0` at
+/// its front.
+pub fn read_u64(word: &[u8]) -> Option<u64>
+    ensures { Reads IsU64 decimal word.now result }
+{
+    if word.is_empty() || word.len() > 20 || (word[0] == b'0' && word.len() > 1) {
+        return None;
+    }
+    let mut value: u64 = 0;
+    for byte in word {
+        let byte = *byte;
+        if byte < b'0' || byte > b'9' {
+            return None;
+        }
+        let digit = (byte - b'0') as u64;
+        if value > (u64::MAX - digit) / 10 {
+            return None;
+        }
+        value = value * 10 + digit;
+    }
+    Some(value)
+}
+
+/// The number below 2^32 whose decimal text the word is.
+pub fn read_u32(word: &[u8]) -> Option<u32>
+    ensures { Reads IsU32 decimal word.now result }
+{
+    let value = read_u64(word)?;
+    if value > u32::MAX as u64 {
+        return None;
+    }
+    Some(value as u32)
+}

@@ -1,0 +1,69 @@
+//! Reads the fields of entries, by a function for each name.
+
+ghost use Rattle.std.specs.Prelude.{◌≡◌, map};
+ghost use Rattle.a64_cli.specs.ReadsAs.{ReadsFields};
+ghost use Rattle.a64_cli.specs.ReadsAs as ReadsAs;
+
+use crate::entry::Entry;
+use crate::name::Name;
+use crate::read::field::one;
+use a64_base::{BranchTarget, MachLabel};
+use a64_emit::Item;
+use a64_inst::Inst;
+
+/// The entry that is an instruction without a map of the stack.
+fn emitted(inst: Inst) -> Entry
+    ensures { result ≡ ReadsAs.emitted inst }
+{
+    Entry::Item(Item::Emit { inst, map: None })
+}
+
+#[tactic(auto, unfolding(crate::specs::ReadsAs::ReadsFields))]
+fn nop4(words: &[&[u8]]) -> Option<Entry>
+    ensures { ReadsFields Name.Nop4 (map (λ w. w.now) words.now) result }
+{
+    if words.is_empty() {
+        Some(emitted(Inst::Nop4))
+    } else {
+        None
+    }
+}
+
+#[tactic(auto, unfolding(crate::specs::ReadsAs::ReadsFields))]
+fn ret(words: &[&[u8]]) -> Option<Entry>
+    ensures { ReadsFields Name.Ret (map (λ w. w.now) words.now) result }
+{
+    if words.is_empty() {
+        Some(emitted(Inst::Ret))
+    } else {
+        None
+    }
+}
+
+#[tactic(auto, unfolding(crate::specs::ReadsAs::ReadsFields))]
+fn jump(words: &[&[u8]]) -> Option<Entry>
+    ensures { ReadsFields Name.Jump (map (λ w. w.now) words.now) result }
+{
+    let dest = one::<BranchTarget>(words)?;
+    Some(emitted(Inst::Jump { dest }))
+}
+
+#[tactic(auto, unfolding(crate::specs::ReadsAs::ReadsFields))]
+fn bind(words: &[&[u8]]) -> Option<Entry>
+    ensures { ReadsFields Name.Bind (map (λ w. w.now) words.now) result }
+{
+    let label = one::<MachLabel>(words)?;
+    Some(Entry::Item(Item::Bind(label)))
+}
+
+/// The entry of this name with these fields.
+pub fn read_fields(name: Name, words: &[&[u8]]) -> Option<Entry>
+    ensures { ReadsFields name (map (λ w. w.now) words.now) result }
+{
+    match name {
+        Name::Nop4 => nop4(words),
+        Name::Ret => ret(words),
+        Name::Jump => jump(words),
+        Name::Bind => bind(words),
+    }
+}

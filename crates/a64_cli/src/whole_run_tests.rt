@@ -1,0 +1,73 @@
+//! Tests of runs that read a file and assemble it.
+
+use crate::memory::{MemSink, MemSource};
+use crate::run::run;
+use crate::tests::{empty_sink, source_of, words_from};
+use std::test::Fail;
+
+/// A file of four lines.
+const FILE: &[u8] = b"Jump L1\nNop4\nbind L1\nRet\n";
+
+/// The report of that file.
+const REPORT: &[u8] =
+    b"item 0 0\nitem 1 4\nitem 2 8\nitem 3 8\nlabel L1 8\npool 12\nword 0 14000002\nword 4 d503201f\nword 8 d65f03c0\n";
+
+#[test]
+fn files_give_their_reports(rt: HostRuntime) -> Result<(), Fail> {
+    let alloc = rt.alloc();
+    let words = words_from(alloc, ["asm"].as_slice())?;
+    let rows = [
+        (FILE, REPORT),
+        (b"".as_slice(), b"pool 0\n".as_slice()),
+        (b"; nothing\n\n".as_slice(), b"pool 0\n".as_slice()),
+    ];
+    for (file, report) in rows {
+        for at_most in [1, 3, usize::MAX] {
+            let bytes = Vec::from_slice(alloc, file)?;
+            let mut source = MemSource::new(bytes, at_most, Vec::new(alloc));
+            let mut sink = MemSink::new(alloc, 4096, at_most, Vec::new(alloc))?;
+            let mut errs = empty_sink(alloc)?;
+            let ran = run(alloc, &words, &mut source, &mut sink, &mut errs);
+            assert_eq!(rt; ran.status, 0);
+            assert_eq!(rt; sink.bytes(), report);
+            assert!(rt; errs.bytes().is_empty());
+        }
+    }
+    Ok(())
+}
+
+#[test]
+fn refused_files_give_their_lines(rt: HostRuntime) -> Result<(), Fail> {
+    let alloc = rt.alloc();
+    let rows = [
+        (b"Jump L7\n".as_slice(), b"label L7: not bound\n".as_slice()),
+        (
+            b"bind L1\nbind L1\n".as_slice(),
+            b"label L1: bound twice\n".as_slice(),
+        ),
+        (b"Nop4 x\n".as_slice(), b"line 1: not an entry\n".as_slice()),
+    ];
+    for (file, line) in rows {
+        let mut source = source_of(alloc, file)?;
+        let mut sink = empty_sink(alloc)?;
+        let mut errs = empty_sink(alloc)?;
+        let ran = run(alloc, &[], &mut source, &mut sink, &mut errs);
+        assert_eq!(rt; ran.status, 1);
+        assert!(rt; sink.bytes().is_empty());
+        assert_eq!(rt; errs.bytes(), line);
+    }
+    Ok(())
+}
+
+#[test]
+fn a_failed_write_ends_the_run(rt: HostRuntime) -> Result<(), Fail> {
+    let alloc = rt.alloc();
+    let mut source = source_of(alloc, FILE)?;
+    let mut sink = MemSink::new(alloc, 4096, 1, vec![in alloc; 11]?)?;
+    let mut errs = empty_sink(alloc)?;
+    let ran = run(alloc, &[], &mut source, &mut sink, &mut errs);
+    assert_eq!(rt; ran.status, 4);
+    assert_eq!(rt; sink.bytes(), b"item 0 0\ni".as_slice());
+    assert_eq!(rt; errs.bytes(), b"write fault\n".as_slice());
+    Ok(())
+}
