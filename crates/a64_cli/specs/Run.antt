@@ -1,5 +1,5 @@
 -- What a run of the program answers.
-use Rattle.std.specs.Prelude.{ℕ, ◌≡◌, ◌⊎◌, ◌<◌, ◌≤◌, ◌++◌, List, [], ◌∷◌, codes, drop, length, Option, None, Some, IfSome, IsSomeAnd, ⊤}
+use Rattle.std.specs.Prelude.{ℕ, ◌≡◌, ◌≢◌, ◌⊎◌, ◌<◌, ◌≤◌, ◌++◌, List, [], ◌∷◌, codes, drop, length, Option, None, Some, IfSome, IsSomeAnd, ⊤}
 use Rattle.std.specs.Fmt.{decimal}
 use Rattle.a64_emit.specs.declared.code.Code.{Code}
 use Rattle.a64_emit.specs.declared.error.EmitError.{EmitError}
@@ -109,6 +109,8 @@ module _ (left left' : Option (List ℕ)) (taken taken' : Option (List ℕ)) whe
   pub record IsRefused (error : EmitError) (file : File) : Type 0 where
     pub read : WasRead left left' file
     pub fault : file_fault file ≡ Some error
+    -- want of memory is an answer of its own
+    pub no_memory : error ≢ errors.OutOfMemory
 
   -- the file and the code that are kept at each answer
   abbrev pub Keeps : Option Fault → Option File → Option Code → Type 0

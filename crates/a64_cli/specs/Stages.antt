@@ -1,7 +1,8 @@
 -- What the parts of a run answer.
-use Rattle.std.specs.Prelude.{ℕ, ◌≡◌, ◌<◌, ◌≤◌, ◌^◌, ◌++◌, List, [], take, drop, length, Option, None, Some, IfSome, IsSomeAnd, Result, IfOk, IfErr, ⊤}
+use Rattle.std.specs.Prelude.{ℕ, ◌≡◌, ◌≢◌, ◌<◌, ◌≤◌, ◌^◌, ◌++◌, List, [], take, drop, length, Option, None, Some, IfSome, IsSomeAnd, Result, IfOk, IfErr, ⊤}
 use Rattle.std.specs.Fmt.{decimal}
 use Rattle.a64_emit.specs.declared.code.Code.{Code}
+use Rattle.a64_emit.specs.declared.error.EmitError.TheVariants as errors
 use Rattle.a64_cli.specs.declared.file.File.{File}
 use Rattle.a64_cli.specs.declared.ran.Fault.{Fault}
 use Rattle.a64_cli.specs.declared.ran.Fault.TheVariants as faults
@@ -80,7 +81,7 @@ pub record IsParsed (bytes : List ℕ) (result : Result File Fault) : Type 0 whe
 
 -- why a file has no report
 abbrev pub IsAssemblyFault : File → Fault → Type 0
-IsAssemblyFault file (faults.Assembly error) = file_fault file ≡ Some error
+IsAssemblyFault file (faults.Assembly error) = (file_fault file ≡ Some error) × (error ≢ errors.OutOfMemory)
 IsAssemblyFault file faults.Memory = ⊤
 IsAssemblyFault file _ = ⊥
 
@@ -104,7 +105,7 @@ module _ (taken taken' : Option (List ℕ)) (file : File) where
   abbrev pub Ends : Option Fault → Option Code → Type 0
   Ends None code = IsSomeAnd code IsWritten
   Ends (Some faults.Write) code = IsSomeAnd code IsPartWritten
-  Ends (Some (faults.Assembly error)) code = (file_fault file ≡ Some error) × (code ≡ None) × (taken' ≡ taken)
+  Ends (Some (faults.Assembly error)) code = (file_fault file ≡ Some error) × (error ≢ errors.OutOfMemory) × (code ≡ None) × (taken' ≡ taken)
   Ends (Some faults.Memory) code = (code ≡ None) × (taken' ≡ taken)
   Ends (Some _) code = ⊥
 
