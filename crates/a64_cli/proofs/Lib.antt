@@ -5,5 +5,5 @@ pub mod Sequences
 pub mod Lines
 pub mod Ending
 pub mod Numbered
-pub mod Parsing
+pub mod Inputs
 pub mod Taking

@@ -25,7 +25,7 @@ pub record HasRead (text bytes : List ℕ) (left : Option (List ℕ)) : Type 0 w
 abbrev pub TakesAtMost : ℕ → Option (List ℕ) → Option (List ℕ) → Type 0
 TakesAtMost most left left' = IfSome left (λ text. (n : ℕ) × (n ≤ most) × (left' ≡ Some (drop n text)))
 
--- a read took n bytes and put them behind those before; n is 0 exactly at the end
+-- a read took n bytes and put them behind those before; n is 0 only at the end
 pub record TakesBehind (text : List ℕ) (n : ℕ) (before bytes : List ℕ) (left : Option (List ℕ)) : Type 0 where
   pub moved : bytes ≡ before ++ take n text
   pub rest : left ≡ Some (drop n text)
@@ -58,7 +58,7 @@ IsInputFault old new faults.TooLong = ⊤
 IsInputFault old new (faults.Line n) = ⊤
 IsInputFault old new _ = ⊥
 
--- a text is a file with the faults of this one, and nothing else is due
+-- a text within the limit has no bad line, and is at most a file with the fault of this one
 pub record IsFileOf (text : List ℕ) (file : File) : Type 0 where
   pub short : length text ≤ limit
   pub good : (n : ℕ) → IsFirstBad text n → ⊥

@@ -6,20 +6,20 @@ mod adapter;
 mod assembling;
 mod command;
 mod entry;
+mod fault_lines;
 mod file;
 mod input;
 mod memory;
-mod message;
 mod name;
 mod output;
 mod ran;
 mod read;
 mod report;
+mod report_text;
 mod run;
 mod stream;
 #[cfg(test)]
 mod tests;
-mod text;
 #[cfg(test)]
 mod whole_run_tests;
 

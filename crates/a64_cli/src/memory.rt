@@ -1,6 +1,6 @@
 //! Sources and sinks in memory, for tests and for callers that have the bytes.
 
-ghost use Rattle.std.specs.Prelude.{◌≡◌, ℕ, ◌==◌, ◌+◌, ◌-◌, ◌^◌, ◌<◌, ◌≤◌, ◌||◌, min, if◌then◌else◌, List, [], ◌++◌, length, take, drop, Option, None, Some, IfOk, OnErr, is_err, is_ok};
+ghost use Rattle.std.specs.Prelude.{◌≡◌, ℕ, ◌==◌, ◌+◌, ◌-◌, ◌^◌, ◌<◌, ◌≤◌, ◌||◌, min, if◌then◌else◌, List, [], ◌++◌, length, take, drop, Option, None, Some, Ok, IfOk, OnErr, is_err, is_ok};
 ghost use Rattle.std.specs.List.{list_any};
 ghost use Rattle.std.specs.Vec.{vec_capacity};
 ghost use Rattle.a64_cli.specs.Streams.{HasFailed, TakesFront};
@@ -200,7 +200,11 @@ impl Source for SureSource {
 
     ghost faults = { λ _. 0 };
 
-    fn read(&mut self, buf: &mut [u8]) -> Result<usize, Failed> {
+    fn read(&mut self, buf: &mut [u8]) -> Result<usize, Failed>
+        requires { 0 < length buf.old }
+        ensures count { result ≡ Ok (min (length buf.old) (length (drop self.old.taken self.old.bytes.items))) }
+        ensures takes { IfOk result (λ n. TakesFront (drop self.old.taken self.old.bytes.items) n buf.new (Some (drop self.new.taken self.new.bytes.items))) }
+    {
         let n = move_front(&self.bytes, self.taken, buf.len(), buf);
         self.taken += n;
         Ok(n)
@@ -223,7 +227,10 @@ impl Sink for SureSink {
 
     ghost faults = { λ _. 0 };
 
-    fn write(&mut self, bytes: &[u8]) -> Result<usize, Failed> {
+    fn write(&mut self, bytes: &[u8]) -> Result<usize, Failed>
+        requires { 0 < length bytes.now }
+        ensures { result ≡ Ok (length bytes.now) }
+    {
         Ok(bytes.len())
     }
 }

@@ -4,7 +4,9 @@ ghost use Rattle.std.specs.Prelude.{◌≡◌, ℕ, ◌*◌, ◌+◌, ◌^◌, �
 ghost use Rattle.std.specs.List.{flat_map, enumerate_from};
 ghost use Rattle.a64_cli.specs.Report.{item_line, label_line, island_line, word_line, words_in, reloc_text, reloc_line, trap_line, call_line, patchable_line, map_line, report_of};
 
-use crate::text::{hex_digits, push_line_of_one, push_line_of_two, push_numbered, push_text};
+use crate::report_text::{
+    hex_digits, push_line_of_one, push_line_of_two, push_numbered, push_text,
+};
 use a64_base::{ExternalName, MachLabel, Reloc, TrapCode, UserStackMap};
 use a64_emit::Code;
 use std::alloc::{AllocError, Global};

@@ -10,9 +10,9 @@ ghost use Rattle.a64_cli.specs.Stages.{Ends};
 
 use crate::assembling::assemble_file;
 use crate::command::{Command, command_of};
+use crate::fault_lines::line_of_fault;
 use crate::file::File;
 use crate::input::read_input;
-use crate::message::line_of_fault;
 use crate::output::write_all;
 use crate::ran::{Fault, Ran};
 use crate::stream::{Failed, Sink, Source};

@@ -20,6 +20,10 @@ fn files_give_their_reports(rt: HostRuntime) -> Result<(), Fail> {
         (FILE, REPORT),
         (b"".as_slice(), b"pool 0\n".as_slice()),
         (b"; nothing\n\n".as_slice(), b"pool 0\n".as_slice()),
+        (
+            b"Nop4".as_slice(),
+            b"item 0 0\npool 4\nword 0 d503201f\n".as_slice(),
+        ),
     ];
     for (file, report) in rows {
         for at_most in [1, 3, usize::MAX] {
@@ -46,6 +50,18 @@ fn refused_files_give_their_lines(rt: HostRuntime) -> Result<(), Fail> {
             b"label L1: bound twice\n".as_slice(),
         ),
         (b"Nop4 x\n".as_slice(), b"line 1: not an entry\n".as_slice()),
+        (
+            b"Jump L01\n".as_slice(),
+            b"line 1: not an entry\n".as_slice(),
+        ),
+        (
+            b"Jump L4294967296\n".as_slice(),
+            b"line 1: not an entry\n".as_slice(),
+        ),
+        (
+            b"Ret\nNop4\r\nRet\r\n".as_slice(),
+            b"line 2: not an entry\n".as_slice(),
+        ),
     ];
     for (file, line) in rows {
         let mut source = source_of(alloc, file)?;
@@ -56,6 +72,60 @@ fn refused_files_give_their_lines(rt: HostRuntime) -> Result<(), Fail> {
         assert!(rt; sink.bytes().is_empty());
         assert_eq!(rt; errs.bytes(), line);
     }
+    Ok(())
+}
+
+/// Each read of a run over the file in pieces of 5 bytes: the five that give bytes, and the one
+/// that finds the end.
+#[test]
+fn each_read_may_fail(rt: HostRuntime) -> Result<(), Fail> {
+    let alloc = rt.alloc();
+    for call in 1_u64..=7 {
+        let bytes = Vec::from_slice(alloc, FILE)?;
+        let mut source = MemSource::new(bytes, 5, vec![in alloc; call]?);
+        let mut sink = empty_sink(alloc)?;
+        let mut errs = empty_sink(alloc)?;
+        let ran = run(alloc, &[], &mut source, &mut sink, &mut errs);
+        if call < 7 {
+            assert_eq!(rt; ran.status, 3);
+            assert!(rt; sink.bytes().is_empty());
+            assert_eq!(rt; errs.bytes(), b"read fault\n".as_slice());
+        } else {
+            assert_eq!(rt; ran.status, 0);
+            assert_eq!(rt; sink.bytes(), REPORT);
+        }
+    }
+    Ok(())
+}
+
+/// Each write of a run into a sink that takes one byte a call: the bytes before it are there, and
+/// no other.
+#[test]
+fn each_write_may_fail(rt: HostRuntime) -> Result<(), Fail> {
+    let alloc = rt.alloc();
+    for taken in 0..REPORT.len() {
+        let mut source = source_of(alloc, FILE)?;
+        let mut sink = MemSink::new(alloc, 4096, 1, vec![in alloc; taken as u64 + 1]?)?;
+        let mut errs = empty_sink(alloc)?;
+        let ran = run(alloc, &[], &mut source, &mut sink, &mut errs);
+        assert_eq!(rt; ran.status, 4);
+        assert_eq!(rt; sink.bytes(), &REPORT[..taken]);
+        assert_eq!(rt; errs.bytes(), b"write fault\n".as_slice());
+    }
+    Ok(())
+}
+
+/// A sink of errors that fails changes nothing else.
+#[test]
+fn a_failed_line_changes_nothing(rt: HostRuntime) -> Result<(), Fail> {
+    let alloc = rt.alloc();
+    let mut source = source_of(alloc, b"Jump L7\n")?;
+    let mut sink = empty_sink(alloc)?;
+    let mut errs = MemSink::new(alloc, 0, 1, Vec::new(alloc))?;
+    let ran = run(alloc, &[], &mut source, &mut sink, &mut errs);
+    assert_eq!(rt; ran.status, 1);
+    assert!(rt; sink.bytes().is_empty());
+    assert!(rt; errs.bytes().is_empty());
     Ok(())
 }
 

@@ -1,4 +1,4 @@
-use Rattle.a64_cli.proofs.Parsing.{parsed_file, parsed_line}
+use Rattle.a64_cli.proofs.Inputs.{parsed_file, parsed_line}
 use Rattle.a64_cli.proofs.input.parse.Goals as goal
 
 pub returns-in-Ok : goal.returns-in-Ok

@@ -1,4 +1,4 @@
-use Rattle.a64_cli.proofs.Parsing.{input_ok, input_held, input_due_ok, input_due_err, input_cause, text_due}
+use Rattle.a64_cli.proofs.Inputs.{input_ok, input_held, input_due_ok, input_due_err, input_cause, text_due}
 use Rattle.a64_cli.proofs.input.read_input.Goals as goal
 
 pub returns-in-Ok-clause-ok : goal.returns-in-Ok-clause-ok

@@ -1,4 +1,4 @@
-use Rattle.a64_cli.proofs.message.text_of_error.Goals as goal
+use Rattle.a64_cli.proofs.fault_lines.text_of_error.Goals as goal
 
 pub returns-in-UnknownConstant-clause-text : goal.returns-in-UnknownConstant-clause-text
 returns-in-UnknownConstant-clause-text c = rw c.in-UnknownConstant.is c.numbered-in-UnknownConstant.ensures.text
