@@ -1,0 +1,158 @@
+-- The limits of rows: what the values of a row's fields have to meet, besides their widths.
+use Rattle.std.specs.Prelude.{ℕ, ◌+◌, ◌-◌, ◌%◌, List, get_or, Bool, true, not, ◌&&◌, ◌||◌, ◌==◌, nat_lt, nat_le, if◌then◌else◌}
+use Rattle.a64_rows.specs.declared.row_table.Row.{Row}
+use Rattle.a64_rows.specs.declared.row_table.Row.TheVariants.{AddSubReg, LogicReg, DataProc2, LogicImm, Bitfield, Extract, DataProc1, MoveWide, BranchReg, LdStImm9, LdStUnsigned, LdStReg, LdLiteral, LdStPair, AtomicOp, Casp, FpOne, FpTwo, FpThree, FpCompare, FpSelect, FpImm, FpInt, VecPermute, VecShift, ScalarShift, VecCopy, VecTable}
+
+-- the value of the field with this number, from 0
+abbrev pub field : ℕ → List ℕ → ℕ
+field number fields = get_or fields number 0
+
+-- a bit's number or a shift is below 32 where the size flag sf is 0
+abbrev pub is_bit_number : ℕ → ℕ → Bool
+is_bit_number sf number = not (sf == 0) || nat_lt number 32
+
+-- opcodes of two sources: UDIV, SDIV, and from 8 on LSLV, LSRV, ASRV, RORV
+abbrev pub is_two_source : ℕ → Bool
+is_two_source opcode = opcode == 2 || opcode == 3 || (nat_le 8 opcode && nat_le opcode 11)
+
+-- opcodes of one source: RBIT, REV16, REV, CLZ and CLS, and 3 for REV of 64 bits alone
+abbrev pub is_one_source : ℕ → ℕ → Bool
+is_one_source sf opcode = nat_le opcode 5 && (not (opcode == 3) || sf == 1)
+
+-- a 16-bit part of a register: of 32 bits the lower two
+abbrev pub is_halfword : ℕ → ℕ → Bool
+is_halfword sf hw = not (sf == 0) || nat_le hw 1
+
+-- the triple of a run of k ones in elements of `size` bits, for a k from 1 to size - 1, rotated right by a number below
+-- the size: N is 1 exactly at size 64, immr is the rotation, and imms is k - 1 behind the prefix of the size
+abbrev pub is_run : ℕ → ℕ → ℕ → ℕ → ℕ → Bool
+is_run size prefix n immr imms =
+    n == (if size == 64 then 1 else 0) && nat_lt immr size && nat_le prefix imms && nat_lt imms (prefix + (size - 1))
+
+-- the triple of some bitmask immediate
+abbrev pub is_bitmask : ℕ → ℕ → ℕ → Bool
+is_bitmask n immr imms =
+    is_run 64 0b000000 n immr imms
+    || is_run 32 0b000000 n immr imms
+    || is_run 16 0b100000 n immr imms
+    || is_run 8 0b110000 n immr imms
+    || is_run 4 0b111000 n immr imms
+    || is_run 2 0b111100 n immr imms
+
+-- at 32 bits (sf 0) no element has 64 bits
+abbrev pub is_bitmask_of : ℕ → ℕ → ℕ → ℕ → Bool
+is_bitmask_of sf n immr imms = is_bitmask n immr imms && (not (sf == 0) || n == 0)
+
+-- the loads and stores of one register: of general registers (V 0) the store (opc 0) and the load (1) at each size, and
+-- the load that extends the sign to 64 bits (2) below 64 bits; of vector registers (V 1) the store (0) and the load (1)
+-- of 16, 32 and 64 bits, and at size 0 those of 128 bits (2 and 3)
+abbrev pub is_access : ℕ → ℕ → ℕ → Bool
+is_access size vector opc =
+    if vector == 0 then nat_le opc 1 || (opc == 2 && nat_le size 2) else (if size == 0 then nat_le 2 opc else nat_le opc 1)
+
+-- how an index is extended: UXTW, LSL, SXTW, SXTX
+abbrev pub is_index_extend : ℕ → Bool
+is_index_extend option = option == 2 || option == 3 || option == 6 || option == 7
+
+-- pairs of general registers (V 0) have 64 bits (opc 2), pairs of vector registers 64 or 128 (1 or 2)
+abbrev pub is_pair : ℕ → ℕ → Bool
+is_pair opc vector = opc == 2 || (opc == 1 && vector == 1)
+
+-- a swap (o3 1) has opc 0
+abbrev pub is_atomic : ℕ → ℕ → Bool
+is_atomic o3 opc = o3 == 0 || opc == 0
+
+abbrev pub is_even : ℕ → Bool
+is_even register = register % 2 == 0
+
+-- 32, 64 and 16 bits are 0, 1 and 3
+abbrev pub is_float_type : ℕ → Bool
+is_float_type ftype = not (ftype == 2)
+
+-- opcodes of one source: FMOV, FABS, FNEG, FSQRT, FCVT to 32 and to 64 bits, and from 8 on FRINTN, FRINTP, FRINTM, FRINTZ
+abbrev pub is_float_one : ℕ → Bool
+is_float_one opcode = nat_le opcode 5 || (nat_le 8 opcode && nat_le opcode 11)
+
+-- rmode and opcode of SCVTF, UCVTF, FCVTZS and FCVTZU, from and to floats of 32 and 64 bits, and of FMOV (7) into floats of
+-- 16 and 32 bits from 32 bits, and of 64 from 64
+abbrev pub is_float_conversion : ℕ → ℕ → ℕ → Bool
+is_float_conversion sf ftype opcode =
+    if opcode == 7
+    then (sf == 0 && ftype == 3) || (sf == 0 && ftype == 0) || (sf == 1 && ftype == 1)
+    else (opcode == 2 || opcode == 3 || opcode == 24 || opcode == 25) && nat_le ftype 1
+
+-- opcodes of UZP1, TRN1, ZIP1, UZP2, TRN2, ZIP2
+abbrev pub is_permute : ℕ → Bool
+is_permute opcode = opcode == 1 || opcode == 2 || opcode == 3 || opcode == 5 || opcode == 6 || opcode == 7
+
+-- opcodes of SSHR and USHR, of SHL and SLI, of SSHLL and USHLL
+abbrev pub is_vector_shift : ℕ → Bool
+is_vector_shift opcode = opcode == 0 || opcode == 10 || opcode == 20
+
+-- opcodes of USHR and SLI
+abbrev pub is_scalar_shift : ℕ → Bool
+is_scalar_shift opcode = opcode == 0 || opcode == 10
+
+-- imm4 of DUP (element), DUP (general), INS (general), SMOV, UMOV
+abbrev pub is_copy : ℕ → Bool
+is_copy imm4 = imm4 == 0 || imm4 == 1 || imm4 == 3 || imm4 == 5 || imm4 == 7
+
+-- the limits of a row, over the values of its fields in their order; a row that is not named has none
+abbrev pub limits_of : Row → List ℕ → Bool
+-- sf, op, S, shift, Rm, imm6, Rn, Rd
+limits_of AddSubReg fields = not (field 3 fields == 3) && is_bit_number (field 0 fields) (field 5 fields)
+-- sf, opc, shift, N, Rm, imm6, Rn, Rd
+limits_of LogicReg fields = is_bit_number (field 0 fields) (field 5 fields)
+-- sf, Rm, opcode, Rn, Rd
+limits_of DataProc2 fields = is_two_source (field 2 fields)
+-- sf, opc, N, immr, imms, Rn, Rd
+limits_of LogicImm fields = is_bitmask_of (field 0 fields) (field 2 fields) (field 3 fields) (field 4 fields)
+-- sf, opc, immr, imms, Rn, Rd
+limits_of Bitfield fields = not (field 1 fields == 3) && is_bit_number (field 0 fields) (field 2 fields) && is_bit_number (field 0 fields) (field 3 fields)
+-- sf, Rm, imms, Rn, Rd
+limits_of Extract fields = is_bit_number (field 0 fields) (field 2 fields)
+-- sf, opcode, Rn, Rd
+limits_of DataProc1 fields = is_one_source (field 0 fields) (field 1 fields)
+-- sf, opc, hw, imm16, Rd
+limits_of MoveWide fields = not (field 1 fields == 1) && is_halfword (field 0 fields) (field 2 fields)
+-- opc (lowest bits), Rn
+limits_of BranchReg fields = nat_le (field 0 fields) 2
+-- size, V, opc, imm9, mode (bits 11 to 10), Rn, Rt
+limits_of LdStImm9 fields = is_access (field 0 fields) (field 1 fields) (field 2 fields) && not (field 4 fields == 2)
+-- size, V, opc, imm12, Rn, Rt
+limits_of LdStUnsigned fields = is_access (field 0 fields) (field 1 fields) (field 2 fields)
+-- size, V, opc, Rm, option, S, Rn, Rt
+limits_of LdStReg fields = is_access (field 0 fields) (field 1 fields) (field 2 fields) && is_index_extend (field 4 fields)
+-- opc, V, imm19, Rt
+limits_of LdLiteral fields = nat_le (field 0 fields) 2
+-- opc, V, index (bits 24 to 23), L, imm7, Rt2, Rn, Rt
+limits_of LdStPair fields = not (field 2 fields == 0) && is_pair (field 0 fields) (field 1 fields)
+-- size, Rs, o3, opc, Rn, Rt
+limits_of AtomicOp fields = is_atomic (field 2 fields) (field 3 fields)
+-- Rs, Rn, Rt
+limits_of Casp fields = is_even (field 0 fields) && is_even (field 2 fields)
+-- ftype, opcode, Rn, Rd
+limits_of FpOne fields = is_float_type (field 0 fields) && is_float_one (field 1 fields)
+-- ftype, Rm, opcode, Rn, Rd
+limits_of FpTwo fields = is_float_type (field 0 fields) && nat_le (field 2 fields) 5
+-- ftype, o1, Rm, o0, Ra, Rn, Rd
+limits_of FpThree fields = is_float_type (field 0 fields)
+-- ftype, Rm, Rn
+limits_of FpCompare fields = is_float_type (field 0 fields)
+-- ftype, Rm, cond, Rn, Rd
+limits_of FpSelect fields = is_float_type (field 0 fields)
+-- ftype, imm8, Rd
+limits_of FpImm fields = is_float_type (field 0 fields)
+-- sf, ftype, rmode and opcode, Rn, Rd
+limits_of FpInt fields = is_float_conversion (field 0 fields) (field 1 fields) (field 2 fields)
+-- size, Rm, opcode, Rn, Rd
+limits_of VecPermute fields = is_permute (field 2 fields)
+-- Q, U, immh and immb, opcode, Rn, Rd
+limits_of VecShift fields = nat_le 8 (field 2 fields) && is_vector_shift (field 3 fields)
+-- immh and immb, opcode, Rn, Rd
+limits_of ScalarShift fields = is_scalar_shift (field 1 fields)
+-- Q, imm5, imm4, Rn, Rd
+limits_of VecCopy fields = is_copy (field 2 fields)
+-- Rm, len, op, Rn, Rd
+limits_of VecTable fields = nat_le (field 1 fields) 1
+limits_of _ _ = true

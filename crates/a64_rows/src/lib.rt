@@ -1,0 +1,15 @@
+//! The words of AArch64 instructions: a table of rows, the word of a row with values for its fields, and the row and the
+//! values of a word.
+#![tactic(auto)]
+
+mod decoder;
+mod limits;
+mod row_table;
+#[cfg(test)]
+mod tests;
+mod words;
+
+pub use decoder::decode_word;
+pub use limits::meets;
+pub use row_table::{Row, Slot, fixed, slots};
+pub use words::{Form, word_of};
