@@ -1,11 +1,11 @@
 -- The labels that items bind and use, one item after another.
-use Rattle.std.proofs.Common.{ℕ, ◌≡◌, ◌+◌, ◌<◌, ◌≤◌, Bool, true, false, cond, not, List, [], ◌∷◌, ◌++◌, length, get_or, take, drop, map, suc, zero, option_map, Option, None, Some, refl, sym, ap, ◌∙◌, subst, arith, eqb, nat_cmp, append_assoc}
+use Rattle.std.proofs.Common.{ℕ, ◌≡◌, ◌+◌, ◌<◌, ◌≤◌, Bool, true, false, cond, not, List, [], ◌∷◌, ◌++◌, length, get_or, take, drop, suc, zero, option_map, Option, None, Some, refl, sym, ap, ◌∙◌, arith, eqb, nat_cmp}
 use Rattle.std.specs.Prelude.{◌||◌}
 use Rattle.std.specs.Cmp.{unsigned_tied}
-use Rattle.std.specs.Ordering.{eq_by_cmp, is_eq}
+use Rattle.std.specs.Ordering.{eq_by_cmp}
 use Rattle.std.specs.BTreeMap.{is_at}
 use Rattle.std.specs.BTreeSet.{BTreeSet, contains, Updates, IsEmpty}
-use Rattle.std.specs.List.{filter_map, flat_map, list_any, find}
+use Rattle.std.specs.List.{filter_map, list_any}
 use Rattle.std.specs.Option.{option_or, option_to_list}
 use Rattle.a64_base.specs.Target.{label_of}
 use Rattle.a64_base.specs.declared.target.BranchTarget.{BranchTarget}
@@ -13,18 +13,14 @@ use Rattle.a64_base.specs.declared.target.BranchTarget.TheVariants as branch_tar
 use Rattle.std.proofs.lemmas.List.{take_more, drop_more, take_all, append-nil}
 use Rattle.std.proofs.lemmas.List.Elements.{filter_map-append}
 use Rattle.std.proofs.lemmas.List.Folds.{list_any-append, find-append}
-use Rattle.std.proofs.lemmas.List.Concat.{flat_map-append}
 use Rattle.a64_base.specs.declared.entity.MachLabel.{MachLabel}
-use Rattle.a64_base.specs.declared.entity.UserStackMap.{UserStackMap}
 use Rattle.a64_inst.specs.declared.emission.EmitFlags.{EmitFlags}
 use Rattle.a64_inst.specs.declared.frame.FrameLayout.{FrameLayout}
-use Rattle.a64_inst.specs.declared.inst.Inst.{Inst}
 use Rattle.a64_emit.specs.declared.item.Item.{Item}
-use Rattle.a64_emit.specs.declared.item.Item.TheVariants.{Bind, Emit}
-use Rattle.a64_emit.specs.declared.error.EmitError.{EmitError}
-use Rattle.a64_emit.specs.declared.error.EmitError.TheVariants.{LabelBoundTwice, UnboundLabel}
-use Rattle.a64_emit.specs.Cells.{Cell, cells_of, all_cells, inst_cells, jump_cells}
-use Rattle.a64_emit.specs.Faults.{binding_of, bindings, used_label, is_among, first_repeat, HasLabels, first_missing, second_binding, unbound_use, used_labels}
+use Rattle.a64_emit.specs.declared.item.Item.TheVariants.{Bind}
+use Rattle.a64_emit.specs.declared.error.EmitError.TheVariants.{LabelBoundTwice}
+use Rattle.a64_emit.specs.Cells.{cells_of, all_cells, jump_cells}
+use Rattle.a64_emit.specs.Faults.{binding_of, bindings, used_label, is_among, first_repeat, HasLabels, first_missing, second_binding, used_labels}
 
 -- ---- lists of items, by one more
 

@@ -1,12 +1,11 @@
 -- What the checks before emission leave to be relied on.
-use Rattle.std.proofs.Common.{ℕ, ◌≡◌, ◌≢◌, ◌+◌, ◌*◌, ◌^◌, ◌<◌, ◌≤◌, suc, zero, Bool, true, false, cond, not, leb, List, [], ◌∷◌, ◌++◌, length, get_or, take, drop, map, option_map, Option, None, Some, refl, sym, ap, ◌∙◌, subst, arith, inl, inr, ◌⊎◌, eqb, append_assoc, take_all}
+use Rattle.std.proofs.Common.{ℕ, ◌≡◌, ◌+◌, ◌*◌, ◌^◌, ◌<◌, ◌≤◌, suc, zero, Bool, true, false, cond, not, List, [], ◌∷◌, ◌++◌, length, get_or, take, drop, option_map, Option, None, Some, refl, sym, ap, ◌∙◌, arith, inl, inr, eqb, append_assoc}
 use Rattle.std.specs.Prelude.{◌||◌, nat_le, min}
 use Rattle.std.specs.Option.{option_map_or}
-use Rattle.std.specs.List.{slice_get, flat_map, filter_map, list_any, find, Any}
+use Rattle.std.specs.List.{slice_get}
 use Rattle.std.proofs.lemmas.Bool.{eqb-true, eq-eqb, false≢true, leb-true, le-leb, cases_lt}
 use Rattle.std.proofs.lemmas.List.{take-append-drop, drop_more, length-append, append-nil}
 use Rattle.std.proofs.lemmas.List.Elements.{filter_map-append}
-use Rattle.std.proofs.lemmas.List.Concat.{flat_map-append, length-flat_map}
 use Rattle.std.proofs.lemmas.List.Sums.{sum_by-cons, sum_by-take-le}
 use Rattle.a64_base.specs.declared.entity.MachLabel.{MachLabel}
 use Rattle.a64_inst.specs.declared.emission.EmitFlags.{EmitFlags}
@@ -15,7 +14,7 @@ use Rattle.a64_emit.specs.declared.item.Item.{Item}
 use Rattle.a64_emit.specs.declared.item.Item.TheVariants.{Bind, Emit}
 use Rattle.a64_emit.specs.declared.error.EmitError.{EmitError}
 use Rattle.a64_emit.specs.declared.error.EmitError.TheVariants.{LabelBoundTwice, UnboundLabel, TooLarge}
-use Rattle.a64_emit.specs.Cells.{Cell, cells_of, all_cells}
+use Rattle.a64_emit.specs.Cells.{cells_of, all_cells}
 use Rattle.a64_emit.specs.Bounds.{size_of, charge_of, whole, shortest, least, lesser, ranges_in}
 use Rattle.a64_emit.specs.Faults.{binding_of, bindings, is_among, first_repeat, first_missing, second_binding, unbound_use, used_labels, too_large, is_too_large, or_else, fault_of}
 

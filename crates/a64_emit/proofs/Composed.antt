@@ -1,9 +1,9 @@
 -- From a finished buffer to code in which items are laid, and their uses lead.
-use Rattle.std.proofs.Common.{ℕ, ◌≡◌, ◌≢◌, ◌+◌, ◌*◌, ◌/◌, ◌%◌, ◌^◌, ◌<◌, ◌≤◌, suc, zero, List, [], ◌∷◌, ◌++◌, length, get_or, map, Option, None, Some, refl, sym, ap, ◌∙◌, subst, arith, inl, inr, add-one, zero-add}
+use Rattle.std.proofs.Common.{ℕ, ◌≡◌, ◌+◌, ◌*◌, ◌/◌, ◌<◌, ◌≤◌, suc, List, [], ◌∷◌, ◌++◌, length, get_or, map, Option, None, Some, refl, sym, ap, ◌∙◌, subst, arith, inl, add-one, zero-add}
 use Rattle.std.specs.Prelude.{All, Contains, IfSome, IsSomeAnd, ◌↔◌}
 use Rattle.std.specs.List.Sorted.{IsStrictlyIncreasing}
 use Rattle.std.specs.FinMap.{get}
-use Rattle.std.specs.List.{flat_map, filter_map, slice_get}
+use Rattle.std.specs.List.{flat_map, slice_get}
 use Rattle.std.proofs.lemmas.List.{get_or-map, length-map, take_all, get_or_default}
 use Rattle.std.proofs.lemmas.Option.{slice_get-get_or, slice_get_within}
 use Rattle.a64_base.specs.declared.entity.MachLabel.{MachLabel}
@@ -16,20 +16,20 @@ use Rattle.a64_buffer.specs.declared.finish.Finished.{Finished}
 use Rattle.a64_buffer.specs.Word.{outside, word_at}
 use Rattle.a64_buffer.specs.Kinds.{IsWithin, GoesTo}
 use Rattle.a64_buffer.specs.Buffer.{Buffer, end_of, label_of, IsFree, IsReached}
-use Rattle.a64_buffer.specs.Finished.{Lists, IsSettled, IsFinished}
+use Rattle.a64_buffer.specs.Finished.{IsSettled, IsFinished}
 use Rattle.a64_emit.specs.declared.label_use.LabelUse.{LabelUse}
 use Rattle.a64_emit.specs.declared.label_use.LabelUse.TheVariants as uses
 use Rattle.a64_emit.specs.declared.item.Item.{Item}
-use Rattle.a64_emit.specs.declared.item.Item.TheVariants.{Bind, Emit}
+use Rattle.a64_emit.specs.declared.item.Item.TheVariants.{Bind}
 use Rattle.a64_emit.specs.declared.code.Code.{Code}
 use Rattle.a64_emit.specs.LabelUses.{label_kinds, mask_for, forward_range, backward_range}
 use Rattle.a64_emit.specs.Cells.{Cell, Site, Data, cell_word, cells_of, all_cells}
 use Rattle.a64_emit.specs.Emission.{starts_from, sites_from, site_of, HasEmitted}
-use Rattle.a64_emit.specs.Layout.{placed, standing, site_mask, Stands, IsBoundAt, Laid, Leads, SiteLeads, IsFollowed, StandsOnce}
-use Rattle.a64_emit.specs.Records.{all_at, HasRecords, relocs_at, traps_at, calls_at, patchable_at, maps_at}
+use Rattle.a64_emit.specs.Layout.{placed, standing, site_mask, Stands, IsBoundAt, Laid, Leads, SiteLeads, IsFollowed}
+use Rattle.a64_emit.specs.Records.{relocs_at, traps_at, calls_at, patchable_at, maps_at}
 use Rattle.a64_emit.proofs.Recorded.{all_at-nothing}
-use Rattle.a64_emit.specs.Bounds.{whole, ranges_in, cell_range}
-use Rattle.a64_emit.specs.Faults.{used_label, used_labels, unbound_use, second_binding, too_large}
+use Rattle.a64_emit.specs.Bounds.{whole, cell_range}
+use Rattle.a64_emit.specs.Faults.{used_label, unbound_use, second_binding, too_large}
 use Rattle.a64_emit.specs.Assembled.{IsAssembled}
 use Rattle.a64_emit.proofs.Emitted.{next_place, as_many, flat-map, length_words}
 use Rattle.a64_emit.proofs.Checked.{uses_bound, within_ranges, sizes_in_whole, faultless}

@@ -1,31 +1,27 @@
 -- What a buffer holds once items are emitted into it, one after another.
-use Rattle.std.proofs.Common.{ℕ, ◌≡◌, ◌≢◌, ◌+◌, ◌*◌, ◌-◌, ◌^◌, ◌<◌, ◌≤◌, suc, zero, Bool, true, false, cond, not, List, [], ◌∷◌, ◌++◌, length, get_or, take, drop, map, Option, None, Some, refl, sym, ap, ◌∙◌, subst, arith, inl, inr, ◌⊎◌, nat_cmp, eqb, append_assoc, zero-add}
-use Rattle.std.specs.Prelude.{◌||◌, ◌&&◌, is_none, nat_eq, if◌then◌else◌, sum_by}
+use Rattle.std.proofs.Common.{ℕ, ◌≡◌, ◌≢◌, ◌+◌, ◌*◌, ◌<◌, suc, Bool, true, false, cond, List, [], ◌∷◌, ◌++◌, length, get_or, take, map, Option, None, Some, refl, sym, ap, ◌∙◌, subst, arith, inl, inr, nat_cmp, eqb, append_assoc, zero-add}
+use Rattle.std.specs.Prelude.{◌&&◌, is_none, nat_eq}
 use Rattle.std.specs.Cmp.{nat_cmp_total, unsigned_tied}
-use Rattle.std.specs.Ordering.{eq_by_cmp}
 use Rattle.std.specs.FinMap.{FinMap, get, insert, empty, get-insert, get-empty}
-use Rattle.std.specs.List.{slice_get, flat_map, filter_map, list_any}
-use Rattle.std.proofs.lemmas.Bool.{ne_eqb, eq-eqb, eqb-true, false≢true, cases_eq}
-use Rattle.std.proofs.lemmas.List.{take_more, map-append, append-nil, length-append, length-map, length-take, take_all}
+use Rattle.std.specs.List.{slice_get, flat_map}
+use Rattle.std.proofs.lemmas.Bool.{ne_eqb, eq-eqb, cases_eq}
+use Rattle.std.proofs.lemmas.List.{take_more, map-append, append-nil, length-append, length-map}
 use Rattle.std.proofs.lemmas.List.Concat.{flat_map-append}
 use Rattle.std.proofs.lemmas.Option.{slice_get_within, slice_get-get_or}
-use Rattle.std.proofs.lemmas.List.Sums.{sum_by-cons, sum_by-take-le}
 use Rattle.a64_base.specs.declared.entity.MachLabel.{MachLabel}
 use Rattle.a64_base.specs.declared.entity.UserStackMap.{UserStackMap}
 use Rattle.a64_inst.specs.declared.emission.EmitFlags.{EmitFlags}
 use Rattle.a64_inst.specs.declared.frame.FrameLayout.{FrameLayout}
 use Rattle.a64_inst.specs.declared.inst.Inst.{Inst}
 use Rattle.a64_buffer.specs.declared.site.Use.{Use}
-use Rattle.a64_buffer.specs.Buffer.{Buffer, end_of, made_use, closed_at, label_of, reached}
+use Rattle.a64_buffer.specs.Buffer.{Buffer, end_of, closed_at, label_of, reached}
 use Rattle.a64_emit.specs.declared.label_use.LabelUse.{LabelUse}
 use Rattle.a64_emit.specs.declared.item.Item.{Item}
 use Rattle.a64_emit.specs.declared.item.Item.TheVariants.{Bind, Emit}
 use Rattle.a64_emit.specs.LabelUses.{label_kinds}
 use Rattle.a64_emit.specs.Cells.{Cell, Site, cell_word, cells_of, all_cells, inst_cells}
-use Rattle.a64_emit.specs.Emission.{use_at, uses_from, appended, stepped, starts_from, sites_from, site_of, HasEmitted, IsUnbound}
-use Rattle.a64_emit.specs.Bounds.{size_of, charge_of, whole}
+use Rattle.a64_emit.specs.Emission.{use_at, uses_from, stepped, starts_from, sites_from, site_of, HasEmitted, IsUnbound}
 use Rattle.a64_emit.proofs.Lists.{slice_get-append_left, slice_get-push, slice_get_pushed}
-use Rattle.a64_emit.proofs.Sizes.{cells_more}
 
 -- ---- cells and their uses
 

@@ -1,7 +1,6 @@
 -- Sums and least numbers over items, one item after another.
-use Rattle.std.proofs.Common.{ℕ, ◌≡◌, ◌+◌, ◌*◌, ◌<◌, ◌≤◌, List, [], ◌∷◌, ◌++◌, length, get_or, take, min, ◌^◌, Bool, false, nat_le, Option, None, Some, refl, sym, ap, ◌∙◌, arith}
-use Rattle.std.specs.List.{filter_map, flat_map}
-use Rattle.std.specs.Prelude.{sum_by, ◌||◌}
+use Rattle.std.proofs.Common.{ℕ, ◌≡◌, ◌+◌, ◌<◌, ◌≤◌, List, [], ◌∷◌, ◌++◌, length, get_or, take, ◌^◌, Bool, false, nat_le, Option, None, Some, refl, sym, ap, ◌∙◌, arith}
+use Rattle.std.specs.Prelude.{◌||◌}
 use Rattle.std.specs.Option.{option_map_or}
 use Rattle.std.proofs.lemmas.List.{take_more, append-nil, take_all}
 use Rattle.std.proofs.lemmas.List.Elements.{filter_map-append}
@@ -10,9 +9,9 @@ use Rattle.std.proofs.lemmas.List.Sums.{sum_by_more}
 use Rattle.a64_inst.specs.declared.emission.EmitFlags.{EmitFlags}
 use Rattle.a64_inst.specs.declared.frame.FrameLayout.{FrameLayout}
 use Rattle.a64_emit.specs.declared.item.Item.{Item}
-use Rattle.a64_emit.specs.Cells.{Cell, cells_of, all_cells}
+use Rattle.a64_emit.specs.Cells.{cells_of, all_cells}
 use Rattle.a64_emit.specs.Faults.{is_too_large}
-use Rattle.a64_emit.specs.Bounds.{cell_range, ranges_in, size_of, charge_of, lesser, least, whole, shortest, IsExtent}
+use Rattle.a64_emit.specs.Bounds.{cell_range, ranges_in, size_of, charge_of, lesser, least, whole, shortest}
 
 lesser_assoc : (a b c : Option ℕ) → lesser (lesser a b) c ≡ lesser a (lesser b c)
 lesser_assoc None b c = refl

@@ -1,5 +1,5 @@
 -- What `assemble` answers.
-use Rattle.std.specs.Prelude.{ℕ, ◌≡◌, ◌⊎◌, List, None, Some}
+use Rattle.std.specs.Prelude.{◌≡◌, ◌⊎◌, List, None, Some}
 use Rattle.a64_inst.specs.declared.emission.EmitFlags.{EmitFlags}
 use Rattle.a64_inst.specs.declared.frame.FrameLayout.{FrameLayout}
 use Rattle.a64_emit.specs.declared.item.Item.{Item}

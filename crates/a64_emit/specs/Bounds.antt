@@ -1,5 +1,5 @@
 -- How long code can become, and how far its uses reach: sums over the items.
-use Rattle.std.specs.Prelude.{ℕ, ◌≡◌, ◌+◌, ◌*◌, Bool, true, false, nat_le, if◌then◌else◌, List, [], ◌∷◌, length, map, min, sum_by, Option, None, Some}
+use Rattle.std.specs.Prelude.{ℕ, ◌≡◌, ◌+◌, ◌*◌, List, [], ◌∷◌, length, min, sum_by, Option, None, Some}
 use Rattle.std.specs.List.{filter_map}
 use Rattle.std.specs.Option.{option_map_or}
 use Rattle.a64_inst.specs.declared.emission.EmitFlags.{EmitFlags}
@@ -10,7 +10,7 @@ use Rattle.a64_emit.specs.declared.label_use.LabelUse.{LabelUse}
 use Rattle.a64_emit.specs.declared.label_use.LabelUse.TheVariants as uses
 use Rattle.a64_emit.specs.declared.item.Item.{Item}
 use Rattle.a64_emit.specs.LabelUses.{forward_range}
-use Rattle.a64_emit.specs.Cells.{Cell, Site, cells_of, all_cells}
+use Rattle.a64_emit.specs.Cells.{Cell, cells_of, all_cells}
 
 -- the forward range of a use that may want a veneer: a branch to a label
 abbrev pub veneer_range : LabelUse → Target → Option ℕ

@@ -1,7 +1,7 @@
 use Rattle.std.proofs.Common.{◌≡◌, ◌∙◌, not, sym, false, true}
 use Rattle.std.specs.BTreeSet.{contains}
 use Rattle.std.proofs.Common.{nat_cmp, refl, Bool}
-use Rattle.a64_emit.proofs.Bindings.{scanned_none, scanned_other, scanned_bind, scanned_twice, scanned_all}
+use Rattle.a64_emit.proofs.Bindings.{scanned_other, scanned_bind}
 use Rattle.a64_emit.proofs.faults.bound_labels.Goals as goal
 
 not_true : (b : Bool) → not b ≡ true → b ≡ false

@@ -1,9 +1,8 @@
-use Rattle.std.proofs.Common.{◌≡◌, ◌∙◌, ap, sym, ◌+◌, ◌*◌, ◌≤◌, cond, None, Some, Option, arith}
+use Rattle.std.proofs.Common.{◌∙◌, ap, sym, ◌+◌, cond, None, Some, arith}
 use Rattle.std.proofs.Common.{take, refl, true, false}
 use Rattle.a64_emit.specs.declared.error.EmitError.TheVariants.{TooLarge}
 use Rattle.a64_emit.specs.declared.item.Item.TheVariants.{Bind}
-use Rattle.std.proofs.lemmas.List.{take_all}
-use Rattle.a64_emit.specs.Bounds.{whole, shortest, lesser}
+use Rattle.a64_emit.specs.Bounds.{whole, lesser}
 use Rattle.a64_emit.proofs.Sizes.{whole_more, shortest_more, large_of}
 use Rattle.a64_emit.proofs.faults.check_size.Goals as goal
 

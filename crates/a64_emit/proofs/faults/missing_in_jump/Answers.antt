@@ -1,4 +1,4 @@
-use Rattle.std.proofs.Common.{◌≡◌, ◌∙◌, sym, ap}
+use Rattle.std.proofs.Common.{◌∙◌, sym, ap}
 use Rattle.a64_emit.specs.Faults.{first_missing}
 use Rattle.std.specs.Option.{option_to_list}
 use Rattle.a64_emit.proofs.Bindings.{jump_labels}
