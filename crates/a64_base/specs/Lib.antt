@@ -1,1 +1,14 @@
+pub mod Bits
+pub mod Conditions
+pub mod Keys
+pub mod OperandSizes
+pub mod RegisterNumbers
+pub mod RegisterText
+pub mod Registers
+pub mod ScalarSizes
+pub mod Sets
+pub mod ShiftParts
+pub mod Shifts
 pub mod Target
+pub mod Types
+pub mod VectorSizes

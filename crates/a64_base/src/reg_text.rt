@@ -1,0 +1,258 @@
+//! Names of registers in listings.
+
+ghost use Rattle.std.specs.Prelude.{IfOk, ◌≡◌, ◌<◌, ◌++◌, decimal};
+ghost use Rattle.std.specs.String.{string_bytes};
+ghost use Rattle.a64_base.specs.Registers.{class_of};
+ghost use Rattle.a64_base.specs.RegisterText.{
+  integer_name,
+  virtual_name,
+  sized_text,
+  scalar_text,
+  vector_text,
+  element_text,
+  letter_of,
+  zero_of,
+  scalar_letter,
+  lanes_suffix,
+  lane_suffix,
+  HasLanes,
+};
+
+use crate::reg::{Reg, RegClass};
+use crate::size::{OperandSize, ScalarSize, VectorSize};
+use crate::text::Text;
+use itoa::Buffer;
+use std::alloc::Global;
+
+/// A text and a number behind it.
+fn numbered(alloc: Global, text: &str, number: u32) -> Text
+    ensures { IfOk result (λ t. string_bytes t ≡ text.now ++ decimal number) }
+{
+    let mut buffer = Buffer::new();
+    let mut name = String::from_str(alloc, text)?;
+    name.push_str(buffer.format(number))?;
+    Ok(name)
+}
+
+/// The letter before the number of an integer register.
+fn letter<'a>(size: OperandSize) -> &'a str
+    ensures { result.now ≡ letter_of size }
+{
+    match size {
+        OperandSize::Size32 => "w",
+        OperandSize::Size64 => "x",
+    }
+}
+
+/// The name of the zero register.
+fn zero_name<'a>(size: OperandSize) -> &'a str
+    ensures { result.now ≡ zero_of size }
+{
+    match size {
+        OperandSize::Size32 => "wzr",
+        OperandSize::Size64 => "xzr",
+    }
+}
+
+/// The name of an integer register of the machine.
+fn show_ireg(alloc: Global, number: u8, size: OperandSize) -> Text
+    ensures { IfOk result (λ t. string_bytes t ≡ integer_name size number) }
+{
+    match number {
+        29 => String::from_str(alloc, "fp"),
+        30 => String::from_str(alloc, "lr"),
+        31 => String::from_str(alloc, zero_name(size)),
+        63 => String::from_str(alloc, "sp"),
+        _ => numbered(alloc, letter(size), u32::from(number)),
+    }
+}
+
+/// The name of a virtual register.
+fn show_virtual(alloc: Global, index: u32, class: RegClass) -> Text
+    ensures { IfOk result (λ t. string_bytes t ≡ virtual_name class index) }
+{
+    match class {
+        RegClass::Int => numbered(alloc, "%i", index),
+        RegClass::Float => numbered(alloc, "%f", index),
+    }
+}
+
+/// The name of a register at its full size, as in `x5`, `sp`, `v3` or `%i7`.
+///
+/// # Errors
+///
+/// Want of memory.
+pub fn pretty_print_reg(alloc: Global, reg: Reg) -> Text
+    ensures { IfOk result (λ t. string_bytes t ≡ sized_text OperandSize.Size64 reg) }
+{
+    pretty_print_reg_sized(alloc, reg, OperandSize::Size64)
+}
+
+/// The name of a register, where an integer register has this size, as in `w5`.
+///
+/// # Errors
+///
+/// Want of memory.
+pub fn pretty_print_reg_sized(alloc: Global, reg: Reg, size: OperandSize) -> Text
+    ensures { IfOk result (λ t. string_bytes t ≡ sized_text size reg) }
+{
+    match reg {
+        Reg::Virtual { index, class } => show_virtual(alloc, index, class),
+        Reg::Real(p) => match p.class() {
+            RegClass::Int => show_ireg(alloc, p.hw_enc(), size),
+            RegClass::Float => numbered(alloc, "v", u32::from(p.hw_enc())),
+        },
+    }
+}
+
+/// The name of an integer register at a size; a register of another class keeps its name.
+///
+/// # Errors
+///
+/// Want of memory.
+pub fn show_ireg_sized(alloc: Global, reg: Reg, size: OperandSize) -> Text
+    ensures { IfOk result (λ t. string_bytes t ≡ sized_text size reg) }
+{
+    pretty_print_reg_sized(alloc, reg, size)
+}
+
+/// The name of an integer register at a size; a register of another class keeps its name.
+///
+/// # Errors
+///
+/// Want of memory.
+pub fn pretty_print_ireg(alloc: Global, reg: Reg, size: OperandSize) -> Text
+    ensures { IfOk result (λ t. string_bytes t ≡ sized_text size reg) }
+{
+    show_ireg_sized(alloc, reg, size)
+}
+
+/// The letter of a scalar in a vector register.
+fn scalar_prefix<'a>(size: ScalarSize) -> &'a str
+    ensures { result.now ≡ scalar_letter size }
+{
+    match size {
+        ScalarSize::Size8 => "b",
+        ScalarSize::Size16 => "h",
+        ScalarSize::Size32 => "s",
+        ScalarSize::Size64 => "d",
+        ScalarSize::Size128 => "q",
+    }
+}
+
+/// The name of a vector register that holds a scalar, as in `d3`; a register of another class
+/// keeps its name.
+///
+/// # Errors
+///
+/// Want of memory.
+pub fn show_vreg_scalar(alloc: Global, reg: Reg, size: ScalarSize) -> Text
+    ensures { IfOk result (λ t. string_bytes t ≡ scalar_text size reg) }
+{
+    match reg {
+        Reg::Virtual { index, class } => show_virtual(alloc, index, class),
+        Reg::Real(p) => match p.class() {
+            RegClass::Int => show_ireg(alloc, p.hw_enc(), OperandSize::Size64),
+            RegClass::Float => numbered(alloc, scalar_prefix(size), u32::from(p.hw_enc())),
+        },
+    }
+}
+
+/// The name of a vector register that holds a scalar, as in `d3`; a register of another class
+/// keeps its name.
+///
+/// # Errors
+///
+/// Want of memory.
+pub fn pretty_print_vreg_scalar(alloc: Global, reg: Reg, size: ScalarSize) -> Text
+    ensures { IfOk result (λ t. string_bytes t ≡ scalar_text size reg) }
+{
+    show_vreg_scalar(alloc, reg, size)
+}
+
+/// The lanes behind the name of a vector register.
+fn vector_suffix<'a>(size: VectorSize) -> &'a str
+    ensures { result.now ≡ lanes_suffix size }
+{
+    match size {
+        VectorSize::Size8x8 => ".8b",
+        VectorSize::Size8x16 => ".16b",
+        VectorSize::Size16x4 => ".4h",
+        VectorSize::Size16x8 => ".8h",
+        VectorSize::Size32x2 => ".2s",
+        VectorSize::Size32x4 => ".4s",
+        VectorSize::Size64x2 => ".2d",
+    }
+}
+
+/// The name of a vector register with its lanes, as in `v3.8h`.
+///
+/// # Errors
+///
+/// Want of memory.
+pub fn show_vreg_vector(alloc: Global, reg: Reg, size: VectorSize) -> Text
+    requires { class_of reg ≡ RegClass.Float }
+    ensures { IfOk result (λ t. string_bytes t ≡ vector_text size reg) }
+{
+    let mut text = pretty_print_reg(alloc, reg)?;
+    text.push_str(vector_suffix(size))?;
+    Ok(text)
+}
+
+/// The name of a vector register with its lanes, as in `v3.8h`.
+///
+/// # Errors
+///
+/// Want of memory.
+pub fn pretty_print_vreg_vector(alloc: Global, reg: Reg, size: VectorSize) -> Text
+    requires { class_of reg ≡ RegClass.Float }
+    ensures { IfOk result (λ t. string_bytes t ≡ vector_text size reg) }
+{
+    show_vreg_vector(alloc, reg, size)
+}
+
+/// The lane behind the name of a vector register.
+fn element_suffix<'a>(size: ScalarSize) -> &'a str
+    requires { HasLanes size }
+    ensures { result.now ≡ lane_suffix size }
+{
+    match size {
+        ScalarSize::Size8 => ".b[",
+        ScalarSize::Size16 => ".h[",
+        ScalarSize::Size32 => ".s[",
+        ScalarSize::Size64 => ".d[",
+        ScalarSize::Size128 => unreachable!(),
+    }
+}
+
+/// The name of one lane of a vector register, as in `v3.s[1]`. A lane has at most 64 bits.
+///
+/// # Errors
+///
+/// Want of memory.
+pub fn show_vreg_element(alloc: Global, reg: Reg, idx: u8, size: ScalarSize) -> Text
+    requires class { class_of reg ≡ RegClass.Float }
+    requires lane { HasLanes size }
+    ensures { IfOk result (λ t. string_bytes t ≡ element_text idx size reg) }
+{
+    let mut buffer = Buffer::new();
+    let mut text = pretty_print_reg(alloc, reg)?;
+    text.push_str(element_suffix(size))?;
+    text.push_str(buffer.format(idx))?;
+    text.push_str("]")?;
+    Ok(text)
+}
+
+/// The name of one lane of a vector register, as in `v3.s[1]`. A lane has at most 64 bits.
+///
+/// # Errors
+///
+/// Want of memory.
+pub fn pretty_print_vreg_element(alloc: Global, reg: Reg, idx: usize, size: ScalarSize) -> Text
+    requires class { class_of reg ≡ RegClass.Float }
+    requires index { idx < 256 }
+    requires lane { HasLanes size }
+    ensures { IfOk result (λ t. string_bytes t ≡ element_text idx size reg) }
+{
+    show_vreg_element(alloc, reg, idx as u8, size)
+}

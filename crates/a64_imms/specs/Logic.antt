@@ -1,0 +1,67 @@
+-- Immediates of logical instructions: the numbers of rotated runs.
+use Rattle.std.specs.Prelude.{ℕ, ◌≡◌, ◌+◌, ◌-◌, ◌*◌, ◌%◌, ◌^◌, Bool, true, false, if◌then◌else◌, Option, None, Some}
+use Rattle.a64_base.specs.declared.ir_type.IrType.{IrType}
+use Rattle.a64_base.specs.declared.ir_type.IrType.TheVariants.{I32, I64}
+use Rattle.a64_base.specs.declared.size.OperandSize.{OperandSize}
+use Rattle.a64_base.specs.declared.size.OperandSize.TheVariants.{Size32, Size64}
+use Rattle.a64_imms.specs.declared.imm_logic.ImmLogic.{ImmLogic}
+use Rattle.a64_imms.specs.declared.run.Period.{Period}
+use Rattle.a64_imms.specs.declared.run.Period.TheVariants.{Two, Four, Eight, Sixteen, ThirtyTwo, SixtyFour}
+use Rattle.a64_imms.specs.declared.run.Run.{Run}
+use Rattle.a64_imms.specs.Runs.{prefix, copies, number, IsRun}
+
+-- the size of an integer type that logical instructions have
+abbrev pub size_for : IrType → Option OperandSize
+size_for I32 = Some Size32
+size_for I64 = Some Size64
+size_for _ = None
+
+-- the number that an instruction makes of a value: at 32 bits the low half, twice
+abbrev pub seen : OperandSize → ℕ → ℕ
+seen Size32 value = copies 32 (value % 2 ^ 32) 2
+seen Size64 value = value
+
+-- the bits of a value that count
+abbrev pub counted : OperandSize → ℕ → ℕ
+counted Size32 value = value % 2 ^ 32
+counted Size64 value = value
+
+-- N is 1 exactly for runs of 64 bits
+abbrev pub is_widest : Period → Bool
+is_widest SixtyFour = true
+is_widest Two = false
+is_widest Four = false
+is_widest Eight = false
+is_widest Sixteen = false
+is_widest ThirtyTwo = false
+
+-- the value that an immediate was made of, with all its bits
+abbrev pub logic_value : ImmLogic → ℕ
+logic_value imm = imm.value
+
+-- the field: N, then six bits of R, then six bits of S
+abbrev pub logic_field : ImmLogic → ℕ
+logic_field imm = 4096 * (if imm.n then 1 else 0) + 64 * imm.r + imm.s
+
+-- the number seen is that of a rotated run
+abbrev pub IsLogicValue : OperandSize → ℕ → Type 0
+IsLogicValue size value = (run : Run) × IsRun run × (number run ≡ seen size value)
+
+-- N, R and S of a run: S has the prefix of the period, and behind it the number of ones less 1
+pub record HasTriple (run : Run) (imm : ImmLogic) : Type 0 where
+  pub n_is : imm.n ≡ is_widest run.period
+  pub r_is : imm.r ≡ run.turn
+  pub s_is : imm.s ≡ prefix run.period + (run.ones - 1)
+
+-- the immediate of a value at a size: the triple is that of the run whose number is seen
+pub record IsLogicOf (size : OperandSize) (value : ℕ) (imm : ImmLogic) : Type 0 where
+  pub run : Run
+  pub is_run : IsRun run
+  pub number_is : number run ≡ seen size value
+  pub triple : HasTriple run imm
+  pub value_is : logic_value imm ≡ value
+  pub size_is : imm.size ≡ size
+
+-- the fields are those of the immediate of its value at its size
+abbrev pub IsImmLogic : ImmLogic → Type 0
+IsImmLogic imm = IsLogicOf imm.size (logic_value imm) imm

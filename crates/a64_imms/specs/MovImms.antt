@@ -1,0 +1,142 @@
+-- Immediates of vector moves.
+use Rattle.std.specs.Prelude.{ℕ, ◌≡◌, ◌≢◌, ◌<◌, ◌+◌, ◌-◌, ◌*◌, ◌/◌, ◌%◌, ◌^◌, ◌==◌, ◌⊎◌, Bool, true, false, if◌then◌else◌, List, [], ◌∷◌, ◌++◌, codes}
+use Rattle.std.specs.Int.{w64, from_le_bytes}
+use Rattle.a64_base.specs.declared.size.ScalarSize.{ScalarSize}
+use Rattle.a64_base.specs.declared.size.ScalarSize.TheVariants.{Size8, Size16, Size32, Size64, Size128}
+use Rattle.a64_imms.specs.declared.asimd_mov.ASIMDMovModImm.{ASIMDMovModImm}
+use Rattle.a64_imms.specs.Texts.{number_text}
+
+-- ---- 64 bits
+
+-- ff where this bit is set, and 00 elsewhere
+abbrev pub byte_of : ℕ → ℕ → ℕ
+byte_of bits place = if bits / 2 ^ place % 2 == 1 then 0xff else 0
+
+-- the number whose byte i is ff where bit i is set, and 00 elsewhere
+unfoldable pub spread : ℕ → ℕ
+spread bits =
+    from_le_bytes w64
+    (byte_of bits 0 ∷ byte_of bits 1 ∷ byte_of bits 2 ∷ byte_of bits 3 ∷ byte_of bits 4 ∷ byte_of bits 5 ∷ byte_of bits 6 ∷ byte_of bits 7 ∷ [])
+
+-- ---- up to 32 bits
+
+-- eight bits shifted left, with ones or zeros behind them
+pub record Form : Type 0 where
+  pub shift : ℕ
+  pub ones : Bool
+
+abbrev pub pattern : Form → ℕ → ℕ
+pattern form bits = bits * 2 ^ form.shift + (if form.ones then 2 ^ form.shift - 1 else 0)
+
+abbrev pub with_ones : ℕ → Form
+with_ones shift = record { shift = shift; ones = true }
+
+abbrev pub with_zeros : ℕ → Form
+with_zeros shift = record { shift = shift; ones = false }
+
+-- the forms of a size, in the order in which they are tried
+abbrev pub forms_of : ScalarSize → List Form
+forms_of Size8 = with_zeros 0 ∷ []
+forms_of Size16 = with_zeros 0 ∷ with_zeros 8 ∷ []
+forms_of Size32 =
+    with_ones 16 ∷ with_ones 8 ∷ with_zeros 0 ∷ with_zeros 8 ∷ with_zeros 16 ∷ with_zeros 24 ∷ []
+forms_of Size64 = []
+forms_of Size128 = []
+
+-- the bits that a size looks at
+abbrev pub looked_at : ScalarSize → ℕ → ℕ
+looked_at Size8 value = value % 2 ^ 8
+looked_at Size16 value = value % 2 ^ 16
+looked_at Size32 value = value % 2 ^ 32
+looked_at Size64 value = value
+looked_at Size128 value = value
+
+-- the number has the form, with some eight bits
+abbrev pub HasForm : Form → ℕ → Type 0
+HasForm form number = (bits : ℕ) × (bits < 256) × (pattern form bits ≡ number)
+
+-- the immediate has the form, and its number is this
+pub record HoldsForm (form : Form) (number : ℕ) (imm : ASIMDMovModImm) : Type 0 where
+  pub narrow : imm.is_64bit ≡ false
+  pub shift_is : imm.shift ≡ form.shift
+  pub ones_is : imm.shift_ones ≡ form.ones
+  pub bits_fit : imm.imm < 256
+  pub number_is : pattern form imm.imm ≡ number
+
+abbrev pub NoneFits : List Form → ℕ → Type 0
+NoneFits [] number = Unit {0}
+NoneFits (form ∷ forms) number = (¬ HasForm form number) × NoneFits forms number
+
+-- the immediate has the first of the forms that the number has
+abbrev pub IsFirst : List Form → ℕ → ASIMDMovModImm → Type 0
+IsFirst [] number imm = ⊥
+IsFirst (form ∷ forms) number imm = HoldsForm form number imm ⊎ ((¬ HasForm form number) × IsFirst forms number imm)
+
+-- ---- all sizes
+
+-- the immediate of 64 bits
+pub record HoldsBytes (value : ℕ) (imm : ASIMDMovModImm) : Type 0 where
+  pub wide : imm.is_64bit ≡ true
+  pub shift_is : imm.shift ≡ 0
+  pub ones_is : imm.shift_ones ≡ false
+  pub bits_fit : imm.imm < 256
+  pub number_is : spread imm.imm ≡ value
+
+-- the value has no immediate at the size
+abbrev pub NoMovImm : ScalarSize → ℕ → Type 0
+NoMovImm Size8 value = NoneFits (forms_of Size8) (looked_at Size8 value)
+NoMovImm Size16 value = NoneFits (forms_of Size16) (looked_at Size16 value)
+NoMovImm Size32 value = NoneFits (forms_of Size32) (looked_at Size32 value)
+NoMovImm Size64 value = (bits : ℕ) → bits < 256 → spread bits ≢ value
+NoMovImm Size128 value = Unit {0}
+
+-- the immediate of the value at the size
+abbrev pub IsMovImm : ScalarSize → ℕ → ASIMDMovModImm → Type 0
+IsMovImm Size8 value imm = IsFirst (forms_of Size8) (looked_at Size8 value) imm
+IsMovImm Size16 value imm = IsFirst (forms_of Size16) (looked_at Size16 value) imm
+IsMovImm Size32 value imm = IsFirst (forms_of Size32) (looked_at Size32 value) imm
+IsMovImm Size64 value imm = HoldsBytes value imm
+IsMovImm Size128 value imm = ⊥
+
+abbrev pub is_64 : ScalarSize → Bool
+is_64 Size8 = false
+is_64 Size16 = false
+is_64 Size32 = false
+is_64 Size64 = true
+is_64 Size128 = false
+
+-- ---- the class
+
+-- the number that an immediate stands for
+abbrev pub mov_value : ASIMDMovModImm → ℕ
+mov_value imm =
+    if imm.is_64bit then spread imm.imm
+    else pattern (record { shift = imm.shift; ones = imm.shift_ones }) imm.imm
+
+-- the bits, and above them whether ones are shifted in, and the shift
+abbrev pub mov_field : ASIMDMovModImm → ℕ
+mov_field imm = imm.imm + 2 ^ 8 * ((if imm.shift_ones then 1 else 0) + 2 * imm.shift)
+
+abbrev pub SomeFits : List Form → ℕ → Type 0
+SomeFits [] number = ⊥
+SomeFits (form ∷ forms) number = HasForm form number ⊎ SomeFits forms number
+
+-- the numbers of immediates, of 64 bits or of fewer
+abbrev pub IsMovValue : Bool → ℕ → Type 0
+IsMovValue true value = (bits : ℕ) × (bits < 256) × (spread bits ≡ value)
+IsMovValue false value = SomeFits (forms_of Size32) value
+
+-- the immediate has one of the forms
+abbrev pub HoldsSome : List Form → ASIMDMovModImm → Type 0
+HoldsSome [] imm = ⊥
+HoldsSome (form ∷ forms) imm = HoldsForm form (mov_value imm) imm ⊎ HoldsSome forms imm
+
+-- an immediate that the constructor makes
+abbrev pub IsMovLawful : ASIMDMovModImm → Type 0
+IsMovLawful imm = HoldsBytes (mov_value imm) imm ⊎ HoldsSome (forms_of Size32) imm
+
+-- `#` and the number of 64 bits; else `#` and the bits, and the shift where it is not 0
+abbrev pub mov_text : ASIMDMovModImm → List ℕ
+mov_text imm =
+    if imm.is_64bit then number_text (spread imm.imm)
+    else number_text imm.imm ++ (if imm.shift == 0 then [] else (if imm.shift_ones then codes ", MSL " else codes ", LSL ") ++ number_text imm.shift)

@@ -1,0 +1,156 @@
+//! The immediate of logical instructions.
+
+ghost use Rattle.std.specs.Prelude.{◌≡◌, ℕ, ◌<◌, ◌+◌, ◌-◌, ◌*◌, ◌^◌, false, Some, IfSome, IfNone, IfOk};
+ghost use Rattle.std.specs.String.{string_bytes};
+ghost use Rattle.a64_base.specs.declared.size.OperandSize.TheVariants.{Size32};
+ghost use Rattle.a64_imms.specs.declared.run.Run.{Run};
+ghost use Rattle.a64_imms.specs.Texts.{number_text};
+ghost use Rattle.a64_imms.specs.Runs.{number, IsRun};
+ghost use Rattle.a64_imms.specs.Logic.{size_for, seen, counted, logic_value, logic_field, IsLogicValue, HasTriple, IsLogicOf, IsImmLogic};
+ghost use Rattle.a64_imms.specs.LogicLaws.{logic_within, one_logic};
+
+use crate::class::ImmClass;
+use crate::run::{Period, Run};
+use crate::text::text_of_number;
+use a64_base::{IrType, OperandSize};
+use std::alloc::{AllocError, Global};
+
+/// An immediate of a logical instruction, as the Arm manual's `DecodeBitMasks` reads it: a run of
+/// ones in 2, 4, 8, 16, 32 or 64 bits, rotated right and repeated.
+#[derive(Clone, Copy, Debug, PartialEq, Eq)]
+pub struct ImmLogic {
+    value: u64,
+    /// Whether the run is one of 64 bits.
+    pub n: bool,
+    /// By how many places the run is rotated to the right.
+    pub r: u8,
+    /// A prefix that tells the length of the run's word, and behind it the number of ones less 1.
+    pub s: u8,
+    /// The size of the instruction.
+    pub size: OperandSize,
+}
+
+/// The number that an instruction of this size makes of a value: of 32 bits it takes the low half
+/// twice.
+fn seen_at(size: OperandSize, value: u64) -> u64
+    ensures { result ≡ seen size value }
+{
+    match size {
+        OperandSize::Size32 => {
+            let low = value % (1 << 32);
+            (low << 32) + low
+        }
+        OperandSize::Size64 => value,
+    }
+}
+
+/// The integer type of a size.
+fn type_of(size: OperandSize) -> IrType
+    ensures { size_for result ≡ Some size }
+{
+    match size {
+        OperandSize::Size32 => IrType::I32,
+        OperandSize::Size64 => IrType::I64,
+    }
+}
+
+impl ImmLogic {
+    /// The immediate of a value at this size, where the run is that of the number seen.
+    fn of_run(value: u64, size: OperandSize, run: Run) -> ImmLogic
+        requires run { IsRun run }
+        requires number { number run ≡ seen size value }
+        ensures { IsLogicOf size value result }
+    {
+        ImmLogic {
+            value,
+            n: run.period == Period::SixtyFour,
+            r: run.turn as u8,
+            s: run.period.prefix() + (run.ones - 1) as u8,
+            size,
+        }
+    }
+
+    /// The immediate of a value at the type `I32` or `I64`.
+    ///
+    /// At `I32` the low 32 bits count alone, but the value keeps all its bits.
+    pub fn maybe_from_u64(value: u64, ty: IrType) -> Option<ImmLogic>
+        ensures none { IfNone result
+            ((size : _) → size_for ty ≡ Some size → ¬ IsLogicValue size value) }
+        ensures some { IfSome result
+            (λ imm. (size_for ty ≡ Some imm.size) × IsLogicOf imm.size value imm) }
+        // Only one run has the number.
+        ensures one { IfSome result (λ imm. (run : Run) → IsRun run
+            → number run ≡ seen imm.size value → HasTriple run imm) }
+    {
+        let size = match ty {
+            IrType::I32 => OperandSize::Size32,
+            IrType::I64 => OperandSize::Size64,
+            _ => return None,
+        };
+        let number = seen_at(size, value);
+        match Run::find(number) {
+            Some(run) if run.number() == number => Some(ImmLogic::of_run(value, size, run)),
+            _ => None,
+        }
+    }
+
+    /// The field's bits: N is bit 12, R bits 11 to 6, and S bits 5 to 0.
+    pub fn enc_bits(&self) -> u32
+        requires { IsImmLogic self.now }
+        ensures value { result ≡ logic_field self.now }
+        ensures below { result < 2 ^ 13 }
+        ensures narrow { self.now.size ≡ Size32 → result < 2 ^ 12 }
+    {
+        4096 * u32::from(self.n) + 64 * u32::from(self.r) + u32::from(self.s)
+    }
+
+    /// The value that the immediate was made of, with all its bits.
+    pub fn value(&self) -> u64
+        requires { IsImmLogic self.now }
+        ensures { result ≡ logic_value self.now }
+    {
+        self.value
+    }
+
+    /// The immediate of the complement.
+    pub fn invert(&self) -> ImmLogic
+        requires { IsImmLogic self.now }
+        ensures lawful { IsImmLogic result }
+        ensures value { logic_value result ≡ 2 ^ 64 - 1 - logic_value self.now }
+        ensures size { result.size ≡ self.now.size }
+    {
+        ImmLogic::maybe_from_u64(!self.value, type_of(self.size)).unwrap()
+    }
+
+    /// `#` and the value.
+    ///
+    /// # Errors
+    ///
+    /// Want of memory.
+    pub fn pretty_print(&self, alloc: Global, _size_bytes: u8) -> Result<String, AllocError>
+        requires { IsImmLogic self.now }
+        ensures { IfOk result (λ text. string_bytes text ≡ number_text (logic_value self.now)) }
+    {
+        text_of_number(alloc, self.value)
+    }
+}
+
+impl ImmClass for ImmLogic {
+    type Parameter = OperandSize;
+
+    type Value = u64;
+
+    ghost set = { IsLogicValue };
+
+    ghost lawful = { IsImmLogic };
+
+    ghost parameter = { λ imm. imm.size };
+
+    ghost value = { λ imm. counted imm.size (logic_value imm) };
+
+    ghost field = { logic_field };
+
+    ghost within = { logic_within };
+
+    ghost one_value = { one_logic };
+}
