@@ -4,7 +4,9 @@
 mod emission;
 mod frame;
 mod inst;
+mod operator;
 
 pub use emission::{EmitFlags, EmitInfo, EmitState};
 pub use frame::FrameLayout;
 pub use inst::Inst;
+pub use operator::{AtomicRMWOp, MoveWideOp};
