@@ -14,7 +14,6 @@ mod imm_logic;
 mod move_wide;
 mod offset;
 mod run;
-mod scale;
 #[cfg(test)]
 mod tests;
 mod text;

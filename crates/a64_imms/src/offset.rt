@@ -7,7 +7,6 @@ ghost use Rattle.a64_imms.specs.Scales.{type_bytes, IsPairScale};
 ghost use Rattle.a64_imms.specs.Offsets.{residue, signed, floor_div, IsOffset9, IsPairOffset, IsScaledOffset};
 
 use crate::class::ImmClass;
-use crate::scale::bytes_of;
 use crate::text::{text_of_number, text_of_signed};
 use a64_base::IrType;
 use std::alloc::{AllocError, Global};
@@ -102,7 +101,7 @@ impl SImm7Scaled {
         ensures { MatchOption result (¬ IsPairOffset scale_ty value)
             (λ imm. IsPairOffset scale_ty value × (imm.value ≡ value) × (imm.scale_ty ≡ scale_ty)) }
     {
-        let bytes = bytes_of(scale_ty);
+        let bytes = scale_ty.bytes();
         let scale = i64::from(bytes);
         if value >= -64 * scale
             && value <= 63 * scale
@@ -124,7 +123,7 @@ impl SImm7Scaled {
         ensures below { result < 128 }
         ensures back { self.now.value ≡ signed 7 result *ℤ pos (type_bytes self.now.scale_ty) }
     {
-        let units = u32::from(self.value.unsigned_abs()) / bytes_of(self.scale_ty);
+        let units = u32::from(self.value.unsigned_abs()) / self.scale_ty.bytes();
         if self.value < 0 { 128 - units } else { units }
     }
 
@@ -181,7 +180,7 @@ impl UImm12Scaled {
             (λ imm. IsScaledOffset scale_ty value × (pos (uimm12_value imm) ≡ value)
             × (uimm12_scale imm ≡ scale_ty)) }
     {
-        let scale = u64::from(bytes_of(scale_ty));
+        let scale = u64::from(scale_ty.bytes());
         if value < 0 {
             return None;
         }
@@ -211,7 +210,7 @@ impl UImm12Scaled {
         ensures exact { result * type_bytes (uimm12_scale self.now) ≡ uimm12_value self.now }
         ensures below { result < 4096 }
     {
-        u32::from(self.value) / bytes_of(self.scale_ty)
+        u32::from(self.value) / self.scale_ty.bytes()
     }
 
     /// The offset in bytes.

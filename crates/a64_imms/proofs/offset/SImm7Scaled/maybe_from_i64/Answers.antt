@@ -18,7 +18,7 @@ rest value size bytes amount scale fits is scale_is bytes_is =
 pub returns-then-unsigned_abs-from-eq0 : goal.returns-then-unsigned_abs-from-eq0
 returns-then-unsigned_abs-from-eq0 c =
     let few = small c.args.scale_ty c.requires in
-    let same = rest c.args.value _ _ _ _ c.ranges.value c.unsigned_abs.ensures.value c.from.ensures c.bytes_of-bytes.ensures in (
+    let same = rest c.args.value _ _ _ _ c.ranges.value c.unsigned_abs.ensures.value c.from.ensures c.bytes-bytes.ensures in (
       record {
         scale = c.requires;
         low = omega (arith, ints);
@@ -36,7 +36,7 @@ returns-else-value-scale c = λ within.
     let high = within.high in
     elim c.else-value-scale.branch [
       | else-value-scale-via-then-value-scale+then-value-scale-2+else-unsigned_abs-from-eq0 w ↦
-          let same = rest c.args.value _ _ _ _ c.ranges.value w.unsigned_abs.ensures.value w.from.ensures c.bytes_of-bytes.ensures in
+          let same = rest c.args.value _ _ _ _ c.ranges.value w.unsigned_abs.ensures.value w.from.ensures c.bytes-bytes.ensures in
           w.if-unsigned_abs-from-eq0.false (sym same ∙ within.multiple)
       | else-value-scale-via-then-value-scale+else-value-scale-2 w ↦ omega (arith, ints)
       | else-value-scale-via-else-value-scale w ↦ omega (arith, ints)
