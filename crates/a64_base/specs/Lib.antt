@@ -12,3 +12,4 @@ pub mod Shifts
 pub mod Target
 pub mod Types
 pub mod VectorSizes
+pub mod Words

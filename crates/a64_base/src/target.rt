@@ -1,6 +1,8 @@
 //! Where branches go.
 
-ghost use Rattle.std.specs.Prelude.{◌≡◌, ⊤};
+ghost use Rattle.std.specs.Prelude.{◌≡◌, ◌<◌, ◌^◌, ⊤};
+ghost use Rattle.std.specs.Int.{cast_unsigned, w32};
+ghost use Rattle.a64_base.specs.Words.{words_of};
 
 use crate::entity::MachLabel;
 use crate::text::{PrettyPrint, Text};
@@ -12,10 +14,19 @@ use std::alloc::Global;
 pub enum BranchTarget {
     /// To a label.
     Label(MachLabel),
+    /// To a place so many bytes behind the branch's own word, or before it where negative.
+    ResolvedOffset(i32),
+}
+
+/// The whole words in a distance in bytes, rounded down, as 32 bits.
+fn words_in(offset: i32) -> u32
+    ensures { result ≡ cast_unsigned w32 (words_of offset) }
+{
+    (offset >> 2).cast_unsigned()
 }
 
 impl BranchTarget {
-    ghost use Rattle.a64_base.specs.Target.{label_of};
+    ghost use Rattle.a64_base.specs.Target.{label_of, offset_field, FitsField};
 
     /// The label, where it goes to one.
     pub fn as_label(self) -> Option<MachLabel>
@@ -23,6 +34,46 @@ impl BranchTarget {
     {
         match self {
             BranchTarget::Label(label) => Some(label),
+            BranchTarget::ResolvedOffset(_) => None,
+        }
+    }
+
+    /// The 14 bits that say where a branch on one bit goes: the distance in words, or zero where a label is
+    /// still to be resolved. The distance is at least -2^13 words, and less than 2^13.
+    pub fn as_offset14_or_zero(self) -> u32
+        requires { FitsField 14 self }
+        ensures value { result ≡ offset_field 14 self }
+        ensures below { result < 2 ^ 14 }
+    {
+        match self {
+            BranchTarget::Label(_) => 0,
+            BranchTarget::ResolvedOffset(offset) => words_in(offset) % (1 << 14),
+        }
+    }
+
+    /// The 19 bits that say where a conditional branch goes: the distance in words, or zero where a label is
+    /// still to be resolved. The distance is at least -2^18 words, and less than 2^18.
+    pub fn as_offset19_or_zero(self) -> u32
+        requires { FitsField 19 self }
+        ensures value { result ≡ offset_field 19 self }
+        ensures below { result < 2 ^ 19 }
+    {
+        match self {
+            BranchTarget::Label(_) => 0,
+            BranchTarget::ResolvedOffset(offset) => words_in(offset) % (1 << 19),
+        }
+    }
+
+    /// The 26 bits that say where a jump goes: the distance in words, or zero where a label is
+    /// still to be resolved. The distance is at least -2^25 words, and less than 2^25.
+    pub fn as_offset26_or_zero(self) -> u32
+        requires { FitsField 26 self }
+        ensures value { result ≡ offset_field 26 self }
+        ensures below { result < 2 ^ 26 }
+    {
+        match self {
+            BranchTarget::Label(_) => 0,
+            BranchTarget::ResolvedOffset(offset) => words_in(offset) % (1 << 26),
         }
     }
 }
@@ -41,6 +92,9 @@ impl PrettyPrint for BranchTarget {
                 let mut text = String::from_str(alloc, "label")?;
                 text.push_str(buffer.format(label.0))?;
                 Ok(text)
+            }
+            BranchTarget::ResolvedOffset(offset) => {
+                String::from_str(alloc, buffer.format(offset))
             }
         }
     }

@@ -96,6 +96,8 @@ fn operands_print_their_names(rt: HostRuntime) -> Result<(), AllocError> {
     assert!(rt; prints(Cond::Hs.pretty_print_default(alloc), "hs")?);
     let target = BranchTarget::Label(MachLabel(3));
     assert!(rt; prints(target.pretty_print_default(alloc), "label3")?);
+    let back = BranchTarget::ResolvedOffset(-8);
+    assert!(rt; prints(back.pretty_print_default(alloc), "-8")?);
     Ok(())
 }
 
@@ -127,6 +129,17 @@ fn fields_are_those_of_the_manual(rt: HostRuntime) {
         Some(TrapCode(9))
     );
     assert!(rt; CallConv::Tail != CallConv::SystemV);
+}
+
+#[test]
+fn offsets_count_words_from_the_branch(rt: HostRuntime) {
+    let back = BranchTarget::ResolvedOffset(-8);
+    assert_eq!(rt; back.as_offset14_or_zero(), 16_382);
+    assert_eq!(rt; back.as_offset19_or_zero(), 524_286);
+    assert_eq!(rt; back.as_offset26_or_zero(), 67_108_862);
+    assert_eq!(rt; BranchTarget::ResolvedOffset(12).as_offset26_or_zero(), 3);
+    assert_eq!(rt; BranchTarget::Label(MachLabel(3)).as_offset26_or_zero(), 0);
+    assert_eq!(rt; back.as_label(), None);
 }
 
 #[test]
