@@ -1,0 +1,3 @@
+pub mod Branches
+pub mod Operators
+pub mod Registers

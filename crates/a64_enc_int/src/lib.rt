@@ -1,0 +1,28 @@
+//! Encoders of integer instructions: from operands to the word of a row.
+//!
+//! Each keeps the name and the parameters of its namesake in Cranelift. A parameter that holds raw bits of the word is
+//! told by the row's word with zeros in all other fields.
+#![tactic(auto)]
+
+mod address;
+mod arith;
+mod atomic;
+mod branch;
+mod memory;
+mod register;
+mod select;
+#[cfg(test)]
+mod tests;
+
+pub use address::{enc_adr, enc_adr_inst, enc_adrp};
+pub use arith::{enc_arith_rr_imm12, enc_arith_rr_imml, enc_arith_rrr, enc_arith_rrrr, enc_bit_rr};
+pub use atomic::{
+    enc_acq_rel, enc_cas, enc_casp, enc_dmb_ish, enc_ldar, enc_ldaxr, enc_stlr, enc_stlxr,
+};
+pub use branch::{
+    enc_br, enc_cbr, enc_cmpbr, enc_conditional_br, enc_jump26, enc_op_size,
+    enc_test_bit_and_branch,
+};
+pub use memory::{enc_ldst_imm19, enc_ldst_pair, enc_ldst_reg, enc_ldst_simm9, enc_ldst_uimm12};
+pub use register::register_field;
+pub use select::{enc_bfm, enc_ccmp, enc_ccmp_imm, enc_csel, enc_move_wide, enc_movk};

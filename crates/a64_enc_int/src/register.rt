@@ -1,0 +1,28 @@
+//! The field that names a register.
+
+ghost use Rattle.std.specs.Prelude.{◌≡◌, ◌<◌};
+ghost use Rattle.a64_enc_int.specs.Registers as registers;
+ghost use Rattle.a64_enc_int.specs.Registers.{IsReal};
+
+use a64_base::Reg;
+
+/// The number by which a word names a register of the machine: 31 for the zero register and for the stack pointer.
+pub fn register_field(reg: Reg) -> u32
+    requires { IsReal reg }
+    ensures value { result ≡ registers.register_field reg }
+    ensures below { result < 32 }
+{
+    match reg {
+        Reg::Real(p) => u32::from(p.hw_enc() % 32),
+        Reg::Virtual { .. } => unreachable!(),
+    }
+}
+
+/// The same, of a general register.
+pub(crate) fn general_field(reg: Reg) -> u32
+    requires { registers.IsGeneral reg }
+    ensures value { result ≡ registers.register_field reg }
+    ensures below { result < 32 }
+{
+    register_field(reg)
+}
