@@ -55,3 +55,7 @@ other_byte word i lt h = is_none word (λ n fits c. let r = digit_at word i c.di
 -- a front whose value is too large
 pub too_large : (word : List ℕ) (i : ℕ) → 2 ^ 64 ≤ digits_value 10 (take i word) → Reads IsU64 decimal word None
 too_large word i h = is_none word (λ n fits c. omega (arith, digits_value-take-le 10 word i (omega arith), c.value))
+
+-- a decimal begins with a digit
+pub decimal_first : (word : List ℕ) (n : ℕ) → IsU64 n → word ≡ decimal n → (48 ≤ get_or word 0 0) × (get_or word 0 0 ≤ 57)
+decimal_first word n lt e = let c = canonical word n lt e in digit_at word 0 c.digits c.nonempty

@@ -1,4 +1,8 @@
 pub mod Decimals
+pub mod Signed
+pub mod Operators
+pub mod Registers
+pub mod Wides
 pub mod Splits
 pub mod Entries
 pub mod Sequences

@@ -1,11 +1,19 @@
 -- The texts of the fields of a line.
-use Rattle.std.specs.Prelude.{ℕ, ◌≡◌, ◌==◌, ◌++◌, codes, false, List}
-use Rattle.std.specs.List.{list_any}
-use Rattle.std.specs.Fmt.{decimal}
+use Rattle.std.specs.Prelude.{ℕ, ◌≡◌, ◌==◌, ◌≤◌, ◌<◌, ◌*◌, ◌^◌, ◌++◌, if◌then◌else◌, codes, false, List, [], ◌∷◌}
+use Rattle.std.specs.List.{list_any, join_with_byte}
+use Rattle.std.specs.Fmt.{decimal, signed_decimal}
+use Rattle.a64_base.specs.RegisterNumbers.{IsRegisterNumber}
 use Rattle.a64_base.specs.declared.entity.MachLabel.{MachLabel}
+use Rattle.a64_base.specs.declared.reg.Reg.{Reg}
+use Rattle.a64_base.specs.declared.reg.Reg.TheVariants.{Real, Virtual}
+use Rattle.a64_base.specs.declared.reg.RegClass.{RegClass}
+use Rattle.a64_base.specs.declared.reg.RegClass.TheVariants.{Int, Float}
+use Rattle.a64_base.specs.declared.size.OperandSize.{OperandSize}
+use Rattle.a64_base.specs.declared.size.OperandSize.TheVariants.{Size32, Size64}
 use Rattle.a64_base.specs.declared.target.BranchTarget.{BranchTarget}
 use Rattle.a64_base.specs.declared.target.BranchTarget.TheVariants as targets
-use Rattle.a64_cli.specs.Reads.{IsU32}
+use Rattle.a64_imms.specs.declared.move_wide.MoveWideConst.{MoveWideConst}
+use Rattle.a64_cli.specs.Reads.{IsU32, IsI32}
 
 -- the byte stands nowhere in the text
 abbrev pub HasNo : ℕ → List ℕ → Type 0
@@ -18,9 +26,53 @@ label_text label = codes "L" ++ decimal label.0
 abbrev pub IsLabel : MachLabel → Type 0
 IsLabel label = IsU32 label.0
 
--- a branch target is its label
+-- a branch target is its label, or its distance in bytes
 abbrev pub target_text : BranchTarget → List ℕ
 target_text (targets.Label label) = label_text label
+target_text (targets.ResolvedOffset offset) = signed_decimal offset
 
 abbrev pub IsTarget : BranchTarget → Type 0
 IsTarget (targets.Label label) = IsLabel label
+IsTarget (targets.ResolvedOffset offset) = IsI32 offset
+
+-- a size is its number of bits
+abbrev pub size_text : OperandSize → List ℕ
+size_text Size32 = codes "32"
+size_text Size64 = codes "64"
+
+-- of the integer registers of the machine two have names without a number
+abbrev pub integer_text : ℕ → List ℕ
+integer_text n =
+    if n == 31 then codes "xzr" else
+    if n == 63 then codes "sp" else
+    (codes "x" ++ decimal n)
+
+abbrev pub real_text : RegClass → ℕ → List ℕ
+real_text Int n = integer_text n
+real_text Float n = codes "v" ++ decimal n
+
+abbrev pub virtual_text : RegClass → ℕ → List ℕ
+virtual_text Int n = codes "%i" ++ decimal n
+virtual_text Float n = codes "%f" ++ decimal n
+
+abbrev pub reg_text : Reg → List ℕ
+reg_text (Real p) = real_text p.class p.number
+reg_text (Virtual index class) = virtual_text class index
+
+abbrev pub IsReg : Reg → Type 0
+IsReg (Real p) = IsRegisterNumber p.class p.number
+IsReg (Virtual index class) = IsU32 index
+
+-- two numbers with a comma between
+abbrev pub pair_text : ℕ × ℕ → List ℕ
+pair_text pair = join_with_byte 44 (decimal pair.0 ∷ decimal pair.1 ∷ [])
+
+abbrev pub ArePair : ℕ × ℕ → Type 0
+ArePair pair = IsU32 pair.0 × IsU32 pair.1
+
+-- a halfword and its shift in bits
+abbrev pub wide_text : MoveWideConst → List ℕ
+wide_text imm = pair_text (imm.bits, 16 * imm.shift)
+
+abbrev pub IsWide : MoveWideConst → Type 0
+IsWide imm = (imm.bits < 2 ^ 16) × (imm.shift ≤ 3)

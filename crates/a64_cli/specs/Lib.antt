@@ -1,4 +1,5 @@
 pub mod Reads
+pub mod Operators
 pub mod Fields
 pub mod Plain
 pub mod Words

@@ -2,6 +2,11 @@
 use Rattle.std.specs.Prelude.{◌≡◌, ℕ, List, Option, Some, None, IfSome}
 use Rattle.a64_base.specs.declared.entity.MachLabel.{MachLabel}
 use Rattle.a64_base.specs.declared.target.BranchTarget.{BranchTarget}
+use Rattle.a64_base.specs.declared.reg.Reg.{Reg}
+use Rattle.a64_base.specs.declared.size.OperandSize.{OperandSize}
+use Rattle.a64_imms.specs.declared.move_wide.MoveWideConst.{MoveWideConst}
+use Rattle.a64_inst.specs.declared.operator.ALUOp.{ALUOp}
+use Rattle.a64_inst.specs.declared.operator.MoveWideOp.{MoveWideOp}
 use Rattle.a64_inst.specs.declared.inst.Inst.{Inst}
 use Rattle.a64_inst.specs.declared.inst.Inst.TheVariants as insts
 use Rattle.a64_emit.specs.declared.item.Item.TheVariants.{Bind, Emit}
@@ -23,6 +28,9 @@ pub record ReadsAs {X : Type 0} (name : Name) (make : X → Entry) (words : List
 -- what the fields of an entry of this name are read as
 unfoldable pub ReadsFields : Name → List (List ℕ) → Option Entry → Type 0
 ReadsFields names.Nop4 = ReadsAs {X = Unit {0}} names.Nop4 (λ x. emitted insts.Nop4)
+ReadsFields names.AluRRR = ReadsAs names.AluRRR (λ (x : ALUOp × OperandSize × Reg × Reg × Reg). emitted (insts.AluRRR x.0 x.1 x.2 x.3 x.4))
+ReadsFields names.MovWide = ReadsAs names.MovWide (λ (x : MoveWideOp × Reg × MoveWideConst × OperandSize). emitted (insts.MovWide x.0 x.1 x.2 x.3))
+ReadsFields names.MovK = ReadsAs names.MovK (λ (x : Reg × Reg × MoveWideConst × OperandSize). emitted (insts.MovK x.0 x.1 x.2 x.3))
 ReadsFields names.Ret = ReadsAs {X = Unit {0}} names.Ret (λ x. emitted insts.Ret)
 ReadsFields names.Jump = ReadsAs names.Jump (λ (dest : BranchTarget). emitted (insts.Jump dest))
 ReadsFields names.Bind = ReadsAs names.Bind (λ (label : MachLabel). entries.Item (Bind label))

@@ -5,6 +5,12 @@
 pub enum Name {
     /// `Nop4`.
     Nop4,
+    /// `AluRRR`.
+    AluRRR,
+    /// `MovWide`.
+    MovWide,
+    /// `MovK`.
+    MovK,
     /// `Ret`.
     Ret,
     /// `Jump`.

@@ -9,9 +9,14 @@ ghost use Rattle.a64_cli.specs.Reading.{Answers};
 mod decimal;
 mod entry;
 mod field;
+mod immediate;
 mod label;
 mod line;
 mod name;
+mod offset;
+mod operator;
+mod register;
+mod size;
 mod split;
 
 use crate::entry::Entry;
@@ -109,6 +114,8 @@ pub fn read_file(alloc: Global, bytes: &[u8]) -> Result<File, FileError>
 #[cfg(test)]
 mod tests {
     use super::*;
+    use a64_emit::Item;
+    use a64_inst::{ALUOp, Inst};
     use std::test::Fail;
 
     #[test]
@@ -120,12 +127,65 @@ mod tests {
             ("Nop4", 1),
             ("Nop4\n", 1),
             ("Ret\n", 1),
+            ("AluRRR Add 64 x1 x2 x3\n", 1),
+            ("AluRRR Add 64 sp x0 x1\n", 1),
+            ("AluRRR SMulH 32 xzr %i0 v31\n", 1),
+            ("AluRRR Extr 32 x30 %f4294967295 v0\n", 1),
+            ("MovWide MovZ x0 5,0 64\n", 1),
+            ("MovWide MovN x0 65535,48 32\n", 1),
+            ("MovK x1 x1 5,16 64\n", 1),
             ("Jump L4294967295\n", 1),
+            ("Jump -134217728\n", 1),
+            ("Jump 6\n", 1),
+            ("Jump 0\n", 1),
+            ("Jump 2147483647\n", 1),
+            ("Jump -2147483648\n", 1),
             ("bind L0\n", 1),
             ("; x\n\nbind L7\n;Nop5\nNop4\n\nJump L7\nRet", 4),
         ] {
             let file = read_file(rt.alloc(), text.as_bytes())?;
             assert_eq!(rt; file.items.len(), items, "{text:?}");
+        }
+        Ok(())
+    }
+
+    #[test]
+    fn takes_each_operator(rt: HostRuntime) -> Result<(), Fail> {
+        for (text, op) in [
+            ("AluRRR Add 64 x1 x2 x3", ALUOp::Add),
+            ("AluRRR Sub 64 x1 x2 x3", ALUOp::Sub),
+            ("AluRRR AddS 64 x1 x2 x3", ALUOp::AddS),
+            ("AluRRR SubS 64 x1 x2 x3", ALUOp::SubS),
+            ("AluRRR And 64 x1 x2 x3", ALUOp::And),
+            ("AluRRR Orr 64 x1 x2 x3", ALUOp::Orr),
+            ("AluRRR Eor 64 x1 x2 x3", ALUOp::Eor),
+            ("AluRRR AndS 64 x1 x2 x3", ALUOp::AndS),
+            ("AluRRR AndNot 64 x1 x2 x3", ALUOp::AndNot),
+            ("AluRRR OrrNot 64 x1 x2 x3", ALUOp::OrrNot),
+            ("AluRRR EorNot 64 x1 x2 x3", ALUOp::EorNot),
+            ("AluRRR Adc 64 x1 x2 x3", ALUOp::Adc),
+            ("AluRRR Sbc 64 x1 x2 x3", ALUOp::Sbc),
+            ("AluRRR AdcS 64 x1 x2 x3", ALUOp::AdcS),
+            ("AluRRR SbcS 64 x1 x2 x3", ALUOp::SbcS),
+            ("AluRRR UDiv 64 x1 x2 x3", ALUOp::UDiv),
+            ("AluRRR SDiv 64 x1 x2 x3", ALUOp::SDiv),
+            ("AluRRR Lsl 64 x1 x2 x3", ALUOp::Lsl),
+            ("AluRRR Lsr 64 x1 x2 x3", ALUOp::Lsr),
+            ("AluRRR Asr 64 x1 x2 x3", ALUOp::Asr),
+            ("AluRRR Extr 64 x1 x2 x3", ALUOp::Extr),
+            ("AluRRR SMulH 64 x1 x2 x3", ALUOp::SMulH),
+            ("AluRRR UMulH 64 x1 x2 x3", ALUOp::UMulH),
+        ] {
+            let file = read_file(rt.alloc(), text.as_bytes())?;
+            match file.items.as_slice() {
+                [
+                    Item::Emit {
+                        inst: Inst::AluRRR { alu_op, .. },
+                        ..
+                    },
+                ] => assert_eq!(rt; *alu_op, op, "{text:?}"),
+                _ => assert!(rt; false, "{text:?}"),
+            }
         }
         Ok(())
     }
@@ -144,7 +204,35 @@ mod tests {
             ("Jump L4294967296\n", 1),
             ("Jump L\n", 1),
             ("Jump l1\n", 1),
-            ("Jump 1\n", 1),
+            ("Jump -0\n", 1),
+            ("Jump +4\n", 1),
+            ("Jump -04\n", 1),
+            ("Jump -\n", 1),
+            ("Jump -L1\n", 1),
+            ("Jump 2147483648\n", 1),
+            ("Jump -2147483649\n", 1),
+            ("AluRRR Add 64 x1 x2\n", 1),
+            ("AluRRR Add 64 x1 x2 x3 x4\n", 1),
+            ("AluRRR add 64 x1 x2 x3\n", 1),
+            ("AluRRR Ad 64 x1 x2 x3\n", 1),
+            ("AluRRR Addd 64 x1 x2 x3\n", 1),
+            ("AluRRR Add 65 x1 x2 x3\n", 1),
+            ("AluRRR Add 64 x32 x2 x3\n", 1),
+            ("AluRRR Add 64 x31 x2 x3\n", 1),
+            ("AluRRR Add 64 x01 x2 x3\n", 1),
+            ("AluRRR Add 64 x x2 x3\n", 1),
+            ("AluRRR Add 64 w1 x2 x3\n", 1),
+            ("AluRRR Add 64 v32 x2 x3\n", 1),
+            ("AluRRR Add 64 %1 x2 x3\n", 1),
+            ("AluRRR Add 64 %i4294967296 x2 x3\n", 1),
+            ("MovWide MovZ x0 5,8 64\n", 1),
+            ("MovWide MovZ x0 5,64 64\n", 1),
+            ("MovWide MovZ x0 65536,0 64\n", 1),
+            ("MovWide MovZ x0 05,0 64\n", 1),
+            ("MovWide MovZ x0 5 64\n", 1),
+            ("MovWide MovZ x0 5,0,0 64\n", 1),
+            ("MovWide MovK x0 5,0 64\n", 1),
+            ("MovK x1 5,16 64\n", 1),
             ("Jump  L1\n", 1),
             ("Jump L1 L2\n", 1),
             ("jump L1\n", 1),

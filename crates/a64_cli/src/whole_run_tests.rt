@@ -24,6 +24,22 @@ fn files_give_their_reports(rt: HostRuntime) -> Result<(), Fail> {
             b"Nop4".as_slice(),
             b"item 0 0\npool 4\nword 0 d503201f\n".as_slice(),
         ),
+        (
+            b"AluRRR Add 64 x1 x2 x3\n".as_slice(),
+            b"item 0 0\npool 4\nword 0 8b030041\n".as_slice(),
+        ),
+        (
+            b"MovWide MovZ x0 5,0 64\n".as_slice(),
+            b"item 0 0\npool 4\nword 0 d28000a0\n".as_slice(),
+        ),
+        (
+            b"MovK x1 x1 5,16 64\n".as_slice(),
+            b"item 0 0\npool 4\nword 0 f2a000a1\n".as_slice(),
+        ),
+        (
+            b"Jump -134217728\n".as_slice(),
+            b"item 0 0\npool 4\nword 0 16000000\n".as_slice(),
+        ),
     ];
     for (file, report) in rows {
         for at_most in [1, 3, usize::MAX] {
@@ -50,6 +66,26 @@ fn refused_files_give_their_lines(rt: HostRuntime) -> Result<(), Fail> {
             b"label L1: bound twice\n".as_slice(),
         ),
         (b"Nop4 x\n".as_slice(), b"line 1: not an entry\n".as_slice()),
+        (
+            b"AluRRR Add 64 sp x0 x1\n".as_slice(),
+            b"item 0: bad operand\n".as_slice(),
+        ),
+        (
+            b"MovWide MovZ x0 5,32 32\n".as_slice(),
+            b"item 0: bad operand\n".as_slice(),
+        ),
+        (
+            b"MovK x1 x2 5,16 64\n".as_slice(),
+            b"item 0: bad operand\n".as_slice(),
+        ),
+        (
+            b"Jump 134217728\n".as_slice(),
+            b"item 0: bad operand\n".as_slice(),
+        ),
+        (
+            b"Jump L1\nJump 6\nJump 6\n".as_slice(),
+            b"item 1: bad operand\n".as_slice(),
+        ),
         (
             b"Jump L01\n".as_slice(),
             b"line 1: not an entry\n".as_slice(),

@@ -126,3 +126,4 @@ module _ (frame : FrameLayout) (flags : EmitFlags) (bound : List MachLabel) wher
 pub jump_labels : (dest : BranchTarget) → filter_map used_label (jump_cells dest) ≡ option_to_list (label_of dest)
 unfolding jump_cells
 jump_labels (branch_targets.Label label) = refl
+jump_labels (branch_targets.ResolvedOffset offset) = refl

@@ -16,7 +16,7 @@ use Rattle.a64_emit.specs.declared.error.EmitError.{EmitError}
 use Rattle.a64_emit.specs.declared.error.EmitError.TheVariants.{LabelBoundTwice, UnboundLabel, TooLarge}
 use Rattle.a64_emit.specs.Cells.{cells_of, all_cells}
 use Rattle.a64_emit.specs.Bounds.{size_of, charge_of, whole, shortest, least, lesser, ranges_in}
-use Rattle.a64_emit.specs.Faults.{binding_of, bindings, is_among, first_repeat, first_missing, second_binding, unbound_use, used_labels, too_large, is_too_large, or_else, fault_of}
+use Rattle.a64_emit.specs.Faults.{own_fault, binding_of, bindings, is_among, first_repeat, first_missing, second_binding, unbound_use, used_labels, too_large, is_too_large, or_else, fault_of}
 
 -- ---- no label is bound twice
 
@@ -148,12 +148,29 @@ module _ (frame : FrameLayout) (flags : EmitFlags) (items : List Item) where
       sizes (x ∷ xs) = omega (arith, sizes xs, length-append (cells_of frame flags x) (all_cells frame flags xs), sum_by-cons (λ item. size_of (cells_of frame flags item) + charge_of (cells_of frame flags item)) x xs)
 
   -- no fault, by the three checks
-  pub faultless : second_binding items ≡ None → unbound_use frame flags items ≡ None → too_large frame flags items ≡ None → fault_of frame flags items ≡ None
-  faultless a b c = ap (λ o. or_else o (or_else (unbound_use frame flags items) (too_large frame flags items))) a ∙ ap (λ o. or_else o (too_large frame flags items)) b ∙ c
+  -- the first fault of items without a fault of their own
+  abbrev later : Option EmitError
+  later = or_else (second_binding items) (or_else (unbound_use frame flags items) (too_large frame flags items))
 
-  -- the first fault, where the checks before it found none
-  pub fault_at_use : (error : EmitError) → second_binding items ≡ None → unbound_use frame flags items ≡ Some error → fault_of frame flags items ≡ Some error
-  fault_at_use error a b = ap (λ o. or_else o (or_else (unbound_use frame flags items) (too_large frame flags items))) a ∙ ap (λ o. or_else o (too_large frame flags items)) b
+  pub faultless : own_fault items ≡ None → second_binding items ≡ None → unbound_use frame flags items ≡ None → too_large frame flags items ≡ None → fault_of frame flags items ≡ None
+  faultless own a b c =
+      ap (λ o. or_else o later) own
+      ∙ ap (λ o. or_else o (or_else (unbound_use frame flags items) (too_large frame flags items))) a ∙ ap (λ o. or_else o (too_large frame flags items)) b ∙ c
 
-  pub fault_at_size : (error : EmitError) → second_binding items ≡ None → unbound_use frame flags items ≡ None → too_large frame flags items ≡ Some error → fault_of frame flags items ≡ Some error
-  fault_at_size error a b c = ap (λ o. or_else o (or_else (unbound_use frame flags items) (too_large frame flags items))) a ∙ ap (λ o. or_else o (too_large frame flags items)) b ∙ c
+  pub fault_at_item : (error : EmitError) → own_fault items ≡ Some error → fault_of frame flags items ≡ Some error
+  fault_at_item error own = ap (λ o. or_else o later) own
+
+  pub fault_at_binding : (error : EmitError) → own_fault items ≡ None → second_binding items ≡ Some error → fault_of frame flags items ≡ Some error
+  fault_at_binding error own a =
+      ap (λ o. or_else o later) own
+      ∙ ap (λ o. or_else o (or_else (unbound_use frame flags items) (too_large frame flags items))) a
+
+  pub fault_at_use : (error : EmitError) → own_fault items ≡ None → second_binding items ≡ None → unbound_use frame flags items ≡ Some error → fault_of frame flags items ≡ Some error
+  fault_at_use error own a b =
+      ap (λ o. or_else o later) own
+      ∙ ap (λ o. or_else o (or_else (unbound_use frame flags items) (too_large frame flags items))) a ∙ ap (λ o. or_else o (too_large frame flags items)) b
+
+  pub fault_at_size : (error : EmitError) → own_fault items ≡ None → second_binding items ≡ None → unbound_use frame flags items ≡ None → too_large frame flags items ≡ Some error → fault_of frame flags items ≡ Some error
+  fault_at_size error own a b c =
+      ap (λ o. or_else o later) own
+      ∙ ap (λ o. or_else o (or_else (unbound_use frame flags items) (too_large frame flags items))) a ∙ ap (λ o. or_else o (too_large frame flags items)) b ∙ c

@@ -29,7 +29,7 @@ use Rattle.a64_emit.specs.Layout.{placed, standing, site_mask, Stands, IsBoundAt
 use Rattle.a64_emit.specs.Records.{relocs_at, traps_at, calls_at, patchable_at, maps_at}
 use Rattle.a64_emit.proofs.Recorded.{all_at-nothing}
 use Rattle.a64_emit.specs.Bounds.{whole, cell_range}
-use Rattle.a64_emit.specs.Faults.{used_label, unbound_use, second_binding, too_large}
+use Rattle.a64_emit.specs.Faults.{own_fault, used_label, unbound_use, second_binding, too_large}
 use Rattle.a64_emit.specs.Assembled.{IsAssembled}
 use Rattle.a64_emit.proofs.Emitted.{next_place, as_many, flat-map, length_words}
 use Rattle.a64_emit.proofs.Checked.{uses_bound, within_ranges, sizes_in_whole, faultless}
@@ -247,9 +247,9 @@ module _ (frame : FrameLayout) (flags : EmitFlags) (items : List Item) (places :
         }
 
         -- the code of items without a fault
-        pub is_assembled : second_binding items ≡ None → out.relocs.items ≡ code.relocs.items → out.traps.items ≡ code.traps.items → out.calls.items ≡ code.calls.items → out.patchable.items ≡ code.patchable.items → out.maps.items ≡ code.maps.items → IsAssembled frame flags items out
-        is_assembled once relocs traps calls patchable maps = record {
-          no_fault = faultless frame flags items once all_bound short;
+        pub is_assembled : own_fault items ≡ None → second_binding items ≡ None → out.relocs.items ≡ code.relocs.items → out.traps.items ≡ code.traps.items → out.calls.items ≡ code.calls.items → out.patchable.items ≡ code.patchable.items → out.maps.items ≡ code.maps.items → IsAssembled frame flags items out
+        is_assembled own once relocs traps calls patchable maps = record {
+          no_fault = faultless frame flags items own once all_bound short;
           laid = is_laid;
           leads = all_lead;
           records = record {

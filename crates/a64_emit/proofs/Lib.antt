@@ -7,3 +7,5 @@ pub mod Sites
 pub mod Composed
 pub mod Recorded
 pub mod Steps
+pub mod Owns
+pub mod Operands

@@ -5,6 +5,8 @@ use Rattle.std.specs.FinMap.{FinMap, get, insert}
 use Rattle.a64_base.specs.declared.entity.MachLabel.{MachLabel}
 use Rattle.a64_inst.specs.declared.emission.EmitFlags.{EmitFlags}
 use Rattle.a64_inst.specs.declared.frame.FrameLayout.{FrameLayout}
+use Rattle.a64_inst.specs.declared.inst.Inst.{Inst}
+use Rattle.a64_inst.specs.Faults.{inst_fault}
 use Rattle.a64_buffer.specs.declared.site.Use.{Use}
 use Rattle.a64_buffer.specs.Buffer.{Buffer, end_of, made_use, closed_at}
 use Rattle.a64_emit.specs.declared.label_use.LabelUse.{LabelUse}
@@ -42,6 +44,11 @@ pub record IsAppendedInPart (b b' : Buffer LabelUse) (cells : List Cell) : Type 
 -- there is room for cells at the end of the buffer
 abbrev pub HasRoom : Buffer LabelUse → List Cell → Type 0
 HasRoom b cells = end_of b + 4 * length cells < 2 ^ 31
+
+-- an instruction without a fault of its own, and room for its cells
+pub record IsReady (b : Buffer LabelUse) (frame : FrameLayout) (flags : EmitFlags) (inst : Inst) : Type 0 where
+  pub room : HasRoom b (inst_cells frame flags inst)
+  pub good : inst_fault inst ≡ None
 
 -- the label that an item binds, if it binds one, is not bound yet
 abbrev pub IsUnbound : Buffer LabelUse → Item → Type 0

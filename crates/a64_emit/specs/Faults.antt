@@ -1,5 +1,5 @@
 -- Why a list of items is refused.
-use Rattle.std.specs.Prelude.{ℕ, ◌≡◌, ◌^◌, Bool, false, not, ◌||◌, ◌==◌, nat_le, if◌then◌else◌, List, [], ◌∷◌, ◌++◌, find, map, Option, None, Some, option_map}
+use Rattle.std.specs.Prelude.{ℕ, ◌≡◌, ◌+◌, ◌^◌, Bool, false, not, ◌||◌, ◌==◌, nat_le, if◌then◌else◌, List, [], ◌∷◌, ◌++◌, find, map, Option, None, Some, option_map}
 use Rattle.std.specs.List.{filter_map, list_any}
 use Rattle.std.specs.Option.{option_map_or}
 use Rattle.std.specs.Ordering.{nat_cmp}
@@ -7,13 +7,41 @@ use Rattle.std.specs.BTreeSet.{BTreeSet, contains}
 use Rattle.a64_base.specs.declared.entity.MachLabel.{MachLabel}
 use Rattle.a64_inst.specs.declared.emission.EmitFlags.{EmitFlags}
 use Rattle.a64_inst.specs.declared.frame.FrameLayout.{FrameLayout}
+use Rattle.a64_inst.specs.declared.fault.OwnFault.{OwnFault}
+use Rattle.a64_inst.specs.declared.fault.OwnFault.TheVariants as own
+use Rattle.a64_inst.specs.Faults.{inst_fault}
 use Rattle.a64_buffer.specs.declared.site.Target.TheVariants.{Label}
 use Rattle.a64_emit.specs.declared.item.Item.{Item}
 use Rattle.a64_emit.specs.declared.item.Item.TheVariants.{Bind, Emit}
 use Rattle.a64_emit.specs.declared.error.EmitError.{EmitError}
-use Rattle.a64_emit.specs.declared.error.EmitError.TheVariants.{LabelBoundTwice, UnboundLabel, TooLarge}
+use Rattle.a64_emit.specs.declared.error.EmitError.TheVariants.{BadOperand, BadMode, ScratchConflict, UnknownConstant, LabelBoundTwice, UnboundLabel, TooLarge}
 use Rattle.a64_emit.specs.Cells.{Cell, all_cells}
 use Rattle.a64_emit.specs.Bounds.{whole, shortest}
+
+-- the first fault, where there is one, else the second
+abbrev pub or_else : Option EmitError → Option EmitError → Option EmitError
+or_else None later = later
+or_else (Some fault) later = Some fault
+
+-- the fault of an item by itself
+abbrev pub item_fault : Item → Option OwnFault
+item_fault (Bind label) = None
+item_fault (Emit inst map) = inst_fault inst
+
+-- the refusal because of a fault of the item with this number
+abbrev pub own_error : ℕ → OwnFault → EmitError
+own_error i own.BadOperand = BadOperand i
+own_error i own.BadMode = BadMode i
+own_error i own.ScratchConflict = ScratchConflict i
+own_error i own.UnknownConstant = UnknownConstant i
+
+-- the first fault of an item by itself, where the first item has this number
+abbrev pub own_fault_from : ℕ → List Item → Option EmitError
+own_fault_from n [] = None
+own_fault_from n (item ∷ items) = or_else (option_map (own_error n) (item_fault item)) (own_fault_from (n + 1) items)
+
+abbrev pub own_fault : List Item → Option EmitError
+own_fault items = own_fault_from 0 items
 
 -- the label that an item binds
 abbrev pub binding_of : Item → Option MachLabel
@@ -36,11 +64,6 @@ is_among labels label = list_any (λ (l : MachLabel). l.0 == label.0) labels
 abbrev pub first_repeat : List MachLabel → List MachLabel → Option MachLabel
 first_repeat before [] = None
 first_repeat before (l ∷ ls) = if is_among before l then Some l else first_repeat (before ++ l ∷ []) ls
-
--- the first fault, where there is one, else the second
-abbrev pub or_else : Option EmitError → Option EmitError → Option EmitError
-or_else None later = later
-or_else (Some fault) later = Some fault
 
 -- the set has the numbers of these labels
 abbrev pub HasLabels : BTreeSet ℕ → List MachLabel → Type 0
@@ -73,4 +96,4 @@ module _ (frame : FrameLayout) (flags : EmitFlags) (items : List Item) where
 
   -- the first fault that applies
   abbrev pub fault_of : Option EmitError
-  fault_of = or_else (second_binding items) (or_else unbound_use too_large)
+  fault_of = or_else (own_fault items) (or_else (second_binding items) (or_else unbound_use too_large))

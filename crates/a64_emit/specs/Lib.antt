@@ -1,4 +1,3 @@
-pub mod Rows
 pub mod LabelUses
 pub mod Cells
 pub mod Emission

@@ -6,13 +6,13 @@ ghost use Rattle.a64_buffer.specs.declared.force.ForceVeneers.TheVariants.{No};
 ghost use Rattle.a64_emit.specs.Bounds.{whole};
 ghost use Rattle.a64_emit.specs.Cells.{cells_of};
 ghost use Rattle.a64_emit.specs.Emission.{HasRoom, IsUnbound, stepped, HasEmitted};
-ghost use Rattle.a64_emit.specs.Faults.{second_binding};
+ghost use Rattle.a64_emit.specs.Faults.{item_fault, own_fault, second_binding};
 ghost use Rattle.a64_emit.specs.Assembled.{IsAssembled, IsRefusal};
 
 use crate::code::Code;
 use crate::emit::MachInstEmit;
 use crate::error::EmitError;
-use crate::faults::{bound_labels, check_size, check_uses};
+use crate::faults::{bound_labels, check_items, check_size, check_uses};
 use crate::item::Item;
 use crate::label_use::LabelUse;
 use a64_buffer::{Constants, Finished, ForceVeneers, MachBuffer};
@@ -26,6 +26,7 @@ fn emit_item(
     info: &EmitInfo,
     state: &mut EmitState,
 ) -> Result<(), AllocError>
+    requires good { item_fault item.now ≡ None }
     requires room { HasRoom buffer.old (cells_of state.old.frame info.now item.now) }
     requires unbound { IsUnbound buffer.old item.now }
     ensures buffer { OnOk result (buffer.new ≡ stepped state.old.frame info.now buffer.old item.now) }
@@ -51,6 +52,7 @@ fn emit_items(
     requires words { buffer.old.words ≡ [] }
     requires uses { buffer.old.uses ≡ [] }
     requires labels { buffer.old.labels ≡ empty }
+    requires good { own_fault items.now ≡ None }
     requires once { second_binding items.now ≡ None }
     requires short { whole state.old.frame info.now items.now < 2 ^ 31 }
     ensures { IfOk result (λ places. HasEmitted state.old.frame info.now items.now places.items buffer.new) }
@@ -83,6 +85,7 @@ pub fn assemble(
     ensures ok { IfOk result (IsAssembled frame.now info.now items.now) }
     ensures err { IfErr result (IsRefusal frame.now info.now items.now) }
 {
+    check_items(items)?;
     let bound = bound_labels(alloc, items)?;
     check_uses(items, &bound)?;
     check_size(items)?;

@@ -3,10 +3,11 @@
 ghost use Rattle.std.specs.Prelude.{◌≡◌, ◌+◌, ◌^◌, ◌<◌};
 ghost use Rattle.a64_emit.specs.Bounds as bounds;
 ghost use Rattle.a64_emit.specs.Bounds.{IsExtent};
-ghost use Rattle.a64_emit.specs.Cells.{inst_cells, cells_of};
+ghost use Rattle.a64_emit.specs.Cells.{inst_cells, jump_cells, cells_of};
 
 use crate::item::Item;
 use crate::label_use::LabelUse;
+use a64_base::BranchTarget;
 use a64_buffer::MachInstLabelUse;
 use a64_inst::Inst;
 
@@ -32,23 +33,39 @@ pub fn lesser(a: Option<u32>, b: Option<u32>) -> Option<u32>
     }
 }
 
+/// One word without a use.
+const ONE_WORD: Extent = Extent {
+    size: 4,
+    charge: 4,
+    range: None,
+};
+
+/// How much a jump may add to code.
+#[tactic(auto, unfolding(crate::specs::Cells::jump_cells))]
+fn jump_extent(dest: BranchTarget) -> Extent
+    ensures small { result.size + result.charge < 2 ^ 32 }
+    ensures extent { IsExtent (jump_cells dest) result.size result.charge result.range }
+{
+    match dest {
+        BranchTarget::Label(_) => Extent {
+            size: 4,
+            charge: 32,
+            range: Some(LabelUse::Branch26.max_pos_range()),
+        },
+        BranchTarget::ResolvedOffset(_) => ONE_WORD,
+    }
+}
+
 /// How much an instruction may add to code, whatever the frame and the settings.
-#[tactic(auto, unfolding(crate::specs::Cells::nop4_cells, crate::specs::Cells::ret_cells, crate::specs::Cells::jump_cells))]
+#[tactic(auto, unfolding(crate::specs::Cells::nop4_cells, crate::specs::Cells::alu_rrr_cells, crate::specs::Cells::mov_wide_cells, crate::specs::Cells::mov_k_cells, crate::specs::Cells::ret_cells))]
 fn inst_extent(inst: &Inst) -> Extent
     ensures small { result.size + result.charge < 2 ^ 32 }
     ensures extent { (frame : _) (flags : _) → IsExtent (inst_cells frame flags inst.now) result.size result.charge result.range }
 {
     match inst {
-        Inst::Nop4 | Inst::Ret => Extent {
-            size: 4,
-            charge: 4,
-            range: None,
-        },
-        Inst::Jump { dest: _ } => Extent {
-            size: 4,
-            charge: 32,
-            range: Some(LabelUse::Branch26.max_pos_range()),
-        },
+        Inst::Nop4 | Inst::AluRRR { .. } | Inst::MovWide { .. } | Inst::MovK { .. } | Inst::Ret =>
+            ONE_WORD,
+        Inst::Jump { dest } => jump_extent(*dest),
     }
 }
 

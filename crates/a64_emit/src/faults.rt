@@ -5,15 +5,56 @@ ghost use Rattle.std.specs.List.{filter_map};
 ghost use Rattle.std.specs.Option.{option_map_or};
 ghost use Rattle.a64_emit.specs.declared.error.EmitError.TheVariants.{OutOfMemory};
 ghost use Rattle.a64_emit.specs.Cells.{inst_cells, jump_cells};
-ghost use Rattle.a64_emit.specs.Faults.{HasLabels, bindings, second_binding, first_missing, used_label, unbound_use, too_large};
+ghost use Rattle.a64_emit.specs.Faults as Faults;
+ghost use Rattle.a64_emit.specs.Faults.{own_fault, HasLabels, bindings, second_binding, first_missing, used_label, unbound_use, too_large};
 
 use crate::error::EmitError;
 use crate::extent::{Extent, extent_of, lesser};
 use crate::item::Item;
 use a64_base::{BranchTarget, MachLabel};
-use a64_inst::Inst;
+use a64_inst::{Inst, OwnFault};
 use std::alloc::Global;
 use std::collections::BTreeSet;
+
+/// What is wrong with an item by itself.
+fn item_fault(item: &Item) -> Option<OwnFault>
+    ensures { result ≡ Faults.item_fault item.now }
+{
+    match item {
+        Item::Bind(_) => None,
+        Item::Emit { inst, map: _ } => inst.own_fault(),
+    }
+}
+
+/// The refusal because of a fault of the item with this index.
+fn own_error(index: usize, fault: OwnFault) -> EmitError
+    ensures { result ≡ Faults.own_error index fault }
+{
+    match fault {
+        OwnFault::BadOperand => EmitError::BadOperand(index),
+        OwnFault::BadMode => EmitError::BadMode(index),
+        OwnFault::ScratchConflict => EmitError::ScratchConflict(index),
+        OwnFault::UnknownConstant => EmitError::UnknownConstant(index),
+    }
+}
+
+/// Whether each item is right by itself. It takes no memory.
+///
+/// # Errors
+///
+/// The fault of the first item that is not.
+pub fn check_items(items: &[Item]) -> Result<(), EmitError>
+    ensures { MatchResult result
+        (λ _. own_fault items.now ≡ None)
+        (λ error. own_fault items.now ≡ Some error) }
+{
+    for (i, item) in items.iter().enumerate() {
+        if let Some(fault) = item_fault(item) {
+            return Err(own_error(i, fault));
+        }
+    }
+    Ok(())
+}
 
 /// The numbers of the labels that items bind.
 ///
@@ -53,20 +94,21 @@ fn missing_in_jump(dest: BranchTarget, bound: &BTreeSet<u32>) -> Option<MachLabe
     ensures { (labels : _) → HasLabels bound.now labels
         → result ≡ first_missing labels (filter_map used_label (jump_cells dest)) }
 {
-    match dest.as_label() {
-        Some(label) => missing(label, bound),
-        None => None,
+    match dest {
+        BranchTarget::Label(label) => missing(label, bound),
+        BranchTarget::ResolvedOffset(_) => None,
     }
 }
 
 /// The first label that an instruction uses and that is not bound.
-#[tactic(auto, unfolding(crate::specs::Cells::nop4_cells, crate::specs::Cells::ret_cells))]
+#[tactic(auto, unfolding(crate::specs::Cells::nop4_cells, crate::specs::Cells::alu_rrr_cells, crate::specs::Cells::mov_wide_cells, crate::specs::Cells::mov_k_cells, crate::specs::Cells::ret_cells))]
 fn missing_in(inst: &Inst, bound: &BTreeSet<u32>) -> Option<MachLabel>
     ensures { (frame : _) (flags : _) (labels : _) → HasLabels bound.now labels
         → result ≡ first_missing labels (filter_map used_label (inst_cells frame flags inst.now)) }
 {
     match inst {
-        Inst::Nop4 | Inst::Ret => None,
+        Inst::Nop4 | Inst::AluRRR { .. } | Inst::MovWide { .. } | Inst::MovK { .. } | Inst::Ret =>
+            None,
         Inst::Jump { dest } => missing_in_jump(*dest, bound),
     }
 }

@@ -2,7 +2,10 @@
 
 ghost use Rattle.std.specs.Prelude.{◌≡◌, IfOk};
 
-use a64_base::BranchTarget;
+use crate::fault::{self, OwnFault};
+use crate::operator::{ALUOp, MoveWideOp};
+use a64_base::{BranchTarget, OperandSize, Reg, Writable};
+use a64_imms::MoveWideConst;
 use std::alloc::{AllocError, Global};
 
 /// An AArch64 instruction, or a short sequence of instructions (Cranelift's `Inst`).
@@ -10,6 +13,41 @@ use std::alloc::{AllocError, Global};
 pub enum Inst {
     /// `nop`: one word that does nothing.
     Nop4,
+    /// An integer operation on two registers.
+    AluRRR {
+        /// The operator.
+        alu_op: ALUOp,
+        /// The size of the operands.
+        size: OperandSize,
+        /// The result.
+        rd: Writable<Reg>,
+        /// The first operand.
+        rn: Reg,
+        /// The second operand.
+        rm: Reg,
+    },
+    /// `movz` or `movn`: sets a register to a halfword at one of its places.
+    MovWide {
+        /// The operator.
+        op: MoveWideOp,
+        /// The result.
+        rd: Writable<Reg>,
+        /// The halfword and its place.
+        imm: MoveWideConst,
+        /// The size of the register.
+        size: OperandSize,
+    },
+    /// `movk`: replaces a halfword of a register.
+    MovK {
+        /// The result.
+        rd: Writable<Reg>,
+        /// The register of which the other halfwords stay, which is the result's.
+        rn: Reg,
+        /// The halfword and its place.
+        imm: MoveWideConst,
+        /// The size of the register.
+        size: OperandSize,
+    },
     /// `ret`: a return to the address in x30.
     Ret,
     /// `b`: an unconditional branch.
@@ -30,8 +68,61 @@ impl Inst {
     {
         Ok(match self {
             Inst::Nop4 => Inst::Nop4,
+            Inst::AluRRR {
+                alu_op,
+                size,
+                rd,
+                rn,
+                rm,
+            } => Inst::AluRRR {
+                alu_op: *alu_op,
+                size: *size,
+                rd: *rd,
+                rn: *rn,
+                rm: *rm,
+            },
+            Inst::MovWide { op, rd, imm, size } => Inst::MovWide {
+                op: *op,
+                rd: *rd,
+                imm: *imm,
+                size: *size,
+            },
+            Inst::MovK { rd, rn, imm, size } => Inst::MovK {
+                rd: *rd,
+                rn: *rn,
+                imm: *imm,
+                size: *size,
+            },
             Inst::Ret => Inst::Ret,
             Inst::Jump { dest } => Inst::Jump { dest: *dest },
         })
+    }
+}
+
+impl Inst {
+    ghost use Rattle.a64_inst.specs.Faults.{inst_fault};
+
+    /// What is wrong with the instruction by itself. It takes no memory.
+    pub fn own_fault(&self) -> Option<OwnFault>
+        ensures { result ≡ inst_fault self.now }
+    {
+        match self {
+            Inst::Nop4 | Inst::Ret => None,
+            Inst::AluRRR {
+                alu_op,
+                size,
+                rd,
+                rn,
+                rm,
+            } => fault::alu_rrr(*alu_op, *size, rd.to_reg(), *rn, *rm),
+            Inst::MovWide {
+                op: _,
+                rd,
+                imm,
+                size,
+            } => fault::mov_wide(rd.to_reg(), *imm, *size),
+            Inst::MovK { rd, rn, imm, size } => fault::mov_k(rd.to_reg(), *rn, *imm, *size),
+            Inst::Jump { dest } => fault::jump(*dest),
+        }
     }
 }

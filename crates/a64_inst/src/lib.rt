@@ -2,11 +2,13 @@
 #![tactic(auto)]
 
 mod emission;
+mod fault;
 mod frame;
 mod inst;
 mod operator;
 
 pub use emission::{EmitFlags, EmitInfo, EmitState};
+pub use fault::OwnFault;
 pub use frame::FrameLayout;
 pub use inst::Inst;
-pub use operator::{AtomicRMWOp, MoveWideOp};
+pub use operator::{ALUOp, AtomicRMWOp, MoveWideOp};

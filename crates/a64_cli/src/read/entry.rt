@@ -6,10 +6,11 @@ ghost use Rattle.a64_cli.specs.ReadsAs as ReadsAs;
 
 use crate::entry::Entry;
 use crate::name::Name;
-use crate::read::field::one;
-use a64_base::{BranchTarget, MachLabel};
+use crate::read::field::{five, four, one};
+use a64_base::{BranchTarget, MachLabel, OperandSize, Reg, Writable};
 use a64_emit::Item;
-use a64_inst::Inst;
+use a64_imms::MoveWideConst;
+use a64_inst::{ALUOp, Inst, MoveWideOp};
 
 /// The entry that is an instruction without a map of the stack.
 fn emitted(inst: Inst) -> Entry
@@ -27,6 +28,36 @@ fn nop4(words: &[&[u8]]) -> Option<Entry>
     } else {
         None
     }
+}
+
+#[tactic(auto, unfolding(crate::specs::ReadsAs::ReadsFields))]
+fn alu_rrr(words: &[&[u8]]) -> Option<Entry>
+    ensures { ReadsFields Name.AluRRR (map (λ w. w.now) words.now) result }
+{
+    let (alu_op, size, rd, rn, rm) = five::<ALUOp, OperandSize, Writable<Reg>, Reg, Reg>(words)?;
+    Some(emitted(Inst::AluRRR {
+        alu_op,
+        size,
+        rd,
+        rn,
+        rm,
+    }))
+}
+
+#[tactic(auto, unfolding(crate::specs::ReadsAs::ReadsFields))]
+fn mov_wide(words: &[&[u8]]) -> Option<Entry>
+    ensures { ReadsFields Name.MovWide (map (λ w. w.now) words.now) result }
+{
+    let (op, rd, imm, size) = four::<MoveWideOp, Writable<Reg>, MoveWideConst, OperandSize>(words)?;
+    Some(emitted(Inst::MovWide { op, rd, imm, size }))
+}
+
+#[tactic(auto, unfolding(crate::specs::ReadsAs::ReadsFields))]
+fn mov_k(words: &[&[u8]]) -> Option<Entry>
+    ensures { ReadsFields Name.MovK (map (λ w. w.now) words.now) result }
+{
+    let (rd, rn, imm, size) = four::<Writable<Reg>, Reg, MoveWideConst, OperandSize>(words)?;
+    Some(emitted(Inst::MovK { rd, rn, imm, size }))
 }
 
 #[tactic(auto, unfolding(crate::specs::ReadsAs::ReadsFields))]
@@ -62,6 +93,9 @@ pub fn read_fields(name: Name, words: &[&[u8]]) -> Option<Entry>
 {
     match name {
         Name::Nop4 => nop4(words),
+        Name::AluRRR => alu_rrr(words),
+        Name::MovWide => mov_wide(words),
+        Name::MovK => mov_k(words),
         Name::Ret => ret(words),
         Name::Jump => jump(words),
         Name::Bind => bind(words),

@@ -11,6 +11,9 @@ pub fn read_name(word: &[u8]) -> Option<Name>
 {
     match word {
         b"Nop4" => Some(Name::Nop4),
+        b"AluRRR" => Some(Name::AluRRR),
+        b"MovWide" => Some(Name::MovWide),
+        b"MovK" => Some(Name::MovK),
         b"Ret" => Some(Name::Ret),
         b"Jump" => Some(Name::Jump),
         b"bind" => Some(Name::Bind),

@@ -15,12 +15,12 @@ passed_on P error (Err e) h p = subst P (sym h) p
 pub returns-in_err-check_uses-clause-err : goal.returns-in_err-check_uses-clause-err
 returns-in_err-check_uses-clause-err c =
     passed_on (IsRefusal c.args.frame.now c.args.info.now c.args.items.now) c.in_err-check_uses.field-0.0 c.from_residual-in_err-check_uses.result c.from_residual-in_err-check_uses.ensures.1
-    (inr (fault_at_use c.args.frame.now c.args.info.now c.args.items.now c.in_err-check_uses.field-0.0 c.in_ok-bound.ensures.ok.0 (c.in_err-check_uses.ensures c.args.frame.now c.args.info.now)))
+    (inr (fault_at_use c.args.frame.now c.args.info.now c.args.items.now c.in_err-check_uses.field-0.0 c.in_ok-check_items.ensures c.in_ok-bound.ensures.ok.0 (c.in_err-check_uses.ensures c.args.frame.now c.args.info.now)))
 
 pub returns-in_err-check_size-clause-err : goal.returns-in_err-check_size-clause-err
 returns-in_err-check_size-clause-err c =
     passed_on (IsRefusal c.args.frame.now c.args.info.now c.args.items.now) c.in_err-check_size.field-0.0 c.from_residual-in_err-check_size.result c.from_residual-in_err-check_size.ensures.1
-    (inr (fault_at_size c.args.frame.now c.args.info.now c.args.items.now c.in_err-check_size.field-0.0 c.in_ok-bound.ensures.ok.0 (c.in_ok-check_uses.ensures c.args.frame.now c.args.info.now) (c.in_err-check_size.ensures c.args.frame.now c.args.info.now)))
+    (inr (fault_at_size c.args.frame.now c.args.info.now c.args.items.now c.in_err-check_size.field-0.0 c.in_ok-check_items.ensures c.in_ok-bound.ensures.ok.0 (c.in_ok-check_uses.ensures c.args.frame.now c.args.info.now) (c.in_err-check_size.ensures c.args.frame.now c.args.info.now)))
 
 pub finish-requires : goal.finish-requires
 finish-requires c =
@@ -38,5 +38,5 @@ returns-clause-ok c =
     (c.in_ok-check_uses.ensures c.args.frame.now c.args.info.now) (c.in_ok-check_size.ensures c.args.frame.now c.args.info.now)
     c.in_ok-finished.finished c.in_ok-finished.ensures c.code_of.result
     (ap (λ o. o.bytes.items) out) (ap (λ o. o.places.items) out) (ap (λ o. o.labels.items) out) (ap (λ o. o.islands.items) out) (ap (λ o. o.pool) out)
-    c.in_ok-bound.ensures.ok.0
+    c.in_ok-check_items.ensures c.in_ok-bound.ensures.ok.0
     (ap (λ o. o.relocs.items) out) (ap (λ o. o.traps.items) out) (ap (λ o. o.calls.items) out) (ap (λ o. o.patchable.items) out) (ap (λ o. o.maps.items) out)

@@ -1,10 +1,11 @@
 use Rattle.std.proofs.Common.{◌≡◌, ◌∙◌, ◌+◌, refl, subst, sym, ap, ◌++◌, ◌∷◌, [], get_or, take}
 use Rattle.a64_buffer.specs.Buffer.{end_of}
 use Rattle.a64_emit.specs.declared.item.Item.{Item}
-use Rattle.a64_emit.specs.declared.item.Item.TheVariants.{Bind}
 use Rattle.a64_emit.specs.Cells.{cells_of}
-use Rattle.a64_emit.specs.Emission.{HasRoom, HasEmitted, stepped}
+use Rattle.a64_emit.specs.Emission.{HasRoom, IsUnbound, HasEmitted, stepped}
 use Rattle.a64_emit.proofs.Emitted.{emitted_none, emitted_step}
+use Rattle.a64_emit.specs.Faults.{item_fault}
+use Rattle.a64_emit.proofs.Owns.{none_at}
 use Rattle.a64_emit.proofs.Steps.{next_room, next_unbound}
 use Rattle.a64_emit.proofs.assembly.emit_items.Goals as goal
 
@@ -14,25 +15,32 @@ loop-item-init c = record {
   emitted = subst (λ places. HasEmitted c.args.state.now.frame c.args.info.now [] places c.args.buffer.now) (sym c.in_ok-places.ensures.items) (emitted_none c.args.state.now.frame c.args.info.now c.args.buffer.now c.requires.words c.requires.uses c.requires.labels);
 }
 
+pub emit_item-requires-clause-good : goal.emit_item-requires-clause-good
+emit_item-requires-clause-good c =
+    ap item_fault c.item-item.is ∙ none_at 0 c.args.items.now c.loop-item.item-index c.item-item.result c.requires.good c.loop-item-test.true
+
 pub emit_item-requires-clause-room : goal.emit_item-requires-clause-room
 emit_item-requires-clause-room c =
-    let item : Item = get_or c.args.items.now c.loop-item.item-index (Bind (record { 0 = 0 })) in
-    subst (λ frame. HasRoom c.loop-item.buffer (cells_of frame c.args.info.now item)) (sym c.loop-item.invariant.frame)
-    (next_room c.args.state.now.frame c.args.info.now c.args.items.now c.loop-item.item-index (Bind (record { 0 = 0 })) c.loop-item-test.true c.loop-item.places.items c.loop-item.buffer c.loop-item.invariant.emitted c.requires.short)
+    subst (λ (item : Item). HasRoom c.loop-item.buffer (cells_of c.loop-item.state.frame c.args.info.now item)) (sym c.item-item.is)
+    (subst (λ frame. HasRoom c.loop-item.buffer (cells_of frame c.args.info.now (get_or c.args.items.now c.loop-item.item-index c.item-item.result))) (sym c.loop-item.invariant.frame)
+    (next_room c.args.state.now.frame c.args.info.now c.args.items.now c.loop-item.item-index c.item-item.result c.loop-item-test.true c.loop-item.places.items c.loop-item.buffer c.loop-item.invariant.emitted c.requires.short))
 
 pub emit_item-requires-clause-unbound : goal.emit_item-requires-clause-unbound
-emit_item-requires-clause-unbound c = next_unbound c.args.state.now.frame c.args.info.now c.args.items.now c.loop-item.item-index (Bind (record { 0 = 0 })) c.loop-item-test.true c.loop-item.places.items c.loop-item.buffer c.loop-item.invariant.emitted c.requires.once
+emit_item-requires-clause-unbound c =
+    subst (IsUnbound c.loop-item.buffer) (sym c.item-item.is)
+    (next_unbound c.args.state.now.frame c.args.info.now c.args.items.now c.loop-item.item-index c.item-item.result c.loop-item-test.true c.loop-item.places.items c.loop-item.buffer c.loop-item.invariant.emitted c.requires.once)
 
 pub loop-item-preserved : goal.loop-item-preserved
 loop-item-preserved c =
-    let item : Item = get_or c.args.items.now c.loop-item.item-index (Bind (record { 0 = 0 })) in
+    let item : Item = c.item-item.result in
     let places : c.push.new.self.items ≡ c.loop-item.places.items ++ end_of c.loop-item.buffer ∷ [] = c.in_ok-push.ensures.items ∙ ap (λ n. c.loop-item.places.items ++ n ∷ []) c.cur_offset.ensures.value in
     let stepped_to : c.emit_item.new.buffer ≡ stepped c.args.state.now.frame c.args.info.now c.loop-item.buffer item =
     c.in_ok-emit_item.ensures.buffer ∙ ap (λ frame. stepped frame c.args.info.now c.loop-item.buffer item) c.loop-item.invariant.frame in
     record {
       frame = c.in_ok-emit_item.ensures.frame ∙ c.loop-item.invariant.frame;
       emitted = subst (λ ps. HasEmitted c.args.state.now.frame c.args.info.now (take (c.loop-item.item-index + 1) c.args.items.now) ps c.emit_item.new.buffer) (sym places)
-          (emitted_step c.args.state.now.frame c.args.info.now c.args.items.now c.loop-item.item-index (Bind (record { 0 = 0 })) c.loop-item-test.true item refl c.loop-item.places.items c.loop-item.buffer c.emit_item.new.buffer c.loop-item.invariant.emitted
-          (next_unbound c.args.state.now.frame c.args.info.now c.args.items.now c.loop-item.item-index (Bind (record { 0 = 0 })) c.loop-item-test.true c.loop-item.places.items c.loop-item.buffer c.loop-item.invariant.emitted c.requires.once)
+          (emitted_step c.args.state.now.frame c.args.info.now c.args.items.now c.loop-item.item-index item c.loop-item-test.true item (sym c.item-item.is) c.loop-item.places.items c.loop-item.buffer c.emit_item.new.buffer c.loop-item.invariant.emitted
+          (subst (IsUnbound c.loop-item.buffer) (sym c.item-item.is)
+          (next_unbound c.args.state.now.frame c.args.info.now c.args.items.now c.loop-item.item-index item c.loop-item-test.true c.loop-item.places.items c.loop-item.buffer c.loop-item.invariant.emitted c.requires.once))
           stepped_to);
     }

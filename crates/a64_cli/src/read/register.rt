@@ -1,0 +1,49 @@
+//! Reads registers.
+
+ghost use Rattle.a64_cli.specs.Reads.{Reads};
+ghost use Rattle.a64_cli.specs.Fields.{reg_text, IsReg};
+
+use crate::read::decimal::read_u32;
+use a64_base::{PReg, Reg, RegClass, Writable};
+
+/// The register that the word is: `x0` to `x30`, `xzr`, `sp`, `v0` to `v31`, `%i` and a number, or
+/// `%f` and a number.
+#[tactic(auto, using(crate::proofs::Decimals::decimal_first))]
+pub fn read_reg(word: &[u8]) -> Option<Reg>
+    ensures { Reads IsReg reg_text word.now result }
+{
+    match word {
+        b"sp" => Some(Reg::Real(PReg::new(63, RegClass::Int))),
+        b"xzr" => Some(Reg::Real(PReg::new(31, RegClass::Int))),
+        [b'x', number @ ..] => {
+            let n = read_u32(number)?;
+            if n > 30 {
+                return None;
+            }
+            Some(Reg::Real(PReg::new(n as u8, RegClass::Int)))
+        }
+        [b'v', number @ ..] => {
+            let n = read_u32(number)?;
+            if n > 31 {
+                return None;
+            }
+            Some(Reg::Real(PReg::new(n as u8, RegClass::Float)))
+        }
+        [b'%', b'i', number @ ..] => Some(Reg::Virtual {
+            index: read_u32(number)?,
+            class: RegClass::Int,
+        }),
+        [b'%', b'f', number @ ..] => Some(Reg::Virtual {
+            index: read_u32(number)?,
+            class: RegClass::Float,
+        }),
+        _ => None,
+    }
+}
+
+/// The register to be written that the word is.
+pub fn read_writable(word: &[u8]) -> Option<Writable<Reg>>
+    ensures { Reads IsReg reg_text word.now result }
+{
+    Some(Writable::from_reg(read_reg(word)?))
+}
