@@ -6,7 +6,7 @@ use lib.Count.{count_trailing_zeros}
 use Rattle.a64_imms.specs.declared.run.Period.{Period}
 use Rattle.a64_imms.specs.declared.run.Period.TheVariants.{Two, Four, Eight, Sixteen, ThirtyTwo, SixtyFour}
 use Rattle.a64_imms.specs.declared.run.Run.{Run}
-use Rattle.a64_imms.specs.Runs.{width, number, ones_apart, turn_to, copies, IsRun}
+use Rattle.a64_imms.specs.Runs.{width, number, ones_apart, opposite, turn_to, copies, IsRun}
 
 -- ---- tests of all numbers below a bound
 
@@ -41,13 +41,6 @@ ones_of n length spacing = cond (eqb (n % 2) 1) (spacing - length) length
 
 abbrev pub place_of : ℕ → ℕ → ℕ → ℕ
 place_of n start length = cond (eqb (n % 2) 1) (start + length) start
-
--- ---- the other run that is the complement
-
-abbrev pub opposite : Run → Run
-opposite run =
-    let bits = width run.period in
-    record { period = run.period; ones = bits - run.ones; turn = (run.turn + (bits - run.ones)) % bits }
 
 -- the search finds the run
 unfoldable pub agrees : Period → ℕ → ℕ → ℕ → ℕ → ℕ → ℕ → ℕ → Bool

@@ -1,5 +1,5 @@
 -- Immediates of logical instructions: the numbers of rotated runs.
-use Rattle.std.specs.Prelude.{ℕ, ◌≡◌, ◌+◌, ◌-◌, ◌*◌, ◌%◌, ◌^◌, Bool, true, false, if◌then◌else◌, Option, None, Some}
+use Rattle.std.specs.Prelude.{ℕ, ◌≡◌, ◌+◌, ◌-◌, ◌*◌, ◌%◌, ◌^◌, Bool, true, false, ◌&&◌, nat_eq, nat_lt, if◌then◌else◌, Option, None, Some}
 use Rattle.a64_base.specs.declared.ir_type.IrType.{IrType}
 use Rattle.a64_base.specs.declared.ir_type.IrType.TheVariants.{I32, I64}
 use Rattle.a64_base.specs.declared.size.OperandSize.{OperandSize}
@@ -8,7 +8,7 @@ use Rattle.a64_imms.specs.declared.imm_logic.ImmLogic.{ImmLogic}
 use Rattle.a64_imms.specs.declared.run.Period.{Period}
 use Rattle.a64_imms.specs.declared.run.Period.TheVariants.{Two, Four, Eight, Sixteen, ThirtyTwo, SixtyFour}
 use Rattle.a64_imms.specs.declared.run.Run.{Run}
-use Rattle.a64_imms.specs.Runs.{prefix, copies, number, IsRun}
+use Rattle.a64_imms.specs.Runs.{prefix, copies, number, IsRun, is_run, opposite}
 
 -- the size of an integer type that logical instructions have
 abbrev pub size_for : IrType → Option OperandSize
@@ -65,3 +65,27 @@ pub record IsLogicOf (size : OperandSize) (value : ℕ) (imm : ImmLogic) : Type 
 -- the fields are those of the immediate of its value at its size
 abbrev pub IsImmLogic : ImmLogic → Type 0
 IsImmLogic imm = IsLogicOf imm.size (logic_value imm) imm
+
+-- the period that N and S tell
+abbrev pub period_in : Bool → ℕ → Period
+period_in true s = SixtyFour
+period_in false s =
+    if nat_lt s 32 then ThirtyTwo else
+    if nat_lt s 48 then Sixteen else
+    if nat_lt s 56 then Eight else
+    if nat_lt s 60 then Four else
+    Two
+
+-- the run that N, R and S tell
+abbrev pub run_in : ImmLogic → Run
+run_in imm = let period = period_in imm.n imm.s in record { period = period; ones = imm.s - prefix period + 1; turn = imm.r }
+
+-- the test of that: N, R and S tell the run whose number is seen
+unfoldable pub is_imm_logic : ImmLogic → Bool
+is_imm_logic imm = is_run (run_in imm) && nat_eq (number (run_in imm)) (seen imm.size (logic_value imm))
+
+-- the immediate of the complement, whose run is the opposite one
+unfoldable pub inverted : ImmLogic → ImmLogic
+inverted imm =
+    let run = opposite (run_in imm) in
+    record { value = 2 ^ 64 - 1 - logic_value imm; n = is_widest run.period; r = run.turn; s = prefix run.period + (run.ones - 1); size = imm.size }

@@ -1,5 +1,5 @@
 -- Rotated runs of ones: the numbers that logical instructions can hold.
-use Rattle.std.specs.Prelude.{ℕ, zero, suc, ◌<◌, ◌+◌, ◌-◌, ◌*◌, ◌/◌, ◌%◌, ◌^◌}
+use Rattle.std.specs.Prelude.{ℕ, zero, suc, ◌<◌, ◌+◌, ◌-◌, ◌*◌, ◌/◌, ◌%◌, ◌^◌, Bool, ◌&&◌, nat_lt}
 use Rattle.a64_imms.specs.declared.run.Period.{Period}
 use Rattle.a64_imms.specs.declared.run.Period.TheVariants.{Two, Four, Eight, Sixteen, ThirtyTwo, SixtyFour}
 use Rattle.a64_imms.specs.declared.run.Run.{Run}
@@ -40,6 +40,16 @@ pub record IsRun (run : Run) : Type 0 where
   pub some : 0 < run.ones
   pub part : run.ones < width run.period
   pub turned : run.turn < width run.period
+
+-- the test of that
+abbrev pub is_run : Run → Bool
+is_run run = nat_lt 0 run.ones && (nat_lt run.ones (width run.period) && nat_lt run.turn (width run.period))
+
+-- the zeros of a run as ones: the run of the complement
+abbrev pub opposite : Run → Run
+opposite run =
+    let bits = width run.period in
+    record { period = run.period; ones = bits - run.ones; turn = (run.turn + (bits - run.ones)) % bits }
 
 -- the number of a run: its ones, rotated right, and repeated to 64 bits
 unfoldable pub number : Run → ℕ

@@ -1,12 +1,13 @@
 //! The immediate of logical instructions.
 
 ghost use Rattle.std.specs.Prelude.{◌≡◌, ℕ, ◌<◌, ◌+◌, ◌-◌, ◌*◌, ◌^◌, false, Some, IfSome, IfNone, IfOk};
+ghost use Rattle.std.specs.Bool.{Decides};
 ghost use Rattle.std.specs.String.{string_bytes};
 ghost use Rattle.a64_base.specs.declared.size.OperandSize.TheVariants.{Size32};
 ghost use Rattle.a64_imms.specs.declared.run.Run.{Run};
 ghost use Rattle.a64_imms.specs.Texts.{number_text};
 ghost use Rattle.a64_imms.specs.Runs.{number, IsRun};
-ghost use Rattle.a64_imms.specs.Logic.{size_for, seen, counted, logic_value, logic_field, IsLogicValue, HasTriple, IsLogicOf, IsImmLogic};
+ghost use Rattle.a64_imms.specs.Logic.{size_for, seen, counted, logic_value, logic_field, IsLogicValue, HasTriple, IsLogicOf, IsImmLogic, is_imm_logic, inverted};
 ghost use Rattle.a64_imms.specs.LogicLaws.{logic_within, one_logic};
 
 use crate::class::ImmClass;
@@ -41,16 +42,6 @@ fn seen_at(size: OperandSize, value: u64) -> u64
             (low << 32) + low
         }
         OperandSize::Size64 => value,
-    }
-}
-
-/// The integer type of a size.
-fn type_of(size: OperandSize) -> IrType
-    ensures { size_for result ≡ Some size }
-{
-    match size {
-        OperandSize::Size32 => IrType::I32,
-        OperandSize::Size64 => IrType::I64,
     }
 }
 
@@ -94,6 +85,18 @@ impl ImmLogic {
         }
     }
 
+    /// Whether the public fields are those that the constructor gives for the value and the size.
+    #[tactic(auto, using(crate::proofs::LogicRuns::size_of_type))]
+    pub fn is_lawful(&self) -> bool
+        ensures test { result ≡ is_imm_logic self.now }
+        ensures lawful { Decides result (IsImmLogic self.now) }
+    {
+        match ImmLogic::maybe_from_u64(self.value, self.size.to_ty()) {
+            Some(imm) => imm.n == self.n && imm.r == self.r && imm.s == self.s,
+            None => false,
+        }
+    }
+
     /// The field's bits: N is bit 12, R bits 11 to 6, and S bits 5 to 0.
     pub fn enc_bits(&self) -> u32
         requires { IsImmLogic self.now }
@@ -118,8 +121,9 @@ impl ImmLogic {
         ensures lawful { IsImmLogic result }
         ensures value { logic_value result ≡ 2 ^ 64 - 1 - logic_value self.now }
         ensures size { result.size ≡ self.now.size }
+        ensures fields { result ≡ inverted self.now }
     {
-        ImmLogic::maybe_from_u64(!self.value, type_of(self.size)).unwrap()
+        ImmLogic::maybe_from_u64(!self.value, self.size.to_ty()).unwrap()
     }
 
     /// `#` and the value.
