@@ -14,7 +14,7 @@ use Rattle.a64_cli.specs.declared.name.Name.{Name}
 use Rattle.a64_cli.specs.declared.name.Name.TheVariants as names
 use Rattle.a64_cli.specs.Reads.{Reads, Always}
 use Rattle.a64_cli.specs.Fields.{HasNo}
-use Rattle.a64_cli.specs.Plain.{label_plain, target_plain, size_plain, reg_plain, wide_plain, alu_op_plain, move_wide_op_plain}
+use Rattle.a64_cli.specs.Plain.{label_plain, target_plain, size_plain, reg_plain, imm12_plain, logic_plain, wide_plain, alu_op_plain, move_wide_op_plain}
 use Rattle.a64_cli.specs.Words.{name_text, inst_name, item_name, name_of, inst_fields, item_fields, fields_of, words_of, line_of, IsInst, IsItem, IsEntry}
 use Rattle.a64_cli.specs.ReadsAs.{emitted, ReadsFields}
 use Rattle.a64_cli.proofs.Splits.{split-join}
@@ -34,6 +34,8 @@ inst_only : (inst : Inst) (words : List (List ℕ)) (r : Option Entry) → Reads
 unfolding ReadsFields
 inst_only insts.Nop4 words r h fits e = h.only tt (fits, refl) e
 inst_only (insts.AluRRR alu_op size rd rn rm) words r h fits e = h.only (alu_op, size, rd, rn, rm) (fits, refl) e
+inst_only (insts.AluRRImm12 alu_op size rd rn imm12) words r h fits e = h.only (alu_op, size, rd, rn, imm12) (fits, refl) e
+inst_only (insts.AluRRImmLogic alu_op size rd rn imml) words r h fits e = h.only (alu_op, size, rd, rn, imml) (fits, refl) e
 inst_only (insts.MovWide op rd imm size) words r h fits e = h.only (op, rd, imm, size) (fits, refl) e
 inst_only (insts.MovK rd rn imm size) words r h fits e = h.only (rd, rn, imm, size) (fits, refl) e
 inst_only insts.Ret words r h fits e = h.only tt (fits, refl) e
@@ -54,7 +56,7 @@ name_plain _ = refl
 inst_plain : (inst : Inst) → IsInst inst → AllByRecursion (HasNo 32) (inst_fields inst)
 inst_plain insts.Nop4 h = tt
 inst_plain insts.Ret h = tt
-inst_plain _ h = search (target_plain, size_plain, reg_plain, wide_plain, alu_op_plain, move_wide_op_plain)
+inst_plain _ h = search (target_plain, size_plain, reg_plain, imm12_plain, logic_plain, wide_plain, alu_op_plain, move_wide_op_plain)
 
 fields_plain : (entry : Entry) → IsEntry entry → AllByRecursion (HasNo 32) (fields_of entry)
 fields_plain (entries.Item (Bind label)) h = (label_plain label h, tt)

@@ -1,8 +1,9 @@
 pub mod Decimals
 pub mod Signed
-pub mod Operators
+pub mod Guesses
 pub mod Registers
 pub mod Wides
+pub mod Logics
 pub mod Splits
 pub mod Entries
 pub mod Sequences

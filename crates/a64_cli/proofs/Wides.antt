@@ -14,7 +14,7 @@ abbrev pub pair_texts : ℕ × ℕ → List (List ℕ)
 pair_texts x = decimal x.0 ∷ decimal x.1 ∷ []
 
 pair_apart : (x : ℕ × ℕ) → ArePair x → AllByRecursion (HasNo 44) (pair_texts x)
-pair_apart x h = (decimal_apart 44 x.0 (lit< tt) h.0, (decimal_apart 44 x.1 (lit< tt) h.1, tt))
+pair_apart x h = (decimal_apart 44 x.0 (lit< tt) (omega (arith, h.0)), (decimal_apart 44 x.1 (lit< tt) (omega (arith, h.1)), tt))
 
 pair_split : (word : List ℕ) (x : ℕ × ℕ) → ArePair x → word ≡ pair_text x → slice_split (λ b. eqb b 44) word ≡ pair_texts x
 pair_split word x h e = ap (λ (t : List ℕ). slice_split (λ b. eqb b 44) t) e ∙ split-join 44 (decimal x.0) (decimal x.1 ∷ []) (pair_apart x h)

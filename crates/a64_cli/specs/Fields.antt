@@ -12,8 +12,12 @@ use Rattle.a64_base.specs.declared.size.OperandSize.{OperandSize}
 use Rattle.a64_base.specs.declared.size.OperandSize.TheVariants.{Size32, Size64}
 use Rattle.a64_base.specs.declared.target.BranchTarget.{BranchTarget}
 use Rattle.a64_base.specs.declared.target.BranchTarget.TheVariants as targets
+use Rattle.a64_imms.specs.declared.imm12.Imm12.{Imm12}
+use Rattle.a64_imms.specs.declared.imm_logic.ImmLogic.{ImmLogic}
 use Rattle.a64_imms.specs.declared.move_wide.MoveWideConst.{MoveWideConst}
-use Rattle.a64_cli.specs.Reads.{IsU32, IsI32}
+use Rattle.a64_imms.specs.Imm12s.{imm12_value, HasImm12}
+use Rattle.a64_imms.specs.Logic.{logic_value, IsLogicOf}
+use Rattle.a64_cli.specs.Reads.{IsU32, IsU64, IsI32}
 
 -- the byte stands nowhere in the text
 abbrev pub HasNo : ℕ → List ℕ → Type 0
@@ -69,6 +73,20 @@ pair_text pair = join_with_byte 44 (decimal pair.0 ∷ decimal pair.1 ∷ [])
 
 abbrev pub ArePair : ℕ × ℕ → Type 0
 ArePair pair = IsU32 pair.0 × IsU32 pair.1
+
+-- an immediate of 12 bits is its value, for which the constructor gives it
+abbrev pub imm12_text : Imm12 → List ℕ
+imm12_text imm = decimal (imm12_value imm)
+
+abbrev pub IsImm12 : Imm12 → Type 0
+IsImm12 imm = HasImm12 (imm12_value imm) imm
+
+-- a bitmask immediate is its value, for which the constructor gives it at the size
+abbrev pub logic_text : ImmLogic → List ℕ
+logic_text imm = decimal (logic_value imm)
+
+abbrev pub IsLogicAt : OperandSize → ImmLogic → Type 0
+IsLogicAt size imm = IsU64 (logic_value imm) × IsLogicOf size (logic_value imm) imm
 
 -- a halfword and its shift in bits
 abbrev pub wide_text : MoveWideConst → List ℕ

@@ -3,6 +3,7 @@ pub mod Operators
 pub mod Fields
 pub mod Plain
 pub mod Words
+pub mod Names
 pub mod ReadsAs
 pub mod FileText
 pub mod AddsLine

@@ -1,5 +1,5 @@
 -- No field's text has a space.
-use Rattle.std.specs.Prelude.{ℕ, ℤ, pos, negsuc, suc, ◌<◌, ◌==◌, ◌*◌, ◌++◌, if◌then◌else◌, Bool, true, false, codes, List, [], ◌∷◌, refl}
+use Rattle.std.specs.Prelude.{ℕ, ℤ, pos, negsuc, suc, ◌<◌, ◌==◌, ◌*◌, ◌^◌, ◌++◌, if◌then◌else◌, Bool, true, false, codes, List, [], ◌∷◌, refl}
 use Rattle.std.proofs.Common.{arith, lit<}
 use Rattle.std.proofs.lemmas.Int.{ints}
 use Rattle.std.specs.Fmt.{decimal, signed_decimal}
@@ -18,14 +18,18 @@ use Rattle.a64_base.specs.declared.size.OperandSize.{OperandSize}
 use Rattle.a64_base.specs.declared.size.OperandSize.TheVariants.{Size32, Size64}
 use Rattle.a64_base.specs.declared.target.BranchTarget.{BranchTarget}
 use Rattle.a64_base.specs.declared.target.BranchTarget.TheVariants as targets
+use Rattle.a64_imms.specs.declared.imm12.Imm12.{Imm12}
+use Rattle.a64_imms.specs.declared.imm_logic.ImmLogic.{ImmLogic}
 use Rattle.a64_imms.specs.declared.move_wide.MoveWideConst.{MoveWideConst}
+use Rattle.a64_imms.specs.Imm12s.{imm12_value}
+use Rattle.a64_imms.specs.Logic.{logic_value}
 use Rattle.a64_inst.specs.declared.operator.ALUOp.{ALUOp}
 use Rattle.a64_inst.specs.declared.operator.ALUOp.TheVariants as alu
 use Rattle.a64_inst.specs.declared.operator.MoveWideOp.{MoveWideOp}
 use Rattle.a64_inst.specs.declared.operator.MoveWideOp.TheVariants.{MovZ, MovN}
-use Rattle.a64_cli.specs.Reads.{IsU32, IsI32, Always}
+use Rattle.a64_cli.specs.Reads.{IsU32, IsU64, IsI32, Always}
 use Rattle.a64_cli.specs.Operators.{alu_op_text, move_wide_op_text}
-use Rattle.a64_cli.specs.Fields.{HasNo, label_text, IsLabel, target_text, IsTarget, size_text, integer_text, real_text, virtual_text, reg_text, IsReg, wide_text, IsWide}
+use Rattle.a64_cli.specs.Fields.{HasNo, label_text, IsLabel, target_text, IsTarget, size_text, integer_text, real_text, virtual_text, reg_text, IsReg, imm12_text, IsImm12, logic_text, IsLogicAt, wide_text, IsWide}
 
 digits_apart : (byte : ℕ) (digits : List ℕ) → byte < 48 → AllDigits 10 digits → HasNo byte digits
 digits_apart byte [] lt h = refl
@@ -34,14 +38,17 @@ digits_apart byte (d ∷ digits) lt h =
     rw (ne_eqb d byte (λ e. omega arith), digits_apart byte digits lt h.1) refl
 
 -- a byte before the digits stands in no decimal
-pub decimal_apart : (byte n : ℕ) → byte < 48 → IsU32 n → HasNo byte (decimal n)
+pub decimal_apart : (byte n : ℕ) → byte < 48 → IsU64 n → HasNo byte (decimal n)
 decimal_apart byte n lt fits = digits_apart byte (decimal n) lt (decimal_is_IsNumeral n (omega arith)).0.1
 
-pub decimal_plain : (n : ℕ) → IsU32 n → HasNo 32 (decimal n)
+pub decimal_plain : (n : ℕ) → IsU64 n → HasNo 32 (decimal n)
 decimal_plain n fits = decimal_apart 32 n (lit< tt) fits
 
+pub u32_plain : (n : ℕ) → IsU32 n → HasNo 32 (decimal n)
+u32_plain n fits = decimal_plain n (omega arith)
+
 pub label_plain : (label : MachLabel) → IsLabel label → HasNo 32 (label_text label)
-label_plain label fits = decimal_plain label.0 fits
+label_plain label fits = u32_plain label.0 fits
 
 signed_plain : (z : ℤ) → IsI32 z → HasNo 32 (signed_decimal z)
 signed_plain (pos n) fits = decimal_plain n (omega (arith, ints, fits))
@@ -81,8 +88,8 @@ real_plain Int n fits = integer_plain n fits
 real_plain Float n fits = decimal_plain n (omega (arith, number_fits Float n fits))
 
 virtual_plain : (class : RegClass) (n : ℕ) → IsU32 n → HasNo 32 (virtual_text class n)
-virtual_plain Int n fits = decimal_plain n fits
-virtual_plain Float n fits = decimal_plain n fits
+virtual_plain Int n fits = u32_plain n fits
+virtual_plain Float n fits = u32_plain n fits
 
 pub reg_plain : (reg : Reg) → IsReg reg → HasNo 32 (reg_text reg)
 reg_plain (Real p) fits = real_plain p.class p.number fits
@@ -90,6 +97,19 @@ reg_plain (Virtual index class) fits = virtual_plain class index fits
 
 append_plain : (xs ys : List ℕ) → HasNo 32 xs → HasNo 32 ys → HasNo 32 (xs ++ ys)
 append_plain xs ys hx hy = rw (list_any-append (λ b. b == 32) xs ys, hx) hy
+
+value_fits : (bits : ℕ) (shift : Bool) → bits < 4096 → bits * (if shift then 4096 else 1) < 2 ^ 64
+value_fits bits true low = omega arith
+value_fits bits false low = omega arith
+
+pub imm12_fits : (imm : Imm12) → IsImm12 imm → IsU64 (imm12_value imm)
+imm12_fits imm fits = value_fits imm.bits imm.shift12 fits.low
+
+pub imm12_plain : (imm : Imm12) → IsImm12 imm → HasNo 32 (imm12_text imm)
+imm12_plain imm fits = decimal_plain (imm12_value imm) (imm12_fits imm fits)
+
+pub logic_plain : (size : OperandSize) (imm : ImmLogic) → IsLogicAt size imm → HasNo 32 (logic_text imm)
+logic_plain size imm fits = decimal_plain (logic_value imm) fits.0
 
 pub wide_plain : (imm : MoveWideConst) → IsWide imm → HasNo 32 (wide_text imm)
 wide_plain imm fits = append_plain (decimal imm.bits) (44 ∷ decimal (16 * imm.shift)) (decimal_plain imm.bits (omega (arith, fits.0))) (decimal_plain (16 * imm.shift) (omega (arith, fits.1)))

@@ -4,6 +4,8 @@ use Rattle.a64_base.specs.declared.entity.MachLabel.{MachLabel}
 use Rattle.a64_base.specs.declared.target.BranchTarget.{BranchTarget}
 use Rattle.a64_base.specs.declared.reg.Reg.{Reg}
 use Rattle.a64_base.specs.declared.size.OperandSize.{OperandSize}
+use Rattle.a64_imms.specs.declared.imm12.Imm12.{Imm12}
+use Rattle.a64_imms.specs.declared.imm_logic.ImmLogic.{ImmLogic}
 use Rattle.a64_imms.specs.declared.move_wide.MoveWideConst.{MoveWideConst}
 use Rattle.a64_inst.specs.declared.operator.ALUOp.{ALUOp}
 use Rattle.a64_inst.specs.declared.operator.MoveWideOp.{MoveWideOp}
@@ -29,6 +31,8 @@ pub record ReadsAs {X : Type 0} (name : Name) (make : X → Entry) (words : List
 unfoldable pub ReadsFields : Name → List (List ℕ) → Option Entry → Type 0
 ReadsFields names.Nop4 = ReadsAs {X = Unit {0}} names.Nop4 (λ x. emitted insts.Nop4)
 ReadsFields names.AluRRR = ReadsAs names.AluRRR (λ (x : ALUOp × OperandSize × Reg × Reg × Reg). emitted (insts.AluRRR x.0 x.1 x.2 x.3 x.4))
+ReadsFields names.AluRRImm12 = ReadsAs names.AluRRImm12 (λ (x : ALUOp × OperandSize × Reg × Reg × Imm12). emitted (insts.AluRRImm12 x.0 x.1 x.2 x.3 x.4))
+ReadsFields names.AluRRImmLogic = ReadsAs names.AluRRImmLogic (λ (x : ALUOp × OperandSize × Reg × Reg × ImmLogic). emitted (insts.AluRRImmLogic x.0 x.1 x.2 x.3 x.4))
 ReadsFields names.MovWide = ReadsAs names.MovWide (λ (x : MoveWideOp × Reg × MoveWideConst × OperandSize). emitted (insts.MovWide x.0 x.1 x.2 x.3))
 ReadsFields names.MovK = ReadsAs names.MovK (λ (x : Reg × Reg × MoveWideConst × OperandSize). emitted (insts.MovK x.0 x.1 x.2 x.3))
 ReadsFields names.Ret = ReadsAs {X = Unit {0}} names.Ret (λ x. emitted insts.Ret)

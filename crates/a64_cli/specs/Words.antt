@@ -12,12 +12,14 @@ use Rattle.a64_cli.specs.declared.name.Name.{Name}
 use Rattle.a64_cli.specs.declared.name.Name.TheVariants as names
 use Rattle.a64_cli.specs.Reads.{Always}
 use Rattle.a64_cli.specs.Operators.{alu_op_text, move_wide_op_text}
-use Rattle.a64_cli.specs.Fields.{label_text, IsLabel, target_text, IsTarget, size_text, reg_text, IsReg, wide_text, IsWide}
+use Rattle.a64_cli.specs.Fields.{label_text, IsLabel, target_text, IsTarget, size_text, reg_text, IsReg, imm12_text, IsImm12, logic_text, IsLogicAt, wide_text, IsWide}
 
 -- the names of entries
 abbrev pub name_text : Name → List ℕ
 name_text names.Nop4 = codes "Nop4"
 name_text names.AluRRR = codes "AluRRR"
+name_text names.AluRRImm12 = codes "AluRRImm12"
+name_text names.AluRRImmLogic = codes "AluRRImmLogic"
 name_text names.MovWide = codes "MovWide"
 name_text names.MovK = codes "MovK"
 name_text names.Ret = codes "Ret"
@@ -27,6 +29,8 @@ name_text names.Bind = codes "bind"
 abbrev pub inst_name : Inst → Name
 inst_name insts.Nop4 = names.Nop4
 inst_name (insts.AluRRR alu_op size rd rn rm) = names.AluRRR
+inst_name (insts.AluRRImm12 alu_op size rd rn imm12) = names.AluRRImm12
+inst_name (insts.AluRRImmLogic alu_op size rd rn imml) = names.AluRRImmLogic
 inst_name (insts.MovWide op rd imm size) = names.MovWide
 inst_name (insts.MovK rd rn imm size) = names.MovK
 inst_name insts.Ret = names.Ret
@@ -43,6 +47,8 @@ name_of (entries.Item item) = item_name item
 abbrev pub inst_fields : Inst → List (List ℕ)
 inst_fields insts.Nop4 = []
 inst_fields (insts.AluRRR alu_op size rd rn rm) = alu_op_text alu_op ∷ size_text size ∷ reg_text rd ∷ reg_text rn ∷ reg_text rm ∷ []
+inst_fields (insts.AluRRImm12 alu_op size rd rn imm12) = alu_op_text alu_op ∷ size_text size ∷ reg_text rd ∷ reg_text rn ∷ imm12_text imm12 ∷ []
+inst_fields (insts.AluRRImmLogic alu_op size rd rn imml) = alu_op_text alu_op ∷ size_text size ∷ reg_text rd ∷ reg_text rn ∷ logic_text imml ∷ []
 inst_fields (insts.MovWide op rd imm size) = move_wide_op_text op ∷ reg_text rd ∷ wide_text imm ∷ size_text size ∷ []
 inst_fields (insts.MovK rd rn imm size) = reg_text rd ∷ reg_text rn ∷ wide_text imm ∷ size_text size ∷ []
 inst_fields insts.Ret = []
@@ -59,6 +65,8 @@ fields_of (entries.Item item) = item_fields item
 abbrev pub IsInst : Inst → Type 0
 IsInst insts.Nop4 = Unit {0}
 IsInst (insts.AluRRR alu_op size rd rn rm) = Always alu_op × Always size × IsReg rd × IsReg rn × IsReg rm
+IsInst (insts.AluRRImm12 alu_op size rd rn imm12) = Always alu_op × Always size × IsReg rd × IsReg rn × IsImm12 imm12
+IsInst (insts.AluRRImmLogic alu_op size rd rn imml) = Always alu_op × Always size × IsReg rd × IsReg rn × IsLogicAt size imml
 IsInst (insts.MovWide op rd imm size) = Always op × IsReg rd × IsWide imm × Always size
 IsInst (insts.MovK rd rn imm size) = IsReg rd × IsReg rn × IsWide imm × Always size
 IsInst insts.Ret = Unit {0}

@@ -13,6 +13,7 @@ mod immediate;
 mod label;
 mod line;
 mod name;
+mod name_table;
 mod offset;
 mod operator;
 mod register;
@@ -131,6 +132,10 @@ mod tests {
             ("AluRRR Add 64 sp x0 x1\n", 1),
             ("AluRRR SMulH 32 xzr %i0 v31\n", 1),
             ("AluRRR Extr 32 x30 %f4294967295 v0\n", 1),
+            ("AluRRImm12 Lsl 32 v1 sp 4095\n", 1),
+            ("AluRRImm12 Add 32 x1 sp 16773120\n", 1),
+            ("AluRRImmLogic Orr 64 x0 xzr 248\n", 1),
+            ("AluRRImmLogic Add 32 sp x1 21474836481\n", 1),
             ("MovWide MovZ x0 5,0 64\n", 1),
             ("MovWide MovN x0 65535,48 32\n", 1),
             ("MovK x1 x1 5,16 64\n", 1),
@@ -225,6 +230,15 @@ mod tests {
             ("AluRRR Add 64 v32 x2 x3\n", 1),
             ("AluRRR Add 64 %1 x2 x3\n", 1),
             ("AluRRR Add 64 %i4294967296 x2 x3\n", 1),
+            ("AluRRImm12 Add 64 x0 x1 4097\n", 1),
+            ("AluRRImm12 Add 64 x0 x1 16777216\n", 1),
+            ("AluRRImm12 Add 64 x0 x1 04\n", 1),
+            ("AluRRImm12 Add 64 x0 x1\n", 1),
+            ("AluRRImmLogic Orr 64 x0 xzr 5\n", 1),
+            ("AluRRImmLogic Orr 64 x0 xzr 0\n", 1),
+            ("AluRRImmLogic Orr 64 x0 xzr 21474836481\n", 1),
+            ("AluRRImmLogic Orr 64 x0 xzr 18446744073709551616\n", 1),
+            ("AluRRImmLogic 64 Orr x0 xzr 248\n", 1),
             ("MovWide MovZ x0 5,8 64\n", 1),
             ("MovWide MovZ x0 5,64 64\n", 1),
             ("MovWide MovZ x0 65536,0 64\n", 1),

@@ -29,6 +29,18 @@ fn files_give_their_reports(rt: HostRuntime) -> Result<(), Fail> {
             b"item 0 0\npool 4\nword 0 8b030041\n".as_slice(),
         ),
         (
+            b"AluRRImm12 Add 64 x0 sp 4096\nAluRRImm12 SubS 64 xzr x0 1\n".as_slice(),
+            b"item 0 0\nitem 1 4\npool 8\nword 0 914007e0\nword 4 f100041f\n".as_slice(),
+        ),
+        (
+            b"AluRRImmLogic Orr 64 x0 xzr 248\nAluRRImmLogic OrrNot 64 x4 x7 2096128\n".as_slice(),
+            b"item 0 0\nitem 1 4\npool 8\nword 0 b27d13e0\nword 4 b26bd0e4\n".as_slice(),
+        ),
+        (
+            b"AluRRImmLogic And 32 x0 x1 18446744069414584321\n".as_slice(),
+            b"item 0 0\npool 4\nword 0 12000020\n".as_slice(),
+        ),
+        (
             b"MovWide MovZ x0 5,0 64\n".as_slice(),
             b"item 0 0\npool 4\nword 0 d28000a0\n".as_slice(),
         ),
@@ -69,6 +81,18 @@ fn refused_files_give_their_lines(rt: HostRuntime) -> Result<(), Fail> {
         (
             b"AluRRR Add 64 sp x0 x1\n".as_slice(),
             b"item 0: bad operand\n".as_slice(),
+        ),
+        (
+            b"AluRRImm12 Add 64 xzr x0 1\n".as_slice(),
+            b"item 0: bad operand\n".as_slice(),
+        ),
+        (
+            b"AluRRImmLogic AndS 64 x2 sp 72057594037927808\n".as_slice(),
+            b"item 0: bad operand\n".as_slice(),
+        ),
+        (
+            b"AluRRImmLogic Orr 64 x0 xzr 5\n".as_slice(),
+            b"line 1: not an entry\n".as_slice(),
         ),
         (
             b"MovWide MovZ x0 5,32 32\n".as_slice(),

@@ -6,10 +6,7 @@ use Rattle.std.specs.Ordering.{eq_by_cmp}
 use Rattle.std.specs.BTreeMap.{is_at}
 use Rattle.std.specs.BTreeSet.{BTreeSet, contains, Updates, IsEmpty}
 use Rattle.std.specs.List.{filter_map, list_any}
-use Rattle.std.specs.Option.{option_or, option_to_list}
-use Rattle.a64_base.specs.Target.{label_of}
-use Rattle.a64_base.specs.declared.target.BranchTarget.{BranchTarget}
-use Rattle.a64_base.specs.declared.target.BranchTarget.TheVariants as branch_targets
+use Rattle.std.specs.Option.{option_or}
 use Rattle.std.proofs.lemmas.List.{take_more, drop_more, take_all, append-nil}
 use Rattle.std.proofs.lemmas.List.Elements.{filter_map-append}
 use Rattle.std.proofs.lemmas.List.Folds.{list_any-append, find-append}
@@ -19,7 +16,7 @@ use Rattle.a64_inst.specs.declared.frame.FrameLayout.{FrameLayout}
 use Rattle.a64_emit.specs.declared.item.Item.{Item}
 use Rattle.a64_emit.specs.declared.item.Item.TheVariants.{Bind}
 use Rattle.a64_emit.specs.declared.error.EmitError.TheVariants.{LabelBoundTwice}
-use Rattle.a64_emit.specs.Cells.{cells_of, all_cells, jump_cells}
+use Rattle.a64_emit.specs.Cells.{cells_of, all_cells}
 use Rattle.a64_emit.specs.Faults.{binding_of, bindings, used_label, is_among, first_repeat, HasLabels, first_missing, second_binding, used_labels}
 
 -- ---- lists of items, by one more
@@ -121,9 +118,3 @@ module _ (frame : FrameLayout) (flags : EmitFlags) (bound : List MachLabel) wher
 
   pub missing_end : (items : List Item) (i : ℕ) → length items ≤ i → missing_of (drop i items) ≡ None
   missing_end items i all = ap missing_of (drop_all items i all)
-
--- the labels that a jump uses
-pub jump_labels : (dest : BranchTarget) → filter_map used_label (jump_cells dest) ≡ option_to_list (label_of dest)
-unfolding jump_cells
-jump_labels (branch_targets.Label label) = refl
-jump_labels (branch_targets.ResolvedOffset offset) = refl

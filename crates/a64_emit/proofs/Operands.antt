@@ -1,18 +1,19 @@
 -- What is known of the operands of instructions without a fault.
 use Rattle.std.proofs.Common.{ℕ, ◌≡◌, true, None, Some, refl}
-use Rattle.std.specs.Prelude.{◌&&◌, ◌||◌, not, is_some}
+use Rattle.std.specs.Prelude.{is_some}
 use Rattle.std.proofs.lemmas.Bool.{and_parts}
 use Rattle.a64_base.specs.declared.reg.Reg.{Reg}
 use Rattle.a64_base.specs.declared.reg.Reg.TheVariants.{Real, Virtual}
 use Rattle.a64_base.specs.declared.reg.RegClass.{RegClass}
 use Rattle.a64_base.specs.declared.reg.RegClass.TheVariants.{Int, Float}
 use Rattle.a64_base.specs.declared.size.OperandSize.{OperandSize}
-use Rattle.a64_base.specs.OperandSizes.{is_64_bits}
-use Rattle.a64_imms.specs.declared.move_wide.MoveWideConst.{MoveWideConst}
+use Rattle.a64_imms.specs.declared.imm_logic.ImmLogic.{ImmLogic}
+use Rattle.a64_imms.specs.Logic.{is_imm_logic, IsImmLogic}
+use Rattle.a64_imms.proofs.LogicRuns.{passed}
 use Rattle.a64_inst.specs.declared.operator.ALUOp.{ALUOp}
-use Rattle.a64_inst.specs.Operands.{number_in, register_or_zero, is_register_or_zero, is_same_number, is_same_register, is_wide_in}
-use Rattle.a64_inst.specs.Faults.{is_high_product, alu_rrr_fault, mov_wide_fault, mov_k_fault}
-use Rattle.a64_inst.proofs.Good.{good}
+use Rattle.a64_inst.specs.declared.operator.ALUOp.TheVariants as alu
+use Rattle.a64_inst.specs.Operands.{number_in, is_stack_in, register_or_zero, is_register_or_zero, is_register_or_stack, is_same_number, is_same_register, is_same_size, is_logic_of}
+use Rattle.a64_inst.specs.Faults.{is_add_sub_result, is_logic_result}
 use Rattle.a64_enc_int.specs.Registers.{IsGeneral}
 
 numbered : (class : RegClass) (n : ℕ) → is_some (number_in class n) ≡ true → class ≡ Int
@@ -20,36 +21,41 @@ numbered Int n e = refl
 numbered Float n e = absurd cc
 
 -- a register that an operand may be
-general : (reg : Reg) → is_register_or_zero reg ≡ true → IsGeneral reg
+pub general : (reg : Reg) → is_register_or_zero reg ≡ true → IsGeneral reg
 general (Real p) e = numbered p.class p.number e
 general (Virtual index class) e = absurd cc
 
-same_general : (a b : Reg) → is_same_register a b ≡ true → IsGeneral a
+stacked : (class : RegClass) (n : ℕ) → is_stack_in class n ≡ true → class ≡ Int
+stacked Int n e = refl
+stacked Float n e = absurd cc
+
+pub stack_general : (reg : Reg) → is_register_or_stack reg ≡ true → IsGeneral reg
+stack_general (Real p) e = stacked p.class p.number e
+stack_general (Virtual index class) e = absurd cc
+
+pub same_general : (a b : Reg) → is_same_register a b ≡ true → IsGeneral a
 same_general a b e = general a (known (register_or_zero a) (register_or_zero b) e)
   where
     known : (m n : _) → is_same_number m n ≡ true → is_some m ≡ true
     known None n t = absurd cc
     known (Some m) n t = refl
 
--- the three tests of an operation on two registers
-module _ (op : ALUOp) (size : OperandSize) (rd rn rm : Reg) where
-  tests : alu_rrr_fault op size rd rn rm ≡ None → (is_register_or_zero rd && (is_register_or_zero rn && is_register_or_zero rm)) ≡ true
-  unfolding alu_rrr_fault
-  tests e = (and_parts (not (is_high_product op) || is_64_bits size) (is_register_or_zero rd && (is_register_or_zero rn && is_register_or_zero rm)) (good _ e)).1
+pub add_sub_general : (op : ALUOp) (rd : Reg) → is_add_sub_result op rd ≡ true → IsGeneral rd
+add_sub_general alu.Add rd e = stack_general rd e
+add_sub_general alu.Sub rd e = stack_general rd e
+add_sub_general alu.AddS rd e = general rd e
+add_sub_general alu.SubS rd e = general rd e
+add_sub_general _ rd e = absurd cc
 
-  pub alu_rd : alu_rrr_fault op size rd rn rm ≡ None → IsGeneral rd
-  alu_rd e = general rd (and_parts (is_register_or_zero rd) (is_register_or_zero rn && is_register_or_zero rm) (tests e)).0
+pub logic_general : (op : ALUOp) (rd : Reg) → is_logic_result op rd ≡ true → IsGeneral rd
+logic_general alu.And rd e = stack_general rd e
+logic_general alu.Orr rd e = stack_general rd e
+logic_general alu.Eor rd e = stack_general rd e
+logic_general alu.AndNot rd e = stack_general rd e
+logic_general alu.OrrNot rd e = stack_general rd e
+logic_general alu.EorNot rd e = stack_general rd e
+logic_general alu.AndS rd e = general rd e
+logic_general _ rd e = absurd cc
 
-  pub alu_rn : alu_rrr_fault op size rd rn rm ≡ None → IsGeneral rn
-  alu_rn e = general rn (and_parts (is_register_or_zero rn) (is_register_or_zero rm) (and_parts (is_register_or_zero rd) (is_register_or_zero rn && is_register_or_zero rm) (tests e)).1).0
-
-  pub alu_rm : alu_rrr_fault op size rd rn rm ≡ None → IsGeneral rm
-  alu_rm e = general rm (and_parts (is_register_or_zero rn) (is_register_or_zero rm) (and_parts (is_register_or_zero rd) (is_register_or_zero rn && is_register_or_zero rm) (tests e)).1).1
-
-pub mov_wide_rd : (rd : Reg) (imm : MoveWideConst) (size : OperandSize) → mov_wide_fault rd imm size ≡ None → IsGeneral rd
-unfolding mov_wide_fault
-mov_wide_rd rd imm size e = general rd (and_parts (is_register_or_zero rd) (is_wide_in size imm) (good _ e)).0
-
-pub mov_k_rd : (rd rn : Reg) (imm : MoveWideConst) (size : OperandSize) → mov_k_fault rd rn imm size ≡ None → IsGeneral rd
-unfolding mov_k_fault
-mov_k_rd rd rn imm size e = same_general rd rn (and_parts (is_same_register rd rn) (is_wide_in size imm) (good _ e)).0
+pub logic_lawful : (size : OperandSize) (imm : ImmLogic) → is_logic_of size imm ≡ true → IsImmLogic imm
+logic_lawful size imm e = passed imm (and_parts (is_same_size imm.size size) (is_imm_logic imm) e).1

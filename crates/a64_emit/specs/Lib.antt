@@ -1,4 +1,7 @@
 pub mod LabelUses
+pub mod Forms
+pub mod IntegerForms
+pub mod BranchForms
 pub mod Cells
 pub mod Emission
 pub mod Layout

@@ -1,9 +1,10 @@
 //! How much an item adds to code.
 
-ghost use Rattle.std.specs.Prelude.{◌≡◌, ◌+◌, ◌^◌, ◌<◌};
+ghost use Rattle.std.specs.Prelude.{◌≡◌, ◌+◌, ◌^◌, ◌<◌, [], ◌∷◌};
 ghost use Rattle.a64_emit.specs.Bounds as bounds;
 ghost use Rattle.a64_emit.specs.Bounds.{IsExtent};
-ghost use Rattle.a64_emit.specs.Cells.{inst_cells, jump_cells, cells_of};
+ghost use Rattle.a64_emit.specs.Forms.{Form};
+ghost use Rattle.a64_emit.specs.Cells.{branch, inst_cells, cells_of};
 
 use crate::item::Item;
 use crate::label_use::LabelUse;
@@ -40,32 +41,29 @@ const ONE_WORD: Extent = Extent {
     range: None,
 };
 
-/// How much a jump may add to code.
-#[tactic(auto, unfolding(crate::specs::Cells::jump_cells))]
-fn jump_extent(dest: BranchTarget) -> Extent
+/// How much a branch of one word may add to code.
+fn branch_extent(kind: LabelUse, dest: BranchTarget) -> Extent
     ensures small { result.size + result.charge < 2 ^ 32 }
-    ensures extent { IsExtent (jump_cells dest) result.size result.charge result.range }
+    ensures extent { (form : Form) → IsExtent (branch form kind dest ∷ []) result.size result.charge result.range }
 {
     match dest {
         BranchTarget::Label(_) => Extent {
             size: 4,
             charge: 32,
-            range: Some(LabelUse::Branch26.max_pos_range()),
+            range: Some(kind.max_pos_range()),
         },
         BranchTarget::ResolvedOffset(_) => ONE_WORD,
     }
 }
 
 /// How much an instruction may add to code, whatever the frame and the settings.
-#[tactic(auto, unfolding(crate::specs::Cells::nop4_cells, crate::specs::Cells::alu_rrr_cells, crate::specs::Cells::mov_wide_cells, crate::specs::Cells::mov_k_cells, crate::specs::Cells::ret_cells))]
 fn inst_extent(inst: &Inst) -> Extent
     ensures small { result.size + result.charge < 2 ^ 32 }
     ensures extent { (frame : _) (flags : _) → IsExtent (inst_cells frame flags inst.now) result.size result.charge result.range }
 {
     match inst {
-        Inst::Nop4 | Inst::AluRRR { .. } | Inst::MovWide { .. } | Inst::MovK { .. } | Inst::Ret =>
-            ONE_WORD,
-        Inst::Jump { dest } => jump_extent(*dest),
+        Inst::Jump { dest } => branch_extent(LabelUse::Branch26, *dest),
+        _ => ONE_WORD,
     }
 }
 

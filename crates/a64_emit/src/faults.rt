@@ -4,13 +4,15 @@ ghost use Rattle.std.specs.Prelude.{◌≡◌, ◌⊎◌, None, Some, IfOk, IfEr
 ghost use Rattle.std.specs.List.{filter_map};
 ghost use Rattle.std.specs.Option.{option_map_or};
 ghost use Rattle.a64_emit.specs.declared.error.EmitError.TheVariants.{OutOfMemory};
-ghost use Rattle.a64_emit.specs.Cells.{inst_cells, jump_cells};
+ghost use Rattle.a64_emit.specs.Forms.{Form};
+ghost use Rattle.a64_emit.specs.Cells.{branch, inst_cells};
 ghost use Rattle.a64_emit.specs.Faults as Faults;
 ghost use Rattle.a64_emit.specs.Faults.{own_fault, HasLabels, bindings, second_binding, first_missing, used_label, unbound_use, too_large};
 
 use crate::error::EmitError;
 use crate::extent::{Extent, extent_of, lesser};
 use crate::item::Item;
+use crate::label_use::LabelUse;
 use a64_base::{BranchTarget, MachLabel};
 use a64_inst::{Inst, OwnFault};
 use std::alloc::Global;
@@ -88,11 +90,10 @@ fn missing(label: MachLabel, bound: &BTreeSet<u32>) -> Option<MachLabel>
     }
 }
 
-/// The label of a jump, where it is not bound.
-#[tactic(auto, unfolding(crate::specs::Cells::jump_cells))]
-fn missing_in_jump(dest: BranchTarget, bound: &BTreeSet<u32>) -> Option<MachLabel>
-    ensures { (labels : _) → HasLabels bound.now labels
-        → result ≡ first_missing labels (filter_map used_label (jump_cells dest)) }
+/// The label of a branch, where it is not bound.
+fn missing_in_branch(dest: BranchTarget, bound: &BTreeSet<u32>) -> Option<MachLabel>
+    ensures { (form : Form) (kind : LabelUse) (labels : _) → HasLabels bound.now labels
+        → result ≡ first_missing labels (filter_map used_label (branch form kind dest ∷ [])) }
 {
     match dest {
         BranchTarget::Label(label) => missing(label, bound),
@@ -101,15 +102,13 @@ fn missing_in_jump(dest: BranchTarget, bound: &BTreeSet<u32>) -> Option<MachLabe
 }
 
 /// The first label that an instruction uses and that is not bound.
-#[tactic(auto, unfolding(crate::specs::Cells::nop4_cells, crate::specs::Cells::alu_rrr_cells, crate::specs::Cells::mov_wide_cells, crate::specs::Cells::mov_k_cells, crate::specs::Cells::ret_cells))]
 fn missing_in(inst: &Inst, bound: &BTreeSet<u32>) -> Option<MachLabel>
     ensures { (frame : _) (flags : _) (labels : _) → HasLabels bound.now labels
         → result ≡ first_missing labels (filter_map used_label (inst_cells frame flags inst.now)) }
 {
     match inst {
-        Inst::Nop4 | Inst::AluRRR { .. } | Inst::MovWide { .. } | Inst::MovK { .. } | Inst::Ret =>
-            None,
-        Inst::Jump { dest } => missing_in_jump(*dest, bound),
+        Inst::Jump { dest } => missing_in_branch(*dest, bound),
+        _ => None,
     }
 }
 

@@ -2,11 +2,13 @@
 #![tactic(auto)]
 
 mod assembly;
+mod branch;
 mod code;
 mod emit;
 mod error;
 mod extent;
 mod faults;
+mod integer;
 mod item;
 mod label_use;
 #[cfg(test)]

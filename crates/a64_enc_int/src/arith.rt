@@ -63,7 +63,11 @@ pub fn enc_arith_rr_imm12(
     requires imm12 { imm12 < 2 ^ 12 }
     requires rn { IsGeneral rn }
     requires rd { IsGeneral rd }
-    ensures { (sf op s : ℕ) → IsForm AddSubImm (sf ∷ op ∷ s ∷ immshift ∷ imm12 ∷ 0 ∷ 0 ∷ [])
+    // The bits and the registers stand side by side.
+    ensures word { result ≡ bits_31_24 * 2 ^ 24 + immshift * 2 ^ 22 + imm12 * 2 ^ 10 + register_field rn * 2 ^ 5 + register_field rd }
+
+    // So the word of each form stays one of the row, with the immediate and the registers.
+    ensures add_sub { (sf op s : ℕ) → IsForm AddSubImm (sf ∷ op ∷ s ∷ immshift ∷ imm12 ∷ 0 ∷ 0 ∷ [])
         → bits_31_24 * 2 ^ 24 ≡ row_word AddSubImm (sf ∷ op ∷ s ∷ 0 ∷ 0 ∷ 0 ∷ 0 ∷ [])
         → result ≡ row_word AddSubImm (sf ∷ op ∷ s ∷ immshift ∷ imm12 ∷ register_field rn ∷ register_field rd ∷ []) }
 {
@@ -81,7 +85,11 @@ pub fn enc_arith_rr_imml(bits_31_23: u32, imm_bits: u32, rn: Reg, rd: Writable<R
     requires imm_bits { imm_bits < 2 ^ 13 }
     requires rn { IsGeneral rn }
     requires rd { IsGeneral rd }
-    ensures { (sf opc n immr imms : ℕ) → IsForm LogicImm (sf ∷ opc ∷ n ∷ immr ∷ imms ∷ 0 ∷ 0 ∷ [])
+    // The bits and the registers stand side by side.
+    ensures word { result ≡ bits_31_23 * 2 ^ 23 + imm_bits * 2 ^ 10 + register_field rn * 2 ^ 5 + register_field rd }
+
+    // So the word of each form stays one of the row, with the immediate and the registers.
+    ensures logic { (sf opc n immr imms : ℕ) → IsForm LogicImm (sf ∷ opc ∷ n ∷ immr ∷ imms ∷ 0 ∷ 0 ∷ [])
         → bits_31_23 * 2 ^ 23 ≡ row_word LogicImm (sf ∷ opc ∷ 0 ∷ 0 ∷ 0 ∷ 0 ∷ 0 ∷ [])
         → imm_bits ≡ n * 2 ^ 12 + immr * 2 ^ 6 + imms
         → result ≡ row_word LogicImm (sf ∷ opc ∷ n ∷ immr ∷ imms ∷ register_field rn ∷ register_field rd ∷ []) }

@@ -3,7 +3,6 @@ use Rattle.std.proofs.Common.{ℤ, pos, negsuc, ◌≡◌, ◌<◌, ◌≤◌, �
 use Rattle.std.specs.Prelude.{◌&&◌, nat_lt, nat_eq}
 use Rattle.std.proofs.lemmas.Bool.{leb-true, ltb-true}
 use Rattle.std.proofs.lemmas.Int.{ints}
-use Rattle.a64_base.specs.declared.reg.Reg.{Reg}
 use Rattle.a64_base.specs.declared.size.OperandSize.{OperandSize}
 use Rattle.a64_base.specs.declared.target.BranchTarget.{BranchTarget}
 use Rattle.a64_base.specs.declared.target.BranchTarget.TheVariants.{Label, ResolvedOffset}
@@ -11,8 +10,8 @@ use Rattle.a64_base.specs.Target.{FitsField, IsWithinField}
 use Rattle.a64_base.specs.Words.{words_of}
 use Rattle.a64_base.specs.declared.size.OperandSize.TheVariants.{Size32, Size64}
 use Rattle.a64_imms.specs.declared.move_wide.MoveWideConst.{MoveWideConst}
-use Rattle.a64_inst.specs.Operands.{is_wide_in, is_register_or_zero, is_same_register, is_offset26}
-use Rattle.a64_inst.specs.Faults.{bad_unless, mov_wide_fault, mov_k_fault, jump_fault}
+use Rattle.a64_inst.specs.Operands.{is_wide_in, is_offset26}
+use Rattle.a64_inst.specs.Faults.{bad_unless, jump_fault}
 
 -- a test that was passed
 pub good : (b : Bool) → bad_unless b ≡ None → b ≡ true
@@ -23,17 +22,10 @@ second : (a b : Bool) → (a && b) ≡ true → b ≡ true
 second true b e = e
 second false b e = absurd cc
 
-shift_in : (size : OperandSize) (imm : MoveWideConst) → is_wide_in size imm ≡ true → imm.shift ≤ 3
+-- a halfword inside a register
+pub shift_in : (size : OperandSize) (imm : MoveWideConst) → is_wide_in size imm ≡ true → imm.shift ≤ 3
 shift_in Size32 imm e = let le : imm.shift ≤ 1 = leb-true imm.shift 1 e in omega arith
 shift_in Size64 imm e = leb-true imm.shift 3 e
-
-pub mov_wide_shift : (rd : Reg) (imm : MoveWideConst) (size : OperandSize) → mov_wide_fault rd imm size ≡ None → imm.shift ≤ 3
-unfolding mov_wide_fault
-mov_wide_shift rd imm size e = shift_in size imm (second (is_register_or_zero rd) (is_wide_in size imm) (good (is_register_or_zero rd && is_wide_in size imm) e))
-
-pub mov_k_shift : (rd rn : Reg) (imm : MoveWideConst) (size : OperandSize) → mov_k_fault rd rn imm size ≡ None → imm.shift ≤ 3
-unfolding mov_k_fault
-mov_k_shift rd rn imm size e = shift_in size imm (second (is_same_register rd rn) (is_wide_in size imm) (good (is_same_register rd rn && is_wide_in size imm) e))
 
 within_26 : (offset : ℤ) → is_offset26 offset ≡ true → IsWithinField 26 (words_of offset)
 within_26 (pos n) e =

@@ -5,7 +5,7 @@ ghost use Rattle.std.specs.Prelude.{◌≡◌, IfOk};
 use crate::fault::{self, OwnFault};
 use crate::operator::{ALUOp, MoveWideOp};
 use a64_base::{BranchTarget, OperandSize, Reg, Writable};
-use a64_imms::MoveWideConst;
+use a64_imms::{Imm12, ImmLogic, MoveWideConst};
 use std::alloc::{AllocError, Global};
 
 /// An AArch64 instruction, or a short sequence of instructions (Cranelift's `Inst`).
@@ -25,6 +25,32 @@ pub enum Inst {
         rn: Reg,
         /// The second operand.
         rm: Reg,
+    },
+    /// An addition or subtraction of an immediate.
+    AluRRImm12 {
+        /// The operator.
+        alu_op: ALUOp,
+        /// The size of the operands.
+        size: OperandSize,
+        /// The result.
+        rd: Writable<Reg>,
+        /// The first operand.
+        rn: Reg,
+        /// The immediate.
+        imm12: Imm12,
+    },
+    /// A logical operation with a bitmask immediate.
+    AluRRImmLogic {
+        /// The operator.
+        alu_op: ALUOp,
+        /// The size of the operands.
+        size: OperandSize,
+        /// The result.
+        rd: Writable<Reg>,
+        /// The first operand.
+        rn: Reg,
+        /// The immediate, which is one of the size.
+        imml: ImmLogic,
     },
     /// `movz` or `movn`: sets a register to a halfword at one of its places.
     MovWide {
@@ -81,6 +107,32 @@ impl Inst {
                 rn: *rn,
                 rm: *rm,
             },
+            Inst::AluRRImm12 {
+                alu_op,
+                size,
+                rd,
+                rn,
+                imm12,
+            } => Inst::AluRRImm12 {
+                alu_op: *alu_op,
+                size: *size,
+                rd: *rd,
+                rn: *rn,
+                imm12: *imm12,
+            },
+            Inst::AluRRImmLogic {
+                alu_op,
+                size,
+                rd,
+                rn,
+                imml,
+            } => Inst::AluRRImmLogic {
+                alu_op: *alu_op,
+                size: *size,
+                rd: *rd,
+                rn: *rn,
+                imml: *imml,
+            },
             Inst::MovWide { op, rd, imm, size } => Inst::MovWide {
                 op: *op,
                 rd: *rd,
@@ -115,6 +167,20 @@ impl Inst {
                 rn,
                 rm,
             } => fault::alu_rrr(*alu_op, *size, rd.to_reg(), *rn, *rm),
+            Inst::AluRRImm12 {
+                alu_op,
+                size: _,
+                rd,
+                rn,
+                imm12,
+            } => fault::alu_rr_imm12(*alu_op, rd.to_reg(), *rn, *imm12),
+            Inst::AluRRImmLogic {
+                alu_op,
+                size,
+                rd,
+                rn,
+                imml,
+            } => fault::alu_rr_imm_logic(*alu_op, *size, rd.to_reg(), *rn, *imml),
             Inst::MovWide {
                 op: _,
                 rd,

@@ -7,9 +7,10 @@ ghost use Rattle.a64_cli.specs.ReadsAs as ReadsAs;
 use crate::entry::Entry;
 use crate::name::Name;
 use crate::read::field::{five, four, one};
+use crate::read::immediate::logic_of;
 use a64_base::{BranchTarget, MachLabel, OperandSize, Reg, Writable};
 use a64_emit::Item;
-use a64_imms::MoveWideConst;
+use a64_imms::{Imm12, MoveWideConst};
 use a64_inst::{ALUOp, Inst, MoveWideOp};
 
 /// The entry that is an instruction without a map of the stack.
@@ -41,6 +42,37 @@ fn alu_rrr(words: &[&[u8]]) -> Option<Entry>
         rd,
         rn,
         rm,
+    }))
+}
+
+#[tactic(auto, unfolding(crate::specs::ReadsAs::ReadsFields))]
+fn alu_rr_imm12(words: &[&[u8]]) -> Option<Entry>
+    ensures { ReadsFields Name.AluRRImm12 (map (λ w. w.now) words.now) result }
+{
+    let (alu_op, size, rd, rn, imm12) = five::<ALUOp, OperandSize, Writable<Reg>, Reg, Imm12>(
+        words,
+    )?;
+    Some(emitted(Inst::AluRRImm12 {
+        alu_op,
+        size,
+        rd,
+        rn,
+        imm12,
+    }))
+}
+
+#[tactic(auto, unfolding(crate::specs::ReadsAs::ReadsFields))]
+fn alu_rr_imm_logic(words: &[&[u8]]) -> Option<Entry>
+    ensures { ReadsFields Name.AluRRImmLogic (map (λ w. w.now) words.now) result }
+{
+    let (alu_op, size, rd, rn, value) = five::<ALUOp, OperandSize, Writable<Reg>, Reg, u64>(words)?;
+    let imml = logic_of(size, value)?;
+    Some(emitted(Inst::AluRRImmLogic {
+        alu_op,
+        size,
+        rd,
+        rn,
+        imml,
     }))
 }
 
@@ -94,6 +126,8 @@ pub fn read_fields(name: Name, words: &[&[u8]]) -> Option<Entry>
     match name {
         Name::Nop4 => nop4(words),
         Name::AluRRR => alu_rrr(words),
+        Name::AluRRImm12 => alu_rr_imm12(words),
+        Name::AluRRImmLogic => alu_rr_imm_logic(words),
         Name::MovWide => mov_wide(words),
         Name::MovK => mov_k(words),
         Name::Ret => ret(words),

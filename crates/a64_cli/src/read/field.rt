@@ -2,19 +2,19 @@
 
 ghost use Rattle.std.specs.Prelude.{ℕ, List, [], ◌∷◌, map};
 ghost use Rattle.std.specs.Fmt.{decimal};
-ghost use Rattle.a64_cli.specs.Reads.{Reads, Always, IsU32};
+ghost use Rattle.a64_cli.specs.Reads.{Reads, Always, IsU32, IsU64};
 ghost use Rattle.a64_cli.specs.Operators.{alu_op_text, move_wide_op_text};
-ghost use Rattle.a64_cli.specs.Fields.{HasNo, label_text, IsLabel, target_text, IsTarget, size_text, reg_text, IsReg, wide_text, IsWide};
-ghost use Rattle.a64_cli.specs.Plain.{decimal_plain, label_plain, target_plain, size_plain, reg_plain, wide_plain, alu_op_plain, move_wide_op_plain};
+ghost use Rattle.a64_cli.specs.Fields.{HasNo, label_text, IsLabel, target_text, IsTarget, size_text, reg_text, IsReg, imm12_text, IsImm12, wide_text, IsWide};
+ghost use Rattle.a64_cli.specs.Plain.{u32_plain, decimal_plain, imm12_plain, label_plain, target_plain, size_plain, reg_plain, wide_plain, alu_op_plain, move_wide_op_plain};
 
-use crate::read::decimal::read_u32;
-use crate::read::immediate::read_wide;
+use crate::read::decimal::{read_u32, read_u64};
+use crate::read::immediate::{read_imm12, read_wide};
 use crate::read::label::{read_label, read_target};
 use crate::read::operator::{read_alu_op, read_move_wide_op};
 use crate::read::register::{read_reg, read_writable};
 use crate::read::size::read_size;
 use a64_base::{BranchTarget, MachLabel, OperandSize, Reg, Writable};
-use a64_imms::MoveWideConst;
+use a64_imms::{Imm12, MoveWideConst};
 use a64_inst::{ALUOp, MoveWideOp};
 
 /// A field of a line: one word, without a space.
@@ -86,10 +86,22 @@ impl Field for u32 {
 
     ghost text = { decimal };
 
-    ghost plain = { decimal_plain };
+    ghost plain = { u32_plain };
 
     fn read(word: &[u8]) -> Option<u32> {
         read_u32(word)
+    }
+}
+
+impl Field for u64 {
+    ghost fits = { IsU64 };
+
+    ghost text = { decimal };
+
+    ghost plain = { decimal_plain };
+
+    fn read(word: &[u8]) -> Option<u64> {
+        read_u64(word)
     }
 }
 
@@ -150,6 +162,18 @@ impl Field for Writable<Reg> {
 
     fn read(word: &[u8]) -> Option<Writable<Reg>> {
         read_writable(word)
+    }
+}
+
+impl Field for Imm12 {
+    ghost fits = { IsImm12 };
+
+    ghost text = { imm12_text };
+
+    ghost plain = { imm12_plain };
+
+    fn read(word: &[u8]) -> Option<Imm12> {
+        read_imm12(word)
     }
 }
 

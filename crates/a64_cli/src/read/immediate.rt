@@ -1,11 +1,36 @@
 //! Reads immediates.
 
+ghost use Rattle.a64_imms.specs.Imm12s.{imm12_value};
+ghost use Rattle.a64_imms.specs.Logic.{logic_value};
 ghost use Rattle.a64_cli.specs.Reads.{Reads};
-ghost use Rattle.a64_cli.specs.Fields.{ArePair, pair_text, IsWide, wide_text};
+ghost use Rattle.a64_cli.specs.Fields.{ArePair, pair_text, IsImm12, imm12_text, IsLogicAt, IsWide, wide_text};
 
+use crate::read::decimal::read_u64;
 use crate::read::field::two;
 use crate::read::split::parts;
-use a64_imms::MoveWideConst;
+use a64_base::OperandSize;
+use a64_imms::{Imm12, ImmLogic, MoveWideConst};
+
+/// The immediate of 12 bits that the constructor gives for the value.
+fn imm12_of(value: u64) -> Option<Imm12>
+    ensures { Reads IsImm12 imm12_value value result }
+{
+    Imm12::maybe_from_u64(value)
+}
+
+/// The immediate of 12 bits, shifted or not, whose value the word is.
+pub fn read_imm12(word: &[u8]) -> Option<Imm12>
+    ensures { Reads IsImm12 imm12_text word.now result }
+{
+    imm12_of(read_u64(word)?)
+}
+
+/// The bitmask immediate that the constructor gives for the value at the size.
+pub fn logic_of(size: OperandSize, value: u64) -> Option<ImmLogic>
+    ensures { Reads (IsLogicAt size) logic_value value result }
+{
+    ImmLogic::maybe_from_u64(value, size.to_ty())
+}
 
 /// The two numbers that the word is, with a comma between.
 fn read_pair(word: &[u8]) -> Option<(u32, u32)>
