@@ -45,7 +45,8 @@ place_of n start length = cond (eqb (n % 2) 1) (start + length) start
 -- the search finds the run
 unfoldable pub agrees : Period → ℕ → ℕ → ℕ → ℕ → ℕ → ℕ → ℕ → Bool
 agrees period ones turn n even start length spacing =
-    ltb 0 even && (eqb spacing (width period) && (eqb (ones_of n length spacing) ones && eqb (turn_to spacing (place_of n start length)) turn))
+    let told = eqb (ones_of n length spacing) ones && eqb (turn_to spacing (place_of n start length)) turn in
+    ltb 0 even && (eqb spacing (width period) && (eqb (rotate_right w64 n spacing) n && told))
 
 unfoldable searched : Run → ℕ → Bool
 searched run n =
@@ -134,6 +135,7 @@ parts run is =
 pub record IsSearched (run : Run) (n even start length spacing : ℕ) : Type 0 where
   pub nonzero : 0 < even
   pub spacing_is : spacing ≡ width run.period
+  pub repeats : rotate_right w64 n spacing ≡ n
   pub ones_is : ones_of n length spacing ≡ run.ones
   pub turn_is : turn_to spacing (place_of n start length) ≡ run.turn
 
@@ -143,10 +145,12 @@ unfolding agrees
 agreed run n even start length spacing h =
     let (nonzero, rest) = both (ltb 0 even) _ h in
     let (spaced, more) = both (eqb spacing (width run.period)) _ rest in
-    let (counted, turned) = both (eqb (ones_of n length spacing) run.ones) _ more in
+    let (repeated, told) = both (eqb (rotate_right w64 n spacing) n) _ more in
+    let (counted, turned) = both (eqb (ones_of n length spacing) run.ones) _ told in
     record {
       nonzero = ltb-true _ _ nonzero;
       spacing_is = eqb-true _ _ spaced;
+      repeats = eqb-true _ _ repeated;
       ones_is = eqb-true _ _ counted;
       turn_is = eqb-true _ _ turned;
     }

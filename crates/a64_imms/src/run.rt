@@ -106,14 +106,16 @@ fn made_even(value: u64) -> u64
     if value % 2 == 1 { !value } else { value }
 }
 
-/// The lowest ones of a number that is not 0.
+/// The lowest ones of an even number that is not 0.
 fn lowest_stretch(value: u64) -> Stretch
-    requires { 0 < value }
+    requires some { 0 < value }
+    requires even { value % 2 ≡ 0 }
     ensures start { result.start ≡ trailing_zeros w64 value }
     ensures length { result.length ≡ trailing_ones w64 (value / 2 ^ result.start) }
     ensures spacing { result.spacing ≡ (if value / 2 ^ result.start / 2 ^ result.length == 0 then 64
         else result.length + trailing_zeros w64 (value / 2 ^ result.start / 2 ^ result.length)) }
-    ensures within { result.length ≤ result.spacing }
+    ensures ones { 0 < result.length }
+    ensures within { result.length < result.spacing }
 {
     let start = value.trailing_zeros();
     let ones = value >> start;
@@ -158,7 +160,8 @@ impl Run {
     /// The run of a number that has one, and else some run or none.
     ///
     /// A number that has a run has the same ones at each multiple of the period, so its lowest
-    /// ones and the distance to the next ones tell the run.
+    /// ones and the distance to the next ones tell the run. Such a number is its own rotation
+    /// by the period, and a test of that refuses most others early.
     pub fn find(value: u64) -> Option<Run>
         ensures run { IfSome result IsRun }
         ensures found { (run : Run) → IsRun run → number run ≡ value → result ≡ Some run }
@@ -168,15 +171,13 @@ impl Run {
             return None;
         }
         let stretch = lowest_stretch(even);
+        if value.rotate_right(stretch.spacing) != value {
+            return None;
+        }
         let Some(period) = Period::from_bits(stretch.spacing) else {
             return None;
         };
-        let run = run_at(stretch, period, value % 2 == 1);
-        if run.ones > 0 && run.ones < stretch.spacing {
-            Some(run)
-        } else {
-            None
-        }
+        Some(run_at(stretch, period, value % 2 == 1))
     }
 
     /// The number of the run.
