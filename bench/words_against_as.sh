@@ -23,9 +23,26 @@ def register():
     number = random.randrange(32)
     return "zr" if number == 31 else str(number)
 
+def named(letter, zero):
+    """A register in the program's words and in those of assembly: 31 is the zero register, or the stack pointer."""
+    number = random.randrange(32)
+    if number < 31:
+        return f"x{number}", f"{letter}{number}"
+    if zero:
+        return "xzr", f"{letter}zr"
+    return "sp", "sp" if letter == "x" else "wsp"
+
+def bitmask(size):
+    """A run of ones, rotated and repeated to the size."""
+    period = random.choice([p for p in (2, 4, 8, 16, 32, 64) if p <= size])
+    ones, turn = random.randrange(1, period), random.randrange(period)
+    run = (1 << ones) - 1
+    word = (run >> turn | run << (period - turn)) & ((1 << period) - 1)
+    return sum(word << place for place in range(0, size, period))
+
 def item(labels):
     """A line of the program's file, and one of assembly."""
-    kind = random.randrange(8)
+    kind = random.randrange(10)
     if kind == 0:
         label = random.randrange(labels)
         return f"Jump L{label}", f"b L{label}"
@@ -43,6 +60,19 @@ def item(labels):
     if kind == 4:
         rd, bits, shift = register(), random.randrange(65536), 16 * random.randrange(size // 16)
         return f"MovK x{rd} x{rd} {bits},{shift} {size}", f"movk {letter}{rd}, #{bits}, lsl #{shift}"
+    if kind == 5:
+        op = random.choice(["Add", "Sub", "AddS", "SubS"])
+        rd, rn = named(letter, op in ("AddS", "SubS")), named(letter, False)
+        value = random.randrange(4096) * random.choice([1, 4096])
+        return f"AluRRImm12 {op} {size} {rd[0]} {rn[0]} {value}", f"{MNEMONICS[op]} {rd[1]}, {rn[1]}, #{value}"
+    if kind == 6:
+        op = random.choice(["And", "Orr", "Eor", "AndS", "AndNot", "OrrNot", "EorNot"])
+        rd, rn, value = named(letter, op == "AndS"), named(letter, True), bitmask(size)
+        # The operators that invert have no immediate in assembly: they take that of the complement.
+        taken = value ^ ((1 << size) - 1) if op.endswith("Not") else value
+        mnemonic = {"AndNot": "and", "OrrNot": "orr", "EorNot": "eor"}.get(op, MNEMONICS[op])
+        above = random.getrandbits(32) << 32 if size == 32 else 0
+        return f"AluRRImmLogic {op} {size} {rd[0]} {rn[0]} {value + above}", f"{mnemonic} {rd[1]}, {rn[1]}, #{taken}"
     op = random.choice(list(MNEMONICS))
     if op in ("SMulH", "UMulH"):
         size, letter = 64, "x"
