@@ -9,3 +9,4 @@ pub mod Recorded
 pub mod Steps
 pub mod Owns
 pub mod Operands
+pub mod Shapes

@@ -49,16 +49,38 @@ branch_site kind (branch_targets.ResolvedOffset offset) = None
 abbrev pub branch : Form → LabelUse → BranchTarget → Cell
 branch form kind dest = record { body = FormOf form; site = branch_site kind dest }
 
+-- an instruction is one word without a use, or these words
+pub data Shape : Type 0 where
+  OneWord : Form → Shape
+  Words : List Cell → Shape
+
+abbrev pub shape_of : FrameLayout → EmitFlags → Inst → Shape
+shape_of frame flags Nop4 = OneWord nop4_form
+shape_of frame flags (AluRRR alu_op size rd rn rm) = OneWord (alu_rrr_form alu_op size rd rn rm)
+shape_of frame flags (AluRRImm12 alu_op size rd rn imm12) = OneWord (alu_rr_imm12_form alu_op size rd rn imm12)
+shape_of frame flags (AluRRImmLogic alu_op size rd rn imml) = OneWord (alu_rr_imm_logic_form alu_op size rd rn imml)
+shape_of frame flags (MovWide op rd imm size) = OneWord (mov_wide_form op rd imm size)
+shape_of frame flags (MovK rd rn imm size) = OneWord (mov_k_form rd imm size)
+shape_of frame flags Ret = OneWord ret_form
+shape_of frame flags (Jump dest) = Words (branch (jump_form dest) uses.Branch26 dest ∷ [])
+
+abbrev pub shape_cells : Shape → List Cell
+shape_cells (OneWord form) = plain form ∷ []
+shape_cells (Words cells) = cells
+
+-- the word of an instruction that is one word without a use
+abbrev pub only_word : Shape → Option ℕ
+only_word (OneWord form) = Some (word_of form)
+only_word (Words cells) = None
+
+-- the words of another instruction
+abbrev pub other_cells : Shape → List Cell
+other_cells (OneWord form) = []
+other_cells (Words cells) = cells
+
 -- the words of an instruction
 abbrev pub inst_cells : FrameLayout → EmitFlags → Inst → List Cell
-inst_cells frame flags Nop4 = plain nop4_form ∷ []
-inst_cells frame flags (AluRRR alu_op size rd rn rm) = plain (alu_rrr_form alu_op size rd rn rm) ∷ []
-inst_cells frame flags (AluRRImm12 alu_op size rd rn imm12) = plain (alu_rr_imm12_form alu_op size rd rn imm12) ∷ []
-inst_cells frame flags (AluRRImmLogic alu_op size rd rn imml) = plain (alu_rr_imm_logic_form alu_op size rd rn imml) ∷ []
-inst_cells frame flags (MovWide op rd imm size) = plain (mov_wide_form op rd imm size) ∷ []
-inst_cells frame flags (MovK rd rn imm size) = plain (mov_k_form rd imm size) ∷ []
-inst_cells frame flags Ret = plain ret_form ∷ []
-inst_cells frame flags (Jump dest) = branch (jump_form dest) uses.Branch26 dest ∷ []
+inst_cells frame flags inst = shape_cells (shape_of frame flags inst)
 
 -- the words of an item
 abbrev pub cells_of : FrameLayout → EmitFlags → Item → List Cell
