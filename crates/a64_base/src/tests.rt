@@ -5,8 +5,9 @@ use crate::{
     OperandSize, PReg, PRegSet, PrettyPrint, Reg, RegClass, ScalarSize, ShiftOp, ShiftOpAndAmt,
     ShiftOpShiftImm, TestBitAndBranchKind, Text, TrapCode, VectorSize, fp_reg, link_reg,
     pinned_reg, pretty_print_ireg, pretty_print_reg, pretty_print_reg_sized,
-    pretty_print_vreg_element, pretty_print_vreg_scalar, pretty_print_vreg_vector,
-    show_vreg_scalar, spilltmp_reg, stack_reg, tmp2_reg, vreg, writable_link_reg, xreg, zero_reg,
+    pretty_print_vreg_element, pretty_print_vreg_scalar, pretty_print_vreg_vector, show_ireg_sized,
+    show_vreg_element, show_vreg_scalar, show_vreg_vector, spilltmp_reg, stack_reg, tmp2_reg, vreg,
+    writable_link_reg, xreg, zero_reg,
 };
 use std::alloc::AllocError;
 
@@ -34,6 +35,12 @@ fn integer_registers_print_their_names(rt: HostRuntime) -> Result<(), AllocError
         assert!(rt;
             prints(
                 pretty_print_ireg(rt.alloc(), reg, OperandSize::Size32),
+                narrow
+            )?
+        );
+        assert!(rt;
+            prints(
+                show_ireg_sized(rt.alloc(), reg, OperandSize::Size32),
                 narrow
             )?
         );
@@ -67,7 +74,7 @@ fn vector_registers_print_their_lanes(rt: HostRuntime) -> Result<(), AllocError>
     );
     assert!(rt;
         prints(
-            pretty_print_vreg_vector(alloc, vreg(31), VectorSize::Size8x16),
+            show_vreg_vector(alloc, vreg(31), VectorSize::Size8x16),
             "v31.16b"
         )?
     );
@@ -79,7 +86,7 @@ fn vector_registers_print_their_lanes(rt: HostRuntime) -> Result<(), AllocError>
     );
     assert!(rt;
         prints(
-            pretty_print_vreg_element(alloc, free, 15, ScalarSize::Size8),
+            show_vreg_element(alloc, free, 15, ScalarSize::Size8),
             "%f7.b[15]"
         )?
     );
@@ -156,4 +163,6 @@ fn a_set_tells_registers_of_one_number_apart(rt: HostRuntime) {
     set.union_from(others);
     set.remove(x3);
     assert!(rt; !set.contains(x3) && set.contains(sp) && set.contains(v3));
+    others.add(sp);
+    assert_eq!(rt; set, others);
 }

@@ -43,13 +43,6 @@ float_pattern size bits = pattern_in (bits_of size) (repeats_of size) (bits / 12
 abbrev pub pattern_at : ScalarSize → ℕ → ℕ
 pattern_at size value = value % 2 ^ bits_of size
 
--- the value's bits are those of a float of some eight bits
-pub record HasFloatImm (size : ScalarSize) (value : ℕ) : Type 0 where
-  pub of_size : IsFloatSize size
-  pub bits : ℕ
-  pub fits : bits < 256
-  pub pattern_is : float_pattern size bits ≡ pattern_at size value
-
 -- the immediate of the value at the size
 pub record IsFloatImm (size : ScalarSize) (value : ℕ) (made : ASIMDFPModImm) : Type 0 where
   pub of_size : IsFloatSize size
@@ -57,9 +50,18 @@ pub record IsFloatImm (size : ScalarSize) (value : ℕ) (made : ASIMDFPModImm) :
   pub size_is : made.size ≡ size
   pub pattern_is : float_pattern size made.imm ≡ pattern_at size value
 
--- the floats of a size that have an immediate
-abbrev pub IsFloatValue : ScalarSize → ℕ → Type 0
-IsFloatValue size value = IsFloatSize size × ((bits : ℕ) × (bits < 256) × (float_pattern size bits ≡ value))
+-- the floats of a size that have an immediate: their bits are those of some eight bits
+pub record IsFloatValue (size : ScalarSize) (value : ℕ) : Type 0 where
+  pub of_size : IsFloatSize size
+  pub bits : ℕ
+  pub fits : bits < 256
+  pub pattern_is : float_pattern size bits ≡ value
+
+-- the immediate is one of the size
+pub record IsFloatLawful (size : ScalarSize) (made : ASIMDFPModImm) : Type 0 where
+  pub of_size : IsFloatSize size
+  pub size_is : made.size ≡ size
+  pub fits : made.imm < 256
 
 -- `#0x` and the bits, four to a digit
 abbrev pub float_text : ASIMDFPModImm → List ℕ

@@ -1,19 +1,16 @@
 -- The laws of the classes of immediates: a field has one value, and the values lie in their sets.
 use Rattle.std.specs.Prelude.{◌≡◌, ℕ, ℤ, pos, negsuc, ◌*ℤ◌, ◌≤ℤ◌, ◌+◌, ◌-◌, ◌*◌, ◌%◌, ◌^◌, ◌<◌, refl}
-use Rattle.std.proofs.Common.{sym, ap, ap₂, ◌∙◌, subst, inl, inr, arith}
+use Rattle.std.proofs.Common.{sym, ap₂, subst, inl, inr, arith}
 use Rattle.std.specs.Int.RustNames.{unsigned_abs}
 use Rattle.std.proofs.lemmas.Int.{ints}
 use Rattle.a64_imms.specs.declared.flags.NZCV.{NZCV}
 use Rattle.a64_imms.specs.declared.imm12.Imm12.{Imm12}
-use Rattle.a64_imms.specs.declared.fpu_shift.FPULeftShiftImm.{FPULeftShiftImm}
-use Rattle.a64_imms.specs.declared.fpu_shift.FPURightShiftImm.{FPURightShiftImm}
 use Rattle.a64_imms.specs.declared.move_wide.MoveWideConst.{MoveWideConst}
 use Rattle.a64_imms.specs.Flags.{flags_of, nzcv_bits}
 use Rattle.a64_imms.specs.Imm12s.{IsImm12Value, imm12_value, imm12_field}
 use Rattle.a64_imms.specs.FpuShifts.{IsLeftShift, IsRightShift}
 use Rattle.a64_base.specs.declared.ir_type.IrType.{IrType}
 use Rattle.a64_base.specs.declared.ir_type.IrType.TheVariants.{I64, I32, F64, I8X16}
-use Rattle.a64_imms.specs.declared.offset.SImm7Scaled.{SImm7Scaled}
 use Rattle.a64_imms.specs.Scales.{type_bytes, IsPairScale}
 use Rattle.a64_imms.specs.Offsets.{residue, floor_div, IsOffset9, IsPairOffset}
 use Rattle.a64_imms.specs.MoveWides.{IsWideValue, IsWide, wide_value, wide_field}
@@ -27,17 +24,11 @@ imm12_within imm low = grind arith
 pub one_imm12 : (x y : Imm12) → x.bits < 4096 → y.bits < 4096 → imm12_field x ≡ imm12_field y → imm12_value x ≡ imm12_value y
 one_imm12 x y low_x low_y same = grind arith
 
-pub one_left : (x y : FPULeftShiftImm)
-    → IsLeftShift x.lane_size_in_bits x.amount → IsLeftShift y.lane_size_in_bits y.amount
-    → x.lane_size_in_bits ≡ y.lane_size_in_bits
-    → x.lane_size_in_bits + x.amount ≡ y.lane_size_in_bits + y.amount → x.amount ≡ y.amount
-one_left x y of_x of_y same_lane same = omega arith
+pub one_left : (lane x y : ℕ) → IsLeftShift lane x → IsLeftShift lane y → lane + x ≡ lane + y → x ≡ y
+one_left lane x y of_x of_y same = omega arith
 
-pub one_right : (x y : FPURightShiftImm)
-    → IsRightShift x.lane_size_in_bits x.amount → IsRightShift y.lane_size_in_bits y.amount
-    → x.lane_size_in_bits ≡ y.lane_size_in_bits
-    → 2 * x.lane_size_in_bits - x.amount ≡ 2 * y.lane_size_in_bits - y.amount → x.amount ≡ y.amount
-one_right x y of_x of_y same_lane same =
+pub one_right : (lane x y : ℕ) → IsRightShift lane x → IsRightShift lane y → 2 * lane - x ≡ 2 * lane - y → x ≡ y
+one_right lane x y of_x of_y same =
     let low_x = of_x.at_most in
     let low_y = of_y.at_most in
     omega arith
@@ -97,14 +88,8 @@ units_of ty scale = elim scale [
     at : (known : IrType) → known ≡ ty → HasOneUnit (type_bytes known) → HasOneUnit (type_bytes ty)
     at known is law = subst (λ t. HasOneUnit (type_bytes t)) is law
 
-pub one_pair_offset : (x y : SImm7Scaled) → IsPairOffset x.scale_ty x.value → IsPairOffset y.scale_ty y.value
-    → x.scale_ty ≡ y.scale_ty
-    → residue 128 (floor_div x.value (type_bytes x.scale_ty)) ≡ residue 128 (floor_div y.value (type_bytes y.scale_ty))
-    → x.value ≡ y.value
+pub one_pair_offset : (scale_ty : IrType) (x y : ℤ) → IsPairOffset scale_ty x → IsPairOffset scale_ty y
+    → residue 128 (floor_div x (type_bytes scale_ty)) ≡ residue 128 (floor_div y (type_bytes scale_ty)) → x ≡ y
 unfolding HasOneUnit
-one_pair_offset x y in_x in_y same_scale same =
-    let in_y' : IsPairOffset x.scale_ty y.value = subst (λ ty. IsPairOffset ty y.value) (sym same_scale) in_y in
-    let same' : residue 128 (floor_div x.value (type_bytes x.scale_ty)) ≡ residue 128 (floor_div y.value (type_bytes x.scale_ty)) =
-    same ∙ ap (λ ty. residue 128 (floor_div y.value (type_bytes ty))) (sym same_scale)
-    in
-    units_of x.scale_ty in_x.scale x.value y.value in_x.low in_x.high in_x.multiple in_y'.low in_y'.high in_y'.multiple same'
+one_pair_offset scale_ty x y in_x in_y same =
+    units_of scale_ty in_x.scale x y in_x.low in_x.high in_x.multiple in_y.low in_y.high in_y.multiple same

@@ -7,7 +7,7 @@ use Rattle.a64_imms.specs.declared.imm_logic.ImmLogic.{ImmLogic}
 use Rattle.a64_imms.specs.declared.run.Period.{Period}
 use Rattle.a64_imms.specs.declared.run.Run.{Run}
 use Rattle.a64_imms.specs.Runs.{width, prefix, number, IsRun}
-use Rattle.a64_imms.specs.Logic.{seen, counted, is_widest, logic_value, logic_field, IsLogicValue, IsImmLogic}
+use Rattle.a64_imms.specs.Logic.{seen, counted, is_widest, logic_value, logic_field, IsLogicValue, IsLogicOf}
 
 -- what counts is seen as the whole is
 seen-counted : (size : OperandSize) (value : ℕ) → seen size value ≡ seen size (counted size value)
@@ -53,28 +53,31 @@ same_parts true false r s t u fits_r fits_s fits_t fits_u same = absurd (omega a
 same_parts false true r s t u fits_r fits_s fits_t fits_u same = absurd (omega arith)
 same_parts false false r s t u fits_r fits_s fits_t fits_u same = (refl, omega arith, omega arith)
 
-pub logic_within : (imm : ImmLogic) → IsImmLogic imm → IsLogicValue imm.size (counted imm.size (logic_value imm))
-logic_within imm lawful = (lawful.run, lawful.is_run, lawful.number_is ∙ seen-counted imm.size (logic_value imm))
+pub logic_within : (size : OperandSize) (imm : ImmLogic) → IsLogicOf size (logic_value imm) imm
+    → IsLogicValue size (counted size (logic_value imm))
+logic_within size imm lawful = (lawful.run, lawful.is_run, lawful.number_is ∙ seen-counted size (logic_value imm))
 
-pub r_fits : (imm : ImmLogic) → IsImmLogic imm → imm.r < 64
-r_fits imm lawful = let r = lawful.triple.r_is in omega (arith, turn_fits lawful.run.period lawful.run.turn lawful.is_run.turned)
+pub r_fits : (size : OperandSize) (imm : ImmLogic) → IsLogicOf size (logic_value imm) imm → imm.r < 64
+r_fits size imm lawful = let r = lawful.triple.r_is in omega (arith, turn_fits lawful.run.period lawful.run.turn lawful.is_run.turned)
 
-pub s_fits : (imm : ImmLogic) → IsImmLogic imm → imm.s < 64
-s_fits imm lawful =
+pub s_fits : (size : OperandSize) (imm : ImmLogic) → IsLogicOf size (logic_value imm) imm → imm.s < 64
+s_fits size imm lawful =
     let s = lawful.triple.s_is in
     omega (arith, ones_fit lawful.run.period lawful.run.ones lawful.is_run.some lawful.is_run.part)
 
-same_run : (x y : ImmLogic) (of_x : IsImmLogic x) (of_y : IsImmLogic y) → logic_field x ≡ logic_field y → of_x.run ≡ of_y.run
-same_run x y of_x of_y same =
-    let (n, r, s) = same_parts x.n y.n x.r x.s y.r y.s (r_fits x of_x) (s_fits x of_x) (r_fits y of_y) (s_fits y of_y) same in
+same_run : (size : OperandSize) (x y : ImmLogic) (of_x : IsLogicOf size (logic_value x) x) (of_y : IsLogicOf size (logic_value y) y)
+    → logic_field x ≡ logic_field y → of_x.run ≡ of_y.run
+same_run size x y of_x of_y same =
+    let (n, r, s) =
+    same_parts x.n y.n x.r x.s y.r y.s (r_fits size x of_x) (s_fits size x of_x) (r_fits size y of_y) (s_fits size y of_y) same
+    in
     same_triple of_x.run of_y.run of_x.is_run of_y.is_run
     (sym of_x.triple.n_is ∙ n ∙ of_y.triple.n_is)
     (sym of_x.triple.r_is ∙ r ∙ of_y.triple.r_is)
     (sym of_x.triple.s_is ∙ s ∙ of_y.triple.s_is)
 
-pub one_logic : (x y : ImmLogic) → IsImmLogic x → IsImmLogic y → x.size ≡ y.size → logic_field x ≡ logic_field y
-    → counted x.size (logic_value x) ≡ counted y.size (logic_value y)
-one_logic x y of_x of_y same_size same =
-    counted_seen x.size (logic_value x) (logic_value y)
-    (sym of_x.number_is ∙ ap number (same_run x y of_x of_y same) ∙ of_y.number_is ∙ ap (λ size. seen size (logic_value y)) (sym same_size))
-    ∙ ap (λ size. counted size (logic_value y)) same_size
+pub one_logic : (size : OperandSize) (x y : ImmLogic) → IsLogicOf size (logic_value x) x → IsLogicOf size (logic_value y) y
+    → logic_field x ≡ logic_field y → counted size (logic_value x) ≡ counted size (logic_value y)
+one_logic size x y of_x of_y same =
+    counted_seen size (logic_value x) (logic_value y)
+    (sym of_x.number_is ∙ ap number (same_run size x y of_x of_y same) ∙ of_y.number_is)

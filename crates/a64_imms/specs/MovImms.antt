@@ -1,5 +1,5 @@
 -- Immediates of vector moves.
-use Rattle.std.specs.Prelude.{ℕ, ◌≡◌, ◌≢◌, ◌<◌, ◌+◌, ◌-◌, ◌*◌, ◌/◌, ◌%◌, ◌^◌, ◌==◌, ◌⊎◌, Bool, true, false, if◌then◌else◌, List, [], ◌∷◌, ◌++◌, codes}
+use Rattle.std.specs.Prelude.{ℕ, ◌≡◌, ◌<◌, ◌+◌, ◌-◌, ◌*◌, ◌/◌, ◌%◌, ◌^◌, ◌==◌, ◌⊎◌, Bool, true, false, IsTrue, if◌then◌else◌, List, [], ◌∷◌, ◌++◌, codes}
 use Rattle.std.specs.Int.{w64, from_le_bytes}
 use Rattle.a64_base.specs.declared.size.ScalarSize.{ScalarSize}
 use Rattle.a64_base.specs.declared.size.ScalarSize.TheVariants.{Size8, Size16, Size32, Size64, Size128}
@@ -63,10 +63,6 @@ pub record HoldsForm (form : Form) (number : ℕ) (imm : ASIMDMovModImm) : Type 
   pub bits_fit : imm.imm < 256
   pub number_is : pattern form imm.imm ≡ number
 
-abbrev pub NoneFits : List Form → ℕ → Type 0
-NoneFits [] number = Unit {0}
-NoneFits (form ∷ forms) number = (¬ HasForm form number) × NoneFits forms number
-
 -- the immediate has the first of the forms that the number has
 abbrev pub IsFirst : List Form → ℕ → ASIMDMovModImm → Type 0
 IsFirst [] number imm = ⊥
@@ -81,14 +77,6 @@ pub record HoldsBytes (value : ℕ) (imm : ASIMDMovModImm) : Type 0 where
   pub ones_is : imm.shift_ones ≡ false
   pub bits_fit : imm.imm < 256
   pub number_is : spread imm.imm ≡ value
-
--- the value has no immediate at the size
-abbrev pub NoMovImm : ScalarSize → ℕ → Type 0
-NoMovImm Size8 value = NoneFits (forms_of Size8) (looked_at Size8 value)
-NoMovImm Size16 value = NoneFits (forms_of Size16) (looked_at Size16 value)
-NoMovImm Size32 value = NoneFits (forms_of Size32) (looked_at Size32 value)
-NoMovImm Size64 value = (bits : ℕ) → bits < 256 → spread bits ≢ value
-NoMovImm Size128 value = Unit {0}
 
 -- the immediate of the value at the size
 abbrev pub IsMovImm : ScalarSize → ℕ → ASIMDMovModImm → Type 0
@@ -117,23 +105,49 @@ mov_value imm =
 abbrev pub mov_field : ASIMDMovModImm → ℕ
 mov_field imm = imm.imm + 2 ^ 8 * ((if imm.shift_ones then 1 else 0) + 2 * imm.shift)
 
+-- the number has one of the forms
 abbrev pub SomeFits : List Form → ℕ → Type 0
 SomeFits [] number = ⊥
 SomeFits (form ∷ forms) number = HasForm form number ⊎ SomeFits forms number
 
--- the numbers of immediates, of 64 bits or of fewer
-abbrev pub IsMovValue : Bool → ℕ → Type 0
-IsMovValue true value = (bits : ℕ) × (bits < 256) × (spread bits ≡ value)
-IsMovValue false value = SomeFits (forms_of Size32) value
+-- the numbers of a size's immediates
+abbrev pub IsMovValue : ScalarSize → ℕ → Type 0
+IsMovValue Size8 number = SomeFits (forms_of Size8) number
+IsMovValue Size16 number = SomeFits (forms_of Size16) number
+IsMovValue Size32 number = SomeFits (forms_of Size32) number
+IsMovValue Size64 number = (bits : ℕ) × (bits < 256) × (spread bits ≡ number)
+IsMovValue Size128 number = ⊥
 
--- the immediate has one of the forms
-abbrev pub HoldsSome : List Form → ASIMDMovModImm → Type 0
-HoldsSome [] imm = ⊥
-HoldsSome (form ∷ forms) imm = HoldsForm form (mov_value imm) imm ⊎ HoldsSome forms imm
+-- the immediate's fields have the form
+pub record IsOfForm (form : Form) (imm : ASIMDMovModImm) : Type 0 where
+  pub narrow : imm.is_64bit ≡ false
+  pub shift_is : imm.shift ≡ form.shift
+  pub ones_is : imm.shift_ones ≡ form.ones
+  pub bits_fit : imm.imm < 256
 
--- an immediate that the constructor makes
-abbrev pub IsMovLawful : ASIMDMovModImm → Type 0
-IsMovLawful imm = HoldsBytes (mov_value imm) imm ⊎ HoldsSome (forms_of Size32) imm
+-- the immediate's fields have one of the forms
+abbrev pub IsOfSome : List Form → ASIMDMovModImm → Type 0
+IsOfSome [] imm = ⊥
+IsOfSome (form ∷ forms) imm = IsOfForm form imm ⊎ IsOfSome forms imm
+
+-- the immediate's fields are those of 64 bits
+pub record IsOfBytes (imm : ASIMDMovModImm) : Type 0 where
+  pub wide : imm.is_64bit ≡ true
+  pub shift_is : imm.shift ≡ 0
+  pub ones_is : imm.shift_ones ≡ false
+  pub bits_fit : imm.imm < 256
+
+-- the immediate is one of the size
+abbrev pub IsMovLawful : ScalarSize → ASIMDMovModImm → Type 0
+IsMovLawful Size8 imm = IsOfSome (forms_of Size8) imm
+IsMovLawful Size16 imm = IsOfSome (forms_of Size16) imm
+IsMovLawful Size32 imm = IsOfSome (forms_of Size32) imm
+IsMovLawful Size64 imm = IsOfBytes imm
+IsMovLawful Size128 imm = ⊥
+
+-- the fields of any immediate: one of 64 bits has no shift
+abbrev pub HasMovFields : ASIMDMovModImm → Type 0
+HasMovFields imm = IsTrue imm.is_64bit → imm.shift ≡ 0
 
 -- `#` and the number of 64 bits; else `#` and the bits, and the shift where it is not 0
 abbrev pub mov_text : ASIMDMovModImm → List ℕ

@@ -1,15 +1,14 @@
 //! The immediate of vector moves of floats.
 
-ghost use Rattle.std.specs.Prelude.{◌≡◌, ◌≢◌, ℕ, ◌<◌, ◌≤◌, ◌+◌, ◌*◌, ◌/◌, ◌%◌, ◌^◌, MatchOption, IfOk, OnOk, ◌++◌};
-ghost use Rattle.std.specs.String.{string_bytes};
+ghost use Rattle.std.specs.Prelude.{◌≡◌, ◌≢◌, ℕ, ◌<◌, ◌≤◌, ◌+◌, ◌*◌, ◌/◌, ◌%◌, ◌^◌, MatchOption, ◌++◌};
 ghost use Rattle.a64_imms.specs.Texts.{hex_digit, hex_text};
-ghost use Rattle.a64_imms.specs.FloatImms.{float_pattern, float_text, pattern_at, IsFloatSize, IsFloatImm, HasFloatImm, IsFloatValue};
+ghost use Rattle.a64_imms.specs.FloatImms.{float_pattern, float_text, pattern_at, IsFloatSize, IsFloatImm, IsFloatValue, IsFloatLawful};
 ghost use Rattle.a64_imms.specs.FloatLaws.{float_within, one_float};
 
 use crate::class::ImmClass;
 use crate::text::text_of_pattern;
-use a64_base::ScalarSize;
-use std::alloc::{AllocError, Global};
+use a64_base::{PrettyPrint, ScalarSize, Text};
+use std::alloc::Global;
 
 /// The modified immediate of `fmov`: a float by its sign, three bits of its exponent and four of
 /// its fraction, which are called a, b to d and e to h, the highest first.
@@ -55,7 +54,7 @@ fn bits_in(size: ScalarSize, pattern: u64) -> u8
 impl ASIMDFPModImm {
     /// The immediate of a float of this size with these bits; higher bits do not count.
     pub fn maybe_from_u64(value: u64, size: ScalarSize) -> Option<ASIMDFPModImm>
-        ensures { MatchOption result (¬ HasFloatImm size value) (IsFloatImm size value) }
+        ensures { MatchOption result (¬ IsFloatValue size (pattern_at size value)) (IsFloatImm size value) }
     {
         let pattern = match size {
             ScalarSize::Size16 => value % (1 << 16),
@@ -78,16 +77,15 @@ impl ASIMDFPModImm {
     {
         self.imm
     }
+}
 
-    /// `#0x` and the float's bits in 4, 8 or 16 hexadecimal digits.
-    ///
-    /// # Errors
-    ///
-    /// Want of memory.
-    pub fn pretty_print(&self, alloc: Global, _size_bytes: u8) -> Result<String, AllocError>
-        requires { IsFloatSize self.now.size }
-        ensures { IfOk result (λ text. string_bytes text ≡ float_text self.now) }
-    {
+/// `#0x` and the float's bits in 4, 8 or 16 hexadecimal digits.
+impl PrettyPrint for ASIMDFPModImm {
+    ghost text = { λ made _. float_text made };
+
+    ghost can_print = { λ made _. IsFloatSize made.size };
+
+    fn pretty_print(&self, alloc: Global, _size_bytes: u8) -> Text {
         let digits = match self.size {
             ScalarSize::Size16 => 4,
             ScalarSize::Size32 => 8,
@@ -104,13 +102,11 @@ impl ImmClass for ASIMDFPModImm {
 
     ghost set = { IsFloatValue };
 
-    ghost lawful = { λ made. IsFloatSize made.size × (made.imm < 256) };
+    ghost lawful = { IsFloatLawful };
 
-    ghost parameter = { λ made. made.size };
+    ghost value = { λ size made. float_pattern size made.imm };
 
-    ghost value = { λ made. float_pattern made.size made.imm };
-
-    ghost field = { λ made. made.imm };
+    ghost field = { λ _ made. made.imm };
 
     ghost within = { float_within };
 

@@ -1,15 +1,14 @@
 //! The immediate of vector moves.
 
-ghost use Rattle.std.specs.Prelude.{◌≡◌, ◌≢◌, ℕ, ◌<◌, ◌≤◌, ◌+◌, ◌-◌, ◌*◌, ◌%◌, ◌^◌, if◌then◌else◌, IsTrue, false, MatchOption, IfOk};
-ghost use Rattle.std.specs.String.{string_bytes};
-ghost use Rattle.a64_base.specs.declared.size.ScalarSize.TheVariants.{Size16, Size32, Size64};
-ghost use Rattle.a64_imms.specs.MovImms.{byte_of, spread, is_64, mov_value, mov_field, mov_text, forms_of, HasForm, HoldsForm, NoneFits, IsFirst, NoMovImm, IsMovImm, IsMovValue, IsMovLawful};
+ghost use Rattle.std.specs.Prelude.{◌≡◌, ◌≢◌, ℕ, ◌<◌, ◌≤◌, ◌+◌, ◌-◌, ◌*◌, ◌%◌, ◌^◌, if◌then◌else◌, false, MatchOption, IfSome};
+ghost use Rattle.a64_base.specs.declared.size.ScalarSize.TheVariants.{Size16, Size32, Size64, Size128};
+ghost use Rattle.a64_imms.specs.MovImms.{byte_of, spread, looked_at, is_64, mov_value, mov_field, mov_text, forms_of, HasForm, HoldsForm, IsFirst, IsMovImm, IsMovValue, IsMovLawful, HasMovFields};
 ghost use Rattle.a64_imms.specs.MovLaws.{mov_within, one_mov};
 
 use crate::class::ImmClass;
 use crate::text::text_of_number;
-use a64_base::ScalarSize;
-use std::alloc::{AllocError, Global};
+use a64_base::{PrettyPrint, ScalarSize, Text};
+use std::alloc::Global;
 
 /// The modified immediate of `movi` and `mvni`.
 #[derive(Clone, Copy, Debug, PartialEq, Eq)]
@@ -85,7 +84,7 @@ fn shifted(number: u32, shift: u8, ones: bool) -> Option<ASIMDMovModImm>
 
 /// The immediate of a lane of 16 bits.
 fn of_halfword(number: u32) -> Option<ASIMDMovModImm>
-    ensures { MatchOption result (NoneFits (forms_of Size16) number) (IsFirst (forms_of Size16) number) }
+    ensures { MatchOption result (¬ IsMovValue Size16 number) (IsFirst (forms_of Size16) number) }
 {
     if let Some(imm) = shifted(number, 0, false) {
         return Some(imm);
@@ -95,7 +94,7 @@ fn of_halfword(number: u32) -> Option<ASIMDMovModImm>
 
 /// The immediate of a lane of 32 bits.
 fn of_word(number: u32) -> Option<ASIMDMovModImm>
-    ensures { MatchOption result (NoneFits (forms_of Size32) number) (IsFirst (forms_of Size32) number) }
+    ensures { MatchOption result (¬ IsMovValue Size32 number) (IsFirst (forms_of Size32) number) }
 {
     if let Some(imm) = shifted(number, 16, true) {
         return Some(imm);
@@ -117,7 +116,7 @@ fn of_word(number: u32) -> Option<ASIMDMovModImm>
 
 /// The immediate of 64 bits of which each byte is 00 or ff.
 fn of_bytes(value: u64) -> Option<ASIMDMovModImm>
-    ensures { MatchOption result (NoMovImm Size64 value) (IsMovImm Size64 value) }
+    ensures { MatchOption result (¬ IsMovValue Size64 value) (IsMovImm Size64 value) }
 {
     let imm = lowest_bits(value);
     if spread_bits(imm) == value {
@@ -139,7 +138,10 @@ impl ASIMDMovModImm {
     /// digits in which MM are the bits, 00MMffff, 0000MMff, 000000MM, 0000MM00, 00MM0000 and
     /// MM000000; for 16 bits 00MM and MM00; for 64 bits each byte is 00 or ff.
     pub fn maybe_from_u64(value: u64, size: ScalarSize) -> Option<ASIMDMovModImm>
-        ensures { MatchOption result (NoMovImm size value) (IsMovImm size value) }
+        ensures first { MatchOption result (¬ IsMovValue size (looked_at size value)) (IsMovImm size value) }
+        ensures lawful { IfSome result (λ imm. IsMovLawful size imm) }
+        ensures fields { IfSome result HasMovFields }
+        ensures value { IfSome result (λ imm. mov_value imm ≡ looked_at size value) }
     {
         match size {
             ScalarSize::Size8 => shifted((value % (1 << 8)) as u32, 0, false),
@@ -152,7 +154,8 @@ impl ASIMDMovModImm {
 
     /// The immediate 0 in lanes of this size.
     pub fn zero(size: ScalarSize) -> ASIMDMovModImm
-        ensures { result ≡ record { imm = 0; shift = 0; is_64bit = is_64 size; shift_ones = false } }
+        ensures value { result ≡ record { imm = 0; shift = 0; is_64bit = is_64 size; shift_ones = false } }
+        ensures lawful { size ≢ Size128 → IsMovLawful size result }
     {
         ASIMDMovModImm {
             imm: 0,
@@ -164,24 +167,23 @@ impl ASIMDMovModImm {
 
     /// The bits, the shift in places, and whether ones are shifted in.
     pub fn value(&self) -> (u8, u32, bool)
-        requires { IsTrue self.now.is_64bit → self.now.shift ≡ 0 }
+        requires { HasMovFields self.now }
         ensures bits { result.0 ≡ self.now.imm }
         ensures shift { result.1 ≡ self.now.shift }
         ensures ones { result.2 ≡ self.now.shift_ones }
     {
         (self.imm, u32::from(self.shift), self.shift_ones)
     }
+}
 
-    /// `#` and the number of 64 bits; else `#` and the bits, then `, MSL #` where ones are shifted
-    /// in, or `, LSL #`, and the shift, where that is not 0.
-    ///
-    /// # Errors
-    ///
-    /// Want of memory.
-    pub fn pretty_print(&self, alloc: Global, _size_bytes: u8) -> Result<String, AllocError>
-        requires { IsTrue self.now.is_64bit → self.now.shift ≡ 0 }
-        ensures { IfOk result (λ text. string_bytes text ≡ mov_text self.now) }
-    {
+/// `#` and the number of 64 bits; else `#` and the bits, then `, MSL #` where ones are shifted
+/// in, or `, LSL #`, and the shift, where that is not 0.
+impl PrettyPrint for ASIMDMovModImm {
+    ghost text = { λ imm _. mov_text imm };
+
+    ghost can_print = { λ imm _. HasMovFields imm };
+
+    fn pretty_print(&self, alloc: Global, _size_bytes: u8) -> Text {
         if self.is_64bit {
             return text_of_number(alloc, spread_bits(self.imm));
         }
@@ -196,7 +198,7 @@ impl ASIMDMovModImm {
 }
 
 impl ImmClass for ASIMDMovModImm {
-    type Parameter = bool;
+    type Parameter = ScalarSize;
 
     type Value = u64;
 
@@ -204,11 +206,9 @@ impl ImmClass for ASIMDMovModImm {
 
     ghost lawful = { IsMovLawful };
 
-    ghost parameter = { λ imm. imm.is_64bit };
+    ghost value = { λ _. mov_value };
 
-    ghost value = { mov_value };
-
-    ghost field = { mov_field };
+    ghost field = { λ _. mov_field };
 
     ghost within = { mov_within };
 

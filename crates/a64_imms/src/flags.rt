@@ -1,12 +1,12 @@
 //! The condition flags as an immediate.
 
-ghost use Rattle.std.specs.Prelude.{◌≡◌, ℕ, ◌<◌, true, IfOk};
-ghost use Rattle.std.specs.String.{string_bytes};
+ghost use Rattle.std.specs.Prelude.{◌≡◌, ℕ, ◌<◌, true, ⊤};
 ghost use Rattle.a64_imms.specs.Flags.{flags_of, nzcv_bits, nzcv_text, Flags};
 ghost use Rattle.a64_imms.specs.Laws.{same_flags};
 
 use crate::class::ImmClass;
-use std::alloc::{AllocError, Global};
+use a64_base::{PrettyPrint, Text};
+use std::alloc::Global;
 
 /// The condition flags that a conditional compare sets where its condition does not hold.
 #[derive(Clone, Copy, Debug)]
@@ -32,15 +32,15 @@ impl NZCV {
     {
         8 * u32::from(self.n) + 4 * u32::from(self.z) + 2 * u32::from(self.c) + u32::from(self.v)
     }
+}
 
-    /// `#nzcv`, with a capital for each flag that is set.
-    ///
-    /// # Errors
-    ///
-    /// Want of memory.
-    pub fn pretty_print(&self, alloc: Global, _size_bytes: u8) -> Result<String, AllocError>
-        ensures { IfOk result (λ text. string_bytes text ≡ nzcv_text (flags_of self.now)) }
-    {
+/// `#nzcv`, with a capital for each flag that is set.
+impl PrettyPrint for NZCV {
+    ghost text = { λ flags _. nzcv_text (flags_of flags) };
+
+    ghost can_print = { λ _ _. ⊤ };
+
+    fn pretty_print(&self, alloc: Global, _size_bytes: u8) -> Text {
         let mut text = String::from_str(alloc, "#")?;
         text.push_str(if self.n { "N" } else { "n" })?;
         text.push_str(if self.z { "Z" } else { "z" })?;
@@ -55,17 +55,15 @@ impl ImmClass for NZCV {
 
     type Value = NZCV;
 
-    ghost set = { λ _ _. Unit {0} };
+    ghost set = { λ _ _. ⊤ };
 
-    ghost lawful = { λ _. Unit {0} };
+    ghost lawful = { λ _ _. ⊤ };
 
-    ghost parameter = { λ _. tt };
+    ghost value = { λ _ flags. flags };
 
-    ghost value = { λ flags. flags };
+    ghost field = { λ _ flags. nzcv_bits (flags_of flags) };
 
-    ghost field = { λ flags. nzcv_bits (flags_of flags) };
+    ghost within = { λ _ _ _. tt };
 
-    ghost within = { λ _ _. tt };
-
-    ghost one_value = { λ x y _ _ _ same. same_flags x y same };
+    ghost one_value = { λ _ x y _ _ same. same_flags x y same };
 }

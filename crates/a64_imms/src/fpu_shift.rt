@@ -1,14 +1,14 @@
 //! The amounts of shifts in floating-point registers.
 
-ghost use Rattle.std.specs.Prelude.{◌≡◌, ℕ, ◌<◌, ◌≤◌, ◌+◌, ◌-◌, ◌*◌, MatchOption, IfOk};
-ghost use Rattle.std.specs.String.{string_bytes};
+ghost use Rattle.std.specs.Prelude.{◌≡◌, ℕ, ◌<◌, ◌≤◌, ◌+◌, ◌-◌, ◌*◌, MatchOption};
 ghost use Rattle.a64_imms.specs.Texts.{number_text};
 ghost use Rattle.a64_imms.specs.FpuShifts.{IsLane, IsLeftShift, IsRightShift};
 ghost use Rattle.a64_imms.specs.Laws.{one_left, one_right};
 
 use crate::class::ImmClass;
 use crate::text::text_of_number;
-use std::alloc::{AllocError, Global};
+use a64_base::{PrettyPrint, Text};
+use std::alloc::Global;
 
 /// The amount of a left shift of a lane.
 #[derive(Clone, Copy, Debug)]
@@ -45,16 +45,15 @@ impl FPULeftShiftImm {
     {
         u32::from(self.lane_size_in_bits) + u32::from(self.amount)
     }
+}
 
-    /// `#` and the amount.
-    ///
-    /// # Errors
-    ///
-    /// Want of memory.
-    pub fn pretty_print(&self, alloc: Global, _size_bytes: u8) -> Result<String, AllocError>
-        requires { IsLeftShift self.now.lane_size_in_bits self.now.amount }
-        ensures { IfOk result (λ text. string_bytes text ≡ number_text self.now.amount) }
-    {
+/// `#` and the amount.
+impl PrettyPrint for FPULeftShiftImm {
+    ghost text = { λ imm _. number_text imm.amount };
+
+    ghost can_print = { λ imm _. IsLeftShift imm.lane_size_in_bits imm.amount };
+
+    fn pretty_print(&self, alloc: Global, _size_bytes: u8) -> Text {
         text_of_number(alloc, u64::from(self.amount))
     }
 }
@@ -66,17 +65,15 @@ impl ImmClass for FPULeftShiftImm {
 
     ghost set = { IsLeftShift };
 
-    ghost lawful = { λ imm. IsLeftShift imm.lane_size_in_bits imm.amount };
+    ghost lawful = { λ lane imm. (imm.lane_size_in_bits ≡ lane) × IsLeftShift lane imm.amount };
 
-    ghost parameter = { λ imm. imm.lane_size_in_bits };
+    ghost value = { λ _ imm. imm.amount };
 
-    ghost value = { λ imm. imm.amount };
+    ghost field = { λ lane imm. lane + imm.amount };
 
-    ghost field = { λ imm. imm.lane_size_in_bits + imm.amount };
+    ghost within = { λ _ _ lawful. lawful.1 };
 
-    ghost within = { λ _ lawful. lawful };
-
-    ghost one_value = { one_left };
+    ghost one_value = { λ lane x y of_x of_y. one_left lane x.amount y.amount of_x.1 of_y.1 };
 }
 
 /// The amount of a right shift of a lane.
@@ -114,16 +111,15 @@ impl FPURightShiftImm {
     {
         2 * u32::from(self.lane_size_in_bits) - u32::from(self.amount)
     }
+}
 
-    /// `#` and the amount.
-    ///
-    /// # Errors
-    ///
-    /// Want of memory.
-    pub fn pretty_print(&self, alloc: Global, _size_bytes: u8) -> Result<String, AllocError>
-        requires { IsRightShift self.now.lane_size_in_bits self.now.amount }
-        ensures { IfOk result (λ text. string_bytes text ≡ number_text self.now.amount) }
-    {
+/// `#` and the amount.
+impl PrettyPrint for FPURightShiftImm {
+    ghost text = { λ imm _. number_text imm.amount };
+
+    ghost can_print = { λ imm _. IsRightShift imm.lane_size_in_bits imm.amount };
+
+    fn pretty_print(&self, alloc: Global, _size_bytes: u8) -> Text {
         text_of_number(alloc, u64::from(self.amount))
     }
 }
@@ -135,15 +131,13 @@ impl ImmClass for FPURightShiftImm {
 
     ghost set = { IsRightShift };
 
-    ghost lawful = { λ imm. IsRightShift imm.lane_size_in_bits imm.amount };
+    ghost lawful = { λ lane imm. (imm.lane_size_in_bits ≡ lane) × IsRightShift lane imm.amount };
 
-    ghost parameter = { λ imm. imm.lane_size_in_bits };
+    ghost value = { λ _ imm. imm.amount };
 
-    ghost value = { λ imm. imm.amount };
+    ghost field = { λ lane imm. 2 * lane - imm.amount };
 
-    ghost field = { λ imm. 2 * imm.lane_size_in_bits - imm.amount };
+    ghost within = { λ _ _ lawful. lawful.1 };
 
-    ghost within = { λ _ lawful. lawful };
-
-    ghost one_value = { one_right };
+    ghost one_value = { λ lane x y of_x of_y. one_right lane x.amount y.amount of_x.1 of_y.1 };
 }

@@ -1,14 +1,14 @@
 //! The immediate of additions and subtractions.
 
-ghost use Rattle.std.specs.Prelude.{◌≡◌, ℕ, ◌<◌, ◌+◌, ◌*◌, ◌^◌, MatchOption, IfOk, if◌then◌else◌};
-ghost use Rattle.std.specs.String.{string_bytes};
+ghost use Rattle.std.specs.Prelude.{◌≡◌, ℕ, ◌<◌, ◌+◌, ◌*◌, ◌^◌, MatchOption, if◌then◌else◌};
 ghost use Rattle.a64_imms.specs.Texts.{number_text};
 ghost use Rattle.a64_imms.specs.Imm12s.{imm12_value, imm12_field, IsImm12Value, HasImm12};
 ghost use Rattle.a64_imms.specs.Laws.{imm12_within, one_imm12};
 
 use crate::class::ImmClass;
 use crate::text::text_of_number;
-use std::alloc::{AllocError, Global};
+use a64_base::{PrettyPrint, Text};
+use std::alloc::Global;
 
 /// An immediate of 12 bits, shifted left by 0 or 12 places.
 #[derive(Clone, Copy, Debug)]
@@ -70,16 +70,15 @@ impl Imm12 {
         let bits = u32::from(self.bits);
         if self.shift12 { bits * 4096 } else { bits }
     }
+}
 
-    /// `#` and the value.
-    ///
-    /// # Errors
-    ///
-    /// Want of memory.
-    pub fn pretty_print(&self, alloc: Global, _size_bytes: u8) -> Result<String, AllocError>
-        requires { self.now.bits < 4096 }
-        ensures { IfOk result (λ text. string_bytes text ≡ number_text (imm12_value self.now)) }
-    {
+/// `#` and the value.
+impl PrettyPrint for Imm12 {
+    ghost text = { λ imm _. number_text (imm12_value imm) };
+
+    ghost can_print = { λ imm _. imm.bits < 4096 };
+
+    fn pretty_print(&self, alloc: Global, _size_bytes: u8) -> Text {
         text_of_number(alloc, u64::from(self.value()))
     }
 }
@@ -91,15 +90,13 @@ impl ImmClass for Imm12 {
 
     ghost set = { λ _. IsImm12Value };
 
-    ghost lawful = { λ imm. imm.bits < 4096 };
+    ghost lawful = { λ _ imm. imm.bits < 4096 };
 
-    ghost parameter = { λ _. tt };
+    ghost value = { λ _. imm12_value };
 
-    ghost value = { imm12_value };
+    ghost field = { λ _. imm12_field };
 
-    ghost field = { imm12_field };
+    ghost within = { λ _. imm12_within };
 
-    ghost within = { imm12_within };
-
-    ghost one_value = { λ x y low_x low_y _ same. one_imm12 x y low_x low_y same };
+    ghost one_value = { λ _. one_imm12 };
 }

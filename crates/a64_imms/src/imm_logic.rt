@@ -1,8 +1,7 @@
 //! The immediate of logical instructions.
 
-ghost use Rattle.std.specs.Prelude.{◌≡◌, ℕ, ◌<◌, ◌+◌, ◌-◌, ◌*◌, ◌^◌, false, Some, IfSome, IfNone, IfOk};
+ghost use Rattle.std.specs.Prelude.{◌≡◌, ℕ, ◌<◌, ◌+◌, ◌-◌, ◌*◌, ◌^◌, false, Some, IfSome, IfNone};
 ghost use Rattle.std.specs.Bool.{Decides};
-ghost use Rattle.std.specs.String.{string_bytes};
 ghost use Rattle.a64_base.specs.declared.size.OperandSize.TheVariants.{Size32};
 ghost use Rattle.a64_imms.specs.declared.run.Run.{Run};
 ghost use Rattle.a64_imms.specs.Texts.{number_text};
@@ -13,8 +12,8 @@ ghost use Rattle.a64_imms.specs.LogicLaws.{logic_within, one_logic};
 use crate::class::ImmClass;
 use crate::run::{Period, Run};
 use crate::text::text_of_number;
-use a64_base::{IrType, OperandSize};
-use std::alloc::{AllocError, Global};
+use a64_base::{IrType, OperandSize, PrettyPrint, Text};
+use std::alloc::Global;
 
 /// An immediate of a logical instruction, as the Arm manual's `DecodeBitMasks` reads it: a run of
 /// ones in 2, 4, 8, 16, 32 or 64 bits, rotated right and repeated.
@@ -125,16 +124,15 @@ impl ImmLogic {
     {
         ImmLogic::maybe_from_u64(!self.value, self.size.to_ty()).unwrap()
     }
+}
 
-    /// `#` and the value.
-    ///
-    /// # Errors
-    ///
-    /// Want of memory.
-    pub fn pretty_print(&self, alloc: Global, _size_bytes: u8) -> Result<String, AllocError>
-        requires { IsImmLogic self.now }
-        ensures { IfOk result (λ text. string_bytes text ≡ number_text (logic_value self.now)) }
-    {
+/// `#` and the value.
+impl PrettyPrint for ImmLogic {
+    ghost text = { λ imm _. number_text (logic_value imm) };
+
+    ghost can_print = { λ imm _. IsImmLogic imm };
+
+    fn pretty_print(&self, alloc: Global, _size_bytes: u8) -> Text {
         text_of_number(alloc, self.value)
     }
 }
@@ -146,13 +144,11 @@ impl ImmClass for ImmLogic {
 
     ghost set = { IsLogicValue };
 
-    ghost lawful = { IsImmLogic };
+    ghost lawful = { λ size imm. IsLogicOf size (logic_value imm) imm };
 
-    ghost parameter = { λ imm. imm.size };
+    ghost value = { λ size imm. counted size (logic_value imm) };
 
-    ghost value = { λ imm. counted imm.size (logic_value imm) };
-
-    ghost field = { logic_field };
+    ghost field = { λ _. logic_field };
 
     ghost within = { logic_within };
 

@@ -1,13 +1,13 @@
 //! The immediate of wide moves.
 
-ghost use Rattle.std.specs.Prelude.{◌≡◌, ℕ, ◌<◌, ◌≤◌, ◌+◌, ◌/◌, ◌*◌, ◌^◌, MatchOption, IfOk};
-ghost use Rattle.std.specs.String.{string_bytes};
+ghost use Rattle.std.specs.Prelude.{◌≡◌, ℕ, ◌<◌, ◌≤◌, ◌+◌, ◌/◌, ◌*◌, ◌^◌, MatchOption};
 ghost use Rattle.a64_imms.specs.MoveWides.{wide_value, wide_field, wide_text, IsWideValue, IsWide, HasWide};
 ghost use Rattle.a64_imms.specs.Laws.{wide_within, one_wide};
 
 use crate::class::ImmClass;
 use crate::text::text_of_number;
-use std::alloc::{AllocError, Global};
+use a64_base::{PrettyPrint, Text};
+use std::alloc::Global;
 
 /// 16 bits at one of the four halfwords of a register.
 #[derive(Clone, Copy, Debug)]
@@ -72,16 +72,15 @@ impl MoveWideConst {
     {
         MoveWideConst { bits: 0, shift: 0 }
     }
+}
 
-    /// `#` and the bits, then `, LSL #` and 16 times the shift where that is not 0.
-    ///
-    /// # Errors
-    ///
-    /// Want of memory.
-    pub fn pretty_print(&self, alloc: Global, _size_bytes: u8) -> Result<String, AllocError>
-        requires { self.now.shift ≤ 3 }
-        ensures { IfOk result (λ text. string_bytes text ≡ wide_text self.now) }
-    {
+/// `#` and the bits, then `, LSL #` and 16 times the shift where that is not 0.
+impl PrettyPrint for MoveWideConst {
+    ghost text = { λ imm _. wide_text imm };
+
+    ghost can_print = { λ imm _. imm.shift ≤ 3 };
+
+    fn pretty_print(&self, alloc: Global, _size_bytes: u8) -> Text {
         let mut text = text_of_number(alloc, u64::from(self.bits))?;
         if self.shift == 0 {
             return Ok(text);
@@ -99,15 +98,13 @@ impl ImmClass for MoveWideConst {
 
     ghost set = { λ _. IsWideValue };
 
-    ghost lawful = { IsWide };
+    ghost lawful = { λ _. IsWide };
 
-    ghost parameter = { λ _. tt };
+    ghost value = { λ _. wide_value };
 
-    ghost value = { wide_value };
+    ghost field = { λ _. wide_field };
 
-    ghost field = { wide_field };
+    ghost within = { λ _. wide_within };
 
-    ghost within = { wide_within };
-
-    ghost one_value = { λ x y of_x of_y _ same. one_wide x y of_x of_y same };
+    ghost one_value = { λ _. one_wide };
 }

@@ -1,15 +1,14 @@
 //! Offsets in addressing modes.
 
-ghost use Rattle.std.specs.Prelude.{◌≡◌, ℕ, ℤ, pos, ◌+ℤ◌, ◌-ℤ◌, ◌*ℤ◌, ◌≤ℤ◌, ◌<◌, ◌≤◌, ◌+◌, ◌*◌, ◌/◌, ◌%◌, ◌^◌, MatchOption, IfOk};
-ghost use Rattle.std.specs.String.{string_bytes};
+ghost use Rattle.std.specs.Prelude.{◌≡◌, ℕ, ℤ, pos, ◌+ℤ◌, ◌-ℤ◌, ◌*ℤ◌, ◌≤ℤ◌, ◌<◌, ◌≤◌, ◌+◌, ◌*◌, ◌/◌, ◌%◌, ◌^◌, MatchOption, ⊤};
 ghost use Rattle.a64_imms.specs.Texts.{number_text, signed_text};
 ghost use Rattle.a64_imms.specs.Scales.{type_bytes, IsPairScale};
 ghost use Rattle.a64_imms.specs.Offsets.{residue, signed, floor_div, IsOffset9, IsPairOffset, IsScaledOffset};
 
 use crate::class::ImmClass;
 use crate::text::{text_of_number, text_of_signed};
-use a64_base::IrType;
-use std::alloc::{AllocError, Global};
+use a64_base::{IrType, PrettyPrint, Text};
+use std::alloc::Global;
 
 /// A signed offset of 9 bits.
 #[derive(Clone, Copy, Debug)]
@@ -49,16 +48,15 @@ impl SImm9 {
     {
         i32::from(self.value)
     }
+}
 
-    /// `#` and the offset.
-    ///
-    /// # Errors
-    ///
-    /// Want of memory.
-    pub fn pretty_print(&self, alloc: Global, _size_bytes: u8) -> Result<String, AllocError>
-        requires { IsOffset9 self.now.value }
-        ensures { IfOk result (λ text. string_bytes text ≡ signed_text self.now.value) }
-    {
+/// `#` and the offset.
+impl PrettyPrint for SImm9 {
+    ghost text = { λ imm _. signed_text imm.value };
+
+    ghost can_print = { λ imm _. IsOffset9 imm.value };
+
+    fn pretty_print(&self, alloc: Global, _size_bytes: u8) -> Text {
         text_of_signed(alloc, i64::from(self.value))
     }
 }
@@ -72,17 +70,15 @@ impl ImmClass for SImm9 {
 
     ghost set = { λ _. IsOffset9 };
 
-    ghost lawful = { λ imm. IsOffset9 imm.value };
+    ghost lawful = { λ _ imm. IsOffset9 imm.value };
 
-    ghost parameter = { λ _. tt };
+    ghost value = { λ _ imm. imm.value };
 
-    ghost value = { λ imm. imm.value };
+    ghost field = { λ _ imm. residue 512 imm.value };
 
-    ghost field = { λ imm. residue 512 imm.value };
+    ghost within = { λ _ _ lawful. lawful };
 
-    ghost within = { λ _ lawful. lawful };
-
-    ghost one_value = { λ x y in_x in_y _ same. one_offset9 x.value y.value in_x in_y same };
+    ghost one_value = { λ _ x y in_x in_y same. one_offset9 x.value y.value in_x in_y same };
 }
 
 /// A signed offset of a pair: 7 bits, times the size of a type.
@@ -126,16 +122,15 @@ impl SImm7Scaled {
         let units = u32::from(self.value.unsigned_abs()) / self.scale_ty.bytes();
         if self.value < 0 { 128 - units } else { units }
     }
+}
 
-    /// `#` and the offset in bytes.
-    ///
-    /// # Errors
-    ///
-    /// Want of memory.
-    pub fn pretty_print(&self, alloc: Global, _size_bytes: u8) -> Result<String, AllocError>
-        requires { IsPairOffset self.now.scale_ty self.now.value }
-        ensures { IfOk result (λ text. string_bytes text ≡ signed_text self.now.value) }
-    {
+/// `#` and the offset in bytes.
+impl PrettyPrint for SImm7Scaled {
+    ghost text = { λ imm _. signed_text imm.value };
+
+    ghost can_print = { λ imm _. IsPairOffset imm.scale_ty imm.value };
+
+    fn pretty_print(&self, alloc: Global, _size_bytes: u8) -> Text {
         text_of_signed(alloc, i64::from(self.value))
     }
 }
@@ -149,17 +144,15 @@ impl ImmClass for SImm7Scaled {
 
     ghost set = { IsPairOffset };
 
-    ghost lawful = { λ imm. IsPairOffset imm.scale_ty imm.value };
+    ghost lawful = { λ scale_ty imm. (imm.scale_ty ≡ scale_ty) × IsPairOffset scale_ty imm.value };
 
-    ghost parameter = { λ imm. imm.scale_ty };
+    ghost value = { λ _ imm. imm.value };
 
-    ghost value = { λ imm. imm.value };
+    ghost field = { λ scale_ty imm. residue 128 (floor_div imm.value (type_bytes scale_ty)) };
 
-    ghost field = { λ imm. residue 128 (floor_div imm.value (type_bytes imm.scale_ty)) };
+    ghost within = { λ _ _ lawful. lawful.1 };
 
-    ghost within = { λ _ lawful. lawful };
-
-    ghost one_value = { one_pair_offset };
+    ghost one_value = { λ scale_ty x y of_x of_y. one_pair_offset scale_ty x.value y.value of_x.1 of_y.1 };
 }
 
 /// An unsigned offset: 12 bits, times the size of a type.
@@ -220,22 +213,24 @@ impl UImm12Scaled {
     {
         u32::from(self.value)
     }
+}
 
-    /// `#` and the offset in bytes.
-    ///
-    /// # Errors
-    ///
-    /// Want of memory.
-    pub fn pretty_print(&self, alloc: Global, _size_bytes: u8) -> Result<String, AllocError>
-        ensures { IfOk result (λ text. string_bytes text ≡ number_text (uimm12_value self.now)) }
-    {
+/// `#` and the offset in bytes.
+impl PrettyPrint for UImm12Scaled {
+    ghost use Rattle.a64_imms.specs.ScaledOffsets.{uimm12_value};
+
+    ghost text = { λ imm _. number_text (uimm12_value imm) };
+
+    ghost can_print = { λ _ _. ⊤ };
+
+    fn pretty_print(&self, alloc: Global, _size_bytes: u8) -> Text {
         text_of_number(alloc, u64::from(self.value))
     }
 }
 
 impl ImmClass for UImm12Scaled {
     ghost use Rattle.a64_imms.specs.ScaledOffsets.{uimm12_value, uimm12_scale};
-    ghost use Rattle.a64_imms.specs.ScaledLaws.{one_scaled_offset};
+    ghost use Rattle.a64_imms.specs.ScaledLaws.{scaled_offset_within, one_scaled_offset};
 
     type Parameter = IrType;
 
@@ -243,15 +238,13 @@ impl ImmClass for UImm12Scaled {
 
     ghost set = { IsScaledOffset };
 
-    ghost lawful = { λ _. Unit {0} };
+    ghost lawful = { λ scale_ty imm. uimm12_scale imm ≡ scale_ty };
 
-    ghost parameter = { uimm12_scale };
+    ghost value = { λ _ imm. pos (uimm12_value imm) };
 
-    ghost value = { λ imm. pos (uimm12_value imm) };
+    ghost field = { λ scale_ty imm. uimm12_value imm / type_bytes scale_ty };
 
-    ghost field = { λ imm. uimm12_value imm / type_bytes (uimm12_scale imm) };
+    ghost within = { scaled_offset_within };
 
-    ghost within = { λ imm _. imm.in_set };
-
-    ghost one_value = { λ x y _ _. one_scaled_offset x y };
+    ghost one_value = { one_scaled_offset };
 }

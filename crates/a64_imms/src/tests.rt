@@ -6,7 +6,7 @@ use crate::{
     ASIMDFPModImm, ASIMDMovModImm, FPULeftShiftImm, FPURightShiftImm, Imm12, ImmLogic, ImmShift,
     MoveWideConst, NZCV, SImm7Scaled, SImm9, UImm5, UImm6, UImm12Scaled,
 };
-use a64_base::{IrType, ScalarSize};
+use a64_base::{IrType, PrettyPrint, ScalarSize, Text};
 use std::alloc::{AllocError, Global};
 use std::test::Fail;
 
@@ -113,6 +113,12 @@ fn vector_immediates(rt: HostRuntime) -> Result<(), Fail> {
     assert_eq!(rt; moved(0xff, ScalarSize::Size32), Some((0, 8, true)));
     assert_eq!(rt; moved(4390911, ScalarSize::Size32), Some((66, 16, true)));
     assert_eq!(rt; moved(513, ScalarSize::Size16), None);
+    // A value of each shape has a shift that goes by the size.
+    assert_eq!(rt; moved(0xff, ScalarSize::Size16), Some((255, 0, false)));
+    assert_eq!(rt; moved(0xab00, ScalarSize::Size16), Some((171, 8, false)));
+    assert_eq!(rt; moved(0xab00, ScalarSize::Size8), Some((0, 0, false)));
+    assert_eq!(rt; moved(0xff00, ScalarSize::Size64), Some((2, 0, false)));
+    assert_eq!(rt; moved(0, ScalarSize::Size128), None);
     assert_eq!(rt; moved(4278190335, ScalarSize::Size32), None);
     assert_eq!(rt; moved(8388608, ScalarSize::Size64), None);
     assert_eq!(rt;
@@ -130,30 +136,37 @@ fn vector_immediates(rt: HostRuntime) -> Result<(), Fail> {
     Ok(())
 }
 
+/// The text of any immediate.
+fn text_of<T: PrettyPrint>(alloc: Global, imm: &T) -> Text
+    requires { T.can_print imm.now 0 }
+{
+    imm.pretty_print_default(alloc)
+}
+
 /// Texts of immediates, one of each form.
 fn texts(alloc: Global) -> Result<Vec<String>, AllocError> {
     let mut texts = Vec::new(alloc);
-    texts.push(NZCV::new(true, false, true, false).pretty_print(alloc, 0)?)?;
+    texts.push(text_of(alloc, &NZCV::new(true, false, true, false))?)?;
     if let Some(imm) = UImm5::maybe_from_u8(31) {
-        texts.push(imm.pretty_print(alloc, 0)?)?;
+        texts.push(text_of(alloc, &imm)?)?;
     }
     if let Some(imm) = UImm6::maybe_from_u8(63) {
-        texts.push(imm.pretty_print(alloc, 0)?)?;
+        texts.push(text_of(alloc, &imm)?)?;
     }
     if let Some(imm) = ImmShift::maybe_from_u64(7) {
-        texts.push(imm.pretty_print(alloc, 0)?)?;
+        texts.push(text_of(alloc, &imm)?)?;
     }
     if let Some(imm) = SImm9::maybe_from_i64(-256) {
-        texts.push(imm.pretty_print(alloc, 0)?)?;
+        texts.push(text_of(alloc, &imm)?)?;
     }
     if let Some(imm) = SImm7Scaled::maybe_from_i64(-512, IrType::I64) {
-        texts.push(imm.pretty_print(alloc, 0)?)?;
+        texts.push(text_of(alloc, &imm)?)?;
     }
     if let Some(imm) = UImm12Scaled::maybe_from_i64(65520, IrType::I8X16) {
-        texts.push(imm.pretty_print(alloc, 0)?)?;
+        texts.push(text_of(alloc, &imm)?)?;
     }
     if let Some(imm) = Imm12::maybe_from_u64(4096) {
-        texts.push(imm.pretty_print(alloc, 0)?)?;
+        texts.push(text_of(alloc, &imm)?)?;
     }
     Ok(texts)
 }
@@ -175,29 +188,29 @@ fn texts_of_offsets(rt: HostRuntime) -> Result<(), Fail> {
 fn more_texts(alloc: Global) -> Result<Vec<String>, AllocError> {
     let mut texts = Vec::new(alloc);
     if let Some(imm) = FPULeftShiftImm::maybe_from_u8(31, 32) {
-        texts.push(imm.pretty_print(alloc, 0)?)?;
+        texts.push(text_of(alloc, &imm)?)?;
     }
     if let Some(imm) = FPURightShiftImm::maybe_from_u8(64, 64) {
-        texts.push(imm.pretty_print(alloc, 0)?)?;
+        texts.push(text_of(alloc, &imm)?)?;
     }
     if let Some(imm) = MoveWideConst::maybe_with_shift(21845, 17) {
-        texts.push(imm.pretty_print(alloc, 0)?)?;
+        texts.push(text_of(alloc, &imm)?)?;
     }
     if let Some(imm) = ImmLogic::maybe_from_u64(248, IrType::I64) {
-        texts.push(imm.pretty_print(alloc, 0)?)?;
-        texts.push(imm.invert().pretty_print(alloc, 0)?)?;
+        texts.push(text_of(alloc, &imm)?)?;
+        texts.push(text_of(alloc, &imm.invert())?)?;
     }
     if let Some(imm) = ASIMDMovModImm::maybe_from_u64(0x42ffff, ScalarSize::Size32) {
-        texts.push(imm.pretty_print(alloc, 0)?)?;
+        texts.push(text_of(alloc, &imm)?)?;
     }
     if let Some(imm) = ASIMDMovModImm::maybe_from_u64(0x4200, ScalarSize::Size16) {
-        texts.push(imm.pretty_print(alloc, 0)?)?;
+        texts.push(text_of(alloc, &imm)?)?;
     }
     if let Some(imm) = ASIMDMovModImm::maybe_from_u64(0xff00, ScalarSize::Size64) {
-        texts.push(imm.pretty_print(alloc, 0)?)?;
+        texts.push(text_of(alloc, &imm)?)?;
     }
     if let Some(imm) = ASIMDFPModImm::maybe_from_u64(0x3ff0_0000_0000_0000, ScalarSize::Size64) {
-        texts.push(imm.pretty_print(alloc, 0)?)?;
+        texts.push(text_of(alloc, &imm)?)?;
     }
     Ok(texts)
 }

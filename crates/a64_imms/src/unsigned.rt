@@ -1,12 +1,12 @@
 //! Small unsigned immediates.
 
-ghost use Rattle.std.specs.Prelude.{◌≡◌, ℕ, ◌<◌, ◌≤◌, ◌^◌, MatchOption, IfOk};
-ghost use Rattle.std.specs.String.{string_bytes};
+ghost use Rattle.std.specs.Prelude.{◌≡◌, ℕ, ◌<◌, ◌≤◌, ◌^◌, MatchOption, ⊤};
 ghost use Rattle.a64_imms.specs.Texts.{number_text};
 
 use crate::class::ImmClass;
 use crate::text::text_of_number;
-use std::alloc::{AllocError, Global};
+use a64_base::{PrettyPrint, Text};
+use std::alloc::Global;
 
 /// An unsigned immediate of 5 bits.
 #[derive(Clone, Copy, Debug)]
@@ -36,15 +36,17 @@ impl UImm5 {
     {
         u32::from(self.value)
     }
+}
 
-    /// `#` and the value.
-    ///
-    /// # Errors
-    ///
-    /// Want of memory.
-    pub fn pretty_print(&self, alloc: Global, _size_bytes: u8) -> Result<String, AllocError>
-        ensures { IfOk result (λ text. string_bytes text ≡ number_text (uimm5_value self.now)) }
-    {
+/// `#` and the value.
+impl PrettyPrint for UImm5 {
+    ghost use Rattle.a64_imms.specs.Unsigned.{uimm5_value};
+
+    ghost text = { λ imm _. number_text (uimm5_value imm) };
+
+    ghost can_print = { λ _ _. ⊤ };
+
+    fn pretty_print(&self, alloc: Global, _size_bytes: u8) -> Text {
         text_of_number(alloc, u64::from(self.value))
     }
 }
@@ -56,15 +58,13 @@ impl ImmClass for UImm5 {
 
     ghost set = { λ _ value. value < 32 };
 
-    ghost lawful = { λ _. Unit {0} };
+    ghost lawful = { λ _ _. ⊤ };
 
-    ghost parameter = { λ _. tt };
+    ghost value = { λ _ imm. imm.value };
 
-    ghost value = { λ imm. imm.value };
+    ghost field = { λ _ imm. imm.value };
 
-    ghost field = { λ imm. imm.value };
-
-    ghost within = { λ imm _. imm.below };
+    ghost within = { λ _ imm _. imm.below };
 
     ghost one_value = { λ _ _ _ _ _ same. same };
 }
@@ -95,16 +95,15 @@ impl UImm6 {
     {
         self.imm
     }
+}
 
-    /// `#` and the value.
-    ///
-    /// # Errors
-    ///
-    /// Want of memory.
-    pub fn pretty_print(&self, alloc: Global, _size_bytes: u8) -> Result<String, AllocError>
-        requires { self.now.imm < 64 }
-        ensures { IfOk result (λ text. string_bytes text ≡ number_text self.now.imm) }
-    {
+/// `#` and the value.
+impl PrettyPrint for UImm6 {
+    ghost text = { λ made _. number_text made.imm };
+
+    ghost can_print = { λ made _. made.imm < 64 };
+
+    fn pretty_print(&self, alloc: Global, _size_bytes: u8) -> Text {
         text_of_number(alloc, u64::from(self.imm))
     }
 }
@@ -116,15 +115,13 @@ impl ImmClass for UImm6 {
 
     ghost set = { λ _ value. value < 64 };
 
-    ghost lawful = { λ made. made.imm < 64 };
+    ghost lawful = { λ _ made. made.imm < 64 };
 
-    ghost parameter = { λ _. tt };
+    ghost value = { λ _ made. made.imm };
 
-    ghost value = { λ made. made.imm };
+    ghost field = { λ _ made. made.imm };
 
-    ghost field = { λ made. made.imm };
-
-    ghost within = { λ _ lawful. lawful };
+    ghost within = { λ _ _ lawful. lawful };
 
     ghost one_value = { λ _ _ _ _ _ same. same };
 }
@@ -155,16 +152,15 @@ impl ImmShift {
     {
         self.imm
     }
+}
 
-    /// `#` and the amount.
-    ///
-    /// # Errors
-    ///
-    /// Want of memory.
-    pub fn pretty_print(&self, alloc: Global, _size_bytes: u8) -> Result<String, AllocError>
-        requires { self.now.imm < 64 }
-        ensures { IfOk result (λ text. string_bytes text ≡ number_text self.now.imm) }
-    {
+/// `#` and the amount.
+impl PrettyPrint for ImmShift {
+    ghost text = { λ made _. number_text made.imm };
+
+    ghost can_print = { λ made _. made.imm < 64 };
+
+    fn pretty_print(&self, alloc: Global, _size_bytes: u8) -> Text {
         text_of_number(alloc, u64::from(self.imm))
     }
 }
@@ -176,15 +172,13 @@ impl ImmClass for ImmShift {
 
     ghost set = { λ _ amount. amount < 64 };
 
-    ghost lawful = { λ made. made.imm < 64 };
+    ghost lawful = { λ _ made. made.imm < 64 };
 
-    ghost parameter = { λ _. tt };
+    ghost value = { λ _ made. made.imm };
 
-    ghost value = { λ made. made.imm };
+    ghost field = { λ _ made. made.imm };
 
-    ghost field = { λ made. made.imm };
-
-    ghost within = { λ _ lawful. lawful };
+    ghost within = { λ _ _ lawful. lawful };
 
     ghost one_value = { λ _ _ _ _ _ same. same };
 }

@@ -10,6 +10,6 @@ returns-clause-narrow c = λ small.
     let flag : imm.n ≡ false =
     c.requires.triple.n_is ∙ narrow imm.size (logic_value imm) c.requires.run small c.requires.is_run c.requires.number_is
     in
-    let r = r_fits imm c.requires in
-    let s = s_fits imm c.requires in
+    let r = r_fits imm.size imm c.requires in
+    let s = s_fits imm.size imm c.requires in
     grind arith
