@@ -1,13 +1,18 @@
--- The fields that operators and types give.
-use Rattle.std.specs.Prelude.{ℕ, Bool, if◌then◌else◌, Option, None, Some}
+-- The fields that operators, types and immediates give.
+use Rattle.std.specs.Prelude.{ℕ, ◌/◌, Bool, if◌then◌else◌, Option, None, Some}
 use Rattle.a64_base.specs.declared.ir_type.IrType.{IrType}
 use Rattle.a64_base.specs.declared.ir_type.IrType.TheVariants.{I8, I16, I32, I64}
 use Rattle.a64_base.specs.declared.shift.ExtendOp.{ExtendOp}
 use Rattle.a64_base.specs.declared.shift.ExtendOp.TheVariants.{UXTW, SXTW, SXTX}
-use Rattle.a64_inst.specs.declared.operator.AtomicRMWOp.{AtomicRMWOp}
-use Rattle.a64_inst.specs.declared.operator.AtomicRMWOp.TheVariants as atomic
-use Rattle.a64_inst.specs.declared.operator.MoveWideOp.{MoveWideOp}
-use Rattle.a64_inst.specs.declared.operator.MoveWideOp.TheVariants.{MovZ, MovN}
+use Rattle.a64_imms.specs.declared.offset.SImm7Scaled.{SImm7Scaled}
+use Rattle.a64_imms.specs.declared.offset.UImm12Scaled.{UImm12Scaled}
+use Rattle.a64_imms.specs.Offsets.{floor_div, residue}
+use Rattle.a64_imms.specs.ScaledOffsets.{uimm12_scale, uimm12_value}
+use Rattle.a64_imms.specs.Scales.{type_bytes}
+use Rattle.a64_ops.specs.declared.operator.AtomicRMWOp.{AtomicRMWOp}
+use Rattle.a64_ops.specs.declared.operator.AtomicRMWOp.TheVariants as atomic
+use Rattle.a64_ops.specs.declared.operator.MoveWideOp.{MoveWideOp}
+use Rattle.a64_ops.specs.declared.operator.MoveWideOp.TheVariants.{MovZ, MovN}
 
 -- the field `opc` of a wide move
 abbrev pub move_wide_opc : MoveWideOp → ℕ
@@ -66,3 +71,11 @@ atomic_opc atomic.Smin = 5
 atomic_opc atomic.Umax = 6
 atomic_opc atomic.Umin = 7
 atomic_opc atomic.Swp = 0
+
+-- the field `imm7` of a pair's offset: the offset in units of the scale, modulo 128
+abbrev pub simm7_field : SImm7Scaled → ℕ
+simm7_field imm = residue 128 (floor_div imm.value (type_bytes imm.scale_ty))
+
+-- the field `imm12` of an unsigned offset: the offset in units of the scale
+abbrev pub uimm12_field : UImm12Scaled → ℕ
+uimm12_field imm = uimm12_value imm / type_bytes (uimm12_scale imm)

@@ -1,18 +1,20 @@
 //! Atomic accesses and barriers.
 
-ghost use Rattle.std.specs.Prelude.{◌≡◌, ◌<◌, [], ◌∷◌};
-ghost use Rattle.a64_rows.specs.declared.row_table.Row.TheVariants.{AtomicOp, Barrier, Cas, Casp, LoadAcq, LoadEx, StoreEx, StoreRel};
-ghost use Rattle.a64_rows.specs.Forms.{row_word};
+ghost use Rattle.std.specs.Prelude.{◌≡◌, ◌<◌};
+ghost use Rattle.a64_rows.specs.Forms.{form_word, IsFormOf};
+ghost use Rattle.a64_rows.specs.Control.{barrier};
+ghost use Rattle.a64_rows.specs.Memory.{atomic_op, cas, casp, load_acq, load_ex, store_ex, store_rel};
 ghost use Rattle.a64_enc_int.specs.Operators.{access_size, atomic_opc, is_swap, IsAccessType};
 ghost use Rattle.a64_enc_int.specs.Registers.{IsGeneral, register_field};
 
 use crate::register::general_field;
 use a64_base::{IrType, Reg, Writable};
-use a64_inst::AtomicRMWOp;
+use a64_ops::AtomicRMWOp;
 
 /// Encodes `dmb ish`, the barrier of data accesses (row `Barrier`).
 pub fn enc_dmb_ish() -> u32
-    ensures { result ≡ row_word Barrier [] }
+    ensures form { IsFormOf barrier }
+    ensures word { result ≡ form_word barrier }
 {
     0xd503_3bbf
 }
@@ -49,14 +51,16 @@ fn operator_bits(op: AtomicRMWOp) -> u32
     }
 }
 
-/// Encodes an atomic operation on memory, with acquire and release: `rs` is the operand, and `rt` gets what was there
-/// (row `AtomicOp`).
+/// Encodes an atomic operation on memory, with acquire and release: `rs` is the operand, and `rt`, which is one of `x0`
+/// to `x30`, gets what was there (row `AtomicOp`).
 pub fn enc_acq_rel(ty: IrType, op: AtomicRMWOp, rs: Reg, rt: Writable<Reg>, rn: Reg) -> u32
     requires ty { IsAccessType ty }
     requires rs { IsGeneral rs }
     requires rt { IsGeneral rt }
+    requires rt_number { register_field rt < 31 }
     requires rn { IsGeneral rn }
-    ensures { result ≡ row_word AtomicOp (access_size ty ∷ register_field rs ∷ is_swap op ∷ atomic_opc op ∷ register_field rn ∷ register_field rt ∷ []) }
+    ensures form { IsFormOf (atomic_op (record { sz = access_size ty; rs = register_field rs; swp = is_swap op; op = atomic_opc op; rn = register_field rn; rt = register_field rt })) }
+    ensures word { result ≡ form_word (atomic_op (record { sz = access_size ty; rs = register_field rs; swp = is_swap op; op = atomic_opc op; rn = register_field rn; rt = register_field rt })) }
 {
     let swap = match op {
         AtomicRMWOp::Swp => 1,
@@ -76,7 +80,8 @@ pub fn enc_ldar(ty: IrType, rt: Writable<Reg>, rn: Reg) -> u32
     requires ty { IsAccessType ty }
     requires rt { IsGeneral rt }
     requires rn { IsGeneral rn }
-    ensures { result ≡ row_word LoadAcq (access_size ty ∷ register_field rn ∷ register_field rt ∷ []) }
+    ensures form { IsFormOf (load_acq (record { sz = access_size ty; rn = register_field rn; rt = register_field rt })) }
+    ensures word { result ≡ form_word (load_acq (record { sz = access_size ty; rn = register_field rn; rt = register_field rt })) }
 {
     0x08df_fc00 + (size_bits(ty) << 30) + (general_field(rn) << 5) + general_field(rt.to_reg())
 }
@@ -86,7 +91,8 @@ pub fn enc_stlr(ty: IrType, rt: Reg, rn: Reg) -> u32
     requires ty { IsAccessType ty }
     requires rt { IsGeneral rt }
     requires rn { IsGeneral rn }
-    ensures { result ≡ row_word StoreRel (access_size ty ∷ register_field rn ∷ register_field rt ∷ []) }
+    ensures form { IsFormOf (store_rel (record { sz = access_size ty; rn = register_field rn; rt = register_field rt })) }
+    ensures word { result ≡ form_word (store_rel (record { sz = access_size ty; rn = register_field rn; rt = register_field rt })) }
 {
     0x089f_fc00 + (size_bits(ty) << 30) + (general_field(rn) << 5) + general_field(rt)
 }
@@ -96,7 +102,8 @@ pub fn enc_ldaxr(ty: IrType, rt: Writable<Reg>, rn: Reg) -> u32
     requires ty { IsAccessType ty }
     requires rt { IsGeneral rt }
     requires rn { IsGeneral rn }
-    ensures { result ≡ row_word LoadEx (access_size ty ∷ register_field rn ∷ register_field rt ∷ []) }
+    ensures form { IsFormOf (load_ex (record { sz = access_size ty; rn = register_field rn; rt = register_field rt })) }
+    ensures word { result ≡ form_word (load_ex (record { sz = access_size ty; rn = register_field rn; rt = register_field rt })) }
 {
     0x085f_fc00 + (size_bits(ty) << 30) + (general_field(rn) << 5) + general_field(rt.to_reg())
 }
@@ -107,7 +114,8 @@ pub fn enc_stlxr(ty: IrType, rs: Writable<Reg>, rt: Reg, rn: Reg) -> u32
     requires rs { IsGeneral rs }
     requires rt { IsGeneral rt }
     requires rn { IsGeneral rn }
-    ensures { result ≡ row_word StoreEx (access_size ty ∷ register_field rs ∷ register_field rn ∷ register_field rt ∷ []) }
+    ensures form { IsFormOf (store_ex (record { sz = access_size ty; rs = register_field rs; rn = register_field rn; rt = register_field rt })) }
+    ensures word { result ≡ form_word (store_ex (record { sz = access_size ty; rs = register_field rs; rn = register_field rn; rt = register_field rt })) }
 {
     0x0800_fc00
         + (size_bits(ty) << 30)
@@ -123,7 +131,8 @@ pub fn enc_cas(size: u32, rs: Writable<Reg>, rt: Reg, rn: Reg) -> u32
     requires rs { IsGeneral rs }
     requires rt { IsGeneral rt }
     requires rn { IsGeneral rn }
-    ensures { result ≡ row_word Cas (size ∷ register_field rs ∷ register_field rn ∷ register_field rt ∷ []) }
+    ensures form { IsFormOf (cas (record { sz = size; rs = register_field rs; rn = register_field rn; rt = register_field rt })) }
+    ensures word { result ≡ form_word (cas (record { sz = size; rs = register_field rs; rn = register_field rn; rt = register_field rt })) }
 {
     0x08e0_fc00
         + (size << 30)
@@ -132,12 +141,14 @@ pub fn enc_cas(size: u32, rs: Writable<Reg>, rt: Reg, rn: Reg) -> u32
         + general_field(rt)
 }
 
-/// Encodes `caspal`, the same of a pair of 64-bit registers: `rs` and `rt` are the first of each pair (row `Casp`).
+/// Encodes `caspal`, the same of a pair of 64-bit registers: `rs` and `rt` are the first of each pair, and their numbers
+/// are even (row `Casp`).
 pub fn enc_casp(rs: Writable<Reg>, rt: Reg, rn: Reg) -> u32
     requires rs { IsGeneral rs }
     requires rt { IsGeneral rt }
     requires rn { IsGeneral rn }
-    ensures { result ≡ row_word Casp (register_field rs ∷ register_field rn ∷ register_field rt ∷ []) }
+    requires form { IsFormOf (casp (record { rs = register_field rs; rn = register_field rn; rt = register_field rt })) }
+    ensures { result ≡ form_word (casp (record { rs = register_field rs; rn = register_field rn; rt = register_field rt })) }
 {
     0x4860_fc00 + (general_field(rs.to_reg()) << 16) + (general_field(rn) << 5) + general_field(rt)
 }

@@ -1,7 +1,8 @@
 //! Encoders of integer instructions: from operands to the word of a row.
 //!
-//! Each keeps the name and the parameters of its namesake in Cranelift. A parameter that holds raw bits of the word is
-//! told by the row's word with zeros in all other fields.
+//! Each keeps the name and the parameters of its namesake in Cranelift. Its parameters name a form of a row, within the
+//! row's limits, and its answer is the word of that form. A parameter that holds raw bits of the word is told by the row's
+//! word with zeros in all other fields.
 #![tactic(auto)]
 
 mod address;

@@ -1,13 +1,12 @@
 //! Loads and stores.
 
-ghost use Rattle.std.specs.Prelude.{◌≡◌, ◌<◌, ◌+◌, ◌*◌, ◌^◌, ℕ, [], ◌∷◌};
-ghost use Rattle.a64_imms.specs.Offsets.{floor_div, residue, IsOffset9, IsPairOffset};
-ghost use Rattle.a64_imms.specs.ScaledOffsets.{uimm12_scale, uimm12_value};
-ghost use Rattle.a64_imms.specs.Scales.{type_bytes};
-ghost use Rattle.a64_rows.specs.declared.row_table.Row.TheVariants.{LdLiteral, LdStImm9, LdStPair, LdStReg, LdStUnsigned};
-ghost use Rattle.a64_rows.specs.Forms.{IsForm, row_word};
-ghost use Rattle.a64_enc_int.specs.Operators.{bit_of, index_option, IsIndexExtend};
-ghost use Rattle.a64_enc_int.specs.Registers.{IsGeneral, IsReal, register_field};
+ghost use Rattle.std.specs.Prelude.{◌≡◌, ◌<◌, ◌+◌, ◌*◌, ◌/◌, ◌^◌};
+ghost use Rattle.a64_imms.specs.Offsets.{residue, IsOffset9, IsPairOffset};
+ghost use Rattle.a64_rows.specs.Forms.{form_word, IsFormOf};
+ghost use Rattle.a64_rows.specs.Memory.{ld_literal};
+ghost use Rattle.a64_enc_int.specs.Operators.{bit_of, index_option, simm7_field, uimm12_field, IsIndexExtend};
+ghost use Rattle.a64_enc_int.specs.RawBits.{imm9_access_of, indexed_access_of, literal_vector_bit, pair_access_of, unsigned_access_of, vector_bit};
+ghost use Rattle.a64_enc_int.specs.Registers.{data_class, register_field, IsGeneral, IsOfClass};
 
 use crate::register::{general_field, register_field};
 use a64_base::{ExtendOp, Reg};
@@ -15,15 +14,13 @@ use a64_imms::{SImm7Scaled, SImm9, UImm12Scaled};
 
 /// Encodes a load or store of a pair of general registers: `op_31_22` is the word's bits 31 to 22 (row `LdStPair`).
 pub fn enc_ldst_pair(op_31_22: u32, simm7: SImm7Scaled, rn: Reg, rt: Reg, rt2: Reg) -> u32
-    requires op_31_22 { op_31_22 < 2 ^ 10 }
+    requires op_31_22 { op_31_22 * 2 ^ 22 ≡ form_word (pair_access_of op_31_22 (record { imm7 = 0; rt2 = 0; rn = 0; rt = 0 })) }
     requires simm7 { IsPairOffset simm7.scale_ty simm7.value }
     requires rn { IsGeneral rn }
     requires rt { IsGeneral rt }
     requires rt2 { IsGeneral rt2 }
-    ensures { (opc index load imm7 : ℕ) → imm7 ≡ residue 128 (floor_div simm7.value (type_bytes simm7.scale_ty))
-        → IsForm LdStPair (opc ∷ 0 ∷ index ∷ load ∷ imm7 ∷ 0 ∷ 0 ∷ 0 ∷ [])
-        → op_31_22 * 2 ^ 22 ≡ row_word LdStPair (opc ∷ 0 ∷ index ∷ load ∷ 0 ∷ 0 ∷ 0 ∷ 0 ∷ [])
-        → result ≡ row_word LdStPair (opc ∷ 0 ∷ index ∷ load ∷ imm7 ∷ register_field rt2 ∷ register_field rn ∷ register_field rt ∷ []) }
+    requires form { IsFormOf (pair_access_of op_31_22 (record { imm7 = simm7_field simm7; rt2 = register_field rt2; rn = register_field rn; rt = register_field rt })) }
+    ensures { result ≡ form_word (pair_access_of op_31_22 (record { imm7 = simm7_field simm7; rt2 = register_field rt2; rn = register_field rn; rt = register_field rt })) }
 {
     (op_31_22 << 22)
         + (simm7.bits() << 15)
@@ -33,17 +30,15 @@ pub fn enc_ldst_pair(op_31_22: u32, simm7: SImm7Scaled, rn: Reg, rt: Reg, rt2: R
 }
 
 /// Encodes a load or store of one register with an offset of nine bits: `op_31_22` is the word's bits 31 to 22, and
-/// `op_11_10` says whether the address register changes and when (row `LdStImm9`).
+/// `op_11_10` says whether the address register changes and when (row `LdStImm9`). `rd` is a vector register where the
+/// word's bit V is 1, and else a general one.
 pub fn enc_ldst_simm9(op_31_22: u32, simm9: SImm9, op_11_10: u32, rn: Reg, rd: Reg) -> u32
-    requires op_31_22 { op_31_22 < 2 ^ 10 }
+    requires op_31_22 { op_31_22 * 2 ^ 22 ≡ form_word (imm9_access_of op_31_22 (record { imm9 = 0; mode = 0; rn = 0; rt = 0 })) }
     requires simm9 { IsOffset9 simm9.value }
-    requires op_11_10 { op_11_10 < 4 }
     requires rn { IsGeneral rn }
-    requires rd { IsReal rd }
-    ensures { (size vector opc imm9 : ℕ) → imm9 ≡ residue 512 simm9.value
-        → IsForm LdStImm9 (size ∷ vector ∷ opc ∷ imm9 ∷ op_11_10 ∷ 0 ∷ 0 ∷ [])
-        → op_31_22 * 2 ^ 22 ≡ row_word LdStImm9 (size ∷ vector ∷ opc ∷ 0 ∷ 0 ∷ 0 ∷ 0 ∷ [])
-        → result ≡ row_word LdStImm9 (size ∷ vector ∷ opc ∷ imm9 ∷ op_11_10 ∷ register_field rn ∷ register_field rd ∷ []) }
+    requires rd { IsOfClass (data_class (vector_bit op_31_22)) rd }
+    requires form { IsFormOf (imm9_access_of op_31_22 (record { imm9 = residue 512 simm9.value; mode = op_11_10; rn = register_field rn; rt = register_field rd })) }
+    ensures { result ≡ form_word (imm9_access_of op_31_22 (record { imm9 = residue 512 simm9.value; mode = op_11_10; rn = register_field rn; rt = register_field rd })) }
 {
     (op_31_22 << 22)
         + (simm9.bits() << 12)
@@ -53,15 +48,14 @@ pub fn enc_ldst_simm9(op_31_22: u32, simm9: SImm9, op_11_10: u32, rn: Reg, rd: R
 }
 
 /// Encodes a load or store of one register with an unsigned offset: `op_31_22` is the word's bits 31 to 22 but for bit
-/// 24, which this adds (row `LdStUnsigned`).
+/// 24, which is 0 and which this adds (row `LdStUnsigned`). `rd` is a vector register where the word's bit V is 1, and else
+/// a general one.
 pub fn enc_ldst_uimm12(op_31_22: u32, uimm12: UImm12Scaled, rn: Reg, rd: Reg) -> u32
-    requires op_31_22 { op_31_22 < 2 ^ 10 }
+    requires op_31_22 { op_31_22 * 2 ^ 22 + 2 ^ 24 ≡ form_word (unsigned_access_of op_31_22 (record { imm12 = 0; rn = 0; rt = 0 })) }
     requires rn { IsGeneral rn }
-    requires rd { IsReal rd }
-    ensures { (size vector opc imm12 : ℕ) → imm12 * type_bytes (uimm12_scale uimm12) ≡ uimm12_value uimm12
-        → IsForm LdStUnsigned (size ∷ vector ∷ opc ∷ imm12 ∷ 0 ∷ 0 ∷ [])
-        → op_31_22 * 2 ^ 22 + 2 ^ 24 ≡ row_word LdStUnsigned (size ∷ vector ∷ opc ∷ 0 ∷ 0 ∷ 0 ∷ [])
-        → result ≡ row_word LdStUnsigned (size ∷ vector ∷ opc ∷ imm12 ∷ register_field rn ∷ register_field rd ∷ []) }
+    requires rd { IsOfClass (data_class (vector_bit op_31_22)) rd }
+    requires form { IsFormOf (unsigned_access_of op_31_22 (record { imm12 = uimm12_field uimm12; rn = register_field rn; rt = register_field rd })) }
+    ensures { result ≡ form_word (unsigned_access_of op_31_22 (record { imm12 = uimm12_field uimm12; rn = register_field rn; rt = register_field rd })) }
 {
     ((op_31_22 + 4) << 22) + (uimm12.bits() << 10) + (general_field(rn) << 5) + register_field(rd)
 }
@@ -82,7 +76,8 @@ fn index_bits(extendop: Option<ExtendOp>) -> u32
 }
 
 /// Encodes a load or store of one register with an index in `rm`: `op_31_22` is the word's bits 31 to 22, `s_bit` says
-/// whether the index counts in units of the access, and `extendop` how it is extended (row `LdStReg`).
+/// whether the index counts in units of the access, and `extendop` how it is extended (row `LdStReg`). `rd` is a vector
+/// register where the word's bit V is 1, and else a general one.
 pub fn enc_ldst_reg(
     op_31_22: u32,
     rn: Reg,
@@ -91,14 +86,13 @@ pub fn enc_ldst_reg(
     extendop: Option<ExtendOp>,
     rd: Reg,
 ) -> u32
-    requires op_31_22 { op_31_22 < 2 ^ 10 }
+    requires op_31_22 { op_31_22 * 2 ^ 22 + 2 ^ 21 + 2 ^ 11 ≡ form_word (indexed_access_of op_31_22 (record { rm = 0; ext = 0; s = 0; rn = 0; rt = 0 })) }
     requires rn { IsGeneral rn }
     requires rm { IsGeneral rm }
     requires extendop { IsIndexExtend extendop }
-    requires rd { IsReal rd }
-    ensures { (size vector opc : ℕ) → IsForm LdStReg (size ∷ vector ∷ opc ∷ 0 ∷ index_option extendop ∷ bit_of s_bit ∷ 0 ∷ 0 ∷ [])
-        → op_31_22 * 2 ^ 22 + 2 ^ 21 + 2 ^ 11 ≡ row_word LdStReg (size ∷ vector ∷ opc ∷ 0 ∷ 0 ∷ 0 ∷ 0 ∷ 0 ∷ [])
-        → result ≡ row_word LdStReg (size ∷ vector ∷ opc ∷ register_field rm ∷ index_option extendop ∷ bit_of s_bit ∷ register_field rn ∷ register_field rd ∷ []) }
+    requires rd { IsOfClass (data_class (vector_bit op_31_22)) rd }
+    requires form { IsFormOf (indexed_access_of op_31_22 (record { rm = register_field rm; ext = index_option extendop; s = bit_of s_bit; rn = register_field rn; rt = register_field rd })) }
+    ensures { result ≡ form_word (indexed_access_of op_31_22 (record { rm = register_field rm; ext = index_option extendop; s = bit_of s_bit; rn = register_field rn; rt = register_field rd })) }
 {
     (op_31_22 << 22)
         + 0x0020_0800
@@ -110,14 +104,12 @@ pub fn enc_ldst_reg(
 }
 
 /// Encodes a load from a place near the code: `op_31_24` is the word's bits 31 to 24, and `imm19` the distance in words
-/// (row `LdLiteral`).
+/// (row `LdLiteral`). `rd` is a vector register where the word's bit V is 1, and else a general one.
 pub fn enc_ldst_imm19(op_31_24: u32, imm19: u32, rd: Reg) -> u32
-    requires op_31_24 { op_31_24 < 2 ^ 8 }
-    requires imm19 { imm19 < 2 ^ 19 }
-    requires rd { IsReal rd }
-    ensures { (opc vector : ℕ) → IsForm LdLiteral (opc ∷ vector ∷ imm19 ∷ 0 ∷ [])
-        → op_31_24 * 2 ^ 24 ≡ row_word LdLiteral (opc ∷ vector ∷ 0 ∷ 0 ∷ [])
-        → result ≡ row_word LdLiteral (opc ∷ vector ∷ imm19 ∷ register_field rd ∷ []) }
+    requires op_31_24 { op_31_24 * 2 ^ 24 ≡ form_word (ld_literal (record { opc = op_31_24 / 2 ^ 6; v = literal_vector_bit op_31_24; imm19 = 0; rt = 0 })) }
+    requires rd { IsOfClass (data_class (literal_vector_bit op_31_24)) rd }
+    requires form { IsFormOf (ld_literal (record { opc = op_31_24 / 2 ^ 6; v = literal_vector_bit op_31_24; imm19 = imm19; rt = register_field rd })) }
+    ensures { result ≡ form_word (ld_literal (record { opc = op_31_24 / 2 ^ 6; v = literal_vector_bit op_31_24; imm19 = imm19; rt = register_field rd })) }
 {
     (op_31_24 << 24) + (imm19 << 5) + register_field(rd)
 }

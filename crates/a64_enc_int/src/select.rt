@@ -1,19 +1,19 @@
 //! Moves of constants, bitfield moves, and instructions that a condition selects.
 
-ghost use Rattle.std.specs.Prelude.{◌≡◌, ◌<◌, [], ◌∷◌};
+ghost use Rattle.std.specs.Prelude.{◌≡◌, ◌<◌};
 ghost use Rattle.a64_base.specs.Conditions.{condition_bits};
 ghost use Rattle.a64_base.specs.OperandSizes.{sf_of};
 ghost use Rattle.a64_imms.specs.Flags.{flags_of, nzcv_bits};
 ghost use Rattle.a64_imms.specs.Unsigned.{uimm5_value};
-ghost use Rattle.a64_rows.specs.declared.row_table.Row.TheVariants.{Bitfield, CondCompare, CondSelect, MoveWide};
-ghost use Rattle.a64_rows.specs.Forms.{row_word};
+ghost use Rattle.a64_rows.specs.Forms.{form_word, IsFormOf};
+ghost use Rattle.a64_rows.specs.DataProcessing.{bitfield, cond_compare, cond_select, move_wide};
 ghost use Rattle.a64_enc_int.specs.Operators.{move_wide_opc};
 ghost use Rattle.a64_enc_int.specs.Registers.{IsGeneral, register_field};
 
 use crate::register::general_field;
 use a64_base::{Cond, OperandSize, Reg, Writable};
 use a64_imms::{MoveWideConst, NZCV, UImm5};
-use a64_inst::MoveWideOp;
+use a64_ops::MoveWideOp;
 
 /// Encodes `movz` or `movn`: a halfword or its complement, at a size (row `MoveWide`).
 pub fn enc_move_wide(
@@ -23,8 +23,8 @@ pub fn enc_move_wide(
     size: OperandSize,
 ) -> u32
     requires rd { IsGeneral rd }
-    requires shift { imm.shift < 4 }
-    ensures { result ≡ row_word MoveWide (sf_of size ∷ move_wide_opc op ∷ imm.shift ∷ imm.bits ∷ register_field rd ∷ []) }
+    requires form { IsFormOf (move_wide (record { sf = sf_of size; opc = move_wide_opc op; hw = imm.shift; imm16 = imm.bits; rd = register_field rd })) }
+    ensures { result ≡ form_word (move_wide (record { sf = sf_of size; opc = move_wide_opc op; hw = imm.shift; imm16 = imm.bits; rd = register_field rd })) }
 {
     let opc = match op {
         MoveWideOp::MovN => 0,
@@ -41,8 +41,8 @@ pub fn enc_move_wide(
 /// Encodes `movk`: a halfword in place of one of the register's, at a size (row `MoveWide`).
 pub fn enc_movk(rd: Writable<Reg>, imm: MoveWideConst, size: OperandSize) -> u32
     requires rd { IsGeneral rd }
-    requires shift { imm.shift < 4 }
-    ensures { result ≡ row_word MoveWide (sf_of size ∷ 3 ∷ imm.shift ∷ imm.bits ∷ register_field rd ∷ []) }
+    requires form { IsFormOf (move_wide (record { sf = sf_of size; opc = 3; hw = imm.shift; imm16 = imm.bits; rd = register_field rd })) }
+    ensures { result ≡ form_word (move_wide (record { sf = sf_of size; opc = 3; hw = imm.shift; imm16 = imm.bits; rd = register_field rd })) }
 {
     0x7280_0000
         + (size.sf_bit() << 31)
@@ -58,7 +58,8 @@ pub fn enc_csel(rd: Writable<Reg>, rn: Reg, rm: Reg, cond: Cond, op: u32, o2: u3
     requires rm { IsGeneral rm }
     requires op { op < 2 }
     requires o2 { o2 < 2 }
-    ensures { result ≡ row_word CondSelect (op ∷ register_field rm ∷ condition_bits cond ∷ o2 ∷ register_field rn ∷ register_field rd ∷ []) }
+    ensures form { IsFormOf (cond_select (record { op = op; rm = register_field rm; cond = condition_bits cond; o2 = o2; rn = register_field rn; rd = register_field rd })) }
+    ensures word { result ≡ form_word (cond_select (record { op = op; rm = register_field rm; cond = condition_bits cond; o2 = o2; rn = register_field rn; rd = register_field rd })) }
 {
     0x9a80_0000
         + (op << 30)
@@ -73,7 +74,8 @@ pub fn enc_csel(rd: Writable<Reg>, rn: Reg, rm: Reg, cond: Cond, op: u32, o2: u3
 pub fn enc_ccmp(size: OperandSize, rn: Reg, rm: Reg, nzcv: NZCV, cond: Cond) -> u32
     requires rn { IsGeneral rn }
     requires rm { IsGeneral rm }
-    ensures { result ≡ row_word CondCompare (sf_of size ∷ register_field rm ∷ condition_bits cond ∷ 0 ∷ register_field rn ∷ nzcv_bits (flags_of nzcv) ∷ []) }
+    ensures form { IsFormOf (cond_compare (record { sf = sf_of size; rm = register_field rm; cond = condition_bits cond; imm = 0; rn = register_field rn; nzcv = nzcv_bits (flags_of nzcv) })) }
+    ensures word { result ≡ form_word (cond_compare (record { sf = sf_of size; rm = register_field rm; cond = condition_bits cond; imm = 0; rn = register_field rn; nzcv = nzcv_bits (flags_of nzcv) })) }
 {
     0x7a40_0000
         + (size.sf_bit() << 31)
@@ -86,7 +88,8 @@ pub fn enc_ccmp(size: OperandSize, rn: Reg, rm: Reg, nzcv: NZCV, cond: Cond) -> 
 /// Encodes `ccmp` of a register and an immediate: where the condition fails the flags become `nzcv` (row `CondCompare`).
 pub fn enc_ccmp_imm(size: OperandSize, rn: Reg, imm: UImm5, nzcv: NZCV, cond: Cond) -> u32
     requires rn { IsGeneral rn }
-    ensures { result ≡ row_word CondCompare (sf_of size ∷ uimm5_value imm ∷ condition_bits cond ∷ 1 ∷ register_field rn ∷ nzcv_bits (flags_of nzcv) ∷ []) }
+    ensures form { IsFormOf (cond_compare (record { sf = sf_of size; rm = uimm5_value imm; cond = condition_bits cond; imm = 1; rn = register_field rn; nzcv = nzcv_bits (flags_of nzcv) })) }
+    ensures word { result ≡ form_word (cond_compare (record { sf = sf_of size; rm = uimm5_value imm; cond = condition_bits cond; imm = 1; rn = register_field rn; nzcv = nzcv_bits (flags_of nzcv) })) }
 {
     0x7a40_0800
         + (size.sf_bit() << 31)
@@ -98,12 +101,10 @@ pub fn enc_ccmp_imm(size: OperandSize, rn: Reg, imm: UImm5, nzcv: NZCV, cond: Co
 
 /// Encodes a bitfield move: `opc` is 0 for `sbfm`, 1 for `bfm` and 2 for `ubfm` (row `Bitfield`).
 pub fn enc_bfm(opc: u8, size: OperandSize, rd: Writable<Reg>, rn: Reg, immr: u8, imms: u8) -> u32
-    requires opc { opc < 4 }
     requires rd { IsGeneral rd }
     requires rn { IsGeneral rn }
-    requires immr { immr < 64 }
-    requires imms { imms < 64 }
-    ensures { result ≡ row_word Bitfield (sf_of size ∷ opc ∷ immr ∷ imms ∷ register_field rn ∷ register_field rd ∷ []) }
+    requires form { IsFormOf (bitfield (record { sf = sf_of size; opc = opc; immr = immr; imms = imms; rn = register_field rn; rd = register_field rd })) }
+    ensures { result ≡ form_word (bitfield (record { sf = sf_of size; opc = opc; immr = immr; imms = imms; rn = register_field rn; rd = register_field rd })) }
 {
     let sf = size.sf_bit();
     0x1300_0000

@@ -12,7 +12,7 @@ use a64_base::{
     stack_reg, writable_xreg, writable_zero_reg, xreg, zero_reg,
 };
 use a64_imms::{MoveWideConst, NZCV, SImm7Scaled, SImm9, UImm5, UImm12Scaled};
-use a64_inst::{AtomicRMWOp, MoveWideOp};
+use a64_ops::{AtomicRMWOp, MoveWideOp};
 
 const W: OperandSize = OperandSize::Size32;
 

@@ -1,3 +1,4 @@
 pub mod Masks
 pub mod Matching
+pub mod Places
 pub mod Table

@@ -121,3 +121,7 @@ match_is_word row word h m =
       (values_fit (slots_of row) word, m.2),
       ap (λ x. fixed_of row + x) added ∙ ap (λ x. x + bit_and word (mask_of_all (slots_of row))) (sym m.0) ∙ sym both ∙ ap (λ x. bit_and word x) whole ∙ kept,
     )
+
+-- a word matches no row but that of its form
+pub one_match : (row other : Row) (fields : List ℕ) (word : ℕ) → word < 2 ^ 32 → IsWordOf row fields word → Matches other word → other ≡ row
+one_match row other fields word h w m = one_row row other fields (map (value_in word) (slots_of other)) word w (match_is_word other word h m)

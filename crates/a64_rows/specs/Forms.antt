@@ -79,3 +79,36 @@ Matches row word =
     (bit_and word (fixed_mask row) ≡ fixed_of row)
     × HasTwins (slots_of row) word
     × IsTrue (limits_of row (map (value_in word) (slots_of row)))
+
+-- ---- forms as values, and the names of their fields
+
+-- a row with the values of its fields, in the row's order
+pub record Form : Type 0 where
+  pub row : Row
+  pub fields : List ℕ
+
+abbrev pub form : Row → List ℕ → Form
+form row fields = record { row = row; fields = fields }
+
+-- the word of a form
+abbrev pub form_word : Form → ℕ
+form_word form = row_word form.row form.fields
+
+-- as many values as the row has fields, each in its width, and the row's limits met
+abbrev pub IsFormOf : Form → Type 0
+IsFormOf form = IsForm form.row form.fields
+
+-- a value with the name of a field, which says where a row has that field
+abbrev pub NamedValue : Type 0
+NamedValue = ℕ × (Row → Slot)
+
+-- a form has these values under these names: they are the values of all its fields, and its row has each field at the place of
+-- the name
+pub record IsPlaced (form : Form) (named : List NamedValue) : Type 0 where
+  pub values : form.fields ≡ map (λ v. v.0) named
+  pub slots : slots_of form.row ≡ map (λ v. v.1 form.row) named
+
+-- what named values add to a word of a row: each times what a one adds at the place of its name
+abbrev pub named_sum : Row → List NamedValue → ℕ
+named_sum row [] = 0
+named_sum row (v ∷ named) = v.0 * weight_of (v.1 row) + named_sum row named

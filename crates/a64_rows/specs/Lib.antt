@@ -1,3 +1,9 @@
+pub mod Control
+pub mod DataProcessing
+pub mod Floats
 pub mod Forms
 pub mod Limits
+pub mod Memory
+pub mod Places
 pub mod Rows
+pub mod Vectors

@@ -101,6 +101,7 @@ pub fn decode_word(word: u32) -> Option<Form>
     ensures found { IfSome result (λ form. IsWordOf form.row form.fields.items word) }
     ensures only { IfSome result (λ form. IsOnlyFormOf form.row form.fields.items word) }
     ensures matched { IfSome result (λ form. Matches form.row word) }
+    ensures one_row { IfSome result (λ form. (row : Row) → Matches row word → row ≡ form.row) }
     ensures none { IfNone result ((row : Row) (fields : List ℕ) → IsWordOf row fields word → ⊥) }
     ensures unmatched { IfNone result ((row : Row) → Matches row word → ⊥) }
 {

@@ -4,7 +4,7 @@ ghost use Rattle.std.specs.Prelude.{◌≡◌, ◌≤◌, length};
 ghost use Rattle.a64_rows.specs.Rows.{fixed_of, slots_of};
 
 /// A class of instruction words, or the part of one that this layer makes, named after the class of the Arm manual.
-#[derive(Clone, Copy, Debug, PartialEq, Eq)]
+#[derive(Clone, Copy, Debug)]
 pub enum Row {
     /// Add/subtract (shifted register). Fields: sf, op, S, shift, Rm, imm6, Rn, Rd.
     AddSubReg,
@@ -135,7 +135,7 @@ pub enum Row {
 }
 
 /// Where a field stands in a word.
-#[derive(Clone, Copy, Debug, PartialEq, Eq)]
+#[derive(Clone, Copy, Debug)]
 pub enum Slot {
     /// The number of its lowest bit, and how many bits it has.
     Bits(u32, u32),

@@ -46,7 +46,7 @@ const WORDS: [(u32, Row, &'static [u32]); 18] = [
 fn decodes_and_encodes_words(rt: HostRuntime) {
     for (word, row, values) in WORDS {
         let form = decode_word(word).expect(&rt, "the word has a form");
-        assert_eq!(rt; form.row, row, "the row of {word:#x}");
+        assert_eq!(rt; form.row as u32, row as u32, "the row of {word:#x}");
         assert_eq!(rt; form.fields.as_slice(), values, "the fields of {word:#x}");
         assert_eq!(rt; word_of(&form), word);
     }

@@ -7,7 +7,7 @@ use crate::row_table::{Row, Slot, fixed, slots};
 use arrayvec::ArrayVec;
 
 /// A row with the values of its fields, in the row's order.
-#[derive(Debug, Drop, PartialEq, Eq)]
+#[derive(Drop)]
 pub struct Form {
     pub row: Row,
     pub fields: ArrayVec<u32, 8>,

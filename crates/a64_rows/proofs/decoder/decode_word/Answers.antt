@@ -3,7 +3,7 @@ use Rattle.a64_rows.specs.declared.row_table.Row.{Row}
 use Rattle.a64_rows.specs.Rows.{slots_of}
 use Rattle.a64_rows.specs.Forms.{value_in, IsWordOf}
 use Rattle.a64_rows.proofs.Table.{all_rows, placed}
-use Rattle.a64_rows.proofs.Matching.{one_form, word_matches, match_is_word}
+use Rattle.a64_rows.proofs.Matching.{one_form, one_match, word_matches, match_is_word}
 use Rattle.a64_rows.proofs.decoder.decode_word.Goals as goal
 
 at_row : (row found : Row) (fields : List ℕ) (word : ℕ) → (found ≡ row) × IsWordOf row fields word → IsWordOf found fields word
@@ -16,6 +16,10 @@ returns-in-Some-clause-only c =
 pub returns-in-Some-clause-matched : goal.returns-in-Some-clause-matched
 returns-in-Some-clause-matched c =
     word_matches c.in-Some.form.row c.in-Some.form.fields.items c.args.word (at_row _ c.in-Some.form.row c.in-Some.form.fields.items c.args.word c.in-Some.ensures.found)
+
+pub returns-in-Some-clause-one_row : goal.returns-in-Some-clause-one_row
+returns-in-Some-clause-one_row c = λ row m.
+    one_match c.in-Some.form.row row c.in-Some.form.fields.items c.args.word (omega arith) (at_row _ c.in-Some.form.row c.in-Some.form.fields.items c.args.word c.in-Some.ensures.found) m
 
 pub returns-clause-none : goal.returns-clause-none
 returns-clause-none c = λ row fields w.

@@ -1,0 +1,6 @@
+//! The operators of AArch64 instructions, which instructions and encoders name.
+#![tactic(auto)]
+
+mod operator;
+
+pub use operator::{ALUOp, AtomicRMWOp, MoveWideOp};
