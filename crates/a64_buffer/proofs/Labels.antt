@@ -1,28 +1,17 @@
--- Lemmas on maps by number, and on the trees that hold them.
-use Rattle.std.proofs.Common.{ℕ, ◌≡◌, ◌≢◌, true, false, cond, List, [], ◌∷◌, Option, None, Some, IfSome, refl, sym, ◌∙◌, ap, nat_cmp}
+-- Lemmas on maps by number.
+use Rattle.std.proofs.Common.{ℕ, ◌≡◌, ◌≢◌, true, false, cond, List, [], ◌∷◌, Option, None, Some, IfSome, refl, ◌∙◌, ap, nat_cmp}
 use Rattle.std.specs.Cmp.{nat_cmp_total, eq_by_cmp_equiv}
 use Rattle.std.specs.Ordering.{eq_by_cmp, is_eq}
 use Rattle.std.specs.declared.cmp.Ordering.TheVariants.{Less, Equal, Greater}
-use Rattle.std.specs.BTreeMap as tree
-use Rattle.std.specs.BTreeMap.{BTreeMap, is_at}
+use Rattle.std.specs.BTreeMap.{is_at}
 use Rattle.std.specs.Map.{lookup}
-use Rattle.std.specs.FinMap.{FinMap, from_entries, get, insert, find, get-from_entries, get-insert, same_map, nat_cmp-IsAntisymmetric}
+use Rattle.std.specs.FinMap.{FinMap, get, insert, find, get-insert, nat_cmp-IsAntisymmetric}
 use Rattle.std.proofs.lemmas.Bool.{false≢true}
 
-find_tree : (es : List (ℕ × ℕ)) (q : ℕ) → find nat_cmp q es ≡ lookup (is_at (nat_cmp q)) es
+-- what a list of entries has at a number, in the words of trees
+pub find_tree : (es : List (ℕ × ℕ)) (q : ℕ) → find nat_cmp q es ≡ lookup (is_at (nat_cmp q)) es
 find_tree [] q = refl
 find_tree (e ∷ es) q = ap (cond (is_at (nat_cmp q) e.0) (Some e.1)) (find_tree es q)
-
--- what the map of a tree's entries has at a number is what the tree has
-pub get_tree : (m : BTreeMap ℕ ℕ) (q : ℕ) → get (from_entries {R = nat_cmp} m.entries) q ≡ tree.get nat_cmp m q
-get_tree m q = get-from_entries nat_cmp_total m.entries q ∙ find_tree m.entries q
-
--- a tree that differs at one number makes the map with that number
-pub inserted : (m n : BTreeMap ℕ ℕ) (key value value' : ℕ) → ((q : ℕ) → tree.get nat_cmp n q ≡ cond (is_at (nat_cmp key) q) (Some value) (tree.get nat_cmp m q)) → value ≡ value' → from_entries {R = nat_cmp} n.entries ≡ insert (from_entries m.entries) key value'
-inserted m n key value value' h e = same_map nat_cmp_total nat_cmp-IsAntisymmetric _ _ (λ q.
-    get_tree n q ∙ h q ∙ ap (λ b. cond b (Some value) (tree.get nat_cmp m q)) ((eq_by_cmp_equiv nat_cmp_total).symm key q)
-    ∙ sym (get-insert nat_cmp_total (from_entries m.entries) key value q ∙ ap (cond (is_at (nat_cmp q) key) (Some value)) (get_tree m q)))
-    ∙ ap (insert (from_entries m.entries) key) e
 
 -- numbers that compare equal are the same
 pub same_by_cmp : (a b : ℕ) → eq_by_cmp nat_cmp a b ≡ true → a ≡ b

@@ -1,5 +1,5 @@
 -- What each call leaves sound.
-use Rattle.std.proofs.Common.{ℕ, ◌≡◌, ◌*◌, ◌%◌, ◌<◌, ◌≤◌, [], ◌∷◌, ◌++◌, length, map, All, None, IfSome, cond, is_none, refl, sym, ◌∙◌, ap, subst, arith, inl, inr, nat_cmp}
+use Rattle.std.proofs.Common.{ℕ, ◌≡◌, ◌≢◌, ◌⊎◌, ◌*◌, ◌%◌, ◌<◌, ◌≤◌, [], ◌∷◌, ◌++◌, length, map, All, Option, None, Some, IfSome, cond, is_none, refl, sym, ◌∙◌, ap, subst, arith, inl, inr, nat_cmp}
 use Rattle.std.specs.Option.{option_and_then}
 use Rattle.std.specs.FinMap.{FinMap, get, insert, empty, get-empty}
 use Rattle.std.proofs.lemmas.Bool.{cases_eq}
@@ -7,10 +7,10 @@ use Rattle.std.proofs.lemmas.List.Elements.{All-weaker, All-push, All-map, All-s
 use Rattle.a64_buffer.specs.declared.site.Use.{Use}
 use Rattle.a64_buffer.specs.declared.site.Target.{Target}
 use Rattle.a64_buffer.specs.Kinds.{Kinds}
-use Rattle.a64_buffer.specs.Buffer.{Buffer, end_of, label_of, reached, stop_of, made_use, closed_at, IsFree}
+use Rattle.a64_buffer.specs.Buffer.{Buffer, end_of, label_of, goal_of, reached, stop_of, made_use, closed_at, IsFree}
 use Rattle.a64_buffer.specs.Sound.{IsPlaced, AreApart, IsSound}
 use Rattle.a64_buffer.proofs.Labels.{get_here, get_other, some_weaker}
-use Rattle.a64_buffer.proofs.Uses.{apart_push, apart_map, closed_offset}
+use Rattle.a64_buffer.proofs.Uses.{apart_push, apart_map}
 use Rattle.a64_buffer.proofs.Walks.{closed_same, closed_other}
 
 module _ {K : Type 0} (r : Kinds K) where
@@ -47,17 +47,30 @@ module _ {K : Type 0} (r : Kinds K) where
 
     -- one more bound label
     module _ (label : ℕ) (unbound : get b.labels label ≡ None) where
+      -- the goals of other targets stay
+      goal_other : (target : Target) → label_of target ≢ Some label → goal_of (insert b.labels label (end_of b)) target ≡ goal_of b.labels target
+      goal_other target = go (label_of target)
+        where
+          go : (o : Option ℕ) → o ≢ Some label → option_and_then (λ l. get (insert b.labels label (end_of b)) l) o ≡ option_and_then (λ l. get b.labels l) o
+          go None ne = refl
+          go (Some l) ne = get_other b.labels label (end_of b) l (λ e. ne (ap Some e))
+
       -- where a use stops once the label is bound
       stop_closed : (u : Use K) → Stops b.labels u → Stops (insert b.labels label (end_of b)) (closed_at r label (end_of b) u)
-      stop_closed u e = elim (cases_eq (label_of u.target) label) [
+      stop_closed u e = elim (is_or_not (label_of u.target)) [
         | inl same ↦
-            let was : u.stop ≡ None = e ∙ ap (option_and_then (λ place. reached r u.kind u.offset place)) (ap (get b.labels) same ∙ unbound) in
-            let now : closed_at r label (end_of b) u ≡ record u { stop = reached r u.kind u.offset (end_of b) } = closed_same r label (end_of b) u same ∙ ap (λ o. cond (is_none o) (record u { stop = reached r u.kind u.offset (end_of b) }) u) was in
+            let was : u.stop ≡ None = e ∙ ap (option_and_then (λ place. reached r u.kind u.offset place)) (ap (option_and_then (λ l. get b.labels l)) same ∙ unbound) in
+            let now : closed_at r label (end_of b) u ≡ record u { stop = reached r u.kind u.offset (end_of b) } =
+            closed_same r label (end_of b) u same ∙ ap (λ o. record u { stop = cond (is_none o) (reached r u.kind u.offset (end_of b)) o }) was in
             subst (Stops (insert b.labels label (end_of b))) (sym now)
-            (sym (ap (option_and_then (λ place. reached r u.kind u.offset place)) (ap (get (insert b.labels label (end_of b))) same ∙ get_here b.labels label (end_of b))))
+            (sym (ap (option_and_then (λ place. reached r u.kind u.offset place)) (ap (option_and_then (λ l. get (insert b.labels label (end_of b)) l)) same ∙ get_here b.labels label (end_of b))))
         | inr ne ↦ subst (Stops (insert b.labels label (end_of b))) (sym (closed_other r label (end_of b) u ne))
-            (e ∙ ap (option_and_then (λ place. reached r u.kind u.offset place)) (sym (get_other b.labels label (end_of b) (label_of u.target) ne)))
+            (e ∙ ap (option_and_then (λ place. reached r u.kind u.offset place)) (sym (goal_other u.target ne)))
       ]
+        where
+          is_or_not : (o : Option ℕ) → (o ≡ Some label) ⊎ (o ≢ Some label)
+          is_or_not None = inr (λ e. cc e)
+          is_or_not (Some l) = elim (cases_eq l label) [ inl e ↦ inl (ap Some e) | inr ne ↦ inr (λ e. ne (cc e)) ]
 
       pub sound_bind : b'.words ≡ b.words → b'.uses ≡ map (closed_at r label (end_of b)) b.uses → b'.labels ≡ insert b.labels label (end_of b) → IsSound r b'
       sound_bind words uses labels =
@@ -66,8 +79,8 @@ module _ {K : Type 0} (r : Kinds K) where
             short = omega (arith, s.short);
             placed = All-same (IsPlaced (end_of b')) b'.uses (map (closed_at r label (end_of b)) b.uses) uses
                 (All-map (IsPlaced (end_of b')) (closed_at r label (end_of b)) b.uses
-                (All-weaker (IsPlaced (end_of b)) (λ u. IsPlaced (end_of b') (closed_at r label (end_of b) u)) (λ u q. record { aligned = omega (arith, q.aligned, closed_offset r label (end_of b) u); inside = omega (arith, q.inside, closed_offset r label (end_of b) u) }) b.uses s.placed));
-            apart = subst AreApart (sym uses) (apart_map (closed_at r label (end_of b)) (closed_offset r label (end_of b)) b.uses s.apart);
+                (All-weaker (IsPlaced (end_of b)) (λ u. IsPlaced (end_of b') (closed_at r label (end_of b) u)) (λ u q. record { aligned = q.aligned; inside = omega (arith, q.inside) }) b.uses s.placed));
+            apart = subst AreApart (sym uses) (apart_map (closed_at r label (end_of b)) (λ u. refl) b.uses s.apart);
             bound = λ q. subst (λ m. IfSome (get m q) (IsPlace (end_of b'))) (sym labels) (elim (cases_eq q label) [
               | inl e ↦ subst (λ o. IfSome o (IsPlace (end_of b'))) (sym (ap (get (insert b.labels label (end_of b))) e ∙ get_here b.labels label (end_of b))) (omega arith, omega arith)
               | inr ne ↦ subst (λ o. IfSome o (IsPlace (end_of b'))) (sym (get_other b.labels label (end_of b) q ne)) (some_weaker (get b.labels q) (λ t z. (z.0, omega (arith, z.1))) (s.bound q))

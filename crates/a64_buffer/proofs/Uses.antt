@@ -1,12 +1,14 @@
 -- Lemmas on lists of uses: one more use, and uses that are closed.
-use Rattle.std.proofs.Common.{ℕ, ◌≡◌, ◌<◌, List, [], ◌∷◌, ◌++◌, length, get_or, map, true, false, cond, nat_eq, ◌&&◌, is_none, refl, sym, ◌∙◌, ap, arith, inl, inr}
-use Rattle.std.proofs.lemmas.Bool.{cases_lt}
+use Rattle.std.proofs.Common.{ℕ, ◌≡◌, ◌≢◌, ◌<◌, List, [], ◌∷◌, ◌++◌, length, get_or, map, Option, None, Some, true, false, nat_eq, refl, sym, ◌∙◌, ap, arith, inl, inr}
+use Rattle.std.specs.Option.{option_eq}
+use Rattle.std.proofs.lemmas.Bool.{cases_lt, eq-eqb, ne_eqb}
 use Rattle.std.proofs.lemmas.List.{length_push, length-map, get_or-map, get_or_push, get_or_append_left, with_items_is}
 use Rattle.std.specs.Global.{Vec}
 use Rattle.std.specs.Vec.{with_items}
 use Rattle.a64_buffer.specs.declared.site.Use.{Use}
+use Rattle.a64_buffer.specs.declared.site.Target.{Target}
 use Rattle.a64_buffer.specs.Kinds.{Kinds}
-use Rattle.a64_buffer.specs.Buffer.{label_of, reached, closed_at, IsFree}
+use Rattle.a64_buffer.specs.Buffer.{label_of, leads_to, closed_at, IsFree}
 use Rattle.a64_buffer.specs.Chain.{labels_of}
 use Rattle.a64_buffer.specs.Sound.{AreApart}
 
@@ -29,17 +31,21 @@ module _ {K : Type 0} where
       let first : j < length uses = omega arith in
       λ e. a j k d lt second (sym (ap (λ v. v.offset) (get_or-map f uses j d d first) ∙ same (get_or uses j d)) ∙ (e ∙ (ap (λ v. v.offset) (get_or-map f uses k d d second) ∙ same (get_or uses k d))))
 
-module _ {K : Type 0} (r : Kinds K) (label place : ℕ) where
-  pub closed_offset : (u : Use K) → (closed_at r label place u).offset ≡ u.offset
-  closed_offset u = elim (nat_eq (label_of u.target) label && is_none u.stop) as (λ t. (cond t (record u { stop = reached r u.kind u.offset place }) u).offset ≡ u.offset) [ true ↦ refl | false ↦ refl ]
+-- a target that is the label of a number, and one that is not
+pub leads_same : (label : ℕ) (target : Target) → label_of target ≡ Some label → leads_to label target ≡ true
+leads_same label target e = ap (λ o. option_eq (λ m n. nat_eq m n) o (Some label)) e ∙ eq-eqb label label refl
 
-  pub closed_target : (u : Use K) → (closed_at r label place u).target ≡ u.target
-  closed_target u = elim (nat_eq (label_of u.target) label && is_none u.stop) as (λ t. (cond t (record u { stop = reached r u.kind u.offset place }) u).target ≡ u.target) [ true ↦ refl | false ↦ refl ]
+pub leads_other : (label : ℕ) (target : Target) → label_of target ≢ Some label → leads_to label target ≡ false
+leads_other label target = go (label_of target)
+  where
+    go : (o : Option ℕ) → o ≢ Some label → option_eq (λ m n. nat_eq m n) o (Some label) ≡ false
+    go None ne = refl
+    go (Some m) ne = ne_eqb m label (λ e. ne (ap Some e))
 
-  -- uses that are closed have the labels that they had
-  pub closed_labels : (uses : List (Use K)) → labels_of (map (closed_at r label place) uses) ≡ labels_of uses
-  closed_labels [] = refl
-  closed_labels (u ∷ us) = ap (λ t. label_of t ∷ labels_of (map (closed_at r label place) us)) (closed_target u) ∙ ap (λ ls. label_of u.target ∷ ls) (closed_labels us)
+-- uses that are closed have the labels that they had
+pub closed_labels : {K : Type 0} (r : Kinds K) (label place : ℕ) (uses : List (Use K)) → labels_of (map (closed_at r label place) uses) ≡ labels_of uses
+closed_labels r label place [] = refl
+closed_labels r label place (u ∷ us) = ap (λ ls. label_of u.target ∷ ls) (closed_labels r label place us)
 
 -- the labels of uses, and of one more
 pub labels_push : {K : Type 0} (uses : List (Use K)) (u : Use K) → labels_of (uses ++ u ∷ []) ≡ labels_of uses ++ label_of u.target ∷ []

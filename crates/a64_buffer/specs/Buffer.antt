@@ -1,5 +1,6 @@
 -- What a buffer of code is to its callers.
-use Rattle.std.specs.Prelude.{ℕ, ◌≡◌, ◌≢◌, ◌*◌, ◌+◌, ◌≤◌, ◌&&◌, Bool, nat_eq, nat_le, if◌then◌else◌, List, [], All, length, Option, None, Some, is_none, option_and_then, IsSome, IsSomeAnd, MatchOption, Any}
+use Rattle.std.specs.Prelude.{ℕ, ◌≡◌, ◌≢◌, ◌*◌, ◌+◌, ◌≤◌, ◌&&◌, Bool, nat_eq, nat_le, if◌then◌else◌, List, [], All, length, Option, None, Some, is_none, option_and_then, IsSome, IfSome, IsSomeAnd, MatchOption, Any}
+use Rattle.std.specs.Option.{option_eq}
 use Rattle.std.specs.Ordering.{nat_cmp}
 use Rattle.std.specs.FinMap.{FinMap, get, empty}
 use Rattle.a64_base.specs.declared.entity.MachLabel.{MachLabel}
@@ -24,17 +25,36 @@ end_of b = 4 * length b.words
 abbrev pub new_buffer : {K : Type 0} → FinMap nat_cmp (List ℕ) → Buffer K
 new_buffer constants = record { words = []; uses = []; labels = empty; constants = constants }
 
--- the number of the label that is a use's target
-abbrev pub label_of : Target → ℕ
-label_of (Label label) = label.0
+-- the number of the label that a target is, where it is one
+abbrev pub label_of : Target → Option ℕ
+label_of (Label label) = Some label.0
+
+-- whether a target is the label of a number
+abbrev pub leads_to : ℕ → Target → Bool
+leads_to label target = option_eq (λ m n. nat_eq m n) (label_of target) (Some label)
+
+-- the place of the label that a target is, where it is one and bound
+abbrev pub goal_of : FinMap nat_cmp ℕ → Target → Option ℕ
+goal_of labels target = option_and_then (λ label. get labels label) (label_of target)
 
 -- no use stands at a place
 abbrev pub IsFree : {K : Type 0} → List (Use K) → ℕ → Type 0
 IsFree uses place = All (λ u. u.offset ≢ place) uses
 
--- the label of a use is bound
+-- the label of a use is bound; a use of something else asks for none
 abbrev pub IsBound : {K : Type 0} → FinMap nat_cmp ℕ → Use K → Type 0
-IsBound labels u = IsSome (get labels (label_of u.target))
+IsBound labels u = IfSome (label_of u.target) (λ label. IsSome (get labels label))
+
+-- a use's label, which is not bound; `None` where it is bound, or the use is of something else
+abbrev pub IsUnboundOf : {K : Type 0} → FinMap nat_cmp ℕ → Use K → Option MachLabel → Type 0
+IsUnboundOf labels u result =
+    MatchOption result
+    (IsBound labels u)
+    (λ label. (label_of u.target ≡ Some label.0) × (get labels label.0 ≡ None))
+
+-- the label of a use is bound, or of this number at least
+abbrev pub IsBoundOrFrom : {K : Type 0} → FinMap nat_cmp ℕ → ℕ → Use K → Type 0
+IsBoundOrFrom labels least u = IfSome (label_of u.target) (λ label. get labels label ≡ None → least ≤ label)
 
 -- the used label of least number that is not bound
 abbrev pub IsFirstUnbound : {K : Type 0} → Buffer K → Option MachLabel → Type 0
@@ -42,8 +62,8 @@ IsFirstUnbound {K} b result =
     MatchOption result
     (All (IsBound b.labels) b.uses)
     (λ label. (get b.labels label.0 ≡ None)
-    × Any (λ u. label_of u.target ≡ label.0) b.uses
-    × All (λ (u : Use K). get b.labels (label_of u.target) ≡ None → label.0 ≤ label_of u.target) b.uses)
+    × Any (λ u. label_of u.target ≡ Some label.0) b.uses
+    × All (IsBoundOrFrom b.labels label.0) b.uses)
 
 module _ {K : Type 0} (r : Kinds K) where
   -- a place is in the range of a use of this kind at an offset
@@ -56,7 +76,7 @@ module _ {K : Type 0} (r : Kinds K) where
 
   -- where a use stops that is made now: at its label, where that is bound in its range
   abbrev pub stop_of : FinMap nat_cmp ℕ → K → ℕ → Target → Option ℕ
-  stop_of labels kind offset target = option_and_then (λ place. reached kind offset place) (get labels (label_of target))
+  stop_of labels kind offset target = option_and_then (λ place. reached kind offset place) (goal_of labels target)
 
   -- a use that is made now
   abbrev pub made_use : FinMap nat_cmp ℕ → ℕ → Target → K → Use K
@@ -64,11 +84,10 @@ module _ {K : Type 0} (r : Kinds K) where
 
   -- a use once its label is bound to a place: it stops there, where it has no stop and reaches it
   abbrev pub closed_at : ℕ → ℕ → Use K → Use K
-  closed_at label place u =
-      if nat_eq (label_of u.target) label && is_none u.stop
-      then record u { stop = reached u.kind u.offset place }
-      else u
+  closed_at label place u = record u {
+    stop = if leads_to label u.target && is_none u.stop then reached u.kind u.offset place else u.stop;
+  }
 
-  -- the label of a use is bound in its range
+  -- the label of a use is bound in its range; a use of something else asks for none
   abbrev pub IsReached : FinMap nat_cmp ℕ → Use K → Type 0
-  IsReached labels u = IsSomeAnd (get labels (label_of u.target)) (λ place. IsWithin (r.forward u.kind) (r.backward u.kind) u.offset place)
+  IsReached labels u = IfSome (label_of u.target) (λ label. IsSomeAnd (get labels label) (λ place. IsWithin (r.forward u.kind) (r.backward u.kind) u.offset place))

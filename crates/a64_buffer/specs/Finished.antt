@@ -8,7 +8,7 @@ use Rattle.a64_buffer.specs.declared.site.Use.{Use}
 use Rattle.a64_buffer.specs.declared.finish.Finished.{Finished}
 use Rattle.a64_buffer.specs.Word.{outside, word_at}
 use Rattle.a64_buffer.specs.Kinds.{Kinds, GoesTo}
-use Rattle.a64_buffer.specs.Buffer.{Buffer, end_of, label_of, IsFree}
+use Rattle.a64_buffer.specs.Buffer.{Buffer, end_of, goal_of, IsFree}
 
 -- a list has each label of a map once with its place, by number
 pub record Lists (labels : FinMap nat_cmp ℕ) (list : List (MachLabel × ℕ)) : Type 0 where
@@ -16,12 +16,13 @@ pub record Lists (labels : FinMap nat_cmp ℕ) (list : List (MachLabel × ℕ)) 
   pub listed : (label : MachLabel) (place : ℕ) → Contains list (label, place) ↔ (get labels label.0 ≡ Some place)
 
 module _ {K : Type 0} (r : Kinds K) where
-  -- the finished word of a use: as it was put outside of the kind's field, and leading to the label
+  -- the finished word of a use: as it was put outside of the kind's field, and leading to the label,
+  -- where the use is of one
   pub record IsSettled (labels : FinMap nat_cmp ℕ) (put : ℕ) (u : Use K) (word : ℕ) : Type 0 where
     pub rest : outside (r.mask u.kind) word ≡ outside (r.mask u.kind) put
-    pub leads : IfSome (get labels (label_of u.target)) (λ place. GoesTo r u.kind put word u.offset place)
+    pub leads : IfSome (goal_of labels u.target) (λ place. GoesTo r u.kind put word u.offset place)
 
-  -- code in which each word stands where it was put, and each use leads to its label
+  -- code in which each word stands where it was put, and each use of a label leads to it
   pub record IsFinished (b : Buffer K) (code : Finished) : Type 0 where
     pub same_length : length code.bytes.items ≡ end_of b
     pub free : (i : ℕ) → i < length b.words → IsFree b.uses (4 * i) → word_at code.bytes.items (4 * i) ≡ slice_index b.words i

@@ -1,5 +1,5 @@
 -- How the words of uses come to lead to their stops.
-use Rattle.std.specs.Prelude.{ℕ, ◌≡◌, ◌≢◌, ◌*◌, ◌/◌, ◌%◌, ◌<◌, List, All, length, slice_index, IfSome, IsSomeAnd}
+use Rattle.std.specs.Prelude.{ℕ, ◌≡◌, ◌≢◌, ◌*◌, ◌/◌, ◌%◌, ◌<◌, List, All, length, slice_index, IfSome}
 use Rattle.a64_buffer.specs.declared.site.Use.{Use}
 use Rattle.a64_buffer.specs.Word.{outside, word_at}
 use Rattle.a64_buffer.specs.Kinds.{Kinds, IsWithin, GoesTo}
@@ -16,9 +16,9 @@ module _ {K : Type 0} (r : Kinds K) where
     pub within : IsWithin (r.forward kind) (r.backward kind) offset place
     pub aligned : place % 4 ≡ offset % 4
 
-  -- a use has a stop, and may lead there
-  abbrev pub HasStop : Use K → Type 0
-  HasStop u = IsSomeAnd u.stop (Reaches u.kind u.offset)
+  -- a use may lead to its stop, where it has one
+  abbrev pub MayLead : Use K → Type 0
+  MayLead u = IfSome u.stop (Reaches u.kind u.offset)
 
   -- the word at an offset was made to lead to a place, and the other words stayed
   pub record Patches (kind : K) (offset place : ℕ) (old new : List ℕ) : Type 0 where
@@ -26,12 +26,12 @@ module _ {K : Type 0} (r : Kinds K) where
     pub rest : outside (r.mask kind) (slice_index new (offset / 4)) ≡ outside (r.mask kind) (slice_index old (offset / 4))
     pub leads : GoesTo r kind (slice_index old (offset / 4)) (slice_index new (offset / 4)) offset place
 
-  -- the word of a use leads to its stop, and is otherwise as it was put
+  -- the word of a use leads to its stop, where it has one, and is otherwise as it was put
   pub record LeadsOn (put : ℕ) (u : Use K) (word : ℕ) : Type 0 where
     pub rest : outside (r.mask u.kind) word ≡ outside (r.mask u.kind) put
     pub leads : IfSome u.stop (GoesTo r u.kind put word u.offset)
 
-  -- words in which the given uses lead to their stops
+  -- words in which the given uses lead to their stops, where they have one
   pub record AreSettled (put : List ℕ) (uses : List (Use K)) (words : List ℕ) : Type 0 where
     pub same_length : length words ≡ length put
     pub free : (i : ℕ) → i < length put → IsFree uses (4 * i) → slice_index words i ≡ slice_index put i

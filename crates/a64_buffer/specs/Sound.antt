@@ -1,6 +1,6 @@
 -- What is true of every buffer of code.
 use Rattle.std.specs.Prelude.{ℕ, ◌≡◌, ◌≢◌, ◌%◌, ◌^◌, ◌<◌, ◌≤◌, List, All, length, slice_index_or, IfSome}
-use Rattle.std.specs.FinMap.{get, from_entries}
+use Rattle.std.specs.FinMap.{get}
 use Rattle.a64_buffer.specs.declared.site.Use.{Use}
 use Rattle.a64_buffer.specs.declared.parts.Parts.{Parts}
 use Rattle.a64_buffer.specs.Kinds.{Kinds}
@@ -9,7 +9,7 @@ use Rattle.a64_buffer.specs.Chain.{labels_of, IsChained}
 
 -- what the parts of a buffer are to its callers
 abbrev pub seen : {K : Type 0} → Parts K → Buffer K
-seen p = record { words = p.words.items; uses = p.uses.items; labels = from_entries p.labels.entries; constants = p.constants.now }
+seen p = record { words = p.words.items; uses = p.uses.items; labels = p.labels; constants = p.constants.now }
 
 -- a use stands on a word of code that ends there
 pub record IsPlaced {K : Type 0} (end : ℕ) (u : Use K) : Type 0 where
@@ -33,4 +33,4 @@ module _ {K : Type 0} (r : Kinds K) where
   -- the parts of a sound buffer, with its chains of uses
   pub record AreSound (p : Parts K) : Type 0 where
     pub sound : IsSound (seen p)
-    pub chained : IsChained (labels_of p.uses.items) p.earlier.items (from_entries p.heads.entries)
+    pub chained : IsChained (labels_of p.uses.items) p.earlier.items p.heads

@@ -115,7 +115,7 @@ impl<'c, K: MachInstLabelUse> MachBuffer<'c, K> {
         self.parts.first_unbound()
     }
 
-    /// The finished code: each word stands where it was put, and each use leads to its label.
+    /// The finished code: each word stands where it was put, and each use of a label leads to it.
     ///
     /// # Errors
     ///

@@ -1,13 +1,12 @@
 //! The uses of each label in a chain, so that binding a label visits no other uses.
 
 ghost use Rattle.std.specs.Prelude.{◌≡◌, ◌<◌, length, map, slice_set, slice_index_or};
-ghost use Rattle.std.specs.FinMap.{from_entries};
 ghost use Rattle.a64_buffer.specs.Buffer.{reached, closed_at};
 ghost use Rattle.a64_buffer.specs.Chain.{with_stop, labels_of, IsChained, IsLast};
 
 use crate::label_use::MachInstLabelUse;
 use crate::site::Use;
-use std::collections::BTreeMap;
+use a64_label_map::LabelMap;
 
 /// The place, where a use of this kind at an offset reaches it.
 pub fn reached<K: MachInstLabelUse>(kind: K, offset: u32, place: u32) -> Option<u32>
@@ -19,14 +18,11 @@ pub fn reached<K: MachInstLabelUse>(kind: K, offset: u32, place: u32) -> Option<
 }
 
 /// One more than the index of the last use of a label, or 0 where it has none.
-fn last_use(heads: &BTreeMap<u32, usize>, label: u32) -> usize
-    ensures { (labels : _) (earlier : _) → IsChained labels earlier (from_entries heads.now.entries)
+fn last_use(heads: &LabelMap<usize>, label: u32) -> usize
+    ensures { (labels : _) (earlier : _) → IsChained labels earlier heads.now
         → IsLast labels label (length labels) result }
 {
-    match heads.get(&label) {
-        Some(last) => *last,
-        None => 0,
-    }
+    heads.get(label).unwrap_or(0)
 }
 
 /// Lets a use that has no stop stop at a place, where it reaches that.
@@ -44,11 +40,11 @@ fn close_use<K: MachInstLabelUse>(uses: &mut [Use<K>], index: usize, place: u32)
 pub fn close_label<K: MachInstLabelUse>(
     uses: &mut [Use<K>],
     earlier: &[usize],
-    heads: &BTreeMap<u32, usize>,
+    heads: &LabelMap<usize>,
     label: u32,
     place: u32,
 )
-    requires { IsChained (labels_of uses.old) earlier.now (from_entries heads.now.entries) }
+    requires { IsChained (labels_of uses.old) earlier.now heads.now }
     ensures { uses.new ≡ map (closed_at K.kinds label place) uses.old }
 {
     let mut at = last_use(heads, label);

@@ -3,7 +3,7 @@
 ghost use Rattle.std.specs.Prelude.{◌≡◌, IsTrue, ◌%◌, length};
 ghost use Rattle.std.specs.Int.{w32, from_le_bytes};
 ghost use Rattle.a64_buffer.specs.Word.{outside};
-ghost use Rattle.a64_buffer.specs.Kinds.{Kinds, IsWithin, GoesTo, IsLawful};
+ghost use Rattle.a64_buffer.specs.Kinds.{Kinds, IsWithin, GoesTo, SaysDistance, IsLawful};
 
 /// A kind of use of a label in a word of code (Cranelift's `MachInstLabelUse`).
 ///
@@ -35,12 +35,19 @@ pub trait MachInstLabelUse: Copy + Eq {
         ensures rest { outside (kinds.mask self) (from_le_bytes w32 buffer.new)
             ≡ outside (kinds.mask self) (from_le_bytes w32 buffer.old) }
         ensures leads { GoesTo kinds self (from_le_bytes w32 buffer.old) (from_le_bytes w32 buffer.new)
+            use_offset label_offset }
+        ensures says { SaysDistance kinds self (from_le_bytes w32 buffer.old) (from_le_bytes w32 buffer.new)
             use_offset label_offset };
 
-    /// The signed distance that a word says.
+    /// The signed distance that a word says: after a patch the distance to the label, and for a kind
+    /// that adds, the old word and that distance.
     fn read(self, word: u32) -> i64
         ensures { result ≡ kinds.field self word };
 
-    /// A kind that adds its distance owns the whole word.
+    /// Whether a use may lead to a veneer in place of its label.
+    fn supports_veneer(self) -> bool
+        ensures { result ≡ kinds.veneers self };
+
+    /// A kind that adds its distance owns the whole word, which says a signed number.
     ghost lawful: { IsLawful kinds };
 }

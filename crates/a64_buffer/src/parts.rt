@@ -1,8 +1,9 @@
 //! The parts of a buffer of code, and what changes them.
 
-ghost use Rattle.std.specs.Prelude.{◌≡◌, ◌+◌, ◌%◌, ◌^◌, ◌<◌, ◌≤◌, All, IfOk, OnOk, OnErr, [], ◌∷◌, ◌++◌, None, MatchOption, is_some, map, min, vec_len, vec_capacity};
+ghost use Rattle.std.specs.Prelude.{◌≡◌, ◌+◌, ◌%◌, ◌^◌, ◌<◌, ◌≤◌, All, IfOk, OnOk, OnErr, [], ◌∷◌, ◌++◌, None, Some, MatchOption, option_map, map, min, vec_len, vec_capacity};
 ghost use Rattle.std.specs.FinMap as finmap;
 ghost use Rattle.a64_buffer.specs.declared.site.Target.TheVariants.{Label};
+ghost use Rattle.a64_base.specs.declared.entity.MachLabel.{MachLabel};
 ghost use Rattle.a64_buffer.specs.Buffer.{label_of};
 
 use crate::chain::{close_label, reached};
@@ -12,8 +13,8 @@ use crate::label_use::MachInstLabelUse;
 use crate::settle::{bytes_of, labels_in_order, settle};
 use crate::site::{Target, Use};
 use a64_base::MachLabel;
+use a64_label_map::LabelMap;
 use std::alloc::{AllocError, Global};
-use std::collections::BTreeMap;
 
 /// The parts of a buffer of code.
 #[derive(Drop)]
@@ -23,34 +24,23 @@ pub struct Parts<'c, K> {
     /// The uses, in the order in which they were made.
     pub uses: Vec<Use<K>>,
     /// The places of the bound labels by number, in bytes from the start of the code.
-    pub labels: BTreeMap<u32, u32>,
+    pub labels: LabelMap<u32>,
     /// For each use, one more than the index of the use of the same label before it, or 0.
     pub earlier: Vec<usize>,
     /// For each label that is used, one more than the index of its last use.
-    pub heads: BTreeMap<u32, usize>,
+    pub heads: LabelMap<usize>,
     /// The constants that the code may load.
     pub constants: &'c Constants,
     /// Where memory comes from.
     pub alloc: Global,
 }
 
-/// Adds to a vector that has room.
-fn push_reserved<T: Drop>(items: &mut Vec<T>, item: T)
-    requires { vec_len items.old < vec_capacity items.old }
-    ensures { items.new.items ≡ items.old.items ++ item ∷ [] }
-{
-    match items.push(item) {
-        Ok(()) => {}
-        Err(_) => unreachable!(),
-    }
-}
-
-/// The label that is a target.
-fn target_label(target: Target) -> MachLabel
-    ensures { result.0 ≡ label_of target }
+/// The label that a target is, where it is one.
+fn target_label(target: Target) -> Option<MachLabel>
+    ensures { option_map (λ (l : MachLabel). l.0) result ≡ label_of target }
 {
     match target {
-        Target::Label(label) => label,
+        Target::Label(label) => Some(label),
     }
 }
 
@@ -65,7 +55,7 @@ fn lesser(first: Option<MachLabel>, label: MachLabel) -> MachLabel
 }
 
 impl<'c, K: MachInstLabelUse> Parts<'c, K> {
-    ghost use Rattle.a64_buffer.specs.Buffer.{new_buffer, end_of, stop_of, IsFree, IsFirstUnbound, made_use, closed_at, IsReached};
+    ghost use Rattle.a64_buffer.specs.Buffer.{new_buffer, end_of, stop_of, IsFree, IsUnboundOf, IsFirstUnbound, made_use, closed_at, IsReached};
     ghost use Rattle.a64_buffer.specs.Sound.{seen, IsSound, AreSound};
     ghost use Rattle.a64_buffer.specs.Finished.{IsFinished};
 
@@ -77,9 +67,9 @@ impl<'c, K: MachInstLabelUse> Parts<'c, K> {
         Parts {
             words: Vec::new(alloc),
             uses: Vec::new(alloc),
-            labels: BTreeMap::new(alloc),
+            labels: LabelMap::new(alloc),
             earlier: Vec::new(alloc),
-            heads: BTreeMap::new(alloc),
+            heads: LabelMap::new(alloc),
             constants,
             alloc,
         }
@@ -109,10 +99,8 @@ impl<'c, K: MachInstLabelUse> Parts<'c, K> {
     fn stop_of(&self, offset: u32, label: MachLabel, kind: K) -> Option<u32>
         ensures { result ≡ stop_of K.kinds (seen self.now).labels kind offset (Label label) }
     {
-        match self.labels.get(&label.0) {
-            Some(place) => reached(kind, offset, *place),
-            None => None,
-        }
+        let place = self.labels.get(label.0)?;
+        reached(kind, offset, place)
     }
 
     /// Adds a use.
@@ -131,18 +119,15 @@ impl<'c, K: MachInstLabelUse> Parts<'c, K> {
         self.earlier.reserve(1)?;
         let number = self.uses.len() + 1;
         let earlier = self.heads.insert(label.0, number)?.unwrap_or(0);
-        push_reserved(&mut self.earlier, earlier);
+        self.earlier.push_reserved(earlier);
         let stop = self.stop_of(offset, label, kind);
         let target = Target::Label(label);
-        push_reserved(
-            &mut self.uses,
-            Use {
-                offset,
-                target,
-                kind,
-                stop,
-            },
-        );
+        self.uses.push_reserved(Use {
+            offset,
+            target,
+            kind,
+            stop,
+        });
         Ok(())
     }
 
@@ -163,25 +148,28 @@ impl<'c, K: MachInstLabelUse> Parts<'c, K> {
         Ok(())
     }
 
-    /// Whether the label of a use is bound.
-    fn is_bound(&self, site: &Use<K>) -> bool
-        requires { site.now.stop ≡ stop_of K.kinds (seen self.now).labels site.now.kind site.now.offset site.now.target }
-        ensures { result ≡ is_some (finmap.get (seen self.now).labels (label_of site.now.target)) }
+    /// The label of a use, where it is of one that is not bound.
+    fn unbound_label(&self, site: &Use<K>) -> Option<MachLabel>
+        ensures { IsUnboundOf (seen self.now).labels site.now result }
     {
-        site.stop.is_some() || self.labels.contains_key(&target_label(site.target).0)
+        let label = target_label(site.target)?;
+        if self.labels.contains(label.0) {
+            None
+        } else {
+            Some(label)
+        }
     }
 
     /// The used label of least number that is not bound.
     pub fn first_unbound(&self) -> Option<MachLabel>
-        requires { IsSound K.kinds (seen self.now) }
         ensures { IsFirstUnbound (seen self.now) result }
     {
         let mut first: Option<MachLabel> = None;
         for site in &self.uses {
-            if self.is_bound(site) {
+            let Some(label) = self.unbound_label(site) else {
                 continue;
-            }
-            first = Some(lesser(first, target_label(site.target)));
+            };
+            first = Some(lesser(first, label));
         }
         first
     }

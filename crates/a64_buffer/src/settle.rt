@@ -1,18 +1,19 @@
 //! Words that lead to the stops of their uses, and what finished code is made of.
 
 ghost use Rattle.std.specs.Prelude.{◌≡◌, ◌*◌, ◌/◌, ◌%◌, ◌^◌, ◌<◌, length, All, IfOk};
-ghost use Rattle.std.specs.FinMap.{from_entries};
+ghost use Rattle.std.specs.Int.{w32, to_le_bytes};
+ghost use Rattle.std.specs.List.{flat_map};
 ghost use Rattle.a64_buffer.specs.Word.{outside};
 ghost use Rattle.a64_buffer.specs.Kinds.{IsWithin, GoesTo};
 ghost use Rattle.a64_buffer.specs.Sound.{IsPlaced, AreApart};
-ghost use Rattle.a64_buffer.specs.Settled.{IsCodeOf, Reaches, HasStop, Patches, AreSettled};
+ghost use Rattle.a64_buffer.specs.Settled.{IsCodeOf, Reaches, MayLead, Patches, AreSettled};
 ghost use Rattle.a64_buffer.specs.Finished.{Lists};
 
 use crate::label_use::MachInstLabelUse;
 use crate::site::Use;
 use a64_base::MachLabel;
+use a64_label_map::LabelMap;
 use std::alloc::{AllocError, Global};
-use std::collections::BTreeMap;
 
 /// The word of a use, made to lead to a place.
 fn patched<K: MachInstLabelUse>(word: u32, kind: K, use_offset: u32, place: u32) -> u32
@@ -35,18 +36,29 @@ fn settle_use<K: MachInstLabelUse>(words: &mut [u32], kind: K, use_offset: u32, 
     words[index] = patched(words[index], kind, use_offset, place);
 }
 
-/// Makes the words of all uses lead to their stops.
+/// Makes the words of all uses lead to their stops, where they have one.
 pub fn settle<K: MachInstLabelUse>(words: &mut [u32], uses: &[Use<K>])
     requires placed { All (IsPlaced (4 * length words.old)) uses.now }
     requires apart { AreApart uses.now }
-    requires stopped { All (HasStop K.kinds) uses.now }
+    requires able { All (MayLead K.kinds) uses.now }
     ensures { AreSettled K.kinds words.old uses.now words.new }
 {
     for site in uses {
-        match site.stop {
-            Some(place) => settle_use(words, site.kind, site.offset, place),
-            None => unreachable!(),
-        }
+        let Some(place) = site.stop else {
+            continue;
+        };
+        settle_use(words, site.kind, site.offset, place);
+    }
+}
+
+/// Writes words into bytes, each with its least byte first.
+fn write_words(bytes: &mut [u8], words: &[u32])
+    requires { length bytes.old ≡ 4 * length words.now }
+    ensures { bytes.new ≡ flat_map (to_le_bytes w32) words.now }
+{
+    for i in 0..words.len() {
+        let at = 4 * i;
+        bytes[at..at + 4].copy_from_slice(&words[i].to_le_bytes());
     }
 }
 
@@ -55,23 +67,22 @@ pub fn bytes_of(alloc: Global, words: &[u32]) -> Result<Vec<u8>, AllocError>
     requires { length words.now < 2 ^ 29 }
     ensures { IfOk result (λ bytes. IsCodeOf words.now bytes.items) }
 {
-    let mut bytes = Vec::with_capacity(alloc, 4 * words.len())?;
-    for word in words {
-        bytes.extend_from_slice(&word.to_le_bytes())?;
-    }
+    let mut bytes = vec![in alloc; 0; 4 * words.len()]?;
+    write_words(&mut bytes, words);
     Ok(bytes)
 }
 
 /// The labels of a map with their places, by number.
 pub fn labels_in_order(
     alloc: Global,
-    labels: &BTreeMap<u32, u32>,
+    labels: &LabelMap<u32>,
 ) -> Result<Vec<(MachLabel, u32)>, AllocError>
-    ensures { IfOk result (λ list. Lists (from_entries labels.now.entries) list.items) }
+    ensures { IfOk result (λ list. Lists labels.now list.items) }
 {
-    let mut list = Vec::with_capacity(alloc, labels.len())?;
-    for (label, place) in labels {
-        list.push((MachLabel(*label), *place))?;
+    let entries = labels.entries(alloc)?;
+    let mut list = Vec::with_capacity(alloc, entries.len())?;
+    for &(label, place) in &entries {
+        list.push((MachLabel(label), place))?;
     }
     Ok(list)
 }

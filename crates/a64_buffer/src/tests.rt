@@ -26,6 +26,7 @@ impl MachInstLabelUse for TestUse {
       backward = elim [ Branch14 ↦ 2 ^ 15 | Add32 ↦ 2 ^ 31 ];
       adds = elim [ Branch14 ↦ false | Add32 ↦ true ];
       counts_words = elim [ Branch14 ↦ true | Add32 ↦ false ];
+      veneers = elim [ Branch14 ↦ true | Add32 ↦ false ];
     } };
 
     const ALIGN: u32 = 4;
@@ -79,7 +80,17 @@ impl MachInstLabelUse for TestUse {
         }
     }
 
-    ghost lawful = { record { whole_mask = elim [ Branch14 ↦ λ h. absurd (false≢true h) | Add32 ↦ λ h. refl ] } };
+    fn supports_veneer(self) -> bool {
+        match self {
+            TestUse::Branch14 => true,
+            TestUse::Add32 => false,
+        }
+    }
+
+    ghost lawful = { record {
+      whole_mask = elim [ Branch14 ↦ λ h. absurd (false≢true h) | Add32 ↦ λ h. refl ];
+      whole_field = elim [ Branch14 ↦ λ h. absurd (false≢true h) | Add32 ↦ λ h word within. refl ];
+    } };
 }
 
 #[test]

@@ -13,7 +13,7 @@ pub loop-at-preserved : goal.loop-at-preserved
 loop-at-preserved g c =
     let p : 0 < c.loop-at.at = omega arith in
     let i : c.loop-at.at - 1 < length (labels_of c.args.uses.now) = omega (arith, c.loop-at.invariant.within, length-map c.args.uses.now (λ (u : Use g.row.K.Denot). label_of u.target)) in
-    walked_more g.K.MachInstLabelUse.kinds c.args.label c.args.place c.loop-at.at _ c.args.uses.now c.loop-at.uses c.close_use.new.uses p c.loop-at.invariant (c.requires.links (c.loop-at.at - 1) i) c.close_use.ensures c.close_use.auto.uses
+    walked_more g.K.MachInstLabelUse.kinds c.args.label c.args.place c.loop-at.at _ c.args.uses.now c.loop-at.uses c.close_use.new.uses p c.loop-at.invariant (c.requires.links (c.loop-at.at - 1) c.args.label i (c.loop-at.invariant.here p)) c.close_use.ensures c.close_use.auto.uses
 
 pub returns : goal.returns
 returns g c = walked_all g.K.MachInstLabelUse.kinds c.args.label c.args.place c.args.uses.now c.loop-at.uses (subst (IsWalked g.K.MachInstLabelUse.kinds c.args.label c.args.place c.args.uses.now c.loop-at.uses) c.loop-at-test.false c.loop-at.invariant)

@@ -1,10 +1,9 @@
-use Rattle.std.proofs.Common.{◌∙◌, sym, subst}
-use Rattle.a64_buffer.proofs.Labels.{get_tree}
-use Rattle.a64_buffer.proofs.Chains.{HasLast}
+use Rattle.std.proofs.Common.{sym, ◌∙◌, ap, subst, length}
+use Rattle.std.specs.Option.{unwrap_or}
+use Rattle.std.specs.FinMap.{get}
+use Rattle.a64_buffer.specs.Chain.{IsLast}
+use Rattle.a64_buffer.proofs.Chains.{last_of}
 use Rattle.a64_buffer.proofs.chain.last_use.Goals as goal
 
-pub returns-in-Some : goal.returns-in-Some
-returns-in-Some c = λ labels earlier h. subst (HasLast labels c.args.label) (get_tree c.args.heads.now c.args.label ∙ sym c.in-Some.ensures.value) (h.last c.args.label)
-
-pub returns-in-None : goal.returns-in-None
-returns-in-None c = λ labels earlier h. subst (HasLast labels c.args.label) (get_tree c.args.heads.now c.args.label ∙ sym c.in-None.ensures.value) (h.last c.args.label)
+pub returns : goal.returns
+returns c = λ labels earlier h. subst (IsLast labels c.args.label (length labels)) (sym (c.unwrap_or.ensures ∙ ap (λ o. unwrap_or o 0) c.get.ensures)) (last_of labels c.args.label (get c.args.heads.now c.args.label) (h.last c.args.label))

@@ -1,4 +1,4 @@
-use Rattle.std.proofs.Common.{◌≡◌, ◌+◌, ◌++◌, ◌∷◌, [], length, refl, ◌∙◌, ap, arith, nat_cmp}
+use Rattle.std.proofs.Common.{◌≡◌, ◌+◌, ◌++◌, ◌∷◌, [], length, refl, ◌∙◌, ap, arith}
 use Rattle.std.specs.Option.{unwrap_or}
 use Rattle.std.specs.FinMap as finmap
 use Rattle.std.proofs.lemmas.List.{length-map}
@@ -7,7 +7,6 @@ use Rattle.a64_buffer.specs.declared.site.Use.{Use}
 use Rattle.a64_buffer.specs.Buffer.{made_use, label_of}
 use Rattle.a64_buffer.specs.Chain.{labels_of}
 use Rattle.a64_buffer.specs.Sound.{seen}
-use Rattle.a64_buffer.proofs.Labels.{get_tree, inserted}
 use Rattle.a64_buffer.proofs.Uses.{labels_push}
 use Rattle.a64_buffer.proofs.Sounds.{sound_use}
 use Rattle.a64_buffer.proofs.Chains.{chained_made}
@@ -16,11 +15,11 @@ use Rattle.a64_buffer.proofs.parts.Parts.add_use.Goals as goal
 pub returns-clause-sound : goal.returns-clause-sound
 returns-clause-sound g c =
     let u : Use g.row.K.Denot = made_use g.K.MachInstLabelUse.kinds (seen c.args.self.now).labels c.args.offset (Label c.args.label) c.args.kind in
-    let uses : c.push_reserved-2.new.items.items ≡ c.args.self.now.uses.items ++ made_use g.K.MachInstLabelUse.kinds (seen c.args.self.now).labels c.args.offset (Label c.args.label) c.args.kind ∷ [] = cc (c.push_reserved-2.ensures, c.reserve.ensures.items, c.stop_of-stop.ensures) in
-    let earlier : c.push_reserved.new.items.items ≡ c.args.self.now.earlier.items ++ unwrap_or (finmap.get (finmap.from_entries {R = nat_cmp} c.args.self.now.heads.entries) c.args.label.0) 0 ∷ [] = cc (c.push_reserved.ensures, c.reserve-2.ensures.items, c.unwrap_or-earlier.ensures, c.in_ok-insert.ensures.old, get_tree c.args.self.now.heads c.args.label.0) in
+    let uses : c.push_reserved-2.new.self.items ≡ c.args.self.now.uses.items ++ made_use g.K.MachInstLabelUse.kinds (seen c.args.self.now).labels c.args.offset (Label c.args.label) c.args.kind ∷ [] = cc (c.push_reserved-2.ensures.items, c.reserve.ensures.items, c.stop_of-stop.ensures) in
+    let earlier : c.push_reserved.new.self.items ≡ c.args.self.now.earlier.items ++ unwrap_or (finmap.get (c.args.self.now.heads) c.args.label.0) 0 ∷ [] = cc (c.push_reserved.ensures.items, c.reserve-2.ensures.items, c.unwrap_or-earlier.ensures, c.in_ok-insert.ensures.old) in
     let number : c.len-number.result + 1 ≡ length (labels_of c.args.self.now.uses.items) + 1 = omega (arith, c.len-number.ensures, c.reserve.ensures.len, c.args.self.now.uses.ok.0, length-map c.args.self.now.uses.items (λ (v : Use g.row.K.Denot). label_of v.target)) in
-    let heads : finmap.from_entries {R = nat_cmp} c.insert.new.self.entries ≡ finmap.insert (finmap.from_entries {R = nat_cmp} c.args.self.now.heads.entries) c.args.label.0 (length (labels_of c.args.self.now.uses.items) + 1) = inserted c.args.self.now.heads c.insert.new.self c.args.label.0 (c.len-number.result + 1) (length (labels_of c.args.self.now.uses.items) + 1) c.in_ok-insert.ensures.updates.0 number in
+    let heads : c.insert.new.self ≡ finmap.insert (c.args.self.now.heads) c.args.label.0 (length (labels_of c.args.self.now.uses.items) + 1) = c.in_ok-insert.ensures.ok ∙ ap (finmap.insert c.args.self.now.heads c.args.label.0) number in
     record {
-      sound = sound_use g.K.MachInstLabelUse.kinds (seen c.args.self.now) (record { words = c.args.self.now.words.items; uses = c.push_reserved-2.new.items.items; labels = finmap.from_entries {R = nat_cmp} c.args.self.now.labels.entries; constants = c.args.self.now.constants.now }) c.requires.sound.sound c.args.offset (Label c.args.label) c.args.kind refl uses refl c.requires.aligned c.requires.inside c.requires.free;
-      chained = chained_made (labels_of c.args.self.now.uses.items) c.args.self.now.earlier.items (finmap.from_entries {R = nat_cmp} c.args.self.now.heads.entries) c.args.label.0 c.requires.sound.chained (labels_of c.push_reserved-2.new.items.items) c.push_reserved.new.items.items (finmap.from_entries {R = nat_cmp} c.insert.new.self.entries) (ap labels_of uses ∙ labels_push c.args.self.now.uses.items u) earlier heads;
+      sound = sound_use g.K.MachInstLabelUse.kinds (seen c.args.self.now) (record { words = c.args.self.now.words.items; uses = c.push_reserved-2.new.self.items; labels = c.args.self.now.labels; constants = c.args.self.now.constants.now }) c.requires.sound.sound c.args.offset (Label c.args.label) c.args.kind refl uses refl c.requires.aligned c.requires.inside c.requires.free;
+      chained = chained_made (labels_of c.args.self.now.uses.items) c.args.self.now.earlier.items (c.args.self.now.heads) c.args.label.0 c.requires.sound.chained (labels_of c.push_reserved-2.new.self.items) c.push_reserved.new.self.items (c.insert.new.self) (ap labels_of uses ∙ labels_push c.args.self.now.uses.items u) earlier heads;
     }

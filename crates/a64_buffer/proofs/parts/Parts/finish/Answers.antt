@@ -1,12 +1,12 @@
 use Rattle.std.proofs.Common.{◌≡◌, All, length, sym, ◌∙◌, subst, arith}
 use Rattle.std.proofs.lemmas.List.{with_items_is}
 use Rattle.a64_buffer.specs.Sound.{seen}
-use Rattle.a64_buffer.specs.Settled.{HasStop, IsCodeOf}
-use Rattle.a64_buffer.proofs.Final.{all_stop, finished}
+use Rattle.a64_buffer.specs.Settled.{MayLead, IsCodeOf}
+use Rattle.a64_buffer.proofs.Final.{all_lead, finished}
 use Rattle.a64_buffer.proofs.parts.Parts.finish.Goals as goal
 
-pub settle-requires-clause-stopped : goal.settle-requires-clause-stopped
-settle-requires-clause-stopped g c = subst (All (HasStop g.K.MachInstLabelUse.kinds)) (sym c.deref.ensures.value) (all_stop g.K.MachInstLabelUse.kinds (seen c.args.self) c.requires.sound c.requires.reached)
+pub settle-requires-clause-able : goal.settle-requires-clause-able
+settle-requires-clause-able g c = subst (All (MayLead g.K.MachInstLabelUse.kinds)) (sym c.deref.ensures.value) (all_lead g.K.MachInstLabelUse.kinds (seen c.args.self) c.requires.sound c.requires.reached)
 
 pub returns : goal.returns
 returns g c =

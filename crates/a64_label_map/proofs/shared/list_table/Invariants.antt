@@ -1,0 +1,6 @@
+use Rattle.std.proofs.Common.{◌≡◌, take}
+use Rattle.a64_label_map.specs.Shared.{numbered}
+use Rattle.a64_label_map.proofs.shared.list_table.Given as goal
+
+abbrev pub invariant-loop-number : goal.invariant-loop-number
+invariant-loop-number g l = l.list.items ≡ numbered 0 (take l.number l.table)

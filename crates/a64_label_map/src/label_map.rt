@@ -1,0 +1,139 @@
+//! A map from numbers.
+
+ghost use Rattle.std.specs.Prelude.{◌≡◌, ◌+◌, ◌*◌, ◌^◌, ◌<◌, ◌≤◌, IfOk, OnOk, OnErr, if◌then◌else◌, is_some};
+ghost use Rattle.std.specs.FinMap as map;
+ghost use Rattle.std.specs.Ordering.{nat_cmp};
+
+use crate::shared::{extend, list_others, list_table, put, value_at};
+use std::alloc::{AllocError, Global};
+use std::collections::BTreeMap;
+use std::marker::Model;
+
+/// A map from numbers to values, which contracts see as a finite map.
+///
+/// The values of small numbers stand in a table, whose length is at most twice that of the map, and
+/// 128 more. So a number costs a step of the table where most numbers are dense, and a search of a
+/// tree where it lies far beyond the others.
+#[derive(Drop)]
+pub struct LabelMap<V> {
+    /// The values of the numbers below the table's length.
+    table: Vec<Option<V>>,
+    /// The values of the other numbers.
+    others: BTreeMap<u32, V>,
+    /// How many numbers have a value.
+    count: u64,
+}
+
+impl<V> Model for LabelMap<V> {
+    ghost use Rattle.std.specs.Coded.{coded_ℕ};
+    ghost use Rattle.std.specs.Ordering.{nat_cmp};
+    ghost use Rattle.std.specs.FinMap.{FinMap, code};
+    ghost use Rattle.a64_label_map.specs.Shared.{whole, IsBalanced};
+
+    ghost Value = { FinMap nat_cmp V };
+
+    ghost coded = { code coded_ℕ V.code };
+
+    ghost view = { λ a. whole a.table.items a.others };
+
+    ghost invariant = { λ a. IsBalanced a.table.items a.others a.count };
+}
+
+/// A count, and one more where there was no value before.
+fn counted<V: Copy>(count: u64, old: Option<V>) -> u64
+    ensures least { count ≤ result }
+    ensures most { result ≤ count + (if is_some old then 0 else 1) }
+{
+    match old {
+        Some(_) => count,
+        None => count.saturating_add(1),
+    }
+}
+
+/// The length of a table that gets at least another length, and no more than a bound: twice its own
+/// where it may, so that it seldom grows.
+fn grown(len: usize, least: usize, bound: u64) -> usize
+    requires short { least ≤ 2 ^ 32 }
+    requires within { least ≤ bound }
+    ensures least { least ≤ result }
+    ensures most { result ≤ bound }
+    ensures short { result ≤ 2 ^ 32 }
+{
+    let most = bound.min(1 << 32) as usize;
+    len.saturating_mul(2).min(most).max(least)
+}
+
+impl<V: Copy> LabelMap<V> {
+    /// A map without numbers. It takes no memory.
+    pub fn new(alloc: Global) -> Self
+        ensures { result ≡ map.empty }
+    {
+        LabelMap {
+            table: Vec::new(alloc),
+            others: BTreeMap::new(alloc),
+            count: 0,
+        }
+    }
+
+    /// The value of a number; `None` where it has none.
+    pub fn get(&self, number: u32) -> Option<V>
+        ensures { result ≡ map.get self.now number }
+    {
+        value_at(&self.table, &self.others, number)
+    }
+
+    /// Whether a number has a value.
+    pub fn contains(&self, number: u32) -> bool
+        ensures { result ≡ map.contains_key self.now number }
+    {
+        self.get(number).is_some()
+    }
+
+    /// Lengthens the table to have a number, where there are entries enough for such a table.
+    fn make_room(&mut self, number: u32) -> Result<(), AllocError>
+        ensures { self.new ≡ self.old }
+    {
+        let len = self.table.len();
+        let least = number as usize + 1;
+        if least <= len {
+            return Ok(());
+        }
+        let bound = self.count.saturating_add(64).saturating_mul(2);
+        if least as u64 > bound {
+            return Ok(());
+        }
+        let end = grown(len, least, bound);
+        self.table.reserve(end - len)?;
+        extend(&mut self.table, &mut self.others, end);
+        Ok(())
+    }
+
+    /// Gives a number a value, and answers the one that it had.
+    ///
+    /// # Errors
+    ///
+    /// Want of memory, and then nothing has changed.
+    pub fn insert(&mut self, number: u32, value: V) -> Result<Option<V>, AllocError>
+        ensures old { IfOk result (λ old. old ≡ map.get self.old number) }
+        ensures ok { OnOk result (self.new ≡ map.insert self.old number value) }
+        ensures err { OnErr result (self.new ≡ self.old) }
+    {
+        self.make_room(number)?;
+        let old = put(&mut self.table, &mut self.others, number, value)?;
+        self.count = counted(self.count, old);
+        Ok(old)
+    }
+
+    /// The numbers with their values, by number.
+    ///
+    /// # Errors
+    ///
+    /// Want of memory.
+    pub fn entries(&self, alloc: Global) -> Result<Vec<(u32, V)>, AllocError>
+        ensures { IfOk result (λ list. list.items ≡ map.entries self.now) }
+    {
+        let list = list_table(alloc, &self.table)?;
+        let list = list_others(list, &self.others)?;
+        Ok(list)
+    }
+}
