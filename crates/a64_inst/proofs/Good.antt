@@ -1,7 +1,9 @@
 -- What is known of the operands of an instruction without a fault.
-use Rattle.std.proofs.Common.{ℤ, pos, negsuc, ◌≡◌, ◌<◌, ◌≤◌, ◌%◌, ◌^◌, Bool, true, false, None, refl, arith}
+use Rattle.std.proofs.Common.{ℕ, ℤ, pos, negsuc, ◌≡◌, ◌<◌, ◌≤◌, ◌%◌, ◌^◌, Bool, true, false, List, [], ◌∷◌, Option, None, refl, arith}
+use Rattle.std.specs.Ordering.{nat_cmp}
+use Rattle.std.specs.FinMap.{FinMap}
 use Rattle.std.specs.Prelude.{◌&&◌, nat_lt, nat_eq}
-use Rattle.std.proofs.lemmas.Bool.{leb-true, ltb-true}
+use Rattle.std.proofs.lemmas.Bool.{leb-true, ltb-true, and_parts}
 use Rattle.std.proofs.lemmas.Int.{ints}
 use Rattle.a64_base.specs.declared.size.OperandSize.{OperandSize}
 use Rattle.a64_base.specs.declared.target.BranchTarget.{BranchTarget}
@@ -10,13 +12,27 @@ use Rattle.a64_base.specs.Target.{FitsField, IsWithinField}
 use Rattle.a64_base.specs.Words.{words_of}
 use Rattle.a64_base.specs.declared.size.OperandSize.TheVariants.{Size32, Size64}
 use Rattle.a64_imms.specs.declared.move_wide.MoveWideConst.{MoveWideConst}
+use Rattle.a64_inst.specs.declared.emission.EmitFlags.{EmitFlags}
+use Rattle.a64_inst.specs.declared.frame.FrameLayout.{FrameLayout}
+use Rattle.a64_inst.specs.declared.virtuals.VirtualRegisters.{VirtualRegisters}
+use Rattle.a64_inst.specs.declared.inst.Inst.{Inst}
+use Rattle.a64_inst.specs.declared.fault.OwnFault.{OwnFault}
+use Rattle.a64_inst.specs.declared.fault.OwnFault.TheVariants as own
 use Rattle.a64_inst.specs.Operands.{is_wide_in, is_offset26}
-use Rattle.a64_inst.specs.Faults.{bad_unless, jump_fault}
+use Rattle.a64_inst.specs.ControlOperands.{are_jump_operands}
+use Rattle.a64_inst.specs.Faults.{first_of, constant_size, has_operands, is_within_constant, has_mode, has_scratch, has_constant, inst_fault}
 
--- a test that was passed
-pub good : (b : Bool) → bad_unless b ≡ None → b ≡ true
-good true e = refl
-good false e = absurd cc
+-- where no test fails, the first was passed
+pub first_passed : (b : Bool) (fault : OwnFault) (tests : List (Bool × OwnFault)) → first_of ((b, fault) ∷ tests) ≡ None → b ≡ true
+first_passed true fault tests e = refl
+first_passed false fault tests e = absurd cc
+
+-- the operands of an instruction without a fault are in their sets
+pub operands_good : (frame : FrameLayout) (flags : EmitFlags) (constants : FinMap nat_cmp (List ℕ)) (virtuals : VirtualRegisters) (inst : Inst) → inst_fault frame flags constants virtuals inst ≡ None → has_operands frame flags virtuals inst ≡ true
+operands_good frame flags constants virtuals inst e =
+    let size : Option ℕ = constant_size constants inst in
+    let first = first_passed (has_operands frame flags virtuals inst && is_within_constant size inst) own.BadOperand ((has_mode inst, own.BadMode) ∷ (has_scratch frame inst, own.ScratchConflict) ∷ (has_constant size inst, own.UnknownConstant) ∷ []) e in
+    (and_parts (has_operands frame flags virtuals inst) (is_within_constant size inst) first).0
 
 second : (a b : Bool) → (a && b) ≡ true → b ≡ true
 second true b e = e
@@ -35,7 +51,7 @@ within_26 (negsuc n) e =
     let small : n < 2 ^ 27 = ltb-true n (2 ^ 27) (second (nat_eq (n % 4) 3) (nat_lt n (2 ^ 27)) e) in
     record { low = omega (arith, ints); high = omega (arith, ints) }
 
-pub jump_fits : (dest : BranchTarget) → jump_fault dest ≡ None → FitsField 26 dest
-unfolding jump_fault
+pub jump_fits : (dest : BranchTarget) → are_jump_operands dest ≡ true → FitsField 26 dest
+unfolding are_jump_operands
 jump_fits (Label label) e = tt
-jump_fits (ResolvedOffset offset) e = within_26 offset (good (is_offset26 offset) e)
+jump_fits (ResolvedOffset offset) e = within_26 offset e

@@ -1,82 +1,68 @@
 -- What is wrong with an instruction by itself.
-use Rattle.std.specs.Prelude.{Bool, true, false, not, ◌&&◌, ◌||◌, if◌then◌else◌, Option, None, Some}
-use Rattle.a64_base.specs.declared.reg.Reg.{Reg}
-use Rattle.a64_base.specs.declared.size.OperandSize.{OperandSize}
-use Rattle.a64_base.specs.declared.target.BranchTarget.{BranchTarget}
-use Rattle.a64_base.specs.declared.target.BranchTarget.TheVariants.{Label, ResolvedOffset}
-use Rattle.a64_base.specs.OperandSizes.{is_64_bits}
-use Rattle.a64_imms.specs.declared.imm12.Imm12.{Imm12}
-use Rattle.a64_imms.specs.declared.imm_logic.ImmLogic.{ImmLogic}
-use Rattle.a64_imms.specs.declared.move_wide.MoveWideConst.{MoveWideConst}
+use Rattle.std.specs.Prelude.{ℕ, Bool, true, false, ◌&&◌, ◌||◌, List, [], ◌∷◌, length, Option, None, Some, is_none, is_some, option_map, option_and_then}
+use Rattle.std.specs.Ordering.{nat_cmp}
+use Rattle.std.specs.FinMap.{FinMap, get}
+use Rattle.a64_inst.specs.declared.emission.EmitFlags.{EmitFlags}
+use Rattle.a64_inst.specs.declared.frame.FrameLayout.{FrameLayout}
+use Rattle.a64_inst.specs.declared.virtuals.VirtualRegisters.{VirtualRegisters}
 use Rattle.a64_inst.specs.declared.inst.Inst.{Inst}
-use Rattle.a64_inst.specs.declared.inst.Inst.TheVariants.{Nop4, AluRRR, AluRRImm12, AluRRImmLogic, MovWide, MovK, Ret, Jump}
-use Rattle.a64_inst.specs.declared.operator.ALUOp.{ALUOp}
-use Rattle.a64_inst.specs.declared.operator.ALUOp.TheVariants.{Add, Sub, AddS, SubS, And, Orr, Eor, AndS, AndNot, OrrNot, EorNot, SMulH, UMulH}
+use Rattle.a64_inst.specs.declared.inst.Inst.TheVariants as insts
 use Rattle.a64_inst.specs.declared.fault.OwnFault.{OwnFault}
-use Rattle.a64_inst.specs.declared.fault.OwnFault.TheVariants.{BadOperand}
-use Rattle.a64_inst.specs.Operands.{is_register_or_zero, is_register_or_stack, is_same_register, is_imm12, is_logic_of, is_wide_in, is_offset26}
+use Rattle.a64_inst.specs.declared.fault.OwnFault.TheVariants as own
+use Rattle.a64_inst.specs.IntegerOperands as integer
+use Rattle.a64_inst.specs.ControlOperands as control
 
--- the fault of bad operands, where a test of the operands fails
-abbrev pub bad_unless : Bool → Option OwnFault
-bad_unless good = if good then None else Some BadOperand
+-- the number of the constant that an instruction loads, where it loads one; none that exists does
+abbrev pub named_constant : Inst → Option ℕ
+named_constant _ = None
 
--- ---- one definition for each instruction
+-- the size in bytes of that constant, where it is among these: the bytes of constants by their numbers
+abbrev pub constant_size : FinMap nat_cmp (List ℕ) → Inst → Option ℕ
+constant_size constants inst = option_and_then (λ number. option_map length (get constants number)) (named_constant inst)
 
--- the high halves of products are there at 64 bits alone
-abbrev pub is_high_product : ALUOp → Bool
-is_high_product SMulH = true
-is_high_product UMulH = true
-is_high_product _ = false
+-- the fault of the first test that fails
+abbrev pub first_of : List (Bool × OwnFault) → Option OwnFault
+first_of [] = None
+first_of ((true, fault) ∷ tests) = first_of tests
+first_of ((false, fault) ∷ tests) = Some fault
 
-unfoldable pub alu_rrr_fault : ALUOp → OperandSize → Reg → Reg → Reg → Option OwnFault
-alu_rrr_fault op size rd rn rm =
-    bad_unless ((is_register_or_zero rd && (is_register_or_zero rn && is_register_or_zero rm)) && (not (is_high_product op) || is_64_bits size))
+-- an instruction's operands are judged by the frame, the settings, and whether registers may be virtual
+module _ (frame : FrameLayout) (flags : EmitFlags) (virtuals : VirtualRegisters) where
+  -- its operands are in their sets
+  abbrev pub has_operands : Inst → Bool
+  has_operands insts.Nop4 = true
+  has_operands (insts.AluRRR alu_op size rd rn rm) = integer.are_alu_rrr_operands virtuals alu_op size rd rn rm
+  has_operands (insts.AluRRImm12 alu_op size rd rn imm12) = integer.are_alu_rr_imm12_operands virtuals alu_op rd rn imm12
+  has_operands (insts.AluRRImmLogic alu_op size rd rn imml) = integer.are_alu_rr_imm_logic_operands virtuals alu_op size rd rn imml
+  has_operands (insts.MovWide op rd imm size) = integer.are_mov_wide_operands virtuals rd imm size
+  has_operands (insts.MovK rd rn imm size) = integer.are_mov_k_operands virtuals rd rn imm size
+  has_operands insts.Ret = true
+  has_operands (insts.Jump dest) = control.are_jump_operands dest
 
--- operators that add or subtract, with the registers that their results may go to: one that sets
--- the flags may drop its result into the zero register, the others may set the stack pointer
-abbrev pub is_add_sub_result : ALUOp → Reg → Bool
-is_add_sub_result Add rd = is_register_or_stack rd
-is_add_sub_result Sub rd = is_register_or_stack rd
-is_add_sub_result AddS rd = is_register_or_zero rd
-is_add_sub_result SubS rd = is_register_or_zero rd
-is_add_sub_result _ rd = false
+-- it loads no more than its constant, which has this size; none that exists loads one
+abbrev pub is_within_constant : Option ℕ → Inst → Bool
+is_within_constant size _ = true
 
-unfoldable pub alu_rr_imm12_fault : ALUOp → Reg → Reg → Imm12 → Option OwnFault
-alu_rr_imm12_fault op rd rn imm12 = bad_unless (is_add_sub_result op rd && (is_register_or_stack rn && is_imm12 imm12))
+-- its addressing mode exists; none that exists has one
+abbrev pub has_mode : Inst → Bool
+has_mode _ = true
 
--- the logical operators, likewise
-abbrev pub is_logic_result : ALUOp → Reg → Bool
-is_logic_result And rd = is_register_or_stack rd
-is_logic_result Orr rd = is_register_or_stack rd
-is_logic_result Eor rd = is_register_or_stack rd
-is_logic_result AndNot rd = is_register_or_stack rd
-is_logic_result OrrNot rd = is_register_or_stack rd
-is_logic_result EorNot rd = is_register_or_stack rd
-is_logic_result AndS rd = is_register_or_zero rd
-is_logic_result _ rd = false
+-- the scratch registers that its words need are none of its own; none that exists needs one
+abbrev pub has_scratch : FrameLayout → Inst → Bool
+has_scratch frame _ = true
 
-unfoldable pub alu_rr_imm_logic_fault : ALUOp → OperandSize → Reg → Reg → ImmLogic → Option OwnFault
-alu_rr_imm_logic_fault op size rd rn imml =
-    bad_unless (is_logic_result op rd && (is_register_or_zero rn && is_logic_of size imml))
+-- the constant that it loads, where it loads one, is there and has a size
+abbrev pub has_constant : Option ℕ → Inst → Bool
+has_constant size inst = is_none (named_constant inst) || is_some size
 
-unfoldable pub mov_wide_fault : Reg → MoveWideConst → OperandSize → Option OwnFault
-mov_wide_fault rd imm size = bad_unless (is_register_or_zero rd && is_wide_in size imm)
+-- what is wrong with an instruction: its operands, its mode, its scratch registers, its constant
+abbrev pub fault_with : FrameLayout → EmitFlags → Option ℕ → VirtualRegisters → Inst → Option OwnFault
+fault_with frame flags size virtuals inst = first_of (
+    (has_operands frame flags virtuals inst && is_within_constant size inst, own.BadOperand)
+    ∷ (has_mode inst, own.BadMode)
+    ∷ (has_scratch frame inst, own.ScratchConflict)
+    ∷ (has_constant size inst, own.UnknownConstant) ∷ [])
 
--- the register whose other halfwords stay is the result
-unfoldable pub mov_k_fault : Reg → Reg → MoveWideConst → OperandSize → Option OwnFault
-mov_k_fault rd rn imm size = bad_unless (is_same_register rd rn && is_wide_in size imm)
-
-unfoldable pub jump_fault : BranchTarget → Option OwnFault
-jump_fault (Label label) = None
-jump_fault (ResolvedOffset offset) = bad_unless (is_offset26 offset)
-
--- what is wrong with an instruction by itself
-abbrev pub inst_fault : Inst → Option OwnFault
-inst_fault Nop4 = None
-inst_fault (AluRRR alu_op size rd rn rm) = alu_rrr_fault alu_op size rd rn rm
-inst_fault (AluRRImm12 alu_op size rd rn imm12) = alu_rr_imm12_fault alu_op rd rn imm12
-inst_fault (AluRRImmLogic alu_op size rd rn imml) = alu_rr_imm_logic_fault alu_op size rd rn imml
-inst_fault (MovWide op rd imm size) = mov_wide_fault rd imm size
-inst_fault (MovK rd rn imm size) = mov_k_fault rd rn imm size
-inst_fault Ret = None
-inst_fault (Jump dest) = jump_fault dest
+-- the same, of an instruction that may load these constants
+abbrev pub inst_fault : FrameLayout → EmitFlags → FinMap nat_cmp (List ℕ) → VirtualRegisters → Inst → Option OwnFault
+inst_fault frame flags constants virtuals inst = fault_with frame flags (constant_size constants inst) virtuals inst

@@ -1,3 +1,6 @@
 pub mod State
+pub mod Groups
 pub mod Operands
+pub mod IntegerOperands
+pub mod ControlOperands
 pub mod Faults

@@ -1,5 +1,5 @@
 -- Which operands an instruction may have (Arm Architecture Reference Manual, C6 and C7).
-use Rattle.std.specs.Prelude.{ℕ, ℤ, pos, negsuc, ◌%◌, ◌^◌, Bool, true, false, ◌&&◌, ◌||◌, nat_lt, nat_le, nat_eq, if◌then◌else◌, Option, None, Some, is_some}
+use Rattle.std.specs.Prelude.{ℤ, pos, negsuc, ◌%◌, ◌^◌, Bool, true, false, ◌&&◌, ◌||◌, nat_lt, nat_le, nat_eq}
 use Rattle.a64_base.specs.declared.reg.Reg.{Reg}
 use Rattle.a64_base.specs.declared.reg.Reg.TheVariants.{Real, Virtual}
 use Rattle.a64_base.specs.declared.reg.RegClass.{RegClass}
@@ -10,36 +10,40 @@ use Rattle.a64_imms.specs.declared.imm12.Imm12.{Imm12}
 use Rattle.a64_imms.specs.declared.imm_logic.ImmLogic.{ImmLogic}
 use Rattle.a64_imms.specs.declared.move_wide.MoveWideConst.{MoveWideConst}
 use Rattle.a64_imms.specs.Logic.{is_imm_logic}
+use Rattle.a64_inst.specs.declared.virtuals.VirtualRegisters.{VirtualRegisters}
+use Rattle.a64_inst.specs.declared.virtuals.VirtualRegisters.TheVariants.{Refused, Allowed}
 
--- the number of an integer register other than the stack pointer
-abbrev pub number_in : RegClass → ℕ → Option ℕ
-number_in Int n = if nat_lt n 32 then Some n else None
-number_in Float n = None
+-- ---- registers
 
--- the number of a register that is x0 to x30, or the zero register
-abbrev pub register_or_zero : Reg → Option ℕ
-register_or_zero (Real p) = number_in p.class p.number
-register_or_zero (Virtual index class) = None
+abbrev pub are_allowed : VirtualRegisters → Bool
+are_allowed Refused = false
+are_allowed Allowed = true
 
-abbrev pub is_register_or_zero : Reg → Bool
-is_register_or_zero reg = is_some (register_or_zero reg)
+abbrev pub is_int : RegClass → Bool
+is_int Int = true
+is_int Float = false
 
--- an integer register other than the zero register
-abbrev pub is_stack_in : RegClass → ℕ → Bool
-is_stack_in Int n = nat_lt n 31 || nat_eq n 63
-is_stack_in Float n = false
+-- x0 to x30, or the zero register. Of a virtual register, where they are allowed, the class alone counts.
+abbrev pub is_register_or_zero : VirtualRegisters → Reg → Bool
+is_register_or_zero virtuals (Real p) = is_int p.class && nat_lt p.number 32
+is_register_or_zero virtuals (Virtual index class) = are_allowed virtuals && is_int class
 
-abbrev pub is_register_or_stack : Reg → Bool
-is_register_or_stack (Real p) = is_stack_in p.class p.number
-is_register_or_stack (Virtual index class) = false
+-- x0 to x30, or the stack pointer
+abbrev pub is_register_or_stack : VirtualRegisters → Reg → Bool
+is_register_or_stack virtuals (Real p) = is_int p.class && (nat_lt p.number 31 || nat_eq p.number 63)
+is_register_or_stack virtuals (Virtual index class) = are_allowed virtuals && is_int class
 
--- two registers other than the stack pointer are one
-abbrev pub is_same_number : Option ℕ → Option ℕ → Bool
-is_same_number (Some m) (Some n) = nat_eq m n
-is_same_number _ _ = false
+abbrev pub is_same_class : RegClass → RegClass → Bool
+is_same_class Int Int = true
+is_same_class Float Float = true
+is_same_class _ _ = false
 
+-- two registers may be one: a virtual one may be any
 abbrev pub is_same_register : Reg → Reg → Bool
-is_same_register a b = is_same_number (register_or_zero a) (register_or_zero b)
+is_same_register (Real p) (Real q) = is_same_class p.class q.class && nat_eq p.number q.number
+is_same_register _ _ = true
+
+-- ---- immediates and offsets
 
 -- a halfword stands inside a register of the size
 abbrev pub is_wide_in : OperandSize → MoveWideConst → Bool

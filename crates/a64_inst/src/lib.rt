@@ -1,14 +1,22 @@
 //! AArch64 instructions, and what emission is told beside them.
 #![tactic(auto)]
 
+mod copied;
 mod emission;
 mod fault;
 mod frame;
+mod group;
 mod inst;
-mod operator;
+mod item;
+mod operand;
+mod own_fault;
+mod virtuals;
 
+pub use crate::item::Item;
+pub use a64_ops::{ALUOp, AtomicRMWOp, MoveWideOp};
 pub use emission::{EmitFlags, EmitInfo, EmitState};
 pub use fault::OwnFault;
 pub use frame::FrameLayout;
+pub use group::Group;
 pub use inst::Inst;
-pub use operator::{ALUOp, AtomicRMWOp, MoveWideOp};
+pub use virtuals::VirtualRegisters;

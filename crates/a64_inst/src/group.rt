@@ -1,0 +1,13 @@
+//! The groups of instructions.
+
+/// A group of instructions, by the classes of the Arm Architecture Reference Manual, C4.1.
+///
+/// A function over all instructions looks at the group first, and then goes on in a function over
+/// the instructions of that group.
+#[derive(Clone, Copy, Debug)]
+pub enum Group {
+    /// Integer operations on registers and immediates.
+    Integer,
+    /// Branches and what stands beside them.
+    Control,
+}

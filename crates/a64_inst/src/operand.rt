@@ -1,0 +1,78 @@
+//! Tests of single operands.
+
+ghost use Rattle.std.specs.Prelude.{◌≡◌};
+ghost use Rattle.a64_inst.specs.Operands as operands;
+
+use crate::virtuals::VirtualRegisters;
+use a64_base::{OperandSize, Reg, RegClass};
+use a64_imms::{Imm12, ImmLogic, MoveWideConst};
+
+/// Whether a register is x0 to x30, or the zero register.
+pub fn is_register_or_zero(virtuals: VirtualRegisters, reg: Reg) -> bool
+    ensures { result ≡ operands.is_register_or_zero virtuals reg }
+{
+    match reg {
+        Reg::Real(p) => match p.class() {
+            RegClass::Int => p.hw_enc() < 32,
+            RegClass::Float => false,
+        },
+        Reg::Virtual { class, .. } => virtuals.are_allowed() && matches!(class, RegClass::Int),
+    }
+}
+
+/// Whether a register is x0 to x30, or the stack pointer.
+pub fn is_register_or_stack(virtuals: VirtualRegisters, reg: Reg) -> bool
+    ensures { result ≡ operands.is_register_or_stack virtuals reg }
+{
+    match reg {
+        Reg::Real(p) => match p.class() {
+            RegClass::Int => p.hw_enc() < 31 || p.hw_enc() == 63,
+            RegClass::Float => false,
+        },
+        Reg::Virtual { class, .. } => virtuals.are_allowed() && matches!(class, RegClass::Int),
+    }
+}
+
+/// Whether two registers may be one; a virtual one may be any.
+pub fn is_same_register(a: &Reg, b: &Reg) -> bool
+    ensures { result ≡ operands.is_same_register a.now b.now }
+{
+    match a {
+        Reg::Real(p) => match b {
+            Reg::Real(q) => p.class() == q.class() && p.hw_enc() == q.hw_enc(),
+            Reg::Virtual { .. } => true,
+        },
+        Reg::Virtual { .. } => true,
+    }
+}
+
+/// Whether a halfword stands inside a register of the size.
+pub fn is_wide_in(size: OperandSize, imm: MoveWideConst) -> bool
+    ensures { result ≡ operands.is_wide_in size imm }
+{
+    match size {
+        OperandSize::Size32 => imm.shift <= 1,
+        OperandSize::Size64 => imm.shift <= 3,
+    }
+}
+
+/// Whether an immediate of 12 bits has no more bits.
+pub fn is_imm12(imm: Imm12) -> bool
+    ensures { result ≡ operands.is_imm12 imm }
+{
+    imm.bits < 4096
+}
+
+/// Whether a bitmask immediate is one of the size.
+pub fn is_logic_of(size: OperandSize, imm: ImmLogic) -> bool
+    ensures { result ≡ operands.is_logic_of size imm }
+{
+    imm.size == size && imm.is_lawful()
+}
+
+/// Whether a branch of 26 bits can hold an offset in bytes.
+pub fn is_offset26(offset: i32) -> bool
+    ensures { result ≡ operands.is_offset26 offset }
+{
+    offset % 4 == 0 && offset >= -(1 << 27) && offset < 1 << 27
+}
