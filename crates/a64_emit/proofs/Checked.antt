@@ -1,21 +1,24 @@
 -- What the checks before emission leave to be relied on.
-use Rattle.std.proofs.Common.{ℕ, ◌≡◌, ◌+◌, ◌*◌, ◌^◌, ◌<◌, ◌≤◌, suc, zero, Bool, true, false, cond, not, List, [], ◌∷◌, ◌++◌, length, get_or, take, drop, option_map, Option, None, Some, refl, sym, ap, ◌∙◌, arith, inl, inr, eqb, append_assoc}
+use Rattle.std.proofs.Common.{ℕ, ◌≡◌, ◌+◌, ◌^◌, ◌<◌, ◌≤◌, suc, zero, Bool, true, false, cond, not, List, [], ◌∷◌, ◌++◌, length, get_or, take, drop, option_map, Option, None, Some, refl, sym, ap, ◌∙◌, arith, inl, inr, eqb, append_assoc}
 use Rattle.std.specs.Prelude.{◌||◌, nat_le, min}
 use Rattle.std.specs.Option.{option_map_or}
 use Rattle.std.specs.List.{slice_get}
+use Rattle.std.specs.Ordering.{nat_cmp}
+use Rattle.std.specs.FinMap.{FinMap}
 use Rattle.std.proofs.lemmas.Bool.{eqb-true, eq-eqb, false≢true, leb-true, le-leb, cases_lt}
-use Rattle.std.proofs.lemmas.List.{take-append-drop, drop_more, length-append, append-nil}
+use Rattle.std.proofs.lemmas.List.{take-append-drop, drop_more, append-nil}
 use Rattle.std.proofs.lemmas.List.Elements.{filter_map-append}
-use Rattle.std.proofs.lemmas.List.Sums.{sum_by-cons, sum_by-take-le}
+use Rattle.std.proofs.lemmas.List.Sums.{sum_by-take-le}
 use Rattle.a64_base.specs.declared.entity.MachLabel.{MachLabel}
 use Rattle.a64_inst.specs.declared.emission.EmitFlags.{EmitFlags}
 use Rattle.a64_inst.specs.declared.frame.FrameLayout.{FrameLayout}
-use Rattle.a64_emit.specs.declared.item.Item.{Item}
-use Rattle.a64_emit.specs.declared.item.Item.TheVariants.{Bind, Emit}
+use Rattle.a64_inst.specs.declared.item.Item.{Item}
+use Rattle.a64_inst.specs.declared.item.Item.TheVariants.{Bind, Emit}
+use Rattle.a64_buffer.specs.declared.force.ForceVeneers.{ForceVeneers}
 use Rattle.a64_emit.specs.declared.error.EmitError.{EmitError}
 use Rattle.a64_emit.specs.declared.error.EmitError.TheVariants.{LabelBoundTwice, UnboundLabel, TooLarge}
-use Rattle.a64_emit.specs.Cells.{cells_of, all_cells}
-use Rattle.a64_emit.specs.Bounds.{size_of, charge_of, whole, shortest, least, lesser, ranges_in}
+use Rattle.a64_emit.specs.Cells.{all_cells}
+use Rattle.a64_emit.specs.Bounds.{growth_of, whole, shortest, least, lesser, ranges_in}
 use Rattle.a64_emit.specs.Faults.{own_fault, binding_of, bindings, is_among, first_repeat, first_missing, second_binding, unbound_use, used_labels, too_large, is_too_large, or_else, fault_of}
 
 -- ---- no label is bound twice
@@ -139,38 +142,36 @@ module _ (frame : FrameLayout) (flags : EmitFlags) (items : List Item) where
   pub within_ranges : too_large frame flags items ≡ None → (k : ℕ) → k < length (ranges_in (all_cells frame flags items)) → whole frame flags items < get_or (ranges_in (all_cells frame flags items)) k 0
   within_ranges none k h = below_all (ranges_in (all_cells frame flags items)) (whole frame flags items) (neither (nat_le (2 ^ 31) (whole frame flags items)) (option_map_or (λ range. nat_le range (whole frame flags items)) (shortest frame flags items) false) (small none)).1 k h
 
-  -- the sizes are part of the whole
-  pub sizes_in_whole : (n : ℕ) → 4 * length (all_cells frame flags (take n items)) ≤ whole frame flags items
-  sizes_in_whole n = omega (arith, sizes (take n items), sum_by-take-le (λ item. size_of (cells_of frame flags item) + charge_of (cells_of frame flags item)) items n)
-    where
-      sizes : (xs : List Item) → 4 * length (all_cells frame flags xs) ≤ whole frame flags xs
-      sizes [] = omega arith
-      sizes (x ∷ xs) = omega (arith, sizes xs, length-append (cells_of frame flags x) (all_cells frame flags xs), sum_by-cons (λ item. size_of (cells_of frame flags item) + charge_of (cells_of frame flags item)) x xs)
+  -- the first items grow no longer than all
+  pub first_in_whole : (n : ℕ) → whole frame flags (take n items) ≤ whole frame flags items
+  first_in_whole n = sum_by-take-le (growth_of frame flags) items n
 
-  -- no fault, by the three checks
+-- ---- the first fault, by the four checks
+
+module _ (frame : FrameLayout) (flags : EmitFlags) (constants : FinMap nat_cmp (List ℕ)) (force : ForceVeneers) (items : List Item) where
   -- the first fault of items without a fault of their own
   abbrev later : Option EmitError
   later = or_else (second_binding items) (or_else (unbound_use frame flags items) (too_large frame flags items))
 
-  pub faultless : own_fault items ≡ None → second_binding items ≡ None → unbound_use frame flags items ≡ None → too_large frame flags items ≡ None → fault_of frame flags items ≡ None
+  pub faultless : own_fault frame flags constants items ≡ None → second_binding items ≡ None → unbound_use frame flags items ≡ None → too_large frame flags items ≡ None → fault_of frame flags constants force items ≡ None
   faultless own a b c =
       ap (λ o. or_else o later) own
       ∙ ap (λ o. or_else o (or_else (unbound_use frame flags items) (too_large frame flags items))) a ∙ ap (λ o. or_else o (too_large frame flags items)) b ∙ c
 
-  pub fault_at_item : (error : EmitError) → own_fault items ≡ Some error → fault_of frame flags items ≡ Some error
+  pub fault_at_item : (error : EmitError) → own_fault frame flags constants items ≡ Some error → fault_of frame flags constants force items ≡ Some error
   fault_at_item error own = ap (λ o. or_else o later) own
 
-  pub fault_at_binding : (error : EmitError) → own_fault items ≡ None → second_binding items ≡ Some error → fault_of frame flags items ≡ Some error
+  pub fault_at_binding : (error : EmitError) → own_fault frame flags constants items ≡ None → second_binding items ≡ Some error → fault_of frame flags constants force items ≡ Some error
   fault_at_binding error own a =
       ap (λ o. or_else o later) own
       ∙ ap (λ o. or_else o (or_else (unbound_use frame flags items) (too_large frame flags items))) a
 
-  pub fault_at_use : (error : EmitError) → own_fault items ≡ None → second_binding items ≡ None → unbound_use frame flags items ≡ Some error → fault_of frame flags items ≡ Some error
+  pub fault_at_use : (error : EmitError) → own_fault frame flags constants items ≡ None → second_binding items ≡ None → unbound_use frame flags items ≡ Some error → fault_of frame flags constants force items ≡ Some error
   fault_at_use error own a b =
       ap (λ o. or_else o later) own
       ∙ ap (λ o. or_else o (or_else (unbound_use frame flags items) (too_large frame flags items))) a ∙ ap (λ o. or_else o (too_large frame flags items)) b
 
-  pub fault_at_size : (error : EmitError) → own_fault items ≡ None → second_binding items ≡ None → unbound_use frame flags items ≡ None → too_large frame flags items ≡ Some error → fault_of frame flags items ≡ Some error
+  pub fault_at_size : (error : EmitError) → own_fault frame flags constants items ≡ None → second_binding items ≡ None → unbound_use frame flags items ≡ None → too_large frame flags items ≡ Some error → fault_of frame flags constants force items ≡ Some error
   fault_at_size error own a b c =
       ap (λ o. or_else o later) own
       ∙ ap (λ o. or_else o (or_else (unbound_use frame flags items) (too_large frame flags items))) a ∙ ap (λ o. or_else o (too_large frame flags items)) b ∙ c

@@ -4,9 +4,13 @@ pub mod Lists
 pub mod Emitted
 pub mod Checked
 pub mod Sites
+pub mod Later
+pub mod UseLists
 pub mod Composed
 pub mod Recorded
 pub mod Steps
 pub mod Owns
 pub mod Operands
+pub mod OneWord
 pub mod Shapes
+pub mod WrongAnswers

@@ -1,12 +1,17 @@
 -- The uses of cells that stand one behind another.
-use Rattle.std.proofs.Common.{ℕ, ◌≡◌, ◌+◌, ◌*◌, ◌<◌, ◌≤◌, suc, zero, List, [], ◌∷◌, ◌++◌, length, get_or, Option, None, Some, refl, sym, ap, ◌∙◌, subst, arith}
-use Rattle.std.specs.List.{flat_map, filter_map, slice_get, cons_option}
-use Rattle.std.proofs.lemmas.List.{length-append}
-use Rattle.a64_emit.specs.Cells.{Cell, Site}
-use Rattle.a64_emit.specs.Emission.{starts_from, sites_from}
+use Rattle.std.proofs.Common.{ℕ, ◌≡◌, ◌+◌, ◌*◌, ◌<◌, suc, zero, List, [], ◌∷◌, ◌++◌, length, get_or, Option, None, Some, refl, sym, ap, ◌∙◌, subst, arith, append_assoc}
+use Rattle.std.specs.List.{filter_map, cons_option}
+use Rattle.std.proofs.lemmas.List.{append-nil}
+use Rattle.a64_emit.specs.declared.site.Site.{Site}
+use Rattle.a64_emit.specs.Cells.{Cell}
 use Rattle.a64_emit.specs.Layout.{placed, standing}
 
 -- ---- from uses to cells, and back
+
+-- the uses of cells that stand from a place on
+abbrev pub sites_from : ℕ → List Cell → List (ℕ × Site)
+sites_from place [] = []
+sites_from place (c ∷ cs) = (elim c.site [ None ↦ [] | Some site ↦ (place, site) ∷ [] ]) ++ sites_from (place + 4) cs
 
 -- a use of cells that stand from a place on: it is the use of one of them, at its place
 pub record ComesFrom (place : ℕ) (cells : List Cell) (s : ℕ × Site) : Type 0 where
@@ -115,41 +120,11 @@ placed_at place (c ∷ cs) (suc k) d h =
     let there : place + 4 + 4 * k ≡ place + 4 * suc k = omega arith in
     placed_at (place + 4) cs k d (omega arith) ∙ ap (λ n. (n, get_or cs k d.1)) there
 
-placed-append : (place : ℕ) (xs ys : List Cell) → placed place (xs ++ ys) ≡ placed place xs ++ placed (place + 4 * length xs) ys
-placed-append place [] ys = ap (λ n. placed n ys) (omega arith)
-placed-append place (x ∷ xs) ys =
-    let e : place + 4 + 4 * length xs ≡ place + 4 * length (x ∷ xs) = omega arith in
-    ap (λ t. (place, x) ∷ t) (placed-append (place + 4) xs ys ∙ ap (λ n. placed (place + 4) xs ++ placed n ys) e)
-
--- cells of items without islands stand one behind another
-pub standing-starts_from : (place : ℕ) (css : List (List Cell)) → standing css (starts_from place css) ≡ placed place (flat_map (λ (t : List Cell). t) css)
-standing-starts_from place [] = refl
-standing-starts_from place (cs ∷ css) =
-    ap (λ t. placed place cs ++ t) (standing-starts_from (place + 4 * length cs) css) ∙ sym (placed-append place cs (flat_map (λ (t : List Cell). t) css))
-
--- ---- the places of items, and of what is behind them
-
-abbrev pub stations_from : ℕ → List (List Cell) → List ℕ
-stations_from place css = starts_from place css ++ (place + 4 * length (flat_map (λ (t : List Cell). t) css)) ∷ []
-
-stations_cons : (place : ℕ) (cs : List Cell) (css : List (List Cell)) → stations_from place (cs ∷ css) ≡ place ∷ stations_from (place + 4 * length cs) css
-stations_cons place cs css =
-    let e : place + 4 * length (cs ++ flat_map (λ (t : List Cell). t) css) ≡ place + 4 * length cs + 4 * length (flat_map (λ (t : List Cell). t) css) = omega (arith, length-append cs (flat_map (λ (t : List Cell). t) css)) in
-    ap (λ n. place ∷ (starts_from (place + 4 * length cs) css ++ n ∷ [])) e
-
-pub stations_head : (place : ℕ) (css : List (List Cell)) → get_or (stations_from place css) 0 0 ≡ place
-stations_head place [] = omega arith
-stations_head place (cs ∷ css) = refl
-
-pub stations_next : (place : ℕ) (css : List (List Cell)) (i : ℕ) → i < length css → get_or (stations_from place css) (suc i) 0 ≡ get_or (stations_from place css) i 0 + 4 * length (get_or css i [])
-stations_next place [] i h = absurd (omega arith)
-stations_next place (cs ∷ css) zero h = ap (λ t. get_or t 1 0) (stations_cons place cs css) ∙ stations_head (place + 4 * length cs) css
-stations_next place (cs ∷ css) (suc i) h =
-    ap (λ t. get_or t (suc (suc i)) 0) (stations_cons place cs css) ∙ stations_next (place + 4 * length cs) css i (omega arith)
-    ∙ ap (λ t. get_or t (suc i) 0 + 4 * length (get_or css i [])) (sym (stations_cons place cs css))
-
--- no item begins behind the end
-pub starts_below : (place : ℕ) (css : List (List Cell)) (i s : ℕ) → slice_get (starts_from place css) i ≡ Some s → s ≤ place + 4 * length (flat_map (λ (t : List Cell). t) css)
-starts_below place [] i s e = absurd cc
-starts_below place (cs ∷ css) zero s e = let f : place ≡ s = cc in omega arith
-starts_below place (cs ∷ css) (suc i) s e = omega (arith, starts_below (place + 4 * length cs) css i s e, length-append cs (flat_map (λ (t : List Cell). t) css))
+-- the cells of one more list stand behind the others, at its place
+pub standing-push : (css : List (List Cell)) (cs : List Cell) (places : List ℕ) (place : ℕ) → length places ≡ length css → standing (css ++ cs ∷ []) (places ++ place ∷ []) ≡ standing css places ++ placed place cs
+standing-push [] cs [] place e = append-nil (placed place cs)
+standing-push [] cs (p ∷ places) place e = absurd (omega (arith, e))
+standing-push (ds ∷ css) cs [] place e = absurd (omega (arith, e))
+standing-push (ds ∷ css) cs (p ∷ places) place e =
+    ap (λ t. placed p ds ++ t) (standing-push css cs places place (omega (arith, e)))
+    ∙ sym (append_assoc (placed p ds) (standing css places) (placed place cs))

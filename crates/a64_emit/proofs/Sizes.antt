@@ -1,17 +1,17 @@
 -- Sums and least numbers over items, one item after another.
-use Rattle.std.proofs.Common.{ℕ, ◌≡◌, ◌+◌, ◌<◌, ◌≤◌, List, [], ◌∷◌, ◌++◌, length, get_or, take, ◌^◌, Bool, false, nat_le, Option, None, Some, refl, sym, ap, ◌∙◌, arith}
-use Rattle.std.specs.Prelude.{◌||◌}
-use Rattle.std.specs.Option.{option_map_or}
+use Rattle.std.proofs.Common.{ℕ, ◌≡◌, ◌+◌, ◌<◌, ◌≤◌, List, [], ◌∷◌, ◌++◌, length, get_or, take, ◌^◌, ◌-◌, Bool, true, false, nat_le, Option, None, Some, refl, sym, ap, ◌∙◌, arith}
+use Rattle.std.specs.List.{filter_map}
+use Rattle.std.proofs.lemmas.Bool.{leb-true, leb-false, le-leb, lt-leb}
 use Rattle.std.proofs.lemmas.List.{take_more, append-nil, take_all}
 use Rattle.std.proofs.lemmas.List.Elements.{filter_map-append}
 use Rattle.std.proofs.lemmas.List.Concat.{flat_map-append}
 use Rattle.std.proofs.lemmas.List.Sums.{sum_by_more}
 use Rattle.a64_inst.specs.declared.emission.EmitFlags.{EmitFlags}
 use Rattle.a64_inst.specs.declared.frame.FrameLayout.{FrameLayout}
-use Rattle.a64_emit.specs.declared.item.Item.{Item}
-use Rattle.a64_emit.specs.Cells.{cells_of, all_cells}
-use Rattle.a64_emit.specs.Faults.{is_too_large}
-use Rattle.a64_emit.specs.Bounds.{cell_range, ranges_in, size_of, charge_of, lesser, least, whole, shortest}
+use Rattle.a64_inst.specs.declared.item.Item.{Item}
+use Rattle.a64_emit.specs.Cells.{Cell, sites_of, cells_of, all_cells}
+use Rattle.a64_emit.specs.Faults.{is_too_long, is_too_large}
+use Rattle.a64_emit.specs.Bounds.{veneer_range, ranges_in, lesser, least, growth_of, whole, shortest, saturated}
 
 lesser_assoc : (a b c : Option ℕ) → lesser (lesser a b) c ≡ lesser a (lesser b c)
 lesser_assoc None b c = refl
@@ -22,6 +22,17 @@ lesser_assoc (Some a) (Some b) (Some c) = ap (λ n. Some n) (omega arith)
 pub least-append : (xs ys : List ℕ) → least (xs ++ ys) ≡ lesser (least xs) (least ys)
 least-append [] ys = refl
 least-append (x ∷ xs) ys = ap (lesser (Some x)) (least-append xs ys) ∙ sym (lesser_assoc (Some x) (least xs) (least ys))
+
+pub ranges_in-append : (xs ys : List Cell) → ranges_in (xs ++ ys) ≡ ranges_in xs ++ ranges_in ys
+ranges_in-append xs ys = ap (filter_map veneer_range) (filter_map-append (λ cell. cell.site) xs ys) ∙ filter_map-append veneer_range (sites_of xs) (sites_of ys)
+
+-- a test of a number that may stand at the greatest
+pub same_le : (k n : ℕ) → k ≤ 2 ^ 64 - 1 → nat_le k (saturated n) ≡ nat_le k n
+same_le k n h = go (nat_le k n) refl
+  where
+    go : (b : Bool) → nat_le k n ≡ b → nat_le k (saturated n) ≡ nat_le k n
+    go true e = let le : k ≤ n = leb-true k n e in le-leb k (saturated n) (omega arith) ∙ sym e
+    go false e = let lt : n < k = leb-false k n e in lt-leb k (saturated n) (omega arith) ∙ sym e
 
 module _ (frame : FrameLayout) (flags : EmitFlags) where
   -- the cells of one more item
@@ -34,19 +45,19 @@ module _ (frame : FrameLayout) (flags : EmitFlags) where
   pub shortest_more : (items : List Item) (i : ℕ) (d x : Item) (range : Option ℕ) → i < length items → get_or items i d ≡ x → range ≡ least (ranges_in (cells_of frame flags x)) → shortest frame flags (take (i + 1) items) ≡ lesser (shortest frame flags (take i items)) range
   shortest_more items i d x range within is e =
       ap (λ cs. least (ranges_in cs)) (cells_more items i d x within is)
-      ∙ ap least (filter_map-append cell_range (all_cells frame flags (take i items)) (cells_of frame flags x))
+      ∙ ap least (ranges_in-append (all_cells frame flags (take i items)) (cells_of frame flags x))
       ∙ least-append (ranges_in (all_cells frame flags (take i items))) (ranges_in (cells_of frame flags x))
       ∙ ap (lesser (shortest frame flags (take i items))) (sym e)
 
-  pub whole_more : (items : List Item) (i : ℕ) (d x : Item) (size charge : ℕ) → i < length items → get_or items i d ≡ x → size ≡ size_of (cells_of frame flags x) → charge ≡ charge_of (cells_of frame flags x) → whole frame flags (take (i + 1) items) ≡ whole frame flags (take i items) + (size + charge)
-  whole_more items i d x size charge within is a b =
-      sum_by_more (λ item. size_of (cells_of frame flags item) + charge_of (cells_of frame flags item)) items i d within
-      ∙ ap (λ y. whole frame flags (take i items) + (size_of (cells_of frame flags y) + charge_of (cells_of frame flags y))) is
-      ∙ ap (λ n. whole frame flags (take i items) + (n + charge_of (cells_of frame flags x))) (sym a)
-      ∙ ap (λ n. whole frame flags (take i items) + (size + n)) (sym b)
+  pub whole_more : (items : List Item) (i : ℕ) (d x : Item) → i < length items → get_or items i d ≡ x → whole frame flags (take (i + 1) items) ≡ whole frame flags (take i items) + growth_of frame flags x
+  whole_more items i d x within is = sum_by_more (growth_of frame flags) items i d within ∙ ap (λ y. whole frame flags (take i items) + growth_of frame flags y) is
 
   -- at the end of the items, the sums are those of all
-  pub large_of : (items : List Item) (i n : ℕ) (range : Option ℕ) (b : Bool) → length items ≤ i → n ≡ whole frame flags (take i items) → range ≡ shortest frame flags (take i items) → b ≡ (nat_le (2 ^ 31) n || option_map_or (λ r. nat_le r n) range false) → is_too_large frame flags items ≡ b
+  pub large_of : (items : List Item) (i n : ℕ) (range : Option ℕ) (b : Bool) → length items ≤ i → n ≡ saturated (whole frame flags (take i items)) → range ≡ shortest frame flags (take i items) → ((k : ℕ) → n ≡ saturated k → b ≡ is_too_long k range) → is_too_large frame flags items ≡ b
   large_of items i n range b all w s e =
-      sym (e ∙ ap (λ k. nat_le (2 ^ 31) k || option_map_or (λ r. nat_le r k) range false) (w ∙ ap (whole frame flags) (take_all i items all))
-      ∙ ap (λ o. nat_le (2 ^ 31) (whole frame flags items) || option_map_or (λ r. nat_le r (whole frame flags items)) o false) (s ∙ ap (shortest frame flags) (take_all i items all)))
+      sym (e (whole frame flags items) (w ∙ ap (λ xs. saturated (whole frame flags xs)) (take_all i items all))
+      ∙ ap (is_too_long (whole frame flags items)) (s ∙ ap (shortest frame flags) (take_all i items all)))
+
+-- sums that stand at the greatest number, by one more
+pub saturated_more : (w size charge : ℕ) → saturated (saturated (saturated w + saturated size) + saturated charge) ≡ saturated (w + (size + charge))
+saturated_more w size charge = omega arith

@@ -1,27 +1,25 @@
 -- What emission asks of the buffer, one item after another.
-use Rattle.std.proofs.Common.{ℕ, ◌≡◌, ◌+◌, ◌^◌, ◌<◌, List, length, get_or, take, Option, None, Some, refl, sym, ap, ◌∙◌, arith}
+use Rattle.std.proofs.Common.{ℕ, ◌≡◌, ◌+◌, ◌^◌, ◌<◌, List, length, get_or, take, Option, None, Some, refl, sym, ◌∙◌, arith}
 use Rattle.std.specs.FinMap.{get}
 use Rattle.std.proofs.lemmas.Bool.{false≢true}
-use Rattle.std.proofs.lemmas.List.{length-append}
 use Rattle.a64_base.specs.declared.entity.MachLabel.{MachLabel}
 use Rattle.a64_inst.specs.declared.emission.EmitFlags.{EmitFlags}
 use Rattle.a64_inst.specs.declared.frame.FrameLayout.{FrameLayout}
 use Rattle.a64_buffer.specs.Buffer.{Buffer}
 use Rattle.a64_emit.specs.declared.label_use.LabelUse.{LabelUse}
-use Rattle.a64_emit.specs.declared.item.Item.{Item}
-use Rattle.a64_emit.specs.declared.item.Item.TheVariants.{Bind, Emit}
-use Rattle.a64_emit.specs.Cells.{cells_of, all_cells}
+use Rattle.a64_inst.specs.declared.item.Item.{Item}
+use Rattle.a64_inst.specs.declared.item.Item.TheVariants.{Bind, Emit}
+use Rattle.a64_emit.specs.Cells.{cells_of}
 use Rattle.a64_emit.specs.Emission.{HasRoom, IsUnbound, HasEmitted}
 use Rattle.a64_emit.specs.Bounds.{whole}
 use Rattle.a64_emit.specs.Faults.{second_binding}
-use Rattle.a64_emit.proofs.Sizes.{cells_more}
-use Rattle.a64_emit.proofs.Checked.{sizes_in_whole, among_bindings, not_bound_before}
-use Rattle.a64_emit.proofs.Emitted.{next_place}
+use Rattle.a64_emit.proofs.Sizes.{whole_more}
+use Rattle.a64_emit.proofs.Checked.{first_in_whole, among_bindings, not_bound_before}
 
 module _ (frame : FrameLayout) (flags : EmitFlags) (items : List Item) (i : ℕ) (d : Item) (within : i < length items) (places : List ℕ) (b : Buffer LabelUse) (h : HasEmitted frame flags (take i items) places b) where
   -- there is room for the next item
   pub next_room : whole frame flags items < 2 ^ 31 → HasRoom b (cells_of frame flags (get_or items i d))
-  next_room short = omega (arith, next_place frame flags (take i items) places b h, sizes_in_whole frame flags items (i + 1), ap length (cells_more frame flags items i d (get_or items i d) within refl), length-append (all_cells frame flags (take i items)) (cells_of frame flags (get_or items i d)))
+  next_room short = omega (arith, h.bounded, whole_more frame flags items i d (get_or items i d) within refl, first_in_whole frame flags items (i + 1))
 
   -- the label that the next item binds is not bound yet
   pub next_unbound : second_binding items ≡ None → IsUnbound b (get_or items i d)

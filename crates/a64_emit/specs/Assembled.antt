@@ -1,23 +1,31 @@
 -- What `assemble` answers.
-use Rattle.std.specs.Prelude.{◌≡◌, ◌⊎◌, List, None, Some}
+use Rattle.std.specs.Prelude.{◌≡◌, ◌⊎◌, ℕ, List, [], length, None, Some}
+use Rattle.std.specs.Ordering.{nat_cmp}
+use Rattle.std.specs.FinMap.{FinMap}
 use Rattle.a64_inst.specs.declared.emission.EmitFlags.{EmitFlags}
 use Rattle.a64_inst.specs.declared.frame.FrameLayout.{FrameLayout}
-use Rattle.a64_emit.specs.declared.item.Item.{Item}
+use Rattle.a64_inst.specs.declared.item.Item.{Item}
+use Rattle.a64_buffer.specs.declared.force.ForceVeneers.{ForceVeneers}
 use Rattle.a64_emit.specs.declared.code.Code.{Code}
 use Rattle.a64_emit.specs.declared.error.EmitError.{EmitError}
 use Rattle.a64_emit.specs.declared.error.EmitError.TheVariants.{OutOfMemory}
 use Rattle.a64_emit.specs.Layout.{Laid, Leads}
 use Rattle.a64_emit.specs.Records.{HasRecords}
-use Rattle.a64_emit.specs.Faults.{fault_of}
+use Rattle.a64_emit.specs.Faults.{own_fault, fault_of}
 
-module _ (frame : FrameLayout) (flags : EmitFlags) (items : List Item) where
+module _ (frame : FrameLayout) (flags : EmitFlags) (constants : FinMap nat_cmp (List ℕ)) (force : ForceVeneers) (items : List Item) where
   -- code of items that have no fault: they stand at their places, and each use leads to its target
   pub record IsAssembled (code : Code) : Type 0 where
-    pub no_fault : fault_of frame flags items ≡ None
+    pub no_fault : fault_of frame flags constants force items ≡ None
     pub laid : Laid frame flags items code
     pub leads : Leads frame flags items code
-    pub records : HasRecords items code
+    pub records : HasRecords frame flags items code
+    -- no use wants a veneer or a constant, so no island is written, and nothing behind the last item
+    pub no_islands : code.islands.items ≡ []
+    pub no_pool : code.pool ≡ length code.bytes.items
 
-  -- a refusal: the first fault, or want of memory
+  -- a refusal: the first fault, or want of memory, which comes only where each item is right by itself
   abbrev pub IsRefusal : EmitError → Type 0
-  IsRefusal error = (error ≡ OutOfMemory) ⊎ (fault_of frame flags items ≡ Some error)
+  IsRefusal error =
+      (fault_of frame flags constants force items ≡ Some error)
+      ⊎ ((error ≡ OutOfMemory) × (own_fault frame flags constants items ≡ None))

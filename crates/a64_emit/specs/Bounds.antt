@@ -1,34 +1,28 @@
 -- How long code can become, and how far its uses reach: sums over the items.
-use Rattle.std.specs.Prelude.{ℕ, ◌≡◌, ◌+◌, ◌*◌, List, [], ◌∷◌, length, min, sum_by, Option, None, Some}
+use Rattle.std.specs.Prelude.{ℕ, ◌≡◌, ◌+◌, ◌-◌, ◌*◌, ◌^◌, if◌then◌else◌, List, [], ◌∷◌, length, min, sum_by, Option, None, Some}
 use Rattle.std.specs.List.{filter_map}
 use Rattle.std.specs.Option.{option_map_or}
 use Rattle.a64_inst.specs.declared.emission.EmitFlags.{EmitFlags}
 use Rattle.a64_inst.specs.declared.frame.FrameLayout.{FrameLayout}
-use Rattle.a64_buffer.specs.declared.site.Target.{Target}
+use Rattle.a64_inst.specs.declared.item.Item.{Item}
 use Rattle.a64_buffer.specs.declared.site.Target.TheVariants.{Label}
-use Rattle.a64_emit.specs.declared.label_use.LabelUse.{LabelUse}
-use Rattle.a64_emit.specs.declared.label_use.LabelUse.TheVariants as uses
-use Rattle.a64_emit.specs.declared.item.Item.{Item}
-use Rattle.a64_emit.specs.LabelUses.{forward_range}
-use Rattle.a64_emit.specs.Cells.{Cell, cells_of, all_cells}
+use Rattle.a64_emit.specs.declared.site.Site.{Site}
+use Rattle.a64_emit.specs.LabelUses.{forward_range, has_veneer}
+use Rattle.a64_emit.specs.Cells.{Cell, sites_of, cells_of, all_cells}
 
--- the forward range of a use that may want a veneer: a branch to a label
-abbrev pub veneer_range : LabelUse → Target → Option ℕ
-veneer_range uses.Branch26 (Label label) = Some (forward_range uses.Branch26)
-
-abbrev pub cell_range : Cell → Option ℕ
-cell_range cell = elim cell.site [ None ↦ None | Some site ↦ veneer_range site.kind site.target ]
+-- the forward range of a use that may want a veneer: a use of a label, of a kind that supports one
+abbrev pub veneer_range : Site → Option ℕ
+veneer_range site = elim site.target [ Label label ↦ if has_veneer site.kind then Some (forward_range site.kind) else None ]
 
 -- the ranges of the uses of cells that may want veneers
 abbrev pub ranges_in : List Cell → List ℕ
-ranges_in cells = filter_map cell_range cells
+ranges_in cells = filter_map veneer_range (sites_of cells)
 
 -- four bytes for each cell
 abbrev pub size_of : List Cell → ℕ
 size_of cells = 4 * length cells
 
--- what an item may add to the code beside its own words: four bytes where it has words, and 28 for
--- each use that may want a veneer
+-- four bytes where there are cells, and 28 for each use that may want a veneer
 abbrev pub charge_of : List Cell → ℕ
 charge_of [] = 0
 charge_of (c ∷ cs) = 4 + 28 * length (ranges_in (c ∷ cs))
@@ -43,17 +37,37 @@ abbrev pub least : List ℕ → Option ℕ
 least [] = None
 least (x ∷ xs) = lesser (Some x) (least xs)
 
-module _ (frame : FrameLayout) (flags : EmitFlags) (items : List Item) where
-  -- the sum of sizes and charges
-  abbrev pub whole : ℕ
-  whole = sum_by (λ item. size_of (cells_of frame flags item) + charge_of (cells_of frame flags item)) items
+module _ (frame : FrameLayout) (flags : EmitFlags) where
+  -- the bytes of an item's own words
+  abbrev pub item_size : Item → ℕ
+  item_size item = size_of (cells_of frame flags item)
+
+  -- what islands may add to the code because of an item
+  abbrev pub item_charge : Item → ℕ
+  item_charge item = charge_of (cells_of frame flags item)
+
+  -- the space that an item asks for; none that exists asks for any
+  abbrev pub asked_space : Item → ℕ
+  asked_space _ = 0
+
+  -- the most that an item adds to the code
+  abbrev pub growth_of : Item → ℕ
+  growth_of item = item_size item + (item_charge item + asked_space item)
+
+  -- the sum of sizes, charges and asked spaces
+  abbrev pub whole : List Item → ℕ
+  whole items = sum_by growth_of items
 
   -- the shortest forward range of all uses that may want veneers
-  abbrev pub shortest : Option ℕ
-  shortest = least (ranges_in (all_cells frame flags items))
+  abbrev pub shortest : List Item → Option ℕ
+  shortest items = least (ranges_in (all_cells frame flags items))
 
--- what an item with these cells adds to the sums: its size and charge, and its shortest range
-pub record IsExtent (cells : List Cell) (size charge : ℕ) (range : Option ℕ) : Type 0 where
-  pub size_is : size ≡ size_of cells
-  pub charge_is : charge ≡ charge_of cells
-  pub range_is : range ≡ least (ranges_in cells)
+-- a number, or the greatest of 64 bits where it is greater
+abbrev pub saturated : ℕ → ℕ
+saturated n = min n (2 ^ 64 - 1)
+
+-- what an item adds to the sums, up to the greatest number of 64 bits, and its shortest range
+pub record IsExtent (frame : FrameLayout) (flags : EmitFlags) (item : Item) (size charge : ℕ) (range : Option ℕ) : Type 0 where
+  pub size_is : size ≡ saturated (item_size frame flags item)
+  pub charge_is : charge ≡ saturated (item_charge frame flags item + asked_space frame flags item)
+  pub range_is : range ≡ least (ranges_in (cells_of frame flags item))

@@ -1,31 +1,27 @@
 -- The words that items are made of.
-use Rattle.std.specs.Prelude.{ℕ, List, [], ◌∷◌, Option, None, Some}
-use Rattle.std.specs.List.{flat_map}
+use Rattle.std.specs.Prelude.{ℕ, ◌+◌, List, [], ◌∷◌, ◌++◌, Option, None, Some}
+use Rattle.std.specs.List.{flat_map, filter_map}
 use Rattle.a64_base.specs.declared.target.BranchTarget.{BranchTarget}
 use Rattle.a64_base.specs.declared.target.BranchTarget.TheVariants as branch_targets
 use Rattle.a64_inst.specs.declared.emission.EmitFlags.{EmitFlags}
 use Rattle.a64_inst.specs.declared.frame.FrameLayout.{FrameLayout}
 use Rattle.a64_inst.specs.declared.inst.Inst.{Inst}
-use Rattle.a64_inst.specs.declared.inst.Inst.TheVariants.{Nop4, AluRRR, AluRRImm12, AluRRImmLogic, MovWide, MovK, Ret, Jump}
-use Rattle.a64_buffer.specs.declared.site.Target.{Target}
+use Rattle.a64_inst.specs.declared.inst.Inst.TheVariants as insts
 use Rattle.a64_buffer.specs.declared.site.Target.TheVariants.{Label}
 use Rattle.a64_emit.specs.declared.label_use.LabelUse.{LabelUse}
 use Rattle.a64_emit.specs.declared.label_use.LabelUse.TheVariants as uses
-use Rattle.a64_emit.specs.declared.item.Item.{Item}
-use Rattle.a64_emit.specs.declared.item.Item.TheVariants.{Bind, Emit}
-use Rattle.a64_emit.specs.Forms.{Form, word_of}
-use Rattle.a64_emit.specs.IntegerForms.{nop4_form, alu_rrr_form, alu_rr_imm12_form, alu_rr_imm_logic_form, mov_wide_form, mov_k_form}
-use Rattle.a64_emit.specs.BranchForms.{ret_form, jump_form}
+use Rattle.a64_emit.specs.declared.site.Site.{Site}
+use Rattle.a64_emit.specs.declared.site.CellUse.{CellUse}
+use Rattle.a64_inst.specs.declared.item.Item.{Item}
+use Rattle.a64_inst.specs.declared.item.Item.TheVariants.{Bind, Emit}
+use Rattle.a64_rows.specs.Forms.{Form, form_word}
+use Rattle.a64_emit.specs.IntegerForms as integer
+use Rattle.a64_emit.specs.ControlForms as control
 
 -- what a word is: a form of a row, or data
 pub data Body : Type 0 where
   FormOf : Form → Body
   Data : ℕ → Body
-
--- a use that a word is: of this kind, leading to this target
-pub record Site : Type 0 where
-  pub kind : LabelUse
-  pub target : Target
 
 -- one word of an item, with at most one use. The field of a use is zero; a use that adds its
 -- distance has its addend there.
@@ -35,7 +31,7 @@ pub record Cell : Type 0 where
 
 -- the word of a cell, before its use is resolved
 abbrev pub cell_word : Cell → ℕ
-cell_word cell = elim cell.body [ FormOf form ↦ word_of form | Data word ↦ word ]
+cell_word cell = elim cell.body [ FormOf form ↦ form_word form | Data word ↦ word ]
 
 -- a word without a use
 abbrev pub plain : Form → Cell
@@ -55,14 +51,14 @@ pub data Shape : Type 0 where
   Words : List Cell → Shape
 
 abbrev pub shape_of : FrameLayout → EmitFlags → Inst → Shape
-shape_of frame flags Nop4 = OneWord nop4_form
-shape_of frame flags (AluRRR alu_op size rd rn rm) = OneWord (alu_rrr_form alu_op size rd rn rm)
-shape_of frame flags (AluRRImm12 alu_op size rd rn imm12) = OneWord (alu_rr_imm12_form alu_op size rd rn imm12)
-shape_of frame flags (AluRRImmLogic alu_op size rd rn imml) = OneWord (alu_rr_imm_logic_form alu_op size rd rn imml)
-shape_of frame flags (MovWide op rd imm size) = OneWord (mov_wide_form op rd imm size)
-shape_of frame flags (MovK rd rn imm size) = OneWord (mov_k_form rd imm size)
-shape_of frame flags Ret = OneWord ret_form
-shape_of frame flags (Jump dest) = Words (branch (jump_form dest) uses.Branch26 dest ∷ [])
+shape_of frame flags insts.Nop4 = OneWord integer.nop4_form
+shape_of frame flags (insts.AluRRR alu_op size rd rn rm) = OneWord (integer.alu_rrr_form alu_op size rd rn rm)
+shape_of frame flags (insts.AluRRImm12 alu_op size rd rn imm12) = OneWord (integer.alu_rr_imm12_form alu_op size rd rn imm12)
+shape_of frame flags (insts.AluRRImmLogic alu_op size rd rn imml) = OneWord (integer.alu_rr_imm_logic_form alu_op size rd rn imml)
+shape_of frame flags (insts.MovWide op rd imm size) = OneWord (integer.mov_wide_form op rd imm size)
+shape_of frame flags (insts.MovK rd rn imm size) = OneWord (integer.mov_k_form rd imm size)
+shape_of frame flags insts.Ret = OneWord control.ret_form
+shape_of frame flags (insts.Jump dest) = Words (branch (control.jump_form dest) uses.Branch26 dest ∷ [])
 
 abbrev pub shape_cells : Shape → List Cell
 shape_cells (OneWord form) = plain form ∷ []
@@ -70,7 +66,7 @@ shape_cells (Words cells) = cells
 
 -- the word of an instruction that is one word without a use
 abbrev pub only_word : Shape → Option ℕ
-only_word (OneWord form) = Some (word_of form)
+only_word (OneWord form) = Some (form_word form)
 only_word (Words cells) = None
 
 -- the words of another instruction
@@ -90,3 +86,23 @@ cells_of frame flags (Emit inst map) = inst_cells frame flags inst
 -- the words of all items, in order
 abbrev pub all_cells : FrameLayout → EmitFlags → List Item → List Cell
 all_cells frame flags items = flat_map (cells_of frame flags) items
+
+-- ---- uses
+
+-- the uses of words, in order
+abbrev pub sites_of : List Cell → List Site
+sites_of cells = filter_map (λ cell. cell.site) cells
+
+-- the use of a word, which has this index
+abbrev pub use_of : ℕ → Option Site → List CellUse
+use_of n None = []
+use_of n (Some site) = record { cell = n; site = site } ∷ []
+
+-- the uses of words with the words' indices, of which the first is n
+abbrev pub uses_of : ℕ → List Cell → List CellUse
+uses_of n [] = []
+uses_of n (c ∷ cs) = use_of n c.site ++ uses_of (n + 1) cs
+
+-- the uses of an instruction's words
+abbrev pub inst_uses : FrameLayout → EmitFlags → Inst → List CellUse
+inst_uses frame flags inst = uses_of 0 (inst_cells frame flags inst)

@@ -1,19 +1,26 @@
 -- What emission does to a buffer.
-use Rattle.std.specs.Prelude.{ℕ, ◌≡◌, ◌+◌, ◌*◌, ◌^◌, ◌<◌, List, [], ◌∷◌, ◌++◌, map, take, length, slice_get, Option, None, Some}
+use Rattle.std.specs.Prelude.{ℕ, ◌≡◌, ◌⊎◌, ◌+◌, ◌*◌, ◌/◌, ◌%◌, ◌^◌, ◌<◌, ◌≤◌, List, [], ◌∷◌, ◌++◌, All, map, take, length, slice_get, slice_index, slice_index_or, Option, None, Some, MatchOption}
 use Rattle.std.specs.Ordering.{nat_cmp}
 use Rattle.std.specs.FinMap.{FinMap, get, insert}
 use Rattle.a64_base.specs.declared.entity.MachLabel.{MachLabel}
 use Rattle.a64_inst.specs.declared.emission.EmitFlags.{EmitFlags}
 use Rattle.a64_inst.specs.declared.frame.FrameLayout.{FrameLayout}
 use Rattle.a64_inst.specs.declared.inst.Inst.{Inst}
+use Rattle.a64_inst.specs.declared.item.Item.{Item}
+use Rattle.a64_inst.specs.declared.item.Item.TheVariants.{Bind, Emit}
+use Rattle.a64_inst.specs.declared.virtuals.VirtualRegisters.TheVariants.{Refused}
 use Rattle.a64_inst.specs.Faults.{inst_fault}
+use Rattle.a64_inst.specs.State.{State}
 use Rattle.a64_buffer.specs.declared.site.Use.{Use}
-use Rattle.a64_buffer.specs.Buffer.{Buffer, end_of, made_use, closed_at}
+use Rattle.a64_buffer.specs.Buffer.{Buffer, end_of, made_use, closed_at, IsFree}
 use Rattle.a64_emit.specs.declared.label_use.LabelUse.{LabelUse}
-use Rattle.a64_emit.specs.declared.item.Item.{Item}
-use Rattle.a64_emit.specs.declared.item.Item.TheVariants.{Bind, Emit}
+use Rattle.a64_emit.specs.declared.site.Site.{Site}
 use Rattle.a64_emit.specs.LabelUses.{label_kinds}
-use Rattle.a64_emit.specs.Cells.{Cell, Site, cell_word, inst_cells, cells_of, all_cells}
+use Rattle.a64_emit.specs.Cells.{Cell, cell_word, inst_cells, cells_of, all_cells, sites_of}
+use Rattle.a64_emit.specs.Bounds.{whole}
+use Rattle.a64_emit.specs.Layout.{standing}
+
+-- ---- what emitting an instruction does
 
 -- the use that a cell at a place is, where it is one
 abbrev pub use_at : FinMap nat_cmp ℕ → ℕ → Option Site → List (Use LabelUse)
@@ -32,14 +39,24 @@ appended b cells = record b {
   uses = b.uses ++ uses_from b.labels (end_of b) cells;
 }
 
--- a buffer that has got the words and uses of some cells only in part, from the first on
+-- a buffer that has got a first part of some cells: the words of the first so many, and their uses,
+-- but maybe not that of the last of these words
 pub record IsAppendedInPart (b b' : Buffer LabelUse) (cells : List Cell) : Type 0 where
-  pub words_count : ℕ
-  pub uses_count : ℕ
-  pub whole : b' ≡ record b {
-    words = b.words ++ take words_count (map cell_word cells);
-    uses = b.uses ++ take uses_count (uses_from b.labels (end_of b) cells);
-  }
+  pub count : ℕ
+  pub used : ℕ
+  pub last : (used ≡ count) ⊎ (used + 1 ≡ count)
+  pub words : b'.words ≡ b.words ++ map cell_word (take count cells)
+  pub uses : b'.uses ≡ b.uses ++ uses_from b.labels (end_of b) (take used cells)
+  pub labels : b'.labels ≡ b.labels
+  pub constants : b'.constants ≡ b.constants
+
+-- an instruction was emitted: its cells stand at the end
+abbrev pub Emits : EmitFlags → State → Inst → Buffer LabelUse → Buffer LabelUse → Type 0
+Emits flags state inst b b' = b' ≡ appended b (inst_cells state.frame flags inst)
+
+-- an instruction was emitted in part
+abbrev pub EmitsInPart : EmitFlags → State → Inst → Buffer LabelUse → Buffer LabelUse → Type 0
+EmitsInPart flags state inst b b' = IsAppendedInPart b b' (inst_cells state.frame flags inst)
 
 -- there is room for cells at the end of the buffer
 abbrev pub HasRoom : Buffer LabelUse → List Cell → Type 0
@@ -48,39 +65,62 @@ HasRoom b cells = end_of b + 4 * length cells < 2 ^ 31
 -- an instruction without a fault of its own, and room for its cells
 pub record IsReady (b : Buffer LabelUse) (frame : FrameLayout) (flags : EmitFlags) (inst : Inst) : Type 0 where
   pub room : HasRoom b (inst_cells frame flags inst)
-  pub good : inst_fault inst ≡ None
+  pub good : inst_fault frame flags b.constants Refused inst ≡ None
+
+-- ---- what emitting an item does
 
 -- the label that an item binds, if it binds one, is not bound yet
 abbrev pub IsUnbound : Buffer LabelUse → Item → Type 0
 IsUnbound b (Bind label) = get b.labels label.0 ≡ None
 IsUnbound b (Emit inst map) = Unit {0}
 
--- a buffer once an item is emitted: a label is bound to its end, or the item's cells are there
-abbrev pub stepped : FrameLayout → EmitFlags → Buffer LabelUse → Item → Buffer LabelUse
-stepped frame flags b (Bind label) = record b {
+-- a label was bound to the end
+abbrev pub Binds : MachLabel → Buffer LabelUse → Buffer LabelUse → Type 0
+Binds label b b' = b' ≡ record b {
   uses = map (closed_at label_kinds label.0 (end_of b)) b.uses;
   labels = insert b.labels label.0 (end_of b);
 }
-stepped frame flags b (Emit inst map) = appended b (inst_cells frame flags inst)
 
--- where each of some lists of cells begins, from a place on
-abbrev pub starts_from : ℕ → List (List Cell) → List ℕ
-starts_from place [] = []
-starts_from place (cs ∷ css) = place ∷ starts_from (place + 4 * length cs) css
+-- an item was emitted: its label is bound, or its instruction emitted
+abbrev pub Steps : FrameLayout → EmitFlags → Item → Buffer LabelUse → Buffer LabelUse → Type 0
+Steps frame flags (Bind label) b b' = Binds label b b'
+Steps frame flags (Emit inst map) b b' = Emits flags (record { frame = frame; map = map }) inst b b'
 
--- a use of a cell: its place, its kind and its target
-abbrev pub sites_from : ℕ → List Cell → List (ℕ × Site)
-sites_from place [] = []
-sites_from place (c ∷ cs) = (elim c.site [ None ↦ [] | Some site ↦ (place, site) ∷ [] ]) ++ sites_from (place + 4) cs
+-- ---- what items leave in a buffer
 
--- the same, of a use of a buffer
+-- a use of a buffer: its place, its kind and its target
 abbrev pub site_of : Use LabelUse → ℕ × Site
 site_of u = (u.offset, record { kind = u.kind; target = u.target })
 
--- the items were emitted one after another into a buffer, at these places
+-- one of the uses stands at the place
+pub record HasUse (uses : List (Use LabelUse)) (place : ℕ) (site : Site) : Type 0 where
+  pub index : ℕ
+  pub within : index < length uses
+  pub is : (d : Use LabelUse) → site_of (slice_index_or uses index d) ≡ (place, site)
+
+-- a cell stands at its place: its word was put there, and it is the use that it names, or none
+pub record IsPut (b : Buffer LabelUse) (s : ℕ × Cell) : Type 0 where
+  pub aligned : s.0 % 4 ≡ 0
+  pub inside : s.0 + 4 ≤ end_of b
+  pub word : slice_index b.words (s.0 / 4) ≡ cell_word s.1
+  pub site : MatchOption s.1.site (IsFree b.uses s.0) (HasUse b.uses s.0)
+
+-- a use stands before the end, and is one of these
+pub record IsOneOf (end : ℕ) (sites : List Site) (u : Use LabelUse) : Type 0 where
+  pub inside : u.offset < end
+  pub index : ℕ
+  pub within : index < length sites
+  pub is : (d : Site) → slice_index_or sites index d ≡ (site_of u).1
+
+-- items were emitted one after another: each stands at its place with its cells, and each use of the
+-- buffer is the use of a cell
 pub record HasEmitted (frame : FrameLayout) (flags : EmitFlags) (items : List Item) (places : List ℕ) (b : Buffer LabelUse) : Type 0 where
-  pub words : b.words ≡ map cell_word (all_cells frame flags items)
-  pub places_are : places ≡ starts_from 0 (map (cells_of frame flags) items)
-  pub sites : map site_of b.uses ≡ sites_from 0 (all_cells frame flags items)
+  pub count : length places ≡ length items
+  pub first : slice_index (places ++ end_of b ∷ []) 0 ≡ 0
+  pub next : (i : ℕ) → i < length items → slice_index (places ++ end_of b ∷ []) (i + 1) ≡ slice_index places i + 4 * length (slice_index_or (map (cells_of frame flags) items) i [])
+  pub below : (i : ℕ) → i < length items → slice_index places i ≤ end_of b
+  pub bounded : end_of b ≤ whole frame flags items
+  pub cells : All (IsPut b) (standing (map (cells_of frame flags) items) places)
+  pub uses : All (IsOneOf (end_of b) (sites_of (all_cells frame flags items))) b.uses
   pub bound : (i : ℕ) (label : MachLabel) → slice_get items i ≡ Some (Bind label) → get b.labels label.0 ≡ slice_get places i
   pub only : (label place : ℕ) → get b.labels label ≡ Some place → (i : ℕ) × (slice_get items i ≡ Some (Bind (record { 0 = label }))) × (slice_get places i ≡ Some place)

@@ -3,30 +3,28 @@ use Rattle.std.specs.Prelude.{ℕ, ◌≡◌, ◌+◌, ◌^◌, Bool, false, not
 use Rattle.std.specs.List.{filter_map, list_any}
 use Rattle.std.specs.Option.{option_map_or}
 use Rattle.std.specs.Ordering.{nat_cmp}
-use Rattle.std.specs.BTreeSet.{BTreeSet, contains}
+use Rattle.std.specs.FinMap.{FinMap, contains_key}
 use Rattle.a64_base.specs.declared.entity.MachLabel.{MachLabel}
 use Rattle.a64_inst.specs.declared.emission.EmitFlags.{EmitFlags}
 use Rattle.a64_inst.specs.declared.frame.FrameLayout.{FrameLayout}
 use Rattle.a64_inst.specs.declared.fault.OwnFault.{OwnFault}
 use Rattle.a64_inst.specs.declared.fault.OwnFault.TheVariants as own
+use Rattle.a64_inst.specs.declared.virtuals.VirtualRegisters.TheVariants.{Refused}
 use Rattle.a64_inst.specs.Faults.{inst_fault}
+use Rattle.a64_buffer.specs.declared.force.ForceVeneers.{ForceVeneers}
 use Rattle.a64_buffer.specs.declared.site.Target.TheVariants.{Label}
-use Rattle.a64_emit.specs.declared.item.Item.{Item}
-use Rattle.a64_emit.specs.declared.item.Item.TheVariants.{Bind, Emit}
+use Rattle.a64_inst.specs.declared.item.Item.{Item}
+use Rattle.a64_inst.specs.declared.item.Item.TheVariants.{Bind, Emit}
 use Rattle.a64_emit.specs.declared.error.EmitError.{EmitError}
 use Rattle.a64_emit.specs.declared.error.EmitError.TheVariants.{BadOperand, BadMode, ScratchConflict, UnknownConstant, LabelBoundTwice, UnboundLabel, TooLarge}
-use Rattle.a64_emit.specs.Cells.{Cell, all_cells}
+use Rattle.a64_emit.specs.declared.site.Site.{Site}
+use Rattle.a64_emit.specs.Cells.{sites_of, all_cells}
 use Rattle.a64_emit.specs.Bounds.{whole, shortest}
 
 -- the first fault, where there is one, else the second
 abbrev pub or_else : Option EmitError → Option EmitError → Option EmitError
 or_else None later = later
 or_else (Some fault) later = Some fault
-
--- the fault of an item by itself
-abbrev pub item_fault : Item → Option OwnFault
-item_fault (Bind label) = None
-item_fault (Emit inst map) = inst_fault inst
 
 -- the refusal because of a fault of the item with this number
 abbrev pub own_error : ℕ → OwnFault → EmitError
@@ -35,13 +33,19 @@ own_error i own.BadMode = BadMode i
 own_error i own.ScratchConflict = ScratchConflict i
 own_error i own.UnknownConstant = UnknownConstant i
 
--- the first fault of an item by itself, where the first item has this number
-abbrev pub own_fault_from : ℕ → List Item → Option EmitError
-own_fault_from n [] = None
-own_fault_from n (item ∷ items) = or_else (option_map (own_error n) (item_fault item)) (own_fault_from (n + 1) items)
+module _ (frame : FrameLayout) (flags : EmitFlags) (constants : FinMap nat_cmp (List ℕ)) where
+  -- the fault of an item by itself
+  abbrev pub item_fault : Item → Option OwnFault
+  item_fault (Bind label) = None
+  item_fault (Emit inst map) = inst_fault frame flags constants Refused inst
 
-abbrev pub own_fault : List Item → Option EmitError
-own_fault items = own_fault_from 0 items
+  -- the first fault of an item by itself, where the first item has this number
+  abbrev pub own_fault_from : ℕ → List Item → Option EmitError
+  own_fault_from n [] = None
+  own_fault_from n (item ∷ items) = or_else (option_map (own_error n) (item_fault item)) (own_fault_from (n + 1) items)
+
+  abbrev pub own_fault : List Item → Option EmitError
+  own_fault items = own_fault_from 0 items
 
 -- the label that an item binds
 abbrev pub binding_of : Item → Option MachLabel
@@ -52,9 +56,9 @@ binding_of (Emit inst map) = None
 abbrev pub bindings : List Item → List MachLabel
 bindings items = filter_map binding_of items
 
--- the label that a cell uses
-abbrev pub used_label : Cell → Option MachLabel
-used_label cell = elim cell.site [ None ↦ None | Some site ↦ elim site.target [ Label label ↦ Some label ] ]
+-- the label that a use leads to, where it leads to one
+abbrev pub used_label : Site → Option MachLabel
+used_label site = elim site.target [ Label label ↦ Some label ]
 
 -- a label is one of these
 abbrev pub is_among : List MachLabel → MachLabel → Bool
@@ -65,9 +69,9 @@ abbrev pub first_repeat : List MachLabel → List MachLabel → Option MachLabel
 first_repeat before [] = None
 first_repeat before (l ∷ ls) = if is_among before l then Some l else first_repeat (before ++ l ∷ []) ls
 
--- the set has the numbers of these labels
-abbrev pub HasLabels : BTreeSet ℕ → List MachLabel → Type 0
-HasLabels set labels = (label : MachLabel) → contains nat_cmp set label.0 ≡ is_among labels label
+-- the map has the numbers of these labels
+abbrev pub HasLabels : {X : Type 0} → FinMap nat_cmp X → List MachLabel → Type 0
+HasLabels map labels = (label : MachLabel) → contains_key map label.0 ≡ is_among labels label
 
 -- the first of some labels that is not among these
 abbrev pub first_missing : List MachLabel → List MachLabel → Option MachLabel
@@ -77,10 +81,14 @@ first_missing bound labels = find (λ label. not (is_among bound label)) labels
 abbrev pub second_binding : List Item → Option EmitError
 second_binding items = option_map LabelBoundTwice (first_repeat [] (bindings items))
 
+-- so many bytes are too many to be addressed, or for a use of this range
+abbrev pub is_too_long : ℕ → Option ℕ → Bool
+is_too_long n range = nat_le (2 ^ 31) n || option_map_or (λ r. nat_le r n) range false
+
 module _ (frame : FrameLayout) (flags : EmitFlags) (items : List Item) where
   -- the labels that the items use, by item and cell
   abbrev pub used_labels : List MachLabel
-  used_labels = filter_map used_label (all_cells frame flags items)
+  used_labels = filter_map used_label (sites_of (all_cells frame flags items))
 
   -- the first use of a label that no item binds
   abbrev pub unbound_use : Option EmitError
@@ -88,12 +96,13 @@ module _ (frame : FrameLayout) (flags : EmitFlags) (items : List Item) where
 
   -- the code could not be addressed, or a use could want a veneer
   abbrev pub is_too_large : Bool
-  is_too_large = nat_le (2 ^ 31) (whole frame flags items)
-      || option_map_or (λ range. nat_le range (whole frame flags items)) (shortest frame flags items) false
+  is_too_large = is_too_long (whole frame flags items) (shortest frame flags items)
 
   abbrev pub too_large : Option EmitError
   too_large = if is_too_large then Some TooLarge else None
 
-  -- the first fault that applies
-  abbrev pub fault_of : Option EmitError
-  fault_of = or_else (own_fault items) (or_else (second_binding items) (or_else unbound_use too_large))
+-- the first fault that applies
+abbrev pub fault_of : FrameLayout → EmitFlags → FinMap nat_cmp (List ℕ) → ForceVeneers → List Item → Option EmitError
+fault_of frame flags constants force items =
+    or_else (own_fault frame flags constants items)
+    (or_else (second_binding items) (or_else (unbound_use frame flags items) (too_large frame flags items)))

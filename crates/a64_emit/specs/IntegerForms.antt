@@ -1,19 +1,21 @@
--- The forms of integer instructions that are one word each (Arm Architecture Reference Manual, C4.1).
-use Rattle.std.specs.Prelude.{ℕ, [], ◌∷◌}
+-- The forms of integer instructions that are one word each (Arm Architecture Reference Manual, DDI 0487, C4.1, "Data Processing
+-- -- Immediate" and "Data Processing -- Register").
+use Rattle.std.specs.Prelude.{ℕ}
 use Rattle.a64_base.specs.declared.reg.Reg.{Reg}
 use Rattle.a64_base.specs.declared.size.OperandSize.{OperandSize}
 use Rattle.a64_base.specs.OperandSizes.{sf_of}
-use Rattle.a64_rows.specs.declared.row_table.Row.TheVariants.{AddSubReg, LogicReg, AddSubCarry, DataProc2, MulHigh, AddSubImm, LogicImm, MoveWide, Hint}
-use Rattle.a64_inst.specs.declared.operator.ALUOp.{ALUOp}
-use Rattle.a64_inst.specs.declared.operator.ALUOp.TheVariants.{Add, Sub, AddS, SubS, And, Orr, Eor, AndS, AndNot, OrrNot, EorNot, Adc, Sbc, AdcS, SbcS, UDiv, SDiv, Lsl, Lsr, Asr, Extr, SMulH, UMulH}
-use Rattle.a64_inst.specs.declared.operator.MoveWideOp.{MoveWideOp}
+use Rattle.a64_ops.specs.declared.operator.ALUOp.{ALUOp}
+use Rattle.a64_ops.specs.declared.operator.ALUOp.TheVariants.{Add, Sub, AddS, SubS, And, Orr, Eor, AndS, AndNot, OrrNot, EorNot, Adc, Sbc, AdcS, SbcS, UDiv, SDiv, Lsl, Lsr, Asr, Extr, SMulH, UMulH}
+use Rattle.a64_ops.specs.declared.operator.MoveWideOp.{MoveWideOp}
 use Rattle.a64_imms.specs.declared.imm12.Imm12.{Imm12}
 use Rattle.a64_imms.specs.declared.imm_logic.ImmLogic.{ImmLogic}
 use Rattle.a64_imms.specs.declared.move_wide.MoveWideConst.{MoveWideConst}
 use Rattle.a64_imms.specs.Logic.{inverted}
 use Rattle.a64_enc_int.specs.Operators.{bit_of, move_wide_opc}
 use Rattle.a64_enc_int.specs.Registers.{register_field}
-use Rattle.a64_emit.specs.Forms.{Form, form}
+use Rattle.a64_rows.specs.Forms.{Form}
+use Rattle.a64_rows.specs.Control.{hint}
+use Rattle.a64_rows.specs.DataProcessing.{AddSubRegFields, add_sub_reg, LogicRegFields, logic_reg, AddSubCarryFields, add_sub_carry, DataProc2Fields, data_proc2, MulHighFields, mul_high, add_sub_imm, LogicImmFields, logic_imm, move_wide}
 
 -- ---- fields that operators give
 
@@ -59,63 +61,108 @@ opcode_of Asr = 10
 opcode_of Extr = 11
 opcode_of _ = 0
 
--- ---- operations on two registers, by the fields sf, Rd, Rn and Rm
+-- ---- operations on two registers
 
-abbrev pub add_sub : ALUOp → ℕ → ℕ → ℕ → ℕ → Form
-add_sub op sf rd rn rm = form AddSubReg (sf ∷ op_of op ∷ s_of op ∷ 0 ∷ rm ∷ 0 ∷ rn ∷ rd ∷ [])
+-- the size flag and the registers of an operation on two registers
+pub record TwoRegisters : Type 0 where
+  pub sf : ℕ
+  pub rm : ℕ
+  pub rn : ℕ
+  pub rd : ℕ
 
-abbrev pub logic : ALUOp → ℕ → ℕ → ℕ → ℕ → Form
-logic op sf rd rn rm = form LogicReg (sf ∷ opc_of op ∷ 0 ∷ n_of op ∷ rm ∷ 0 ∷ rn ∷ rd ∷ [])
+-- the size flag and the registers as a word has them
+abbrev pub two_registers : OperandSize → Reg → Reg → Reg → TwoRegisters
+two_registers size rd rn rm = record { sf = sf_of size; rm = register_field rm; rn = register_field rn; rd = register_field rd }
 
-abbrev pub add_sub_carry : ALUOp → ℕ → ℕ → ℕ → ℕ → Form
-add_sub_carry op sf rd rn rm = form AddSubCarry (sf ∷ op_of op ∷ s_of op ∷ rm ∷ rn ∷ rd ∷ [])
+-- the size flag alone, with zeros for the registers
+abbrev pub no_registers : ℕ → TwoRegisters
+no_registers sf = record { sf = sf; rm = 0; rn = 0; rd = 0 }
 
-abbrev pub two_sources : ALUOp → ℕ → ℕ → ℕ → ℕ → Form
-two_sources op sf rd rn rm = form DataProc2 (sf ∷ rm ∷ opcode_of op ∷ rn ∷ rd ∷ [])
+-- an addition or subtraction of a register that is not shifted
+abbrev pub add_sub : ALUOp → TwoRegisters → AddSubRegFields
+add_sub op r = record { sf = r.sf; op = op_of op; s = s_of op; sh = 0; rm = r.rm; imm6 = 0; rn = r.rn; rd = r.rd }
 
-abbrev pub alu_form : ALUOp → ℕ → ℕ → ℕ → ℕ → Form
-alu_form Add sf rd rn rm = add_sub Add sf rd rn rm
-alu_form Sub sf rd rn rm = add_sub Sub sf rd rn rm
-alu_form AddS sf rd rn rm = add_sub AddS sf rd rn rm
-alu_form SubS sf rd rn rm = add_sub SubS sf rd rn rm
-alu_form And sf rd rn rm = logic And sf rd rn rm
-alu_form Orr sf rd rn rm = logic Orr sf rd rn rm
-alu_form Eor sf rd rn rm = logic Eor sf rd rn rm
-alu_form AndS sf rd rn rm = logic AndS sf rd rn rm
-alu_form AndNot sf rd rn rm = logic AndNot sf rd rn rm
-alu_form OrrNot sf rd rn rm = logic OrrNot sf rd rn rm
-alu_form EorNot sf rd rn rm = logic EorNot sf rd rn rm
-alu_form Adc sf rd rn rm = add_sub_carry Adc sf rd rn rm
-alu_form Sbc sf rd rn rm = add_sub_carry Sbc sf rd rn rm
-alu_form AdcS sf rd rn rm = add_sub_carry AdcS sf rd rn rm
-alu_form SbcS sf rd rn rm = add_sub_carry SbcS sf rd rn rm
-alu_form UDiv sf rd rn rm = two_sources UDiv sf rd rn rm
-alu_form SDiv sf rd rn rm = two_sources SDiv sf rd rn rm
-alu_form Lsl sf rd rn rm = two_sources Lsl sf rd rn rm
-alu_form Lsr sf rd rn rm = two_sources Lsr sf rd rn rm
-alu_form Asr sf rd rn rm = two_sources Asr sf rd rn rm
-alu_form Extr sf rd rn rm = two_sources Extr sf rd rn rm
-alu_form SMulH sf rd rn rm = form MulHigh (0 ∷ rm ∷ rn ∷ rd ∷ [])
-alu_form UMulH sf rd rn rm = form MulHigh (1 ∷ rm ∷ rn ∷ rd ∷ [])
+-- a logical operation with a register that is not shifted, inverted where N is 1
+abbrev pub logic : ALUOp → TwoRegisters → LogicRegFields
+logic op r = record { sf = r.sf; opc = opc_of op; sh = 0; n = n_of op; rm = r.rm; imm6 = 0; rn = r.rn; rd = r.rd }
+
+-- an addition or subtraction with the carry
+abbrev pub with_carry : ALUOp → TwoRegisters → AddSubCarryFields
+with_carry op r = record { sf = r.sf; op = op_of op; s = s_of op; rm = r.rm; rn = r.rn; rd = r.rd }
+
+-- a division or a shift
+abbrev pub two_sources : ALUOp → TwoRegisters → DataProc2Fields
+two_sources op r = record { sf = r.sf; rm = r.rm; op6 = opcode_of op; rn = r.rn; rd = r.rd }
+
+-- the upper half of a product, the unsigned one where U is 1
+abbrev pub high_product : ℕ → TwoRegisters → MulHighFields
+high_product u r = record { u = u; rm = r.rm; rn = r.rn; rd = r.rd }
+
+-- an operation on two registers, by the class of its operator
+abbrev pub alu_form : ALUOp → TwoRegisters → Form
+-- Add/subtract (shifted register)
+alu_form Add r = add_sub_reg (add_sub Add r)
+alu_form Sub r = add_sub_reg (add_sub Sub r)
+alu_form AddS r = add_sub_reg (add_sub AddS r)
+alu_form SubS r = add_sub_reg (add_sub SubS r)
+-- Logical (shifted register)
+alu_form And r = logic_reg (logic And r)
+alu_form Orr r = logic_reg (logic Orr r)
+alu_form Eor r = logic_reg (logic Eor r)
+alu_form AndS r = logic_reg (logic AndS r)
+alu_form AndNot r = logic_reg (logic AndNot r)
+alu_form OrrNot r = logic_reg (logic OrrNot r)
+alu_form EorNot r = logic_reg (logic EorNot r)
+-- Add/subtract (with carry)
+alu_form Adc r = add_sub_carry (with_carry Adc r)
+alu_form Sbc r = add_sub_carry (with_carry Sbc r)
+alu_form AdcS r = add_sub_carry (with_carry AdcS r)
+alu_form SbcS r = add_sub_carry (with_carry SbcS r)
+-- Data-processing (2 source)
+alu_form UDiv r = data_proc2 (two_sources UDiv r)
+alu_form SDiv r = data_proc2 (two_sources SDiv r)
+alu_form Lsl r = data_proc2 (two_sources Lsl r)
+alu_form Lsr r = data_proc2 (two_sources Lsr r)
+alu_form Asr r = data_proc2 (two_sources Asr r)
+alu_form Extr r = data_proc2 (two_sources Extr r)
+-- Data-processing (3 source)
+alu_form SMulH r = mul_high (high_product 0 r)
+alu_form UMulH r = mul_high (high_product 1 r)
 
 -- ---- one definition for each instruction
 
--- hint 0
+-- Hints, NOP
 unfoldable pub nop4_form : Form
-nop4_form = form Hint (0 ∷ 0 ∷ [])
+nop4_form = hint (record { crm = 0; op2 = 0 })
 
 unfoldable pub alu_rrr_form : ALUOp → OperandSize → Reg → Reg → Reg → Form
-alu_rrr_form op size rd rn rm = alu_form op (sf_of size) (register_field rd) (register_field rn) (register_field rm)
+alu_rrr_form op size rd rn rm = alu_form op (two_registers size rd rn rm)
 
--- an addition or subtraction of an immediate, shifted left by 12 or not
+-- an addition or subtraction of an immediate, shifted left by 12 or not (Add/subtract (immediate))
 unfoldable pub alu_rr_imm12_form : ALUOp → OperandSize → Reg → Reg → Imm12 → Form
 alu_rr_imm12_form op size rd rn imm12 =
-    form AddSubImm (sf_of size ∷ op_of op ∷ s_of op ∷ bit_of imm12.shift12 ∷ imm12.bits ∷ register_field rn ∷ register_field rd ∷ [])
+    add_sub_imm (record {
+      sf = sf_of size;
+      op = op_of op;
+      s = s_of op;
+      sh = bit_of imm12.shift12;
+      imm12 = imm12.bits;
+      rn = register_field rn;
+      rd = register_field rd;
+    })
 
--- a logical operation with the immediate N, immr and imms
-abbrev pub logic_imm : ALUOp → OperandSize → Reg → Reg → ImmLogic → Form
-logic_imm op size rd rn imm =
-    form LogicImm (sf_of size ∷ opc_of op ∷ bit_of imm.n ∷ imm.r ∷ imm.s ∷ register_field rn ∷ register_field rd ∷ [])
+-- the fields of a logical operation with the immediate N, immr and imms
+abbrev pub logic_fields : ALUOp → OperandSize → Reg → Reg → ImmLogic → LogicImmFields
+logic_fields op size rd rn imm =
+    record {
+      sf = sf_of size;
+      opc = opc_of op;
+      n = bit_of imm.n;
+      immr = imm.r;
+      imms = imm.s;
+      rn = register_field rn;
+      rd = register_field rd;
+    }
 
 -- the operators that invert the second operand take the immediate of the complement
 abbrev pub taken : ALUOp → ImmLogic → ImmLogic
@@ -124,13 +171,16 @@ taken OrrNot imm = inverted imm
 taken EorNot imm = inverted imm
 taken _ imm = imm
 
+-- Logical (immediate)
 unfoldable pub alu_rr_imm_logic_form : ALUOp → OperandSize → Reg → Reg → ImmLogic → Form
-alu_rr_imm_logic_form op size rd rn imml = logic_imm op size rd rn (taken op imml)
+alu_rr_imm_logic_form op size rd rn imml = logic_imm (logic_fields op size rd rn (taken op imml))
 
--- a wide move
+-- a wide move (Move wide (immediate), MOVN and MOVZ)
 unfoldable pub mov_wide_form : MoveWideOp → Reg → MoveWideConst → OperandSize → Form
-mov_wide_form op rd imm size = form MoveWide (sf_of size ∷ move_wide_opc op ∷ imm.shift ∷ imm.bits ∷ register_field rd ∷ [])
+mov_wide_form op rd imm size =
+    move_wide (record { sf = sf_of size; opc = move_wide_opc op; hw = imm.shift; imm16 = imm.bits; rd = register_field rd })
 
--- a wide move that keeps the other halfwords
+-- a wide move that keeps the other halfwords (Move wide (immediate), MOVK)
 unfoldable pub mov_k_form : Reg → MoveWideConst → OperandSize → Form
-mov_k_form rd imm size = form MoveWide (sf_of size ∷ 3 ∷ imm.shift ∷ imm.bits ∷ register_field rd ∷ [])
+mov_k_form rd imm size =
+    move_wide (record { sf = sf_of size; opc = 3; hw = imm.shift; imm16 = imm.bits; rd = register_field rd })

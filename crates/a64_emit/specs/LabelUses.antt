@@ -1,7 +1,7 @@
 -- What the kinds of label uses of A64 code mean.
-use Rattle.std.specs.Prelude.{ℕ, ℤ, pos, ◌*ℤ◌, ◌-◌, ◌^◌, ◌≡◌, Bool, true, false, IsTrue}
+use Rattle.std.specs.Prelude.{ℕ, ℤ, pos, ◌*ℤ◌, ◌-◌, ◌^◌, Bool, true, false}
 use Rattle.a64_buffer.specs.Word.{signed, field_bits, mask_of}
-use Rattle.a64_buffer.specs.Kinds.{Kinds, IsLawful}
+use Rattle.a64_buffer.specs.Kinds.{Kinds}
 use Rattle.a64_emit.specs.declared.label_use.LabelUse.{LabelUse}
 use Rattle.a64_emit.specs.declared.label_use.LabelUse.TheVariants as uses
 
@@ -29,6 +29,10 @@ adds_distance uses.Branch26 = false
 abbrev pub counts_in_words : LabelUse → Bool
 counts_in_words uses.Branch26 = true
 
+-- whether a veneer can lead a use on to a label that is too far
+abbrev pub has_veneer : LabelUse → Bool
+has_veneer uses.Branch26 = true
+
 abbrev pub label_kinds : Kinds LabelUse
 label_kinds = record {
   mask = mask_for;
@@ -37,11 +41,5 @@ label_kinds = record {
   backward = backward_range;
   adds = adds_distance;
   counts_words = counts_in_words;
+  veneers = has_veneer;
 }
-
--- no kind adds its distance, so the law holds of all that do
-pub label_kinds_lawful : IsLawful label_kinds
-label_kinds_lawful = record { whole_mask = law }
-  where
-    law : (kind : LabelUse) → IsTrue (adds_distance kind) → mask_for kind ≡ 2 ^ 32 - 1
-    law uses.Branch26 adds = cc

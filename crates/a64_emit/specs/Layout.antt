@@ -9,11 +9,12 @@ use Rattle.a64_buffer.specs.Word.{outside, word_at}
 use Rattle.a64_buffer.specs.Kinds.{GoesTo}
 use Rattle.a64_emit.specs.declared.label_use.LabelUse.{LabelUse}
 use Rattle.a64_emit.specs.declared.label_use.LabelUse.TheVariants as uses
-use Rattle.a64_emit.specs.declared.item.Item.{Item}
-use Rattle.a64_emit.specs.declared.item.Item.TheVariants.{Bind}
+use Rattle.a64_inst.specs.declared.item.Item.{Item}
+use Rattle.a64_inst.specs.declared.item.Item.TheVariants.{Bind}
 use Rattle.a64_emit.specs.declared.code.Code.{Code}
 use Rattle.a64_emit.specs.LabelUses.{label_kinds, mask_for, distance_in}
-use Rattle.a64_emit.specs.Cells.{Cell, Site, cell_word, cells_of}
+use Rattle.a64_emit.specs.declared.site.Site.{Site}
+use Rattle.a64_emit.specs.Cells.{Cell, cell_word, cells_of}
 
 -- cells that stand one behind another from a place on, each with its own place
 abbrev pub placed : ℕ → List Cell → List (ℕ × Cell)
@@ -57,9 +58,11 @@ module _ (frame : FrameLayout) (flags : EmitFlags) (items : List Item) (code : C
       (outside (mask_for uses.Branch26) (word_at code.bytes.items from) ≡ 0x14000000)
       × (pos from +ℤ distance_in uses.Branch26 (word_at code.bytes.items from) ≡ pos to)
 
-  -- a listed island stands behind item i, which has words, and is jumped over
+  -- a listed island stands behind item i, which has words. It has at least its first word, which
+  -- jumps over it
   pub record IsIslandAfter (i : ℕ) (island : ℕ × ℕ) : Type 0 where
     pub listed : Contains code.islands.items island
+    pub long : island.0 + 4 ≤ island.1
     pub begins : island.0 ≡ end_of_item i
     pub ends : island.1 ≡ slice_index stations (i + 1)
     pub has_words : slice_index_or item_cells i [] ≢ []
@@ -85,6 +88,7 @@ module _ (frame : FrameLayout) (flags : EmitFlags) (items : List Item) (code : C
     pub first : slice_index stations 0 ≡ 0
     pub next : (i : ℕ) → i < length items → IsFollowed i
     pub islands : All StandsOnce code.islands.items
+    pub islands_ordered : IsStrictlyIncreasing (map (λ island. island.0) code.islands.items)
     pub cells : All (Stands code.bytes.items) (standing item_cells code.places.items)
     pub labels_ordered : IsStrictlyIncreasing (map (λ e. e.0.0) code.labels.items)
     pub labels : (label : MachLabel) (place : ℕ) → Contains code.labels.items (label, place) ↔ IsBoundAt items code.places.items label place

@@ -1,11 +1,11 @@
 pub mod LabelUses
-pub mod Forms
+pub mod LabelLaws
 pub mod IntegerForms
-pub mod BranchForms
+pub mod ControlForms
 pub mod Cells
-pub mod Emission
-pub mod Layout
-pub mod Records
 pub mod Bounds
+pub mod Layout
+pub mod Emission
+pub mod Records
 pub mod Faults
 pub mod Assembled

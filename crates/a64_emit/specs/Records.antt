@@ -1,37 +1,64 @@
 -- What is recorded of finished code.
-use Rattle.std.specs.Prelude.{ℕ, ℤ, ◌≡◌, List, [], ◌∷◌, ◌++◌}
+use Rattle.std.specs.Prelude.{ℕ, ℤ, ◌≡◌, ◌↔◌, ◌+◌, List, [], ◌∷◌, ◌++◌, Contains, map, slice_get, Some}
+use Rattle.std.specs.List.Sorted.{IsStrictlyIncreasing}
 use Rattle.a64_base.specs.declared.entity.Reloc.{Reloc}
 use Rattle.a64_base.specs.declared.entity.ExternalName.{ExternalName}
 use Rattle.a64_base.specs.declared.entity.TrapCode.{TrapCode}
 use Rattle.a64_base.specs.declared.entity.UserStackMap.{UserStackMap}
-use Rattle.a64_emit.specs.declared.item.Item.{Item}
+use Rattle.a64_inst.specs.declared.emission.EmitFlags.{EmitFlags}
+use Rattle.a64_inst.specs.declared.frame.FrameLayout.{FrameLayout}
+use Rattle.a64_inst.specs.declared.item.Item.{Item}
 use Rattle.a64_emit.specs.declared.code.Code.{Code}
 
--- the records of one item that stands at a place
-abbrev pub relocs_at : ℕ → Item → List (ℕ × Reloc × ExternalName × ℤ)
-relocs_at place item = []
+-- the records of an item, by their offsets from the item's place; none that exists makes any
+module _ (frame : FrameLayout) (flags : EmitFlags) where
+  abbrev pub relocs_of : Item → List (ℕ × Reloc × ExternalName × ℤ)
+  relocs_of item = []
 
-abbrev pub traps_at : ℕ → Item → List (ℕ × TrapCode)
-traps_at place item = []
+  abbrev pub traps_of : Item → List (ℕ × TrapCode)
+  traps_of item = []
 
-abbrev pub calls_at : ℕ → Item → List ℕ
-calls_at place item = []
+  abbrev pub calls_of : Item → List ℕ
+  calls_of item = []
 
-abbrev pub patchable_at : ℕ → Item → List (ℕ × ℕ)
-patchable_at place item = []
+  abbrev pub patchable_of : Item → List (ℕ × ℕ)
+  patchable_of item = []
 
-abbrev pub maps_at : ℕ → Item → List (ℕ × UserStackMap)
-maps_at place item = []
+  abbrev pub maps_of : Item → List (ℕ × UserStackMap)
+  maps_of item = []
+
+-- a record at its place in the code, for an item that stands at a place
+abbrev pub reloc_from : ℕ → ℕ × Reloc × ExternalName × ℤ → ℕ × Reloc × ExternalName × ℤ
+reloc_from place r = (place + r.0, r.1, r.2, r.3)
+
+abbrev pub number_from : ℕ → ℕ × ℕ → ℕ × ℕ
+number_from place r = (place + r.0, r.1)
+
+abbrev pub map_from : ℕ → ℕ × UserStackMap → ℕ × UserStackMap
+map_from place r = (place + r.0, r.1)
 
 -- the records of all items, each at its place
-abbrev pub all_at : {R : Type 0} → (ℕ → Item → List R) → List ℕ → List Item → List R
-all_at records (place ∷ places) (item ∷ items) = records place item ++ all_at records places items
-all_at records _ _ = []
+abbrev pub all_from : {R : Type 0} → (ℕ → R → R) → (Item → List R) → List ℕ → List Item → List R
+all_from moved records (place ∷ places) (item ∷ items) = map (moved place) (records item) ++ all_from moved records places items
+all_from moved records _ _ = []
 
--- the code has the records of its items, and no others, by place
-pub record HasRecords (items : List Item) (code : Code) : Type 0 where
-  pub relocs : code.relocs.items ≡ all_at relocs_at code.places.items items
-  pub traps : code.traps.items ≡ all_at traps_at code.places.items items
-  pub calls : code.calls.items ≡ all_at calls_at code.places.items items
-  pub patchable : code.patchable.items ≡ all_at patchable_at code.places.items items
-  pub maps : code.maps.items ≡ all_at maps_at code.places.items items
+module _ (frame : FrameLayout) (flags : EmitFlags) (items : List Item) where
+  -- an item has a trap at this place of the code
+  pub record IsTrapOf (places : List ℕ) (place : ℕ) (code : TrapCode) : Type 0 where
+    pub index : ℕ
+    pub item : Item
+    pub start : ℕ
+    pub offset : ℕ
+    pub item_is : slice_get items index ≡ Some item
+    pub start_is : slice_get places index ≡ Some start
+    pub listed : Contains (traps_of frame flags item) (offset, code)
+    pub place_is : place ≡ start + offset
+
+  -- the code has the records of its items, and no others, by place
+  pub record HasRecords (code : Code) : Type 0 where
+    pub relocs : code.relocs.items ≡ all_from reloc_from (relocs_of frame flags) code.places.items items
+    pub traps_ordered : IsStrictlyIncreasing (map (λ t. t.0) code.traps.items)
+    pub traps : (place : ℕ) (trap : TrapCode) → Contains code.traps.items (place, trap) ↔ IsTrapOf code.places.items place trap
+    pub calls : code.calls.items ≡ all_from ◌+◌ (calls_of frame flags) code.places.items items
+    pub patchable : code.patchable.items ≡ all_from number_from (patchable_of frame flags) code.places.items items
+    pub maps : code.maps.items ≡ all_from map_from (maps_of frame flags) code.places.items items

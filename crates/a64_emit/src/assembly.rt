@@ -5,18 +5,17 @@ ghost use Rattle.std.specs.FinMap.{empty};
 ghost use Rattle.a64_buffer.specs.declared.force.ForceVeneers.TheVariants.{No};
 ghost use Rattle.a64_emit.specs.Bounds.{whole};
 ghost use Rattle.a64_emit.specs.Cells.{cells_of};
-ghost use Rattle.a64_emit.specs.Emission.{HasRoom, IsUnbound, stepped, HasEmitted};
+ghost use Rattle.a64_emit.specs.Emission.{HasRoom, IsUnbound, Steps, HasEmitted};
 ghost use Rattle.a64_emit.specs.Faults.{item_fault, own_fault, second_binding};
 ghost use Rattle.a64_emit.specs.Assembled.{IsAssembled, IsRefusal};
 
+use crate::checks::{bound_labels, check_items, check_size, check_uses};
 use crate::code::Code;
 use crate::emit::MachInstEmit;
 use crate::error::EmitError;
-use crate::faults::{bound_labels, check_items, check_size, check_uses};
-use crate::item::Item;
 use crate::label_use::LabelUse;
 use a64_buffer::{Constants, Finished, ForceVeneers, MachBuffer};
-use a64_inst::{EmitInfo, EmitState, FrameLayout};
+use a64_inst::{EmitInfo, EmitState, FrameLayout, Item};
 use std::alloc::{AllocError, Global};
 
 /// Emits one item at the end of a buffer.
@@ -26,10 +25,10 @@ fn emit_item(
     info: &EmitInfo,
     state: &mut EmitState,
 ) -> Result<(), AllocError>
-    requires good { item_fault item.now ≡ None }
+    requires good { item_fault state.old.frame info.now buffer.old.constants item.now ≡ None }
     requires room { HasRoom buffer.old (cells_of state.old.frame info.now item.now) }
     requires unbound { IsUnbound buffer.old item.now }
-    ensures buffer { OnOk result (buffer.new ≡ stepped state.old.frame info.now buffer.old item.now) }
+    ensures buffer { OnOk result (Steps state.old.frame info.now item.now buffer.old buffer.new) }
     ensures frame { OnOk result (state.new.frame ≡ state.old.frame) }
 {
     match item {
@@ -52,7 +51,7 @@ fn emit_items(
     requires words { buffer.old.words ≡ [] }
     requires uses { buffer.old.uses ≡ [] }
     requires labels { buffer.old.labels ≡ empty }
-    requires good { own_fault items.now ≡ None }
+    requires good { own_fault state.old.frame info.now buffer.old.constants items.now ≡ None }
     requires once { second_binding items.now ≡ None }
     requires short { whole state.old.frame info.now items.now < 2 ^ 31 }
     ensures { IfOk result (λ places. HasEmitted state.old.frame info.now items.now places.items buffer.new) }
@@ -71,7 +70,8 @@ fn emit_items(
 ///
 /// # Errors
 ///
-/// The first fault of the items, or want of memory.
+/// The first fault of the items, or want of memory, which comes only where each item is right by
+/// itself.
 pub fn assemble(
     alloc: Global,
     items: &[Item],
@@ -82,13 +82,13 @@ pub fn assemble(
 ) -> Result<Code, EmitError>
     requires few { length items.now < 2 ^ 32 }
     requires unforced { force ≡ No }
-    ensures ok { IfOk result (IsAssembled frame.now info.now items.now) }
-    ensures err { IfErr result (IsRefusal frame.now info.now items.now) }
+    ensures ok { IfOk result (IsAssembled frame.now info.now constants.now force items.now) }
+    ensures err { IfErr result (IsRefusal frame.now info.now constants.now force items.now) }
 {
-    check_items(items)?;
+    check_items(items, constants, info, frame)?;
     let bound = bound_labels(alloc, items)?;
-    check_uses(items, &bound)?;
-    check_size(items)?;
+    check_uses(items, &bound, info, frame)?;
+    check_size(items, info, frame)?;
     let mut state = EmitState::new(frame.try_clone(alloc)?);
     let mut buffer = MachBuffer::new(alloc, constants);
     let places = emit_items(alloc, items, &mut buffer, info, &mut state)?;

@@ -1,26 +1,33 @@
 //! How much an item adds to code.
 
-ghost use Rattle.std.specs.Prelude.{◌≡◌, ◌+◌, ◌^◌, ◌<◌, [], ◌∷◌};
+ghost use Rattle.std.specs.Prelude.{◌≡◌, length};
 ghost use Rattle.a64_emit.specs.Bounds as bounds;
-ghost use Rattle.a64_emit.specs.Bounds.{IsExtent};
-ghost use Rattle.a64_emit.specs.Forms.{Form};
-ghost use Rattle.a64_emit.specs.Cells.{branch, inst_cells, cells_of};
+ghost use Rattle.a64_emit.specs.Bounds.{IsExtent, ranges_in, least, saturated, charge_of};
+ghost use Rattle.a64_emit.specs.Cells.{inst_cells};
 
-use crate::item::Item;
-use crate::label_use::LabelUse;
-use a64_base::BranchTarget;
-use a64_buffer::MachInstLabelUse;
-use a64_inst::Inst;
+use crate::site::Site;
+use crate::uses::nth_use;
+use a64_buffer::{MachInstLabelUse, Target};
+use a64_inst::{EmitInfo, FrameLayout, Inst, Item};
 
-/// How much an item may add to code, in bytes.
+/// How much an item may add to code, in bytes. Numbers past those of 64 bits stand at the greatest.
 #[derive(Clone, Copy)]
 pub struct Extent {
     /// Its own words.
-    pub size: u32,
-    /// What islands may add because of it.
-    pub charge: u32,
+    pub size: u64,
+    /// What islands may add because of it, with the space that it asks for.
+    pub charge: u64,
     /// The shortest forward range of its uses that may want veneers.
     pub range: Option<u32>,
+}
+
+/// The uses of an instruction that may want veneers.
+#[derive(Clone, Copy)]
+struct Wanting {
+    /// How many they are.
+    count: u64,
+    /// The shortest of their forward ranges, in bytes.
+    range: Option<u32>,
 }
 
 /// The lesser of two numbers, of which either may be missing.
@@ -34,43 +41,59 @@ pub fn lesser(a: Option<u32>, b: Option<u32>) -> Option<u32>
     }
 }
 
-/// One word without a use.
-const ONE_WORD: Extent = Extent {
-    size: 4,
-    charge: 4,
-    range: None,
-};
-
-/// How much a branch of one word may add to code.
-fn branch_extent(kind: LabelUse, dest: BranchTarget) -> Extent
-    ensures small { result.size + result.charge < 2 ^ 32 }
-    ensures extent { (form : Form) → IsExtent (branch form kind dest ∷ []) result.size result.charge result.range }
+/// The forward range of a use in bytes, where it may want a veneer.
+fn veneer_range(site: Site) -> Option<u32>
+    ensures { result ≡ bounds.veneer_range site }
 {
-    match dest {
-        BranchTarget::Label(_) => Extent {
-            size: 4,
-            charge: 32,
-            range: Some(kind.max_pos_range()),
-        },
-        BranchTarget::ResolvedOffset(_) => ONE_WORD,
+    match site.target {
+        Target::Label(_) if site.kind.supports_veneer() => Some(site.kind.max_pos_range()),
+        Target::Label(_) => None,
     }
 }
 
-/// How much an instruction may add to code, whatever the frame and the settings.
-fn inst_extent(inst: &Inst) -> Extent
-    ensures small { result.size + result.charge < 2 ^ 32 }
-    ensures extent { (frame : _) (flags : _) → IsExtent (inst_cells frame flags inst.now) result.size result.charge result.range }
+/// The uses of an instruction that may want veneers.
+fn wanting_in(inst: &Inst, frame: &FrameLayout, info: &EmitInfo) -> Wanting
+    ensures count { result.count ≡ length (ranges_in (inst_cells frame.now info.now inst.now)) }
+    ensures range { result.range ≡ least (ranges_in (inst_cells frame.now info.now inst.now)) }
 {
-    match inst {
-        Inst::Jump { dest } => branch_extent(LabelUse::Branch26, *dest),
-        _ => ONE_WORD,
+    let mut count: u64 = 0;
+    let mut shortest = None;
+    let mut n = 0;
+    while let Some(found) = nth_use(inst, n, frame, info) {
+        n += 1;
+        let Some(range) = veneer_range(found.site) else {
+            continue;
+        };
+        count += 1;
+        shortest = lesser(shortest, Some(range));
+    }
+    Wanting {
+        count,
+        range: shortest,
     }
 }
 
-/// How much an item may add to code, whatever the frame and the settings.
-pub fn extent_of(item: &Item) -> Extent
-    ensures small { result.size + result.charge < 2 ^ 32 }
-    ensures extent { (frame : _) (flags : _) → IsExtent (cells_of frame flags item.now) result.size result.charge result.range }
+/// How many words an instruction has: each that exists is one.
+fn cell_count(inst: &Inst, frame: &FrameLayout, info: &EmitInfo) -> u64
+    ensures { result ≡ length (inst_cells frame.now info.now inst.now) }
+{
+    1
+}
+
+/// How much an instruction of so many words may add to code, beside these.
+fn charge(words: u64, wanting: u64) -> u64
+    ensures { (cells : _) → words ≡ length cells → wanting ≡ length (ranges_in cells) → result ≡ saturated (charge_of cells) }
+{
+    if words == 0 {
+        0
+    } else {
+        wanting.saturating_mul(28).saturating_add(4)
+    }
+}
+
+/// How much an item may add to code.
+pub fn extent_of(item: &Item, frame: &FrameLayout, info: &EmitInfo) -> Extent
+    ensures { IsExtent frame.now info.now item.now result.size result.charge result.range }
 {
     match item {
         Item::Bind(_) => Extent {
@@ -78,6 +101,14 @@ pub fn extent_of(item: &Item) -> Extent
             charge: 0,
             range: None,
         },
-        Item::Emit { inst, map: _ } => inst_extent(inst),
+        Item::Emit { inst, map: _ } => {
+            let words = cell_count(inst, frame, info);
+            let wanting = wanting_in(inst, frame, info);
+            Extent {
+                size: words.saturating_mul(4),
+                charge: charge(words, wanting.count),
+                range: wanting.range,
+            }
+        }
     }
 }

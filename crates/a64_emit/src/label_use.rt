@@ -10,7 +10,8 @@ pub enum LabelUse {
 }
 
 impl MachInstLabelUse for LabelUse {
-    ghost use Rattle.a64_emit.specs.LabelUses.{label_kinds, label_kinds_lawful};
+    ghost use Rattle.a64_emit.specs.LabelUses.{label_kinds};
+    ghost use Rattle.a64_emit.specs.LabelLaws.{label_kinds_lawful};
 
     ghost kinds = { label_kinds };
 
@@ -24,6 +25,12 @@ impl MachInstLabelUse for LabelUse {
 
     fn max_neg_range(self) -> u32 {
         self.max_pos_range() + 1
+    }
+
+    fn supports_veneer(self) -> bool {
+        match self {
+            LabelUse::Branch26 => true,
+        }
     }
 
     fn patch_size(self) -> u32 {

@@ -2,21 +2,23 @@
 #![tactic(auto)]
 
 mod assembly;
-mod branch;
+mod checks;
 mod code;
 mod emit;
 mod error;
 mod extent;
-mod faults;
-mod integer;
-mod item;
 mod label_use;
+mod site;
+mod state;
 #[cfg(test)]
 mod tests;
+mod uses;
+mod word;
 
 pub use crate::code::Code;
-pub use crate::item::Item;
+pub use a64_inst::Item;
 pub use assembly::assemble;
 pub use emit::MachInstEmit;
 pub use error::EmitError;
 pub use label_use::LabelUse;
+pub use state::MachInstEmitState;

@@ -1,4 +1,4 @@
-use Rattle.std.proofs.Common.{◌≡◌, ◌∙◌, ap, sym, subst, inr, Result, Ok, Err}
+use Rattle.std.proofs.Common.{◌≡◌, ◌∙◌, ap, sym, subst, inl, Result, Ok, Err}
 use Rattle.std.specs.Prelude.{IfErr, IsErrAnd}
 use Rattle.a64_emit.specs.declared.error.EmitError.{EmitError}
 use Rattle.a64_emit.specs.Emission.{HasEmitted}
@@ -14,20 +14,20 @@ passed_on P error (Err e) h p = subst P (sym h) p
 
 pub returns-in_err-check_uses-clause-err : goal.returns-in_err-check_uses-clause-err
 returns-in_err-check_uses-clause-err c =
-    passed_on (IsRefusal c.args.frame.now c.args.info.now c.args.items.now) c.in_err-check_uses.field-0.0 c.from_residual-in_err-check_uses.result c.from_residual-in_err-check_uses.ensures.1
-    (inr (fault_at_use c.args.frame.now c.args.info.now c.args.items.now c.in_err-check_uses.field-0.0 c.in_ok-check_items.ensures c.in_ok-bound.ensures.ok.0 (c.in_err-check_uses.ensures c.args.frame.now c.args.info.now)))
+    passed_on (IsRefusal c.args.frame.now c.args.info.now c.args.constants.now c.args.force c.args.items.now) c.in_err-check_uses.field-0.0 c.from_residual-in_err-check_uses.result c.from_residual-in_err-check_uses.ensures.1
+    (inl (fault_at_use c.args.frame.now c.args.info.now c.args.constants.now c.args.force c.args.items.now c.in_err-check_uses.field-0.0 c.in_ok-check_items.ensures c.in_ok-bound.ensures.ok.0 c.in_err-check_uses.ensures))
 
 pub returns-in_err-check_size-clause-err : goal.returns-in_err-check_size-clause-err
 returns-in_err-check_size-clause-err c =
-    passed_on (IsRefusal c.args.frame.now c.args.info.now c.args.items.now) c.in_err-check_size.field-0.0 c.from_residual-in_err-check_size.result c.from_residual-in_err-check_size.ensures.1
-    (inr (fault_at_size c.args.frame.now c.args.info.now c.args.items.now c.in_err-check_size.field-0.0 c.in_ok-check_items.ensures c.in_ok-bound.ensures.ok.0 (c.in_ok-check_uses.ensures c.args.frame.now c.args.info.now) (c.in_err-check_size.ensures c.args.frame.now c.args.info.now)))
+    passed_on (IsRefusal c.args.frame.now c.args.info.now c.args.constants.now c.args.force c.args.items.now) c.in_err-check_size.field-0.0 c.from_residual-in_err-check_size.result c.from_residual-in_err-check_size.ensures.1
+    (inl (fault_at_size c.args.frame.now c.args.info.now c.args.constants.now c.args.force c.args.items.now c.in_err-check_size.field-0.0 c.in_ok-check_items.ensures c.in_ok-bound.ensures.ok.0 c.in_ok-check_uses.ensures c.in_err-check_size.ensures))
 
 pub finish-requires : goal.finish-requires
 finish-requires c =
     let frame_is : c.new-state.result.frame ≡ c.args.frame.now = ap (λ s. s.frame) c.new-state.ensures ∙ c.in_ok-try_clone.ensures in
     all_reached c.args.frame.now c.args.info.now c.args.items.now c.in_ok-places.places.items c.emit_items.new.buffer
     (subst (λ frame. HasEmitted frame c.args.info.now c.args.items.now c.in_ok-places.places.items c.emit_items.new.buffer) frame_is c.in_ok-places.ensures)
-    (c.in_ok-check_uses.ensures c.args.frame.now c.args.info.now) (c.in_ok-check_size.ensures c.args.frame.now c.args.info.now)
+    c.in_ok-check_uses.ensures c.in_ok-check_size.ensures
 
 pub returns-clause-ok : goal.returns-clause-ok
 returns-clause-ok c =
@@ -35,8 +35,8 @@ returns-clause-ok c =
     let out = c.code_of.ensures in
     is_assembled c.args.frame.now c.args.info.now c.args.items.now c.in_ok-places.places.items c.emit_items.new.buffer
     (subst (λ frame. HasEmitted frame c.args.info.now c.args.items.now c.in_ok-places.places.items c.emit_items.new.buffer) frame_is c.in_ok-places.ensures)
-    (c.in_ok-check_uses.ensures c.args.frame.now c.args.info.now) (c.in_ok-check_size.ensures c.args.frame.now c.args.info.now)
+    c.in_ok-check_uses.ensures c.in_ok-check_size.ensures
     c.in_ok-finished.finished c.in_ok-finished.ensures c.code_of.result
     (ap (λ o. o.bytes.items) out) (ap (λ o. o.places.items) out) (ap (λ o. o.labels.items) out) (ap (λ o. o.islands.items) out) (ap (λ o. o.pool) out)
-    c.in_ok-check_items.ensures c.in_ok-bound.ensures.ok.0
+    c.args.constants.now c.args.force c.in_ok-check_items.ensures c.in_ok-bound.ensures.ok.0
     (ap (λ o. o.relocs.items) out) (ap (λ o. o.traps.items) out) (ap (λ o. o.calls.items) out) (ap (λ o. o.patchable.items) out) (ap (λ o. o.maps.items) out)

@@ -1,29 +1,54 @@
-use Rattle.std.proofs.Common.{sym, ap, subst, ◌∙◌}
+use Rattle.std.proofs.Common.{◌≡◌, true, sym, ap, subst, ◌∙◌}
 use Rattle.std.proofs.lemmas.Result.{on_ok_weaker, on_err_weaker}
+use Rattle.a64_inst.specs.declared.frame.FrameLayout.{FrameLayout}
+use Rattle.a64_inst.specs.declared.virtuals.VirtualRegisters.TheVariants.{Refused}
+use Rattle.a64_inst.specs.Faults.{has_operands}
 use Rattle.a64_inst.specs.State.{State}
-use Rattle.a64_emit.specs.Cells.{shape_of, other_cells}
-use Rattle.a64_emit.specs.Emission.{appended, IsAppendedInPart}
+use Rattle.a64_inst.proofs.Good.{operands_good}
+use Rattle.a64_emit.specs.Cells.{shape_of, only_word, other_cells}
+use Rattle.a64_emit.specs.Emission.{appended, IsAppendedInPart, HasRoom}
 use Rattle.a64_emit.proofs.Shapes.{some_word, no_word}
 use Rattle.a64_emit.proofs.emit.InstMachInstEmit.emit.Goals as goal
 
+pub only_word-requires : goal.only_word-requires
+only_word-requires c =
+    subst (λ (frame : FrameLayout). has_operands frame c.args.info.now Refused c.args.self.now ≡ true) (sym (c.frame_layout.ensures ∙ ap (λ (s : State). s.frame) c.take_stack_map-map.ensures.rest))
+    (operands_good c.args.state.now.frame c.args.info.now c.args.sink.now.constants Refused c.args.self.now c.requires.good)
+
+pub emit_other-requires : goal.emit_other-requires
+emit_other-requires c =
+    let frame_is = c.frame_layout.ensures ∙ ap (λ (s : State). s.frame) c.take_stack_map-map.ensures.rest in
+    let cells = no_word (shape_of c.args.state.now.frame c.args.info.now c.args.self.now) (sym c.in-None.is ∙ c.only_word.ensures ∙ ap (λ (f : FrameLayout). only_word (shape_of f c.args.info.now c.args.self.now)) frame_is) in
+    let frame = ap (λ (s : State). other_cells (shape_of s.frame c.args.info.now c.args.self.now)) c.take_stack_map-map.ensures.rest in
+    record {
+      room = subst (HasRoom c.args.sink.now) (sym (frame ∙ cells)) c.requires.room;
+      good =
+          subst (λ (f : FrameLayout). has_operands f c.args.info.now Refused c.args.self.now ≡ true) (sym (ap (λ (s : State). s.frame) c.take_stack_map-map.ensures.rest))
+          (operands_good c.args.state.now.frame c.args.info.now c.args.sink.now.constants Refused c.args.self.now c.requires.good);
+    }
+
 pub returns-in-Some-clause-ok : goal.returns-in-Some-clause-ok
 returns-in-Some-clause-ok c =
-    let one = some_word (shape_of c.args.state.now.frame c.args.info.now c.args.self.now) c.in-Some.word (sym c.in-Some.is ∙ c.only_word.ensures c.args.state.now.frame c.args.info.now) in
+    let frame = c.frame_layout.ensures ∙ ap (λ (s : State). s.frame) c.take_stack_map-map.ensures.rest in
+    let one = some_word (shape_of c.args.state.now.frame c.args.info.now c.args.self.now) c.in-Some.word (sym c.in-Some.is ∙ c.only_word.ensures ∙ ap (λ (f : FrameLayout). only_word (shape_of f c.args.info.now c.args.self.now)) frame) in
     on_ok_weaker c.emit_plain.result (λ put. put one.0 one.2 ∙ ap (appended c.args.sink.now) (sym one.1)) c.emit_plain.ensures.ok
 
 pub returns-in-Some-clause-err : goal.returns-in-Some-clause-err
 returns-in-Some-clause-err c =
-    let one = some_word (shape_of c.args.state.now.frame c.args.info.now c.args.self.now) c.in-Some.word (sym c.in-Some.is ∙ c.only_word.ensures c.args.state.now.frame c.args.info.now) in
+    let frame = c.frame_layout.ensures ∙ ap (λ (s : State). s.frame) c.take_stack_map-map.ensures.rest in
+    let one = some_word (shape_of c.args.state.now.frame c.args.info.now c.args.self.now) c.in-Some.word (sym c.in-Some.is ∙ c.only_word.ensures ∙ ap (λ (f : FrameLayout). only_word (shape_of f c.args.info.now c.args.self.now)) frame) in
     on_err_weaker c.emit_plain.result (λ part. subst (IsAppendedInPart c.args.sink.now c.emit_plain.new.sink) (sym one.1) (part one.0)) c.emit_plain.ensures.err
 
 pub returns-in-None-clause-ok : goal.returns-in-None-clause-ok
 returns-in-None-clause-ok c =
-    let cells = no_word (shape_of c.args.state.now.frame c.args.info.now c.args.self.now) (sym c.in-None.is ∙ c.only_word.ensures c.args.state.now.frame c.args.info.now) in
+    let frame_is = c.frame_layout.ensures ∙ ap (λ (s : State). s.frame) c.take_stack_map-map.ensures.rest in
+    let cells = no_word (shape_of c.args.state.now.frame c.args.info.now c.args.self.now) (sym c.in-None.is ∙ c.only_word.ensures ∙ ap (λ (f : FrameLayout). only_word (shape_of f c.args.info.now c.args.self.now)) frame_is) in
     let frame = ap (λ (s : State). other_cells (shape_of s.frame c.args.info.now c.args.self.now)) c.take_stack_map-map.ensures.rest in
     on_ok_weaker c.emit_other.result (λ e. e ∙ ap (appended c.args.sink.now) (frame ∙ cells)) c.emit_other.ensures.ok
 
 pub returns-in-None-clause-err : goal.returns-in-None-clause-err
 returns-in-None-clause-err c =
-    let cells = no_word (shape_of c.args.state.now.frame c.args.info.now c.args.self.now) (sym c.in-None.is ∙ c.only_word.ensures c.args.state.now.frame c.args.info.now) in
+    let frame_is = c.frame_layout.ensures ∙ ap (λ (s : State). s.frame) c.take_stack_map-map.ensures.rest in
+    let cells = no_word (shape_of c.args.state.now.frame c.args.info.now c.args.self.now) (sym c.in-None.is ∙ c.only_word.ensures ∙ ap (λ (f : FrameLayout). only_word (shape_of f c.args.info.now c.args.self.now)) frame_is) in
     let frame = ap (λ (s : State). other_cells (shape_of s.frame c.args.info.now c.args.self.now)) c.take_stack_map-map.ensures.rest in
     on_err_weaker c.emit_other.result (λ part. subst (IsAppendedInPart c.args.sink.now c.emit_other.new.sink) (frame ∙ cells) part) c.emit_other.ensures.err

@@ -1,0 +1,26 @@
+//! The words of branches.
+
+ghost use Rattle.std.specs.Prelude.{◌≡◌, true};
+ghost use Rattle.a64_inst.specs.ControlOperands.{are_jump_operands};
+ghost use Rattle.a64_rows.specs.Forms.{form_word};
+ghost use Rattle.a64_emit.specs.ControlForms.{ret_form, jump_form};
+
+use a64_base::BranchTarget;
+use a64_enc_int::enc_jump26;
+
+/// The word of a `Ret`.
+#[tactic(auto, unfolding(crate::specs::ControlForms::ret_form))]
+pub fn ret_word() -> u32
+    ensures { result ≡ form_word ret_form }
+{
+    0xd65f_03c0
+}
+
+/// The word of a `Jump`, whose offset is zero as long as it has a label.
+#[tactic(auto, using(a64_inst::proofs::Good::jump_fits), unfolding(crate::specs::ControlForms::jump_form))]
+pub fn jump_word(dest: BranchTarget) -> u32
+    requires { are_jump_operands dest ≡ true }
+    ensures { result ≡ form_word (jump_form dest) }
+{
+    enc_jump26(0b000101, dest.as_offset26_or_zero())
+}
