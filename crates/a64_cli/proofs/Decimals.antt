@@ -9,12 +9,12 @@ use Rattle.std.proofs.lemmas.Str.{digit_value_digit}
 use Rattle.a64_cli.specs.Reads.{Reads, IsU64}
 
 -- digits without a needless 0 at the front, whose value is n
-pub record IsCanonical (word : List ℕ) (n : ℕ) : Type 0 where
-  pub nonempty : 0 < length word
-  pub short : length word ≤ 20
-  pub lead : get_or word 0 0 ≡ 48 → length word ≡ 1
-  pub digits : AllDigits 10 word
-  pub value : digits_value 10 word ≡ n
+pub record IsCanonical (token : List ℕ) (n : ℕ) : Type 0 where
+  pub nonempty : 0 < length token
+  pub short : length token ≤ 20
+  pub lead : get_or token 0 0 ≡ 48 → length token ≡ 1
+  pub digits : AllDigits 10 token
+  pub value : digits_value 10 token ≡ n
 
 own : IsNumeralModel (AllDigits 10) (digits_value 10)
 own = numerals_by_value (AllDigits 10) tells_digits
@@ -28,34 +28,34 @@ canonical_decimal n lt =
     let d = decimal_is_IsNumeral n lt in
     record { nonempty = d.0.0; short = length-decimal-le 20 n (omega arith) (omega arith) lt; lead = lead_of n lt; digits = d.0.1; value = d.1 }
 
-pub canonical : (word : List ℕ) (n : ℕ) → n < 2 ^ 64 → word ≡ decimal n → IsCanonical word n
-canonical word n lt e = subst (λ (w : List ℕ). IsCanonical w n) (sym e) (canonical_decimal n lt)
+pub canonical : (token : List ℕ) (n : ℕ) → n < 2 ^ 64 → token ≡ decimal n → IsCanonical token n
+canonical token n lt e = subst (λ (w : List ℕ). IsCanonical w n) (sym e) (canonical_decimal n lt)
 
-pub is_none : (word : List ℕ) → ((n : ℕ) → n < 2 ^ 64 → IsCanonical word n → ⊥) → Reads IsU64 decimal word None
-is_none word h = record { some = tt; only = λ n lt e. absurd (h n lt (canonical word n lt e)) }
+pub is_none : (token : List ℕ) → ((n : ℕ) → n < 2 ^ 64 → IsCanonical token n → ⊥) → Reads IsU64 decimal token None
+is_none token h = record { some = tt; only = λ n lt e. absurd (h n lt (canonical token n lt e)) }
 
-pub is_some : (word : List ℕ) → AllDigits 10 word → 0 < length word → (get_or word 0 0 ≡ 48 → length word ≡ 1) → digits_value 10 word < 2 ^ 64 → Reads IsU64 decimal word (Some (digits_value 10 word))
-is_some word digits nonempty lead lt =
+pub is_some : (token : List ℕ) → AllDigits 10 token → 0 < length token → (get_or token 0 0 ≡ 48 → length token ≡ 1) → digits_value 10 token < 2 ^ 64 → Reads IsU64 decimal token (Some (digits_value 10 token))
+is_some token digits nonempty lead lt =
     record {
-      some = (lt, sym (decimal-digits_value own word digits nonempty lead lt));
-      only = λ n fits e. ap (λ (k : ℕ). Some k) (canonical word n fits e).value;
+      some = (lt, sym (decimal-digits_value own token digits nonempty lead lt));
+      only = λ n fits e. ap (λ (k : ℕ). Some k) (canonical token n fits e).value;
     }
 
 -- one more digit
-pub one_more : (word : List ℕ) (i value : ℕ) → i < length word → 48 ≤ get_or word i 0 → get_or word i 0 ≤ 57 → value ≡ digits_value 10 (take i word) → value * 10 + (get_or word i 0 - 48) ≡ digits_value 10 (take (i + 1) word)
-one_more word i value lt low high e = omega (arith, digits_value_more 10 word i lt, digit_value_digit (get_or word i 0) (low, high))
+pub one_more : (token : List ℕ) (i value : ℕ) → i < length token → 48 ≤ get_or token i 0 → get_or token i 0 ≤ 57 → value ≡ digits_value 10 (take i token) → value * 10 + (get_or token i 0 - 48) ≡ digits_value 10 (take (i + 1) token)
+one_more token i value lt low high e = omega (arith, digits_value_more 10 token i lt, digit_value_digit (get_or token i 0) (low, high))
 
-pub digits_so_far : (word : List ℕ) (i : ℕ) → i < length word → 48 ≤ get_or word i 0 → get_or word i 0 ≤ 57 → AllDigits 10 (take i word) → AllDigits 10 (take (i + 1) word)
-digits_so_far word i lt low high h = digits_more 10 word i lt h (omega (arith, digit_value_digit (get_or word i 0) (low, high)))
+pub digits_so_far : (token : List ℕ) (i : ℕ) → i < length token → 48 ≤ get_or token i 0 → get_or token i 0 ≤ 57 → AllDigits 10 (take i token) → AllDigits 10 (take (i + 1) token)
+digits_so_far token i lt low high h = digits_more 10 token i lt h (omega (arith, digit_value_digit (get_or token i 0) (low, high)))
 
 -- a byte that is no digit
-pub other_byte : (word : List ℕ) (i : ℕ) → i < length word → (48 ≤ get_or word i 0 → get_or word i 0 ≤ 57 → ⊥) → Reads IsU64 decimal word None
-other_byte word i lt h = is_none word (λ n fits c. let r = digit_at word i c.digits lt in h r.0 r.1)
+pub other_byte : (token : List ℕ) (i : ℕ) → i < length token → (48 ≤ get_or token i 0 → get_or token i 0 ≤ 57 → ⊥) → Reads IsU64 decimal token None
+other_byte token i lt h = is_none token (λ n fits c. let r = digit_at token i c.digits lt in h r.0 r.1)
 
 -- a front whose value is too large
-pub too_large : (word : List ℕ) (i : ℕ) → 2 ^ 64 ≤ digits_value 10 (take i word) → Reads IsU64 decimal word None
-too_large word i h = is_none word (λ n fits c. omega (arith, digits_value-take-le 10 word i (omega arith), c.value))
+pub too_large : (token : List ℕ) (i : ℕ) → 2 ^ 64 ≤ digits_value 10 (take i token) → Reads IsU64 decimal token None
+too_large token i h = is_none token (λ n fits c. omega (arith, digits_value-take-le 10 token i (omega arith), c.value))
 
 -- a decimal begins with a digit
-pub decimal_first : (word : List ℕ) (n : ℕ) → IsU64 n → word ≡ decimal n → (48 ≤ get_or word 0 0) × (get_or word 0 0 ≤ 57)
-decimal_first word n lt e = let c = canonical word n lt e in digit_at word 0 c.digits c.nonempty
+pub decimal_first : (token : List ℕ) (n : ℕ) → IsU64 n → token ≡ decimal n → (48 ≤ get_or token 0 0) × (get_or token 0 0 ≤ 57)
+decimal_first token n lt e = let c = canonical token n lt e in digit_at token 0 c.digits c.nonempty

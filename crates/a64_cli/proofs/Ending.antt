@@ -1,21 +1,22 @@
--- How the run of a file ends, for the source that it was read from.
-use Rattle.std.proofs.Common.{◌≡◌, ◌⊎◌, ℕ, List, refl, sym, ◌∙◌, inl, inr, arith, Option, None, Some, IfSome}
+-- How the run of a command's file ends, for the source that it was read from.
+use Rattle.std.proofs.Common.{◌≡◌, ◌⊎◌, ℕ, List, refl, sym, ap, ◌∙◌, inl, inr, arith, Option, None, Some}
 use Rattle.a64_emit.specs.declared.code.Code.{Code}
 use Rattle.a64_emit.specs.declared.error.EmitError.{EmitError}
+use Rattle.a64_cli.specs.declared.command.Command.{Command}
+use Rattle.a64_cli.specs.declared.command.Command.TheVariants.{Asm}
 use Rattle.a64_cli.specs.declared.file.File.{File}
 use Rattle.a64_cli.specs.declared.ran.Fault.{Fault}
 use Rattle.a64_cli.specs.declared.ran.Fault.TheVariants as faults
-use Rattle.a64_cli.specs.Run.{IsDue, IsDueAnswer, file_fault}
-use Rattle.a64_cli.specs.Stages.{IsFileOf, Ends}
+use Rattle.a64_cli.specs.Commands.{contents_fault, file_fault}
+use Rattle.a64_cli.specs.Run.{IsDue, IsDueForText, IsDueAnswer}
+use Rattle.a64_cli.specs.Stages.{IsFileOf, IsDueInput, Ends}
 
-module _ (taken taken' : Option (List ℕ)) (file : File) where
+module _ (command : Command) (taken taken' : Option (List ℕ)) (file : File) where
   -- a file with a fault is refused with it
-  refused_due : (fault : Option Fault) (code : Option Code) (error : EmitError) → Ends taken taken' file fault code
-      → file_fault file ≡ Some error → IsDue (Some (faults.Assembly error)) fault
-  refused_due None (Some c) error e h = let n = e.assembled.no_fault in cc
-  refused_due None None error e h = absurd e
-  refused_due (Some faults.Write) (Some c) error e h = let n = e.assembled.no_fault in cc
-  refused_due (Some faults.Write) None error e h = absurd e
+  refused_due : (fault : Option Fault) (code : Option Code) (error : EmitError) → Ends command taken taken' file fault code
+      → file_fault command file ≡ Some error → IsDue (Some (faults.Assembly error)) fault
+  refused_due None code error e h = let n = e.made.no_fault in cc
+  refused_due (Some faults.Write) code error e h = let n = e.made.no_fault in cc
   refused_due (Some (faults.Assembly other)) code error e h = inl (let k = e.0 in cc)
   refused_due (Some faults.Memory) code error e h = inr (inr refl)
   refused_due (Some faults.Usage) code error e h = absurd e
@@ -24,8 +25,8 @@ module _ (taken taken' : Option (List ℕ)) (file : File) where
   refused_due (Some (faults.Line n)) code error e h = absurd e
 
   -- a file with no fault is done
-  done_due : (fault : Option Fault) (code : Option Code) → Ends taken taken' file fault code
-      → file_fault file ≡ None → IsDue None fault ⊎ (fault ≡ Some faults.Write)
+  done_due : (fault : Option Fault) (code : Option Code) → Ends command taken taken' file fault code
+      → file_fault command file ≡ None → IsDue None fault ⊎ (fault ≡ Some faults.Write)
   done_due None code e h = inl (inl refl)
   done_due (Some faults.Write) code e h = inr refl
   done_due (Some (faults.Assembly other)) code e h = let k = e.0 in absurd (cc)
@@ -35,13 +36,18 @@ module _ (taken taken' : Option (List ℕ)) (file : File) where
   done_due (Some faults.TooLong) code e h = absurd e
   done_due (Some (faults.Line n)) code e h = absurd e
 
-  -- what is due comes
-  pub ends_due : (left : Option (List ℕ)) (fault : Option Fault) (code : Option Code)
-      → IfSome left (λ text. IsFileOf text file) → Ends taken taken' file fault code → IfSome left (λ text. IsDueAnswer text fault)
-  ends_due None fault code o e = tt
-  ends_due (Some text) fault code o e = record {
+  -- what is due for a text comes
+  text_ends_due : (text : List ℕ) (fault : Option Fault) (code : Option Code)
+      → IsFileOf text file → Ends command taken taken' file fault code → IsDueForText command text fault
+  text_ends_due text fault code o e = record {
     too_long = λ l. let s = o.short in absurd (omega arith);
     bad_line = λ n l bad. absurd (o.good n bad);
-    refused = λ other error l f h. refused_due fault code error e (sym (o.same other f) ∙ h);
-    done = λ other l f h. done_due fault code e (sym (o.same other f) ∙ h);
+    refused = λ other error l f h. refused_due fault code error e (sym (ap (contents_fault command) (o.same other f)) ∙ h);
+    done = λ other l f h. done_due fault code e (sym (ap (contents_fault command) (o.same other f)) ∙ h);
   }
+
+-- what is due comes: a line for each command
+pub ends_due : (command : Command) (taken taken' : Option (List ℕ)) (file : File) (left : Option (List ℕ)) (fault : Option Fault) (code : Option Code)
+    → IsDueInput command left file → Ends command taken taken' file fault code → IsDueAnswer command left fault
+ends_due Asm taken taken' file None fault code o e = tt
+ends_due Asm taken taken' file (Some text) fault code o e = text_ends_due Asm taken taken' file text fault code o e

@@ -7,6 +7,7 @@ pub mod Logics
 pub mod Splits
 pub mod Entries
 pub mod Sequences
+pub mod Givens
 pub mod Lines
 pub mod Ending
 pub mod Numbered

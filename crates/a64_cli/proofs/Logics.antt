@@ -12,12 +12,12 @@ use Rattle.a64_imms.proofs.LogicRuns.{same_imm}
 use Rattle.std.specs.Fmt.{decimal}
 use Rattle.a64_inst.specs.declared.inst.Inst.{Inst}
 use Rattle.a64_inst.specs.declared.inst.Inst.TheVariants as insts
-use Rattle.a64_inst.specs.declared.operator.ALUOp.{ALUOp}
+use Rattle.a64_ops.specs.declared.operator.ALUOp.{ALUOp}
 use Rattle.a64_cli.specs.declared.name.Name.TheVariants as names
 use Rattle.a64_cli.specs.Reads.{Reads, Always, IsU64}
 use Rattle.a64_cli.specs.Operators.{alu_op_text}
 use Rattle.a64_cli.specs.Fields.{size_text, reg_text, IsReg, IsLogicAt}
-use Rattle.a64_cli.specs.Words.{inst_fields, IsInst}
+use Rattle.a64_cli.specs.Tokens.{inst_fields, IsInst}
 use Rattle.a64_cli.specs.ReadsAs.{emitted, ReadsFields}
 
 same_size : {a b : OperandSize} → Some a ≡ Some b → a ≡ b
@@ -62,22 +62,22 @@ ArePartsOf x = Always x.0 × Always x.1 × IsReg x.2 × IsReg x.3 × IsU64 x.4
 abbrev pub part_texts : Parts → List (List ℕ)
 part_texts x = alu_op_text x.0 ∷ size_text x.1 ∷ reg_text x.2 ∷ reg_text x.3 ∷ decimal x.4 ∷ []
 
-module _ (words : List (List ℕ)) where
-  -- the parts of an entry with these words
-  parts_of : (q : Option Parts) → Reads ArePartsOf part_texts words q → (op : ALUOp) (size : OperandSize) (rd rn : Reg) (imml : ImmLogic)
-      → IsInst (insts.AluRRImmLogic op size rd rn imml) → words ≡ inst_fields (insts.AluRRImmLogic op size rd rn imml) → q ≡ Some (op, size, rd, rn, logic_value imml)
+module _ (tokens : List (List ℕ)) where
+  -- the parts of an entry with these tokens
+  parts_of : (q : Option Parts) → Reads ArePartsOf part_texts tokens q → (op : ALUOp) (size : OperandSize) (rd rn : Reg) (imml : ImmLogic)
+      → IsInst (insts.AluRRImmLogic op size rd rn imml) → tokens ≡ inst_fields (insts.AluRRImmLogic op size rd rn imml) → q ≡ Some (op, size, rd, rn, logic_value imml)
   parts_of q h op size rd rn imml fits e = h.only (op, size, rd, rn, logic_value imml) (fits.0, fits.1, fits.2, fits.3, fits.4.0) e
 
-  pub no_parts : Reads ArePartsOf part_texts words None → ReadsFields names.AluRRImmLogic words None
+  pub no_parts : Reads ArePartsOf part_texts tokens None → ReadsFields names.AluRRImmLogic tokens None
   unfolding ReadsFields
   no_parts h = record {
     some = tt;
     only = λ x fits e. let none = parts_of None h x.0 x.1 x.2 x.3 x.4 fits.0 e in absurd cc;
   }
 
-  module _ (op : ALUOp) (size : OperandSize) (rd rn : Reg) (value : ℕ) (h : Reads ArePartsOf part_texts words (Some (op, size, rd, rn, value))) where
-    -- another entry with these words has these parts
-    same_parts : (x : ALUOp × OperandSize × Reg × Reg × ImmLogic) → IsInst (insts.AluRRImmLogic x.0 x.1 x.2 x.3 x.4) → words ≡ inst_fields (insts.AluRRImmLogic x.0 x.1 x.2 x.3 x.4)
+  module _ (op : ALUOp) (size : OperandSize) (rd rn : Reg) (value : ℕ) (h : Reads ArePartsOf part_texts tokens (Some (op, size, rd, rn, value))) where
+    -- another entry with these tokens has these parts
+    same_parts : (x : ALUOp × OperandSize × Reg × Reg × ImmLogic) → IsInst (insts.AluRRImmLogic x.0 x.1 x.2 x.3 x.4) → tokens ≡ inst_fields (insts.AluRRImmLogic x.0 x.1 x.2 x.3 x.4)
         → (op ≡ x.0) × (size ≡ x.1) × (rd ≡ x.2) × (rn ≡ x.3) × (value ≡ logic_value x.4)
     same_parts x fits e =
         let p = inside (op, size, rd, rn, value) (x.0, x.1, x.2, x.3, logic_value x.4) (parts_of (Some (op, size, rd, rn, value)) h x.0 x.1 x.2 x.3 x.4 fits e) in
@@ -86,7 +86,7 @@ module _ (words : List (List ℕ)) where
         inside : (a b : Parts) → Some a ≡ Some b → a ≡ b
         inside a b s = cc
 
-    pub no_logic : Reads (IsLogicAt size) logic_value value None → ReadsFields names.AluRRImmLogic words None
+    pub no_logic : Reads (IsLogicAt size) logic_value value None → ReadsFields names.AluRRImmLogic tokens None
     unfolding ReadsFields
     no_logic g = record {
       some = tt;
@@ -96,7 +96,7 @@ module _ (words : List (List ℕ)) where
           absurd cc;
     }
 
-    pub logic_entry : (imml : ImmLogic) → Reads (IsLogicAt size) logic_value value (Some imml) → ReadsFields names.AluRRImmLogic words (Some (emitted (insts.AluRRImmLogic op size rd rn imml)))
+    pub logic_entry : (imml : ImmLogic) → Reads (IsLogicAt size) logic_value value (Some imml) → ReadsFields names.AluRRImmLogic tokens (Some (emitted (insts.AluRRImmLogic op size rd rn imml)))
     unfolding ReadsFields
     logic_entry imml g = record {
       some = (((h.some.0.0, h.some.0.1, h.some.0.2, h.some.0.3, g.some.0), refl), refl, h.some.1 ∙ ap (λ v. part_texts (op, size, rd, rn, v)) g.some.1);

@@ -56,8 +56,8 @@ zero_only : (reg : Reg) → AfterX (codes "zr") reg → Some (integer 31) ≡ So
 zero_only reg (inl h) = ap (λ (r : Reg). Some r) (sym h.1)
 zero_only reg (inr h) = absurd (no_decimal h.0 h.1 h.2)
 
-pub is_xzr : (word : List ℕ) → word ≡ codes "xzr" → Reads IsReg reg_text word (Some (integer 31))
-is_xzr word w = record { some = (refl, w); only = λ reg fits e. zero_only reg (after_x (codes "zr") reg fits (sym w ∙ e)) }
+pub is_xzr : (token : List ℕ) → token ≡ codes "xzr" → Reads IsReg reg_text token (Some (integer 31))
+is_xzr token w = record { some = (refl, w); only = λ reg fits e. zero_only reg (after_x (codes "zr") reg fits (sym w ∙ e)) }
 
 number_only : (rest : List ℕ) (n : ℕ) (reg : Reg) → n ≤ 30 → Reads IsU32 decimal rest (Some n) → AfterX rest reg → Some (integer n) ≡ Some reg
 number_only rest n reg fits h (inl z) = absurd (no_decimal n fits (sym z.0 ∙ h.some.1))
@@ -72,17 +72,17 @@ number_text n fits = rw (ne_eqb n 31 (λ e. omega arith), ne_eqb n 63 (λ e. ome
 is_number : (n : ℕ) → n ≤ 30 → IsRegisterNumber Int n
 is_number n fits = grind (arith, fits)
 
-after_front : (word : List ℕ) → get_or word 0 0 ≡ 120 → word ≡ 120 ∷ take (length word - 1) (drop 1 word)
+after_front : (token : List ℕ) → get_or token 0 0 ≡ 120 → token ≡ 120 ∷ take (length token - 1) (drop 1 token)
 after_front [] h = absurd (omega (arith, h))
 after_front (b ∷ bytes) h =
     let less : length (b ∷ bytes) - 1 ≡ length bytes = omega arith in
     rw (h, less, take-length bytes) refl
 
-x_is : (word rest : List ℕ) (n : ℕ) → word ≡ 120 ∷ rest → Reads IsU32 decimal rest (Some n) → n ≤ 30 → Reads IsReg reg_text word (Some (integer n))
-x_is word rest n w h fits = record {
+x_is : (token rest : List ℕ) (n : ℕ) → token ≡ 120 ∷ rest → Reads IsU32 decimal rest (Some n) → n ≤ 30 → Reads IsReg reg_text token (Some (integer n))
+x_is token rest n w h fits = record {
   some = (is_number n fits, w ∙ ap (λ (t : List ℕ). 120 ∷ t) h.some.1 ∙ number_text n fits);
   only = λ reg f e. number_only rest n reg fits h (after_x rest reg f (sym w ∙ e));
 }
 
-pub is_x : (word : List ℕ) (n : ℕ) → get_or word 0 0 ≡ 120 → Reads IsU32 decimal (take (length word - 1) (drop 1 word)) (Some n) → n ≤ 30 → Reads IsReg reg_text word (Some (integer n))
-is_x word n x h fits = x_is word (take (length word - 1) (drop 1 word)) n (after_front word x) h fits
+pub is_x : (token : List ℕ) (n : ℕ) → get_or token 0 0 ≡ 120 → Reads IsU32 decimal (take (length token - 1) (drop 1 token)) (Some n) → n ≤ 30 → Reads IsReg reg_text token (Some (integer n))
+is_x token n x h fits = x_is token (take (length token - 1) (drop 1 token)) n (after_front token x) h fits

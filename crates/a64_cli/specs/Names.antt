@@ -6,9 +6,9 @@ use Rattle.a64_cli.specs.declared.read.name_table.TheConstants.{SHIFTS, NAMES}
 
 -- the place of the name with this text, if there is one
 unfoldable pub name_place : List ℕ → ℕ
-name_place word =
-    (length word % 256 + 2 * slice_index word (length word - 1) + 2 * slice_index word (length word / 3)
-    + slice_index SHIFTS ((slice_index word 0 + slice_index word (length word / 2)) % 64)) % 256
+name_place token =
+    (length token % 256 + 2 * slice_index token (length token - 1) + 2 * slice_index token (length token / 3)
+    + slice_index SHIFTS ((slice_index token 0 + slice_index token (length token / 2)) % 64)) % 256
 
 unfoldable pub name_guess : List ℕ → Name
-name_guess word = slice_index_or NAMES (name_place word) Nop4
+name_guess token = slice_index_or NAMES (name_place token) Nop4

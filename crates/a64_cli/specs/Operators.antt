@@ -1,9 +1,9 @@
 -- The names of operators.
 use Rattle.std.specs.Prelude.{ℕ, List, codes, length, slice_index, slice_index_or, ◌+◌, ◌*◌, ◌%◌}
-use Rattle.a64_inst.specs.declared.operator.ALUOp.{ALUOp}
-use Rattle.a64_inst.specs.declared.operator.ALUOp.TheVariants as alu
-use Rattle.a64_inst.specs.declared.operator.MoveWideOp.{MoveWideOp}
-use Rattle.a64_inst.specs.declared.operator.MoveWideOp.TheVariants.{MovZ, MovN}
+use Rattle.a64_ops.specs.declared.operator.ALUOp.{ALUOp}
+use Rattle.a64_ops.specs.declared.operator.ALUOp.TheVariants as alu
+use Rattle.a64_ops.specs.declared.operator.MoveWideOp.{MoveWideOp}
+use Rattle.a64_ops.specs.declared.operator.MoveWideOp.TheVariants.{MovZ, MovN}
 use Rattle.a64_cli.specs.declared.read.operator.TheConstants.{ALU_OPS}
 
 abbrev pub alu_op_text : ALUOp → List ℕ
@@ -33,10 +33,10 @@ alu_op_text alu.UMulH = codes "UMulH"
 
 -- where in its table an operator with this name would stand
 unfoldable pub alu_op_place : List ℕ → ℕ
-alu_op_place word = (3 * (length word % 32) + slice_index word 0 + 10 * slice_index word 1 + 4 * slice_index word 2) % 32
+alu_op_place token = (3 * (length token % 32) + slice_index token 0 + 10 * slice_index token 1 + 4 * slice_index token 2) % 32
 
 unfoldable pub alu_op_guess : List ℕ → ALUOp
-alu_op_guess word = slice_index_or ALU_OPS (alu_op_place word) alu.Add
+alu_op_guess token = slice_index_or ALU_OPS (alu_op_place token) alu.Add
 
 abbrev pub move_wide_op_text : MoveWideOp → List ℕ
 move_wide_op_text MovZ = codes "MovZ"

@@ -7,25 +7,25 @@ use Rattle.a64_base.specs.declared.size.OperandSize.{OperandSize}
 use Rattle.a64_imms.specs.declared.imm12.Imm12.{Imm12}
 use Rattle.a64_imms.specs.declared.imm_logic.ImmLogic.{ImmLogic}
 use Rattle.a64_imms.specs.declared.move_wide.MoveWideConst.{MoveWideConst}
-use Rattle.a64_inst.specs.declared.operator.ALUOp.{ALUOp}
-use Rattle.a64_inst.specs.declared.operator.MoveWideOp.{MoveWideOp}
+use Rattle.a64_ops.specs.declared.operator.ALUOp.{ALUOp}
+use Rattle.a64_ops.specs.declared.operator.MoveWideOp.{MoveWideOp}
 use Rattle.a64_inst.specs.declared.inst.Inst.{Inst}
 use Rattle.a64_inst.specs.declared.inst.Inst.TheVariants as insts
-use Rattle.a64_emit.specs.declared.item.Item.TheVariants.{Bind, Emit}
+use Rattle.a64_inst.specs.declared.item.Item.TheVariants.{Bind, Emit}
 use Rattle.a64_cli.specs.declared.entry.Entry.{Entry}
 use Rattle.a64_cli.specs.declared.entry.Entry.TheVariants as entries
 use Rattle.a64_cli.specs.declared.name.Name.{Name}
 use Rattle.a64_cli.specs.declared.name.Name.TheVariants as names
-use Rattle.a64_cli.specs.Words.{name_of, fields_of, IsEntry}
+use Rattle.a64_cli.specs.Tokens.{name_of, fields_of, IsEntry}
 
 -- the entry that is an instruction without a map
 abbrev pub emitted : Inst → Entry
 emitted inst = entries.Item (Emit inst None)
 
--- Some entry exactly where the words are the fields of an entry of this name. `make` makes all of these
-pub record ReadsAs {X : Type 0} (name : Name) (make : X → Entry) (words : List (List ℕ)) (result : Option Entry) : Type 0 where
-  pub some : IfSome result (λ e. IsEntry e × (name_of e ≡ name) × (words ≡ fields_of e))
-  pub only : (x : X) → IsEntry (make x) → words ≡ fields_of (make x) → result ≡ Some (make x)
+-- Some entry exactly where the tokens are the fields of an entry of this name. `make` makes all of these
+pub record ReadsAs {X : Type 0} (name : Name) (make : X → Entry) (tokens : List (List ℕ)) (result : Option Entry) : Type 0 where
+  pub some : IfSome result (λ e. IsEntry e × (name_of e ≡ name) × (tokens ≡ fields_of e))
+  pub only : (x : X) → IsEntry (make x) → tokens ≡ fields_of (make x) → result ≡ Some (make x)
 
 -- what the fields of an entry of this name are read as
 unfoldable pub ReadsFields : Name → List (List ℕ) → Option Entry → Type 0

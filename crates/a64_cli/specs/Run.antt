@@ -1,25 +1,17 @@
 -- What a run of the program answers.
-use Rattle.std.specs.Prelude.{ℕ, ◌≡◌, ◌≢◌, ◌⊎◌, ◌<◌, ◌≤◌, ◌++◌, List, [], ◌∷◌, codes, drop, length, Option, None, Some, IfSome, IsSomeAnd, ⊤}
+use Rattle.std.specs.Prelude.{ℕ, ◌≡◌, ◌≢◌, ◌⊎◌, ◌<◌, ◌≤◌, ◌++◌, List, codes, drop, length, Option, None, Some, IfSome, IsSomeAnd, ⊤}
 use Rattle.std.specs.Fmt.{decimal}
 use Rattle.a64_emit.specs.declared.code.Code.{Code}
 use Rattle.a64_emit.specs.declared.error.EmitError.{EmitError}
 use Rattle.a64_emit.specs.declared.error.EmitError.TheVariants as errors
-use Rattle.a64_emit.specs.Assembled.{IsAssembled}
-use Rattle.a64_emit.specs.Faults.{fault_of}
+use Rattle.a64_cli.specs.declared.command.Command.{Command}
+use Rattle.a64_cli.specs.declared.command.Command.TheVariants.{Asm}
 use Rattle.a64_cli.specs.declared.file.File.{File}
 use Rattle.a64_cli.specs.declared.ran.Fault.{Fault}
 use Rattle.a64_cli.specs.declared.ran.Fault.TheVariants as faults
 use Rattle.a64_cli.specs.FileText.{IsFile, IsFirstBad}
-use Rattle.a64_cli.specs.Report.{report_of}
+use Rattle.a64_cli.specs.Commands.{limit, file_fault, IsInput, IsMade}
 use Rattle.a64_cli.specs.Streams.{Takes, TakesPart}
-
--- the most bytes that a file may have
-abbrev pub limit : ℕ
-limit = 16777216
-
--- the words of the command `asm`: that word, or none
-abbrev pub IsAsm : List (List ℕ) → Type 0
-IsAsm words = (words ≡ []) ⊎ (words ≡ codes "asm" ∷ [])
 
 -- the status of each answer
 abbrev pub status_of : Option Fault → ℕ
@@ -57,20 +49,6 @@ fault_text faults.Memory = codes "out of memory"
 abbrev pub fault_line : Fault → List ℕ
 fault_line fault = fault_text fault ++ codes "\n"
 
--- what a source held is a file, and nothing of it is left
-pub record WasRead (left left' : Option (List ℕ)) (file : File) : Type 0 where
-  pub bytes : IfSome left (λ text. IsFile text file)
-  pub short : IfSome left (λ text. length text ≤ limit)
-  pub nothing_left : IfSome left (λ text. left' ≡ Some [])
-
--- the first fault of a file, without forced islands
-abbrev pub file_fault : File → Option EmitError
-file_fault file = fault_of file.frame file.info file.items.items
-
--- the code is that of the file
-abbrev pub IsCodeOf : File → Code → Type 0
-IsCodeOf file code = IsAssembled file.frame file.info file.items.items code
-
 -- the fault is the one that is due, or a read or memory failed
 abbrev pub IsDue : Option Fault → Option Fault → Type 0
 IsDue due fault = (fault ≡ due) ⊎ ((fault ≡ Some faults.Read) ⊎ (fault ≡ Some faults.Memory))
@@ -91,38 +69,45 @@ Untouched taken taken' None = ⊤
 Untouched taken taken' (Some faults.Write) = ⊤
 Untouched taken taken' (Some _) = taken' ≡ taken
 
-module _ (left left' : Option (List ℕ)) (taken taken' : Option (List ℕ)) where
-  -- the headline: what was read is a file of items, and the report was written of code in which
-  -- the words of each item stand at its place, in order, and each use of a label leads to it
-  pub record IsDone (file : File) (code : Code) : Type 0 where
-    pub read : WasRead left left' file
-    pub assembled : IsCodeOf file code
-    pub report : Takes taken taken' (report_of code)
+module _ (command : Command) (left left' : Option (List ℕ)) (taken taken' : Option (List ℕ)) where
+  -- the headline: the file is the command's, without a fault, and what the command makes of it was
+  -- written. For `asm`, what was read is a file of items, and the report was written of code in
+  -- which the words of each item stand at its place, in order, and each use of a label leads to it
+  pub record IsDone (file : File) (code : Option Code) : Type 0 where
+    pub input : IsInput command left left' file
+    pub output : List ℕ
+    pub made : IsMade command file code output
+    pub written : Takes taken taken' output
 
-  -- the same, where a write failed: a proper prefix of the report was written
-  pub record IsCutOff (file : File) (code : Code) : Type 0 where
-    pub read : WasRead left left' file
-    pub assembled : IsCodeOf file code
-    pub report : TakesPart taken taken' (report_of code)
+  -- the same, where a write failed: a proper prefix was written
+  pub record IsCutOff (file : File) (code : Option Code) : Type 0 where
+    pub input : IsInput command left left' file
+    pub output : List ℕ
+    pub made : IsMade command file code output
+    pub written : TakesPart taken taken' output
 
-  -- a file that was read, and that is refused
+  -- the command's file, which is refused
   pub record IsRefused (error : EmitError) (file : File) : Type 0 where
-    pub read : WasRead left left' file
-    pub fault : file_fault file ≡ Some error
+    pub input : IsInput command left left' file
+    pub fault : file_fault command file ≡ Some error
     -- want of memory is an answer of its own
     pub no_memory : error ≢ errors.OutOfMemory
 
   -- the file and the code that are kept at each answer
   abbrev pub Keeps : Option Fault → Option File → Option Code → Type 0
-  Keeps None file code = IsSomeAnd file (λ f. IsSomeAnd code (IsDone f))
-  Keeps (Some faults.Write) file code = IsSomeAnd file (λ f. IsSomeAnd code (IsCutOff f))
+  Keeps None file code = IsSomeAnd file (λ f. IsDone f code)
+  Keeps (Some faults.Write) file code = IsSomeAnd file (λ f. IsCutOff f code)
   Keeps (Some (faults.Assembly error)) file code = IsSomeAnd file (IsRefused error) × (code ≡ None)
-  Keeps (Some faults.Memory) file code = IfSome file (WasRead left left') × (code ≡ None)
+  Keeps (Some faults.Memory) file code = IfSome file (IsInput command left left') × (code ≡ None)
   Keeps (Some _) file code = (file ≡ None) × (code ≡ None)
 
--- which answer is due, for a source that tells this text and words that are `asm`
-pub record IsDueAnswer (text : List ℕ) (fault : Option Fault) : Type 0 where
+-- which answer is due for a source that tells this text, where the command reads it
+pub record IsDueForText (command : Command) (text : List ℕ) (fault : Option Fault) : Type 0 where
   pub too_long : limit < length text → IsDue (Some faults.TooLong) fault
   pub bad_line : (n : ℕ) → length text ≤ limit → IsFirstBad text n → IsDue (Some (faults.Line n)) fault
-  pub refused : (file : File) (error : EmitError) → length text ≤ limit → IsFile text file → file_fault file ≡ Some error → IsDue (Some (faults.Assembly error)) fault
-  pub done : (file : File) → length text ≤ limit → IsFile text file → file_fault file ≡ None → IsDue None fault ⊎ (fault ≡ Some faults.Write)
+  pub refused : (file : File) (error : EmitError) → length text ≤ limit → IsFile text file → file_fault command file ≡ Some error → IsDue (Some (faults.Assembly error)) fault
+  pub done : (file : File) → length text ≤ limit → IsFile text file → file_fault command file ≡ None → IsDue None fault ⊎ (fault ≡ Some faults.Write)
+
+-- which answer is due, for what the source tells
+abbrev pub IsDueAnswer : Command → Option (List ℕ) → Option Fault → Type 0
+IsDueAnswer Asm left fault = IfSome left (λ text. IsDueForText Asm text fault)

@@ -1,15 +1,24 @@
 -- What the parts of a run answer.
-use Rattle.std.specs.Prelude.{ℕ, ◌≡◌, ◌≢◌, ◌<◌, ◌≤◌, ◌^◌, ◌++◌, List, [], take, drop, length, Option, None, Some, IfSome, IsSomeAnd, Result, IfOk, IfErr, ⊤}
+use Rattle.std.specs.Prelude.{ℕ, ◌≡◌, ◌≢◌, ◌<◌, ◌≤◌, ◌^◌, ◌++◌, List, [], take, drop, length, Option, None, Some, IfSome, Result, IfOk, IfErr, ⊤}
 use Rattle.std.specs.Fmt.{decimal}
 use Rattle.a64_emit.specs.declared.code.Code.{Code}
 use Rattle.a64_emit.specs.declared.error.EmitError.TheVariants as errors
+use Rattle.a64_cli.specs.declared.command.Command.{Command}
+use Rattle.a64_cli.specs.declared.command.Command.TheVariants.{Asm}
 use Rattle.a64_cli.specs.declared.file.File.{File}
 use Rattle.a64_cli.specs.declared.ran.Fault.{Fault}
 use Rattle.a64_cli.specs.declared.ran.Fault.TheVariants as faults
+use Rattle.a64_cli.specs.States.{contents_of}
 use Rattle.a64_cli.specs.FileText.{IsFile, IsFirstBad}
 use Rattle.a64_cli.specs.Report.{report_of}
 use Rattle.a64_cli.specs.Streams.{HasFailed, Takes, TakesPart}
-use Rattle.a64_cli.specs.Run.{limit, Held, IsDueAnswer, IsCodeOf, file_fault}
+use Rattle.a64_cli.specs.Commands.{limit, IsCommand, OfCommand, assembly_fault, file_fault, IsCodeOf, IsMade}
+use Rattle.a64_cli.specs.Run.{Held, IsDueForText}
+
+-- what is answered for words: Some exactly for the command that they are
+pub record ReadsCommand (words : List (List ℕ)) (result : Option Command) : Type 0 where
+  pub some : IfSome result (IsCommand words)
+  pub only : OfCommand words (λ command. result ≡ Some command)
 
 -- these bytes were taken from the front of a text, and what follows them is left
 pub record HasTaken (text bytes : List ℕ) (left : Option (List ℕ)) : Type 0 where
@@ -58,11 +67,15 @@ IsInputFault old new faults.TooLong = ⊤
 IsInputFault old new (faults.Line n) = ⊤
 IsInputFault old new _ = ⊥
 
--- a text within the limit has no bad line, and is at most a file with the fault of this one
+-- a text within the limit has no bad line, and is at most a file that says what this one says
 pub record IsFileOf (text : List ℕ) (file : File) : Type 0 where
   pub short : length text ≤ limit
   pub good : (n : ℕ) → IsFirstBad text n → ⊥
-  pub same : (other : File) → IsFile text other → file_fault other ≡ file_fault file
+  pub same : (other : File) → IsFile text other → contents_of other ≡ contents_of file
+
+-- a fault that is due for this text, whatever command reads it
+abbrev pub IsTextDue : List ℕ → Fault → Type 0
+IsTextDue text fault = (command : Command) → IsDueForText command text (Some fault)
 
 -- why bytes are no file
 abbrev pub IsLineFault : Fault → Type 0
@@ -77,35 +90,53 @@ pub record IsParsed (bytes : List ℕ) (result : Result File Fault) : Type 0 whe
   pub held : IfErr result (λ fault. Held (Some bytes) (Some fault))
   pub cause : IfErr result IsLineFault
   pub due_ok : IfOk result (IsFileOf bytes)
-  pub due_err : IfErr result (λ fault. IsDueAnswer bytes (Some fault))
+  pub due_err : IfErr result (IsTextDue bytes)
+
+-- what was read of the command's file, for an answer that is due
+abbrev pub IsDueInput : Command → Option (List ℕ) → File → Type 0
+IsDueInput Asm left file = IfSome left (λ text. IsFileOf text file)
 
 -- why a file has no report
-abbrev pub IsAssemblyFault : File → Fault → Type 0
-IsAssemblyFault file (faults.Assembly error) = (file_fault file ≡ Some error) × (error ≢ errors.OutOfMemory)
-IsAssemblyFault file faults.Memory = ⊤
-IsAssemblyFault file _ = ⊥
+abbrev pub IsAssemblyFault : Command → File → Fault → Type 0
+IsAssemblyFault command file (faults.Assembly error) = (assembly_fault command (contents_of file) ≡ Some error) × (error ≢ errors.OutOfMemory)
+IsAssemblyFault command file faults.Memory = ⊤
+IsAssemblyFault command file _ = ⊥
 
 -- code of a file, and its report
-pub record IsReported (file : File) (code : Code) (bytes : List ℕ) : Type 0 where
-  pub assembled : IsCodeOf file code
+pub record IsReported (command : Command) (file : File) (code : Code) (bytes : List ℕ) : Type 0 where
+  pub assembled : IsCodeOf command file code
   pub report : bytes ≡ report_of code
 
-module _ (taken taken' : Option (List ℕ)) (file : File) where
-  -- the report of the file's code was written
-  pub record IsWritten (code : Code) : Type 0 where
-    pub assembled : IsCodeOf file code
-    pub report : Takes taken taken' (report_of code)
+-- why a command makes nothing of a file
+abbrev pub IsFileFault : Command → File → Fault → Type 0
+IsFileFault command file (faults.Assembly error) = (file_fault command file ≡ Some error) × (error ≢ errors.OutOfMemory)
+IsFileFault command file faults.Memory = ⊤
+IsFileFault command file _ = ⊥
 
-  -- the report of the file's code was written in part
-  pub record IsPartWritten (code : Code) : Type 0 where
-    pub assembled : IsCodeOf file code
-    pub report : TakesPart taken taken' (report_of code)
+-- how the writing of some bytes ends
+abbrev pub EndsWriting : Option (List ℕ) → Option (List ℕ) → List ℕ → Option Fault → Type 0
+EndsWriting taken taken' output None = Takes taken taken' output
+EndsWriting taken taken' output (Some faults.Write) = TakesPart taken taken' output
+EndsWriting taken taken' output (Some _) = ⊥
+
+module _ (command : Command) (taken taken' : Option (List ℕ)) (file : File) where
+  -- what the command makes of the file was written
+  pub record IsWritten (code : Option Code) : Type 0 where
+    pub output : List ℕ
+    pub made : IsMade command file code output
+    pub written : Takes taken taken' output
+
+  -- the same, in part
+  pub record IsPartWritten (code : Option Code) : Type 0 where
+    pub output : List ℕ
+    pub made : IsMade command file code output
+    pub written : TakesPart taken taken' output
 
   -- how the run of a file ends: what the sink has taken, and the code that is kept
   abbrev pub Ends : Option Fault → Option Code → Type 0
-  Ends None code = IsSomeAnd code IsWritten
-  Ends (Some faults.Write) code = IsSomeAnd code IsPartWritten
-  Ends (Some (faults.Assembly error)) code = (file_fault file ≡ Some error) × (error ≢ errors.OutOfMemory) × (code ≡ None) × (taken' ≡ taken)
+  Ends None code = IsWritten code
+  Ends (Some faults.Write) code = IsPartWritten code
+  Ends (Some (faults.Assembly error)) code = (file_fault command file ≡ Some error) × (error ≢ errors.OutOfMemory) × (code ≡ None) × (taken' ≡ taken)
   Ends (Some faults.Memory) code = (code ≡ None) × (taken' ≡ taken)
   Ends (Some _) code = ⊥
 

@@ -69,24 +69,24 @@ fn text_of_error(error: EmitError) -> Line
 }
 
 /// The text of a fault.
-fn text_of_fault(fault: &Fault) -> Line
-    ensures text { result.items ≡ fault_text fault.now }
+fn text_of_fault(fault: Fault) -> Line
+    ensures text { result.items ≡ fault_text fault }
     ensures short { length result.items ≤ 63 }
 {
     match fault {
         Fault::Usage => plain(b"usage error"),
         Fault::Read => plain(b"read fault"),
         Fault::TooLong => plain(b"input too large"),
-        Fault::Line(number) => numbered(b"line ", *number, b": not an entry"),
-        Fault::Assembly(error) => text_of_error(*error),
+        Fault::Line(number) => numbered(b"line ", number, b": not an entry"),
+        Fault::Assembly(error) => text_of_error(error),
         Fault::Write => plain(b"write fault"),
         Fault::Memory => plain(b"out of memory"),
     }
 }
 
 /// The line of a fault, with its line feed.
-pub fn line_of_fault(fault: &Fault) -> Line
-    ensures { result.items ≡ fault_line fault.now }
+pub fn line_of_fault(fault: Fault) -> Line
+    ensures { result.items ≡ fault_line fault }
 {
     let mut line = text_of_fault(fault);
     push(&mut line, b"\n");

@@ -4,8 +4,7 @@ ghost use Rattle.std.specs.Prelude.{◌≡◌};
 ghost use Rattle.a64_cli.specs.declared.file.FileError.TheVariants.{OutOfMemory};
 
 use a64_buffer::Constants;
-use a64_emit::Item;
-use a64_inst::{EmitInfo, FrameLayout};
+use a64_inst::{EmitInfo, FrameLayout, Item};
 use std::alloc::{AllocError, AllocFailed};
 
 /// What a file says.
@@ -22,7 +21,7 @@ pub struct File {
 }
 
 /// Why bytes are not read as a file.
-#[derive(Debug, Drop)]
+#[derive(Debug, PartialEq, Eq, Drop)]
 pub enum FileError {
     /// The line of this number, counted from 1, is the first that is no entry.
     BadLine(u64),

@@ -1,10 +1,12 @@
 //! Reads a file of items from a source.
 
-ghost use Rattle.std.specs.Prelude.{◌≡◌, ◌+◌, ◌<◌, ◌≤◌, ◌^◌, length, [], Some, IfSome, IfOk, IfErr, OnOk, OnErr};
+ghost use Rattle.std.specs.Prelude.{◌≡◌, ◌+◌, ◌<◌, ◌≤◌, ◌^◌, length, [], false, Some, IfSome, IfOk, IfErr, OnOk, OnErr};
 ghost use Rattle.a64_cli.specs.Streams.{HasFailed};
-ghost use Rattle.a64_cli.specs.Run.{limit, WasRead, Held, TakesFew, IsDueAnswer};
-ghost use Rattle.a64_cli.specs.Stages.{HasRead, TakesBehind, TakesAtMost, IsWhole, IsFileOf, IsParsed, IsReadFault, IsTextFault, IsInputFault};
+ghost use Rattle.a64_cli.specs.Commands.{limit, WasRead, IsInput, reads_source};
+ghost use Rattle.a64_cli.specs.Run.{Held, TakesFew, IsDueAnswer};
+ghost use Rattle.a64_cli.specs.Stages.{HasRead, TakesBehind, TakesAtMost, IsWhole, IsFileOf, IsTextDue, IsParsed, IsReadFault, IsTextFault, IsInputFault, IsDueInput};
 
+use crate::command::Command;
 use crate::file::{File, FileError};
 use crate::ran::Fault;
 use crate::read::read_file;
@@ -111,17 +113,37 @@ fn parse(alloc: Global, bytes: &[u8]) -> Result<File, Fault>
 /// # Errors
 ///
 /// A read failed, the source holds too much, a line is no entry, or want of memory.
-pub fn read_input<S: Source>(alloc: Global, source: &mut S) -> Result<File, Fault>
+fn read_input<S: Source>(alloc: Global, source: &mut S) -> Result<File, Fault>
     ensures ok { IfOk result (WasRead (S.left source.old) (S.left source.new)) }
     ensures items { IfOk result (λ file. length file.items.items < 2 ^ 32) }
     ensures few { TakesFew (S.left source.old) (S.left source.new) }
     ensures held { IfErr result (λ fault. Held (S.left source.old) (Some fault)) }
     ensures cause { IfErr result (IsInputFault (S.faults source.old) (S.faults source.new)) }
     ensures due_ok { IfOk result (λ file. IfSome (S.left source.old) (λ text. IsFileOf text file)) }
-    ensures due_err { IfErr result (λ fault. IfSome (S.left source.old) (λ text. IsDueAnswer text (Some fault))) }
+    ensures due_err { IfErr result (λ fault. IfSome (S.left source.old) (λ text. IsTextDue text fault)) }
 {
     match read_text(alloc, source) {
         Ok(bytes) => parse(alloc, &bytes),
         Err(fault) => Err(fault),
+    }
+}
+
+/// The file on which the command works.
+///
+/// # Errors
+///
+/// What was read is no file, a read failed, or want of memory.
+pub fn input_of<S: Source>(alloc: Global, command: Command, source: &mut S) -> Result<File, Fault>
+    ensures ok { IfOk result (IsInput command (S.left source.old) (S.left source.new)) }
+    ensures items { IfOk result (λ file. length file.items.items < 2 ^ 32) }
+    ensures few { TakesFew (S.left source.old) (S.left source.new) }
+    ensures unread { reads_source command ≡ false → source.new ≡ source.old }
+    ensures held { IfErr result (λ fault. Held (S.left source.old) (Some fault)) }
+    ensures cause { IfErr result (IsInputFault (S.faults source.old) (S.faults source.new)) }
+    ensures due_ok { IfOk result (IsDueInput command (S.left source.old)) }
+    ensures due_err { IfErr result (λ fault. IsDueAnswer command (S.left source.old) (Some fault)) }
+{
+    match command {
+        Command::Asm => read_input(alloc, source),
     }
 }

@@ -9,6 +9,7 @@ mod entry;
 mod fault_lines;
 mod file;
 mod input;
+mod making;
 mod memory;
 mod name;
 mod output;

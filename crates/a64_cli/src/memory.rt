@@ -212,7 +212,7 @@ impl Source for SureSource {
 }
 
 /// A sink that takes every piece, keeps nothing, and never fails.
-#[derive(Drop)]
+#[derive(Clone, Copy, Debug)]
 pub struct SureSink;
 
 impl SureSink {

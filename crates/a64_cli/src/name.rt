@@ -1,10 +1,10 @@
 //! The names of entries.
 
 ghost use Rattle.std.specs.Prelude.{◌≡◌};
-ghost use Rattle.a64_cli.specs.Words.{name_text};
+ghost use Rattle.a64_cli.specs.Tokens.{name_text};
 
 /// The name with which a line of an entry begins.
-#[derive(Clone, Copy, Debug, PartialEq, Eq)]
+#[derive(Clone, Copy, Debug)]
 pub enum Name {
     /// `Nop4`.
     Nop4,

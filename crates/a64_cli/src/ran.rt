@@ -1,13 +1,13 @@
 //! How a run ended.
 
-ghost use Rattle.std.specs.Prelude.{◌≡◌, Some};
+ghost use Rattle.std.specs.Prelude.{◌≡◌, None, Some};
 ghost use Rattle.a64_cli.specs.Run.{status_of};
 
 use crate::file::File;
 use a64_emit::{Code, EmitError};
 
 /// Why a run did not end with status 0.
-#[derive(Debug, Drop)]
+#[derive(Clone, Copy, Debug, PartialEq, Eq)]
 pub enum Fault {
     /// The words are no command: status 2.
     Usage,
@@ -27,8 +27,8 @@ pub enum Fault {
 
 impl Fault {
     /// The status with which the program ends.
-    pub fn status(&self) -> u8
-        ensures { result ≡ status_of (Some self.now) }
+    pub fn status(self) -> u8
+        ensures { result ≡ status_of (Some self) }
     {
         match self {
             Fault::TooLong | Fault::Line(_) | Fault::Assembly(_) => 1,
@@ -52,4 +52,21 @@ pub struct Ran {
     pub code: Option<Code>,
     /// Why the status is not 0.
     pub fault: Option<Fault>,
+}
+
+impl Ran {
+    /// A run that made no code, and ended with this fault.
+    pub fn refused(file: Option<File>, fault: Fault) -> Ran
+        ensures status { result.status ≡ status_of (Some fault) }
+        ensures file { result.file ≡ file }
+        ensures code { result.code ≡ None }
+        ensures fault { result.fault ≡ Some fault }
+    {
+        Ran {
+            status: fault.status(),
+            file,
+            code: None,
+            fault: Some(fault),
+        }
+    }
 }

@@ -1,9 +1,9 @@
 //! Reads files.
 
-ghost use Rattle.std.specs.Prelude.{◌≡◌, [], IfOk, OnOk};
-ghost use Rattle.a64_cli.specs.FileText.{Holds};
+ghost use Rattle.std.specs.Prelude.{◌≡◌, IfOk, OnOk};
+ghost use Rattle.a64_cli.specs.States.{contents_of, said};
 ghost use Rattle.a64_cli.specs.FileText as FileText;
-ghost use Rattle.a64_cli.specs.AddsLine.{Adds, AddsLine};
+ghost use Rattle.a64_cli.specs.AddsLine.{AddsName, AddsLine};
 ghost use Rattle.a64_cli.specs.Reading.{Answers};
 
 mod decimal;
@@ -19,38 +19,15 @@ mod operator;
 mod register;
 mod size;
 mod split;
+mod state;
 
-use crate::entry::Entry;
+use crate::entry::{Entry, OnceName};
 use crate::file::{File, FileError};
 use crate::read::line::read_line;
 use crate::read::split::cut;
-use a64_buffer::Constants;
-use a64_inst::{EmitFlags, EmitInfo, FrameLayout};
-use a64_list::ListVec;
+use crate::read::state::{ReaderState, start_state};
 use std::alloc::{AllocError, Global};
-
-/// The file that says nothing. It takes no memory.
-fn empty_file(alloc: Global) -> File
-    ensures { Holds result [] }
-{
-    File {
-        items: Vec::new(alloc),
-        constants: Constants::new(alloc),
-        frame: FrameLayout {
-            setup_area_size: 0,
-            tail_args_size: 0,
-            clobber_size: 0,
-            fixed_frame_storage_size: 0,
-            outgoing_args_size: 0,
-            restore: ListVec::new(alloc),
-        },
-        info: EmitInfo::new(EmitFlags {
-            enable_probestack: false,
-            enable_table_access_spectre_mitigation: false,
-            use_csdb: false,
-        }),
-    }
-}
+use std::collections::BTreeSet;
 
 /// Whether the line means nothing.
 fn is_blank(line: &[u8]) -> bool
@@ -62,9 +39,19 @@ fn is_blank(line: &[u8]) -> bool
     }
 }
 
+/// Adds the name to those that were given. False: it was given before.
+fn add_name(given: &mut BTreeSet<OnceName>, name: Option<OnceName>) -> Result<bool, AllocError>
+    ensures { IfOk result (AddsName given.old given.new name) }
+{
+    match name {
+        None => Ok(true),
+        Some(name) => Ok(given.insert(name)?),
+    }
+}
+
 /// Adds what the entry says to the file.
 fn add_entry(file: &mut File, entry: Entry) -> Result<(), AllocError>
-    ensures { OnOk result (Adds file.old file.new entry) }
+    ensures { OnOk result (contents_of file.new ≡ said entry (contents_of file.old)) }
 {
     match entry {
         Entry::Item(item) => {
@@ -74,17 +61,18 @@ fn add_entry(file: &mut File, entry: Entry) -> Result<(), AllocError>
     }
 }
 
-/// Takes what the line says into the file. False: it is no entry that may stand there.
-fn add_line(file: &mut File, line: &[u8]) -> Result<bool, AllocError>
-    ensures { IfOk result (AddsLine file.old file.new line.now) }
+/// Takes what the line says into the state. False: it is no entry that may stand there.
+fn add_line(state: &mut ReaderState, line: &[u8]) -> Result<bool, AllocError>
+    ensures { IfOk result (AddsLine state.old state.new line.now) }
 {
-    match read_line(line) {
-        None => Ok(false),
-        Some(entry) => {
-            add_entry(file, entry)?;
-            Ok(true)
-        }
+    let Some(entry) = read_line(line) else {
+        return Ok(false);
+    };
+    if !add_name(&mut state.given, entry.once_name())? {
+        return Ok(false);
     }
+    add_entry(&mut state.file, entry)?;
+    Ok(true)
 }
 
 /// The file that the bytes are.
@@ -95,28 +83,27 @@ fn add_line(file: &mut File, line: &[u8]) -> Result<bool, AllocError>
 pub fn read_file(alloc: Global, bytes: &[u8]) -> Result<File, FileError>
     ensures { Answers bytes.now result }
 {
-    let mut file = empty_file(alloc);
+    let mut state = start_state(alloc);
     let mut number: u64 = 0;
     let mut rest = Some(bytes);
     while let Some(text) = rest {
         let (line, after) = cut(text, b'\n');
         number += 1;
         if !is_blank(line) {
-            let added = add_line(&mut file, line)?;
+            let added = add_line(&mut state, line)?;
             if !added {
                 return Err(FileError::BadLine(number));
             }
         }
         rest = after;
     }
-    Ok(file)
+    Ok(state.file)
 }
 
 #[cfg(test)]
 mod tests {
     use super::*;
-    use a64_emit::Item;
-    use a64_inst::{ALUOp, Inst};
+    use a64_inst::{ALUOp, Inst, Item};
     use std::test::Fail;
 
     #[test]

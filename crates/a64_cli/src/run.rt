@@ -1,89 +1,79 @@
 //! The whole program, over any source and sinks.
 
-ghost use Rattle.std.specs.Prelude.{◌≡◌, ◌≢◌, ◌^◌, ◌<◌, ◌↔◌, length, map, None, Some, IfSome};
+ghost use Rattle.std.specs.Prelude.{◌≡◌, ◌≢◌, ◌^◌, ◌<◌, ◌↔◌, length, map, false, None, Some, IfSome};
 ghost use Rattle.std.specs.String.{string_bytes};
 ghost use Rattle.a64_cli.specs.declared.ran.Fault.TheVariants as faults;
 ghost use Rattle.a64_cli.specs.Streams.{HasFailed, Takes};
-ghost use Rattle.a64_cli.specs.Run.{IsAsm, status_of, fault_line, Keeps, Held, Untouched, TakesFew, IsDueAnswer, IsCodeOf};
-ghost use Rattle.a64_cli.specs.Report.{report_of};
-ghost use Rattle.a64_cli.specs.Stages.{Ends};
+ghost use Rattle.a64_cli.specs.Commands.{IsNoCommand, OfCommand, reads_source};
+ghost use Rattle.a64_cli.specs.Run.{status_of, fault_line, Keeps, Held, Untouched, TakesFew, IsDueAnswer};
+ghost use Rattle.a64_cli.specs.Stages.{Ends, EndsWriting};
 
-use crate::assembling::assemble_file;
 use crate::command::{Command, command_of};
 use crate::fault_lines::line_of_fault;
 use crate::file::File;
-use crate::input::read_input;
+use crate::input::input_of;
+use crate::making::{Made, make};
 use crate::output::write_all;
 use crate::ran::{Fault, Ran};
 use crate::stream::{Failed, Sink, Source};
-use a64_emit::Code;
 use std::alloc::Global;
 
-/// Writes the report of a file's code.
-fn write_report<K: Sink>(sink: &mut K, file: File, code: Code, report: &[u8]) -> Ran
-    requires assembled { IsCodeOf file code }
-    requires report { report.now ≡ report_of code }
+/// Writes what was made of a file.
+fn write_made<K: Sink>(sink: &mut K, file: File, made: Made) -> Ran
     ensures status { result.status ≡ status_of result.fault }
     ensures file { result.file ≡ Some file }
-    ensures ends { Ends (K.taken sink.old) (K.taken sink.new) file result.fault result.code }
+    ensures code { result.code ≡ made.code }
+    ensures ends { EndsWriting (K.taken sink.old) (K.taken sink.new) made.output.items result.fault }
     ensures write { result.fault ≡ Some faults.Write → HasFailed (K.faults sink.old) (K.faults sink.new) }
 {
-    match write_all(sink, report) {
-        Ok(()) => Ran {
-            status: 0,
-            file: Some(file),
-            code: Some(code),
-            fault: None,
-        },
-        Err(Failed) => Ran {
-            status: 4,
-            file: Some(file),
-            code: Some(code),
-            fault: Some(Fault::Write),
-        },
+    let (status, fault) = match write_all(sink, &made.output) {
+        Ok(()) => (0, None),
+        Err(Failed) => (4, Some(Fault::Write)),
+    };
+    Ran {
+        status,
+        file: Some(file),
+        code: made.code,
+        fault,
     }
 }
 
-/// Assembles a file and writes the report of its code.
-fn run_file<K: Sink>(alloc: Global, sink: &mut K, file: File) -> Ran
+/// Makes of a file what the command does, and writes it.
+fn run_file<K: Sink>(alloc: Global, command: Command, sink: &mut K, file: File) -> Ran
     requires { length file.items.items < 2 ^ 32 }
     ensures status { result.status ≡ status_of result.fault }
     ensures file { result.file ≡ Some file }
-    ensures ends { Ends (K.taken sink.old) (K.taken sink.new) file result.fault result.code }
+    ensures ends { Ends command (K.taken sink.old) (K.taken sink.new) file result.fault result.code }
     ensures write { result.fault ≡ Some faults.Write → HasFailed (K.faults sink.old) (K.faults sink.new) }
 {
-    match assemble_file(alloc, &file) {
-        Ok((code, report)) => write_report(sink, file, code, &report),
-        Err(fault) => Ran {
-            status: fault.status(),
-            file: Some(file),
-            code: None,
-            fault: Some(fault),
-        },
+    match make(alloc, command, &file) {
+        Ok(made) => write_made(sink, file, made),
+        Err(fault) => Ran::refused(Some(file), fault),
     }
 }
 
-/// The command `asm`: reads a file from the source, and writes the report of its code.
-fn run_asm<S: Source, K: Sink>(alloc: Global, source: &mut S, sink: &mut K) -> Ran
+/// Runs a command: takes its file, and writes what it makes of it.
+fn run_command<S: Source, K: Sink>(
+    alloc: Global,
+    command: Command,
+    source: &mut S,
+    sink: &mut K,
+) -> Ran
     ensures status { result.status ≡ status_of result.fault }
-    ensures keeps { Keeps (S.left source.old) (S.left source.new) (K.taken sink.old) (K.taken sink.new)
+    ensures keeps { Keeps command (S.left source.old) (S.left source.new) (K.taken sink.old) (K.taken sink.new)
         result.fault result.file result.code }
     ensures usage { result.fault ≢ Some faults.Usage }
     ensures read { result.fault ≡ Some faults.Read → HasFailed (S.faults source.old) (S.faults source.new) }
     ensures held { Held (S.left source.old) result.fault }
     ensures write { result.fault ≡ Some faults.Write → HasFailed (K.faults sink.old) (K.faults sink.new) }
-    ensures due { IfSome (S.left source.old) (λ text. IsDueAnswer text result.fault) }
+    ensures due { IsDueAnswer command (S.left source.old) result.fault }
     ensures few { TakesFew (S.left source.old) (S.left source.new) }
+    ensures unread { reads_source command ≡ false → source.new ≡ source.old }
     ensures untouched { Untouched (K.taken sink.old) (K.taken sink.new) result.fault }
 {
-    match read_input(alloc, source) {
-        Ok(file) => run_file(alloc, sink, file),
-        Err(fault) => Ran {
-            status: fault.status(),
-            file: None,
-            code: None,
-            fault: Some(fault),
-        },
+    match input_of(alloc, command, source) {
+        Ok(file) => run_file(alloc, command, sink, file),
+        Err(fault) => Ran::refused(None, fault),
     }
 }
 
@@ -95,31 +85,29 @@ fn run_words<S: Source, K: Sink>(
     sink: &mut K,
 ) -> Ran
     ensures status { result.status ≡ status_of result.fault }
-    ensures keeps { Keeps (S.left source.old) (S.left source.new) (K.taken sink.old) (K.taken sink.new)
-        result.fault result.file result.code }
-    ensures usage { (result.fault ≡ Some faults.Usage) ↔ ¬ IsAsm (map string_bytes words.now) }
+    ensures keeps { OfCommand (map string_bytes words.now) (λ command.
+        Keeps command (S.left source.old) (S.left source.new) (K.taken sink.old) (K.taken sink.new)
+        result.fault result.file result.code) }
+    ensures nothing { result.fault ≡ Some faults.Usage → (result.file ≡ None) × (result.code ≡ None) }
+    ensures usage { (result.fault ≡ Some faults.Usage) ↔ IsNoCommand (map string_bytes words.now) }
     ensures read { result.fault ≡ Some faults.Read → HasFailed (S.faults source.old) (S.faults source.new) }
     ensures held { Held (S.left source.old) result.fault }
     ensures write { result.fault ≡ Some faults.Write → HasFailed (K.faults sink.old) (K.faults sink.new) }
-    ensures due { IsAsm (map string_bytes words.now) → IfSome (S.left source.old) (λ text. IsDueAnswer text result.fault) }
+    ensures due { OfCommand (map string_bytes words.now) (λ command. IsDueAnswer command (S.left source.old) result.fault) }
     ensures few { TakesFew (S.left source.old) (S.left source.new) }
+    ensures unread { OfCommand (map string_bytes words.now) (λ command. reads_source command ≡ false) → source.new ≡ source.old }
     ensures untouched { Untouched (K.taken sink.old) (K.taken sink.new) result.fault }
 {
     match command_of(words) {
-        Some(Command::Asm) => run_asm(alloc, source, sink),
-        None => Ran {
-            status: 2,
-            file: None,
-            code: None,
-            fault: Some(Fault::Usage),
-        },
+        Some(command) => run_command(alloc, command, source, sink),
+        None => Ran::refused(None, Fault::Usage),
     }
 }
 
 /// Offers the line of a fault. Where that fails, nothing more is done.
-fn tell<E: Sink>(errs: &mut E, fault: &Fault)
+fn tell<E: Sink>(errs: &mut E, fault: Fault)
     ensures { ¬ HasFailed (E.faults errs.old) (E.faults errs.new)
-        → Takes (E.taken errs.old) (E.taken errs.new) (fault_line fault.now) }
+        → Takes (E.taken errs.old) (E.taken errs.new) (fault_line fault) }
 {
     let line = line_of_fault(fault);
     let _ = write_all(errs, line.as_slice());
@@ -138,28 +126,33 @@ pub fn run<S: Source, K: Sink, E: Sink>(
     // Status and answer name one thing.
     ensures status { result.status ≡ status_of result.fault }
 
-    // The headline, at status 0, and what is kept at the others.
-    ensures keeps { Keeps (S.left source.old) (S.left source.new) (K.taken sink.old) (K.taken sink.new)
-        result.fault result.file result.code }
+    // The headline, at status 0, and what is kept at the others; nothing where the words are no
+    // command.
+    ensures keeps { OfCommand (map string_bytes words.now) (λ command.
+        Keeps command (S.left source.old) (S.left source.new) (K.taken sink.old) (K.taken sink.new)
+        result.fault result.file result.code) }
+    ensures nothing { result.fault ≡ Some faults.Usage → (result.file ≡ None) × (result.code ≡ None) }
 
     // The causes of the answers.
-    ensures usage { (result.fault ≡ Some faults.Usage) ↔ ¬ IsAsm (map string_bytes words.now) }
+    ensures usage { (result.fault ≡ Some faults.Usage) ↔ IsNoCommand (map string_bytes words.now) }
     ensures read { result.fault ≡ Some faults.Read → HasFailed (S.faults source.old) (S.faults source.new) }
     ensures held { Held (S.left source.old) result.fault }
     ensures write { result.fault ≡ Some faults.Write → HasFailed (K.faults sink.old) (K.faults sink.new) }
 
     // Each answer comes where it is due; want of memory alone is free.
-    ensures due { IsAsm (map string_bytes words.now) → IfSome (S.left source.old) (λ text. IsDueAnswer text result.fault) }
+    ensures due { OfCommand (map string_bytes words.now) (λ command. IsDueAnswer command (S.left source.old) result.fault) }
 
-    // What the streams gave and took.
+    // What the streams gave and took. A command that does not read the source leaves it as it was,
+    // and so do words that are no command.
     ensures few { TakesFew (S.left source.old) (S.left source.new) }
+    ensures unread { OfCommand (map string_bytes words.now) (λ command. reads_source command ≡ false) → source.new ≡ source.old }
     ensures untouched { Untouched (K.taken sink.old) (K.taken sink.new) result.fault }
     ensures silent { result.fault ≡ None → errs.new ≡ errs.old }
     ensures said { IfSome result.fault (λ fault. ¬ HasFailed (E.faults errs.old) (E.faults errs.new)
         → Takes (E.taken errs.old) (E.taken errs.new) (fault_line fault)) }
 {
     let ran = run_words(alloc, words, source, sink);
-    if let Some(fault) = &ran.fault {
+    if let Some(fault) = ran.fault {
         tell(errs, fault);
     }
     ran

@@ -20,38 +20,6 @@ fn files_give_their_reports(rt: HostRuntime) -> Result<(), Fail> {
         (FILE, REPORT),
         (b"".as_slice(), b"pool 0\n".as_slice()),
         (b"; nothing\n\n".as_slice(), b"pool 0\n".as_slice()),
-        (
-            b"Nop4".as_slice(),
-            b"item 0 0\npool 4\nword 0 d503201f\n".as_slice(),
-        ),
-        (
-            b"AluRRR Add 64 x1 x2 x3\n".as_slice(),
-            b"item 0 0\npool 4\nword 0 8b030041\n".as_slice(),
-        ),
-        (
-            b"AluRRImm12 Add 64 x0 sp 4096\nAluRRImm12 SubS 64 xzr x0 1\n".as_slice(),
-            b"item 0 0\nitem 1 4\npool 8\nword 0 914007e0\nword 4 f100041f\n".as_slice(),
-        ),
-        (
-            b"AluRRImmLogic Orr 64 x0 xzr 248\nAluRRImmLogic OrrNot 64 x4 x7 2096128\n".as_slice(),
-            b"item 0 0\nitem 1 4\npool 8\nword 0 b27d13e0\nword 4 b26bd0e4\n".as_slice(),
-        ),
-        (
-            b"AluRRImmLogic And 32 x0 x1 18446744069414584321\n".as_slice(),
-            b"item 0 0\npool 4\nword 0 12000020\n".as_slice(),
-        ),
-        (
-            b"MovWide MovZ x0 5,0 64\n".as_slice(),
-            b"item 0 0\npool 4\nword 0 d28000a0\n".as_slice(),
-        ),
-        (
-            b"MovK x1 x1 5,16 64\n".as_slice(),
-            b"item 0 0\npool 4\nword 0 f2a000a1\n".as_slice(),
-        ),
-        (
-            b"Jump -134217728\n".as_slice(),
-            b"item 0 0\npool 4\nword 0 16000000\n".as_slice(),
-        ),
     ];
     for (file, report) in rows {
         for at_most in [1, 3, usize::MAX] {
@@ -65,6 +33,47 @@ fn files_give_their_reports(rt: HostRuntime) -> Result<(), Fail> {
             assert!(rt; errs.bytes().is_empty());
         }
     }
+    Ok(())
+}
+
+/// Lines of one instruction each, which are no branch, with their words.
+const LINES: [(&str, u32); 11] = [
+    ("Nop4", 0xd503_201f),
+    ("AluRRR Add 64 x1 x2 x3", 0x8b03_0041),
+    ("AluRRImm12 Add 64 x0 sp 4096", 0x9140_07e0),
+    ("AluRRImm12 SubS 64 xzr x0 1", 0xf100_041f),
+    ("AluRRImmLogic Orr 64 x0 xzr 248", 0xb27d_13e0),
+    ("AluRRImmLogic OrrNot 64 x4 x7 2096128", 0xb26b_d0e4),
+    (
+        "AluRRImmLogic And 32 x0 x1 18446744069414584321",
+        0x1200_0020,
+    ),
+    ("MovWide MovZ x0 5,0 64", 0xd280_00a0),
+    ("MovK x1 x1 5,16 64", 0xf2a0_00a1),
+    ("Jump -134217728", 0x1600_0000),
+    ("Ret", 0xd65f_03c0),
+];
+
+#[test]
+fn lines_give_their_words(rt: HostRuntime) -> Result<(), Fail> {
+    let alloc = rt.alloc();
+    let mut file: Vec<u8> = Vec::new(alloc);
+    let mut words: Vec<u8> = Vec::new(alloc);
+    for (line, word) in LINES {
+        file.extend_from_slice(line.as_bytes())?;
+        file.push(b'\n')?;
+        words.extend_from_slice(&word.to_le_bytes())?;
+    }
+    let mut source = source_of(alloc, file.as_slice())?;
+    let mut sink = MemSink::new(alloc, 4096, usize::MAX, Vec::new(alloc))?;
+    let mut errs = empty_sink(alloc)?;
+    let ran = run(alloc, &[], &mut source, &mut sink, &mut errs);
+    assert_eq!(rt; ran.status, 0);
+    let bytes = match &ran.code {
+        Some(code) => code.bytes.as_slice(),
+        None => [].as_slice(),
+    };
+    assert_eq!(rt; bytes, words.as_slice());
     Ok(())
 }
 

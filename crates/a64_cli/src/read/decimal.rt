@@ -3,16 +3,16 @@
 ghost use Rattle.std.specs.Fmt.{decimal};
 ghost use Rattle.a64_cli.specs.Reads.{Reads, IsU32, IsU64};
 
-/// The number below 2^64 whose decimal text the word is. No text has a sign, or a needless `0` at
+/// The number below 2^64 whose decimal text the token is. No text has a sign, or a needless `0` at
 /// its front.
-pub fn read_u64(word: &[u8]) -> Option<u64>
-    ensures { Reads IsU64 decimal word.now result }
+pub fn read_u64(token: &[u8]) -> Option<u64>
+    ensures { Reads IsU64 decimal token.now result }
 {
-    if word.is_empty() || word.len() > 20 || (word[0] == b'0' && word.len() > 1) {
+    if token.is_empty() || token.len() > 20 || (token[0] == b'0' && token.len() > 1) {
         return None;
     }
     let mut value: u64 = 0;
-    for byte in word {
+    for byte in token {
         let byte = *byte;
         if byte < b'0' || byte > b'9' {
             return None;
@@ -26,11 +26,11 @@ pub fn read_u64(word: &[u8]) -> Option<u64>
     Some(value)
 }
 
-/// The number below 2^32 whose decimal text the word is.
-pub fn read_u32(word: &[u8]) -> Option<u32>
-    ensures { Reads IsU32 decimal word.now result }
+/// The number below 2^32 whose decimal text the token is.
+pub fn read_u32(token: &[u8]) -> Option<u32>
+    ensures { Reads IsU32 decimal token.now result }
 {
-    let value = read_u64(word)?;
+    let value = read_u64(token)?;
     if value > u32::MAX as u64 {
         return None;
     }

@@ -5,7 +5,7 @@ ghost use Rattle.std.specs.Fmt.{decimal};
 ghost use Rattle.a64_cli.specs.Reads.{Reads, Always, IsU32, IsU64};
 ghost use Rattle.a64_cli.specs.Operators.{alu_op_text, move_wide_op_text};
 ghost use Rattle.a64_cli.specs.Fields.{HasNo, label_text, IsLabel, target_text, IsTarget, size_text, reg_text, IsReg, imm12_text, IsImm12, wide_text, IsWide};
-ghost use Rattle.a64_cli.specs.Plain.{u32_plain, decimal_plain, imm12_plain, label_plain, target_plain, size_plain, reg_plain, wide_plain, alu_op_plain, move_wide_op_plain};
+ghost use Rattle.a64_cli.specs.PlainLaws.{u32_plain, decimal_plain, imm12_plain, label_plain, target_plain, size_plain, reg_plain, wide_plain, alu_op_plain, move_wide_op_plain};
 
 use crate::read::decimal::{read_u32, read_u64};
 use crate::read::immediate::{read_imm12, read_wide};
@@ -17,7 +17,7 @@ use a64_base::{BranchTarget, MachLabel, OperandSize, Reg, Writable};
 use a64_imms::{Imm12, MoveWideConst};
 use a64_inst::{ALUOp, MoveWideOp};
 
-/// A field of a line: one word, without a space.
+/// A field of a line: one token, without a space.
 pub trait Field: Copy + Drop {
     /// Which values have a text.
     ghost fits: { Self → Type 0 };
@@ -25,39 +25,39 @@ pub trait Field: Copy + Drop {
     /// The text of a value.
     ghost text: { Self → List ℕ };
 
-    /// The value whose text the word is.
-    fn read(word: &[u8]) -> Option<Self>
-        ensures { Reads fits text word.now result };
+    /// The value whose text the token is.
+    fn read(token: &[u8]) -> Option<Self>
+        ensures { Reads fits text token.now result };
 
     /// No text has a space.
     ghost plain: { (x : Self) → fits x → HasNo 32 (text x) };
 }
 
 /// The value of the only field.
-pub fn one<A: Field>(words: &[&[u8]]) -> Option<A>
-    ensures { Reads A.fits (λ x. A.text x ∷ []) (map (λ w. w.now) words.now) result }
+pub fn one<A: Field>(tokens: &[&[u8]]) -> Option<A>
+    ensures { Reads A.fits (λ x. A.text x ∷ []) (map (λ w. w.now) tokens.now) result }
 {
-    match words {
+    match tokens {
         [a] => A::read(a),
         _ => None,
     }
 }
 
 /// The values of the only two fields.
-pub fn two<A: Field, B: Field>(words: &[&[u8]]) -> Option<(A, B)>
-    ensures { Reads (λ x. A.fits x.0 × B.fits x.1) (λ x. A.text x.0 ∷ B.text x.1 ∷ []) (map (λ w. w.now) words.now) result }
+pub fn two<A: Field, B: Field>(tokens: &[&[u8]]) -> Option<(A, B)>
+    ensures { Reads (λ x. A.fits x.0 × B.fits x.1) (λ x. A.text x.0 ∷ B.text x.1 ∷ []) (map (λ w. w.now) tokens.now) result }
 {
-    match words {
+    match tokens {
         [a, b] => Some((A::read(a)?, B::read(b)?)),
         _ => None,
     }
 }
 
 /// The values of the only four fields.
-pub fn four<A: Field, B: Field, C: Field, D: Field>(words: &[&[u8]]) -> Option<(A, B, C, D)>
-    ensures { Reads (λ x. A.fits x.0 × B.fits x.1 × C.fits x.2 × D.fits x.3) (λ x. A.text x.0 ∷ B.text x.1 ∷ C.text x.2 ∷ D.text x.3 ∷ []) (map (λ w. w.now) words.now) result }
+pub fn four<A: Field, B: Field, C: Field, D: Field>(tokens: &[&[u8]]) -> Option<(A, B, C, D)>
+    ensures { Reads (λ x. A.fits x.0 × B.fits x.1 × C.fits x.2 × D.fits x.3) (λ x. A.text x.0 ∷ B.text x.1 ∷ C.text x.2 ∷ D.text x.3 ∷ []) (map (λ w. w.now) tokens.now) result }
 {
-    match words {
+    match tokens {
         [a, b, c, d] => Some((A::read(a)?, B::read(b)?, C::read(c)?, D::read(d)?)),
         _ => None,
     }
@@ -65,11 +65,11 @@ pub fn four<A: Field, B: Field, C: Field, D: Field>(words: &[&[u8]]) -> Option<(
 
 /// The values of the only five fields.
 pub fn five<A: Field, B: Field, C: Field, D: Field, E: Field>(
-    words: &[&[u8]],
+    tokens: &[&[u8]],
 ) -> Option<(A, B, C, D, E)>
-    ensures { Reads (λ x. A.fits x.0 × B.fits x.1 × C.fits x.2 × D.fits x.3 × E.fits x.4) (λ x. A.text x.0 ∷ B.text x.1 ∷ C.text x.2 ∷ D.text x.3 ∷ E.text x.4 ∷ []) (map (λ w. w.now) words.now) result }
+    ensures { Reads (λ x. A.fits x.0 × B.fits x.1 × C.fits x.2 × D.fits x.3 × E.fits x.4) (λ x. A.text x.0 ∷ B.text x.1 ∷ C.text x.2 ∷ D.text x.3 ∷ E.text x.4 ∷ []) (map (λ w. w.now) tokens.now) result }
 {
-    match words {
+    match tokens {
         [a, b, c, d, e] => Some((
             A::read(a)?,
             B::read(b)?,
@@ -88,8 +88,8 @@ impl Field for u32 {
 
     ghost plain = { u32_plain };
 
-    fn read(word: &[u8]) -> Option<u32> {
-        read_u32(word)
+    fn read(token: &[u8]) -> Option<u32> {
+        read_u32(token)
     }
 }
 
@@ -100,8 +100,8 @@ impl Field for u64 {
 
     ghost plain = { decimal_plain };
 
-    fn read(word: &[u8]) -> Option<u64> {
-        read_u64(word)
+    fn read(token: &[u8]) -> Option<u64> {
+        read_u64(token)
     }
 }
 
@@ -112,8 +112,8 @@ impl Field for MachLabel {
 
     ghost plain = { label_plain };
 
-    fn read(word: &[u8]) -> Option<MachLabel> {
-        read_label(word)
+    fn read(token: &[u8]) -> Option<MachLabel> {
+        read_label(token)
     }
 }
 
@@ -124,8 +124,8 @@ impl Field for BranchTarget {
 
     ghost plain = { target_plain };
 
-    fn read(word: &[u8]) -> Option<BranchTarget> {
-        read_target(word)
+    fn read(token: &[u8]) -> Option<BranchTarget> {
+        read_target(token)
     }
 }
 
@@ -136,8 +136,8 @@ impl Field for OperandSize {
 
     ghost plain = { size_plain };
 
-    fn read(word: &[u8]) -> Option<OperandSize> {
-        read_size(word)
+    fn read(token: &[u8]) -> Option<OperandSize> {
+        read_size(token)
     }
 }
 
@@ -148,8 +148,8 @@ impl Field for Reg {
 
     ghost plain = { reg_plain };
 
-    fn read(word: &[u8]) -> Option<Reg> {
-        read_reg(word)
+    fn read(token: &[u8]) -> Option<Reg> {
+        read_reg(token)
     }
 }
 
@@ -160,8 +160,8 @@ impl Field for Writable<Reg> {
 
     ghost plain = { reg_plain };
 
-    fn read(word: &[u8]) -> Option<Writable<Reg>> {
-        read_writable(word)
+    fn read(token: &[u8]) -> Option<Writable<Reg>> {
+        read_writable(token)
     }
 }
 
@@ -172,8 +172,8 @@ impl Field for Imm12 {
 
     ghost plain = { imm12_plain };
 
-    fn read(word: &[u8]) -> Option<Imm12> {
-        read_imm12(word)
+    fn read(token: &[u8]) -> Option<Imm12> {
+        read_imm12(token)
     }
 }
 
@@ -184,8 +184,8 @@ impl Field for MoveWideConst {
 
     ghost plain = { wide_plain };
 
-    fn read(word: &[u8]) -> Option<MoveWideConst> {
-        read_wide(word)
+    fn read(token: &[u8]) -> Option<MoveWideConst> {
+        read_wide(token)
     }
 }
 
@@ -196,8 +196,8 @@ impl Field for ALUOp {
 
     ghost plain = { alu_op_plain };
 
-    fn read(word: &[u8]) -> Option<ALUOp> {
-        read_alu_op(word)
+    fn read(token: &[u8]) -> Option<ALUOp> {
+        read_alu_op(token)
     }
 }
 
@@ -208,7 +208,7 @@ impl Field for MoveWideOp {
 
     ghost plain = { move_wide_op_plain };
 
-    fn read(word: &[u8]) -> Option<MoveWideOp> {
-        read_move_wide_op(word)
+    fn read(token: &[u8]) -> Option<MoveWideOp> {
+        read_move_wide_op(token)
     }
 }

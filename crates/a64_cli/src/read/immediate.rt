@@ -18,11 +18,11 @@ fn imm12_of(value: u64) -> Option<Imm12>
     Imm12::maybe_from_u64(value)
 }
 
-/// The immediate of 12 bits, shifted or not, whose value the word is.
-pub fn read_imm12(word: &[u8]) -> Option<Imm12>
-    ensures { Reads IsImm12 imm12_text word.now result }
+/// The immediate of 12 bits, shifted or not, whose value the token is.
+pub fn read_imm12(token: &[u8]) -> Option<Imm12>
+    ensures { Reads IsImm12 imm12_text token.now result }
 {
-    imm12_of(read_u64(word)?)
+    imm12_of(read_u64(token)?)
 }
 
 /// The bitmask immediate that the constructor gives for the value at the size.
@@ -32,19 +32,19 @@ pub fn logic_of(size: OperandSize, value: u64) -> Option<ImmLogic>
     ImmLogic::maybe_from_u64(value, size.to_ty())
 }
 
-/// The two numbers that the word is, with a comma between.
-fn read_pair(word: &[u8]) -> Option<(u32, u32)>
-    ensures { Reads ArePair pair_text word.now result }
+/// The two numbers that the token is, with a comma between.
+fn read_pair(token: &[u8]) -> Option<(u32, u32)>
+    ensures { Reads ArePair pair_text token.now result }
 {
-    let words = parts(word, b',')?;
-    two::<u32, u32>(words.as_slice())
+    let tokens = parts(token, b',')?;
+    two::<u32, u32>(tokens.as_slice())
 }
 
-/// The halfword and its shift in bits that the word is.
-pub fn read_wide(word: &[u8]) -> Option<MoveWideConst>
-    ensures { Reads IsWide wide_text word.now result }
+/// The halfword and its shift in bits that the token is.
+pub fn read_wide(token: &[u8]) -> Option<MoveWideConst>
+    ensures { Reads IsWide wide_text token.now result }
 {
-    let (bits, shift) = read_pair(word)?;
+    let (bits, shift) = read_pair(token)?;
     if bits > 0xffff || shift > 48 || shift % 16 != 0 {
         return None;
     }

@@ -7,22 +7,22 @@ use crate::read::decimal::read_u32;
 use crate::read::offset::{after, read_i32};
 use a64_base::{BranchTarget, MachLabel};
 
-/// The label whose text the word is: `L` and its number.
-pub fn read_label(word: &[u8]) -> Option<MachLabel>
-    ensures { Reads IsLabel label_text word.now result }
+/// The label whose text the token is: `L` and its number.
+pub fn read_label(token: &[u8]) -> Option<MachLabel>
+    ensures { Reads IsLabel label_text token.now result }
 {
-    match word {
+    match token {
         [b'L', number @ ..] => Some(MachLabel(read_u32(number)?)),
         _ => None,
     }
 }
 
-/// The branch target whose text the word is: its label, or its distance in bytes.
-pub fn read_target(word: &[u8]) -> Option<BranchTarget>
-    ensures { Reads IsTarget target_text word.now result }
+/// The branch target whose text the token is: its label, or its distance in bytes.
+pub fn read_target(token: &[u8]) -> Option<BranchTarget>
+    ensures { Reads IsTarget target_text token.now result }
 {
-    match after(b'L', word) {
+    match after(b'L', token) {
         Some(number) => Some(BranchTarget::Label(MachLabel(read_u32(number)?))),
-        None => Some(BranchTarget::ResolvedOffset(read_i32(word)?)),
+        None => Some(BranchTarget::ResolvedOffset(read_i32(token)?)),
     }
 }

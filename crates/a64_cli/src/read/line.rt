@@ -1,7 +1,7 @@
 //! Reads lines.
 
 ghost use Rattle.a64_cli.specs.Reads.{Reads};
-ghost use Rattle.a64_cli.specs.Words.{line_of, IsEntry};
+ghost use Rattle.a64_cli.specs.Tokens.{line_of, IsEntry};
 
 use crate::entry::Entry;
 use crate::read::entry::read_fields;
@@ -12,8 +12,8 @@ use crate::read::split::parts;
 pub fn read_line(line: &[u8]) -> Option<Entry>
     ensures { Reads IsEntry line_of line.now result }
 {
-    let words = parts(line, b' ')?;
-    let (name, fields) = words.as_slice().split_first()?;
+    let tokens = parts(line, b' ')?;
+    let (name, fields) = tokens.as_slice().split_first()?;
     let name = read_name(name)?;
     read_fields(name, fields)
 }

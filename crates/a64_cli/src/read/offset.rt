@@ -7,12 +7,12 @@ ghost use Rattle.a64_cli.specs.Reads.{Reads, IsI32, IsBelowZero, IsFromZero};
 use crate::read::decimal::read_u64;
 
 /// What comes after the byte at the front, where it stands there.
-pub fn after(front: u8, word: &[u8]) -> Option<&[u8]>
+pub fn after(front: u8, token: &[u8]) -> Option<&[u8]>
     ensures { MatchOption result
-        ((rest : List ℕ) → word.now ≢ front ∷ rest)
-        (λ rest. word.now ≡ front ∷ rest.now) }
+        ((rest : List ℕ) → token.now ≢ front ∷ rest)
+        (λ rest. token.now ≡ front ∷ rest.now) }
 {
-    let (first, rest) = word.split_first()?;
+    let (first, rest) = token.split_first()?;
     if *first == front { Some(rest) } else { None }
 }
 
@@ -37,12 +37,12 @@ fn from_zero(size: u64) -> Option<i32>
     }
 }
 
-/// The number of 32 bits whose decimal text the word is. Those below zero have a `-` at the front.
-pub fn read_i32(word: &[u8]) -> Option<i32>
-    ensures { Reads IsI32 signed_decimal word.now result }
+/// The number of 32 bits whose decimal text the token is. Those below zero have a `-` at the front.
+pub fn read_i32(token: &[u8]) -> Option<i32>
+    ensures { Reads IsI32 signed_decimal token.now result }
 {
-    match after(b'-', word) {
+    match after(b'-', token) {
         Some(digits) => below_zero(read_u64(digits)?),
-        None => from_zero(read_u64(word)?),
+        None => from_zero(read_u64(token)?),
     }
 }

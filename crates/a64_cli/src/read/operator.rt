@@ -75,33 +75,33 @@ fn name_of(op: ALUOp) -> &'static [u8]
 
 /// The only operator that may have this name, which has three bytes at least.
 #[tactic(auto, unfolding(crate::specs::Operators::alu_op_place, crate::specs::Operators::alu_op_guess))]
-fn guess(word: &[u8]) -> ALUOp
-    requires { 3 ≤ length word.now }
-    ensures { result ≡ alu_op_guess word.now }
+fn guess(token: &[u8]) -> ALUOp
+    requires { 3 ≤ length token.now }
+    ensures { result ≡ alu_op_guess token.now }
 {
-    let place = 3 * (word.len() % 32)
-        + word[0] as usize
-        + 10 * word[1] as usize
-        + 4 * word[2] as usize;
+    let place = 3 * (token.len() % 32)
+        + token[0] as usize
+        + 10 * token[1] as usize
+        + 4 * token[2] as usize;
     ALU_OPS[place % 32]
 }
 
-/// The integer operator that the word names.
-pub fn read_alu_op(word: &[u8]) -> Option<ALUOp>
-    ensures { Reads Always alu_op_text word.now result }
+/// The integer operator that the token names.
+pub fn read_alu_op(token: &[u8]) -> Option<ALUOp>
+    ensures { Reads Always alu_op_text token.now result }
 {
-    if word.len() < 3 {
+    if token.len() < 3 {
         return None;
     }
-    let op = guess(word);
-    if name_of(op) == word { Some(op) } else { None }
+    let op = guess(token);
+    if name_of(op) == token { Some(op) } else { None }
 }
 
-/// The operator of a wide move that the word names.
-pub fn read_move_wide_op(word: &[u8]) -> Option<MoveWideOp>
-    ensures { Reads Always move_wide_op_text word.now result }
+/// The operator of a wide move that the token names.
+pub fn read_move_wide_op(token: &[u8]) -> Option<MoveWideOp>
+    ensures { Reads Always move_wide_op_text token.now result }
 {
-    match word {
+    match token {
         b"MovZ" => Some(MoveWideOp::MovZ),
         b"MovN" => Some(MoveWideOp::MovN),
         _ => None,

@@ -6,13 +6,13 @@ ghost use Rattle.a64_cli.specs.Fields.{reg_text, IsReg};
 use crate::read::decimal::read_u32;
 use a64_base::{PReg, Reg, RegClass, Writable};
 
-/// The register that the word is: `x0` to `x30`, `xzr`, `sp`, `v0` to `v31`, `%i` and a number, or
+/// The register that the token is: `x0` to `x30`, `xzr`, `sp`, `v0` to `v31`, `%i` and a number, or
 /// `%f` and a number.
 #[tactic(auto, using(crate::proofs::Decimals::decimal_first))]
-pub fn read_reg(word: &[u8]) -> Option<Reg>
-    ensures { Reads IsReg reg_text word.now result }
+pub fn read_reg(token: &[u8]) -> Option<Reg>
+    ensures { Reads IsReg reg_text token.now result }
 {
-    match word {
+    match token {
         b"sp" => Some(Reg::Real(PReg::new(63, RegClass::Int))),
         b"xzr" => Some(Reg::Real(PReg::new(31, RegClass::Int))),
         [b'x', number @ ..] => {
@@ -41,9 +41,9 @@ pub fn read_reg(word: &[u8]) -> Option<Reg>
     }
 }
 
-/// The register to be written that the word is.
-pub fn read_writable(word: &[u8]) -> Option<Writable<Reg>>
-    ensures { Reads IsReg reg_text word.now result }
+/// The register to be written that the token is.
+pub fn read_writable(token: &[u8]) -> Option<Writable<Reg>>
+    ensures { Reads IsReg reg_text token.now result }
 {
-    Some(Writable::from_reg(read_reg(word)?))
+    Some(Writable::from_reg(read_reg(token)?))
 }

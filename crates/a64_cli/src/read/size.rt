@@ -6,10 +6,10 @@ ghost use Rattle.a64_cli.specs.Fields.{size_text};
 use a64_base::OperandSize;
 
 /// The size of an operand, in bits.
-pub fn read_size(word: &[u8]) -> Option<OperandSize>
-    ensures { Reads Always size_text word.now result }
+pub fn read_size(token: &[u8]) -> Option<OperandSize>
+    ensures { Reads Always size_text token.now result }
 {
-    match word {
+    match token {
         b"32" => Some(OperandSize::Size32),
         b"64" => Some(OperandSize::Size64),
         _ => None,

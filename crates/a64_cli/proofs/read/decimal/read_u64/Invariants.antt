@@ -4,6 +4,6 @@ use Rattle.a64_cli.proofs.read.decimal.read_u64.Given as goal
 
 abbrev pub invariant-loop-byte : goal.invariant-loop-byte
 invariant-loop-byte l = record {
-  digits : AllDigits 10 (take l.byte-index l.word);
-  value : l.value ≡ digits_value 10 (take l.byte-index l.word);
+  digits : AllDigits 10 (take l.byte-index l.token);
+  value : l.value ≡ digits_value 10 (take l.byte-index l.token);
 }

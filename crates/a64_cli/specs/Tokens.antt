@@ -4,8 +4,8 @@ use Rattle.std.specs.List.{join_with_byte}
 use Rattle.a64_base.specs.declared.entity.UserStackMap.{UserStackMap}
 use Rattle.a64_inst.specs.declared.inst.Inst.{Inst}
 use Rattle.a64_inst.specs.declared.inst.Inst.TheVariants as insts
-use Rattle.a64_emit.specs.declared.item.Item.{Item}
-use Rattle.a64_emit.specs.declared.item.Item.TheVariants.{Bind, Emit}
+use Rattle.a64_inst.specs.declared.item.Item.{Item}
+use Rattle.a64_inst.specs.declared.item.Item.TheVariants.{Bind, Emit}
 use Rattle.a64_cli.specs.declared.entry.Entry.{Entry}
 use Rattle.a64_cli.specs.declared.entry.Entry.TheVariants as entries
 use Rattle.a64_cli.specs.declared.name.Name.{Name}
@@ -83,9 +83,9 @@ IsItem (Emit inst map) = IsInst inst × IsMap inst map
 abbrev pub IsEntry : Entry → Type 0
 IsEntry (entries.Item item) = IsItem item
 
--- the words of an entry, and its line
-abbrev pub words_of : Entry → List (List ℕ)
-words_of entry = name_text (name_of entry) ∷ fields_of entry
+-- the tokens of an entry, and its line
+abbrev pub tokens_of : Entry → List (List ℕ)
+tokens_of entry = name_text (name_of entry) ∷ fields_of entry
 
 abbrev pub line_of : Entry → List ℕ
-line_of entry = join_with_byte 32 (words_of entry)
+line_of entry = join_with_byte 32 (tokens_of entry)

@@ -23,10 +23,10 @@ use Rattle.a64_imms.specs.declared.imm_logic.ImmLogic.{ImmLogic}
 use Rattle.a64_imms.specs.declared.move_wide.MoveWideConst.{MoveWideConst}
 use Rattle.a64_imms.specs.Imm12s.{imm12_value}
 use Rattle.a64_imms.specs.Logic.{logic_value}
-use Rattle.a64_inst.specs.declared.operator.ALUOp.{ALUOp}
-use Rattle.a64_inst.specs.declared.operator.ALUOp.TheVariants as alu
-use Rattle.a64_inst.specs.declared.operator.MoveWideOp.{MoveWideOp}
-use Rattle.a64_inst.specs.declared.operator.MoveWideOp.TheVariants.{MovZ, MovN}
+use Rattle.a64_ops.specs.declared.operator.ALUOp.{ALUOp}
+use Rattle.a64_ops.specs.declared.operator.ALUOp.TheVariants as alu
+use Rattle.a64_ops.specs.declared.operator.MoveWideOp.{MoveWideOp}
+use Rattle.a64_ops.specs.declared.operator.MoveWideOp.TheVariants.{MovZ, MovN}
 use Rattle.a64_cli.specs.Reads.{IsU32, IsU64, IsI32, Always}
 use Rattle.a64_cli.specs.Operators.{alu_op_text, move_wide_op_text}
 use Rattle.a64_cli.specs.Fields.{HasNo, label_text, IsLabel, target_text, IsTarget, size_text, integer_text, real_text, virtual_text, reg_text, IsReg, imm12_text, IsImm12, logic_text, IsLogicAt, wide_text, IsWide}

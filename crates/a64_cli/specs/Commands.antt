@@ -1,0 +1,72 @@
+-- What the commands are: a line for each in each table.
+use Rattle.std.specs.Prelude.{ℕ, ◌≡◌, ◌⊎◌, ◌≤◌, List, [], ◌∷◌, codes, length, Bool, true, Option, None, Some, IfSome, IsSomeAnd}
+use Rattle.a64_buffer.specs.declared.force.ForceVeneers.{ForceVeneers}
+use Rattle.a64_buffer.specs.declared.force.ForceVeneers.TheVariants.{No}
+use Rattle.a64_emit.specs.declared.code.Code.{Code}
+use Rattle.a64_emit.specs.declared.error.EmitError.{EmitError}
+use Rattle.a64_emit.specs.Assembled.{IsAssembled}
+use Rattle.a64_emit.specs.Faults.{fault_of}
+use Rattle.a64_cli.specs.declared.command.Command.{Command}
+use Rattle.a64_cli.specs.declared.command.Command.TheVariants.{Asm}
+use Rattle.a64_cli.specs.declared.file.File.{File}
+use Rattle.a64_cli.specs.States.{Contents, contents_of}
+use Rattle.a64_cli.specs.FileText.{IsFile}
+use Rattle.a64_cli.specs.Report.{report_of}
+
+-- the words of the command
+abbrev pub IsCommand : List (List ℕ) → Command → Type 0
+IsCommand words Asm = (words ≡ []) ⊎ (words ≡ codes "asm" ∷ [])
+
+-- no command has these words
+abbrev pub IsNoCommand : List (List ℕ) → Type 0
+IsNoCommand words = (command : Command) → ¬ IsCommand words command
+
+-- a fact about the command that the words are, if they are one
+abbrev pub OfCommand : List (List ℕ) → (Command → Type 0) → Type 0
+OfCommand words P = (command : Command) → IsCommand words command → P command
+
+-- the command reads its file from the source
+abbrev pub reads_source : Command → Bool
+reads_source Asm = true
+
+-- whether the command forces islands
+abbrev pub force_of : Command → ForceVeneers
+force_of Asm = No
+
+-- the first fault of `assemble` in what a file says
+abbrev pub assembly_fault : Command → Contents → Option EmitError
+assembly_fault command file = fault_of file.frame file.flags file.constants (force_of command) file.items
+
+-- the first fault that the command finds in what a file says
+abbrev pub contents_fault : Command → Contents → Option EmitError
+contents_fault Asm file = assembly_fault Asm file
+
+abbrev pub file_fault : Command → File → Option EmitError
+file_fault command file = contents_fault command (contents_of file)
+
+-- the code is that of the file
+abbrev pub IsCodeOf : Command → File → Code → Type 0
+IsCodeOf command file code = IsAssembled file.frame file.info file.constants (force_of command) file.items.items code
+
+-- the most bytes that a file may have
+abbrev pub limit : ℕ
+limit = 16777216
+
+-- what a source held is a file, and nothing of it is left
+pub record WasRead (left left' : Option (List ℕ)) (file : File) : Type 0 where
+  pub bytes : IfSome left (λ text. IsFile text file)
+  pub short : IfSome left (λ text. length text ≤ limit)
+  pub nothing_left : IfSome left (λ text. left' ≡ Some [])
+
+-- the file on which the command works, for what the source had left before and after
+abbrev pub IsInput : Command → Option (List ℕ) → Option (List ℕ) → File → Type 0
+IsInput Asm left left' file = WasRead left left' file
+
+-- what the command makes of a file: the code that is kept, if any, and the bytes that are written
+abbrev pub IsOutput : Command → File → Option Code → List ℕ → Type 0
+IsOutput Asm file code output = IsSomeAnd code (λ c. IsCodeOf Asm file c × (output ≡ report_of c))
+
+-- the same, for a file in which the command finds no fault
+pub record IsMade (command : Command) (file : File) (code : Option Code) (output : List ℕ) : Type 0 where
+  pub no_fault : file_fault command file ≡ None
+  pub output_is : IsOutput command file code output
