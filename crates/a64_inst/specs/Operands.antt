@@ -1,11 +1,12 @@
 -- Which operands an instruction may have (Arm Architecture Reference Manual, C6 and C7).
-use Rattle.std.specs.Prelude.{ℤ, pos, negsuc, ◌%◌, ◌^◌, Bool, true, false, ◌&&◌, ◌||◌, nat_lt, nat_le, nat_eq}
+use Rattle.std.specs.Prelude.{ℕ, ℤ, pos, negsuc, ◌+◌, ◌%◌, ◌^◌, Bool, true, false, ◌&&◌, ◌||◌, nat_lt, nat_le, nat_eq}
 use Rattle.a64_base.specs.declared.reg.Reg.{Reg}
 use Rattle.a64_base.specs.declared.reg.Reg.TheVariants.{Real, Virtual}
 use Rattle.a64_base.specs.declared.reg.RegClass.{RegClass}
 use Rattle.a64_base.specs.declared.reg.RegClass.TheVariants.{Int, Float}
 use Rattle.a64_base.specs.declared.size.OperandSize.{OperandSize}
 use Rattle.a64_base.specs.declared.size.OperandSize.TheVariants.{Size32, Size64}
+use Rattle.a64_base.specs.OperandSizes.{operand_bits}
 use Rattle.a64_imms.specs.declared.imm12.Imm12.{Imm12}
 use Rattle.a64_imms.specs.declared.imm_logic.ImmLogic.{ImmLogic}
 use Rattle.a64_imms.specs.declared.move_wide.MoveWideConst.{MoveWideConst}
@@ -33,6 +34,16 @@ abbrev pub is_register_or_stack : VirtualRegisters → Reg → Bool
 is_register_or_stack virtuals (Real p) = is_int p.class && (nat_lt p.number 31 || nat_eq p.number 63)
 is_register_or_stack virtuals (Virtual index class) = are_allowed virtuals && is_int class
 
+-- x0 to x30
+abbrev pub is_register : VirtualRegisters → Reg → Bool
+is_register virtuals (Real p) = is_int p.class && nat_lt p.number 31
+is_register virtuals (Virtual index class) = are_allowed virtuals && is_int class
+
+-- the stack pointer
+abbrev pub is_stack_pointer : VirtualRegisters → Reg → Bool
+is_stack_pointer virtuals (Real p) = is_int p.class && nat_eq p.number 63
+is_stack_pointer virtuals (Virtual index class) = are_allowed virtuals && is_int class
+
 abbrev pub is_same_class : RegClass → RegClass → Bool
 is_same_class Int Int = true
 is_same_class Float Float = true
@@ -49,6 +60,10 @@ is_same_register _ _ = true
 abbrev pub is_wide_in : OperandSize → MoveWideConst → Bool
 is_wide_in Size32 imm = nat_le imm.shift 1
 is_wide_in Size64 imm = nat_le imm.shift 3
+
+-- a number of bits that is below a size
+abbrev pub is_bit_of : OperandSize → ℕ → Bool
+is_bit_of size bit = nat_lt bit (operand_bits size)
 
 -- an immediate of 12 bits has no more
 abbrev pub is_imm12 : Imm12 → Bool
@@ -67,3 +82,8 @@ is_logic_of size imm = is_same_size imm.size size && is_imm_logic imm
 abbrev pub is_offset26 : ℤ → Bool
 is_offset26 (pos n) = nat_eq (n % 4) 0 && nat_lt n (2 ^ 27)
 is_offset26 (negsuc n) = nat_eq (n % 4) 3 && nat_lt n (2 ^ 27)
+
+-- an offset to an address near the code, in its unit: above -2^20, and below 2^20
+abbrev pub is_near : ℤ → Bool
+is_near (pos n) = nat_lt n (2 ^ 20)
+is_near (negsuc n) = nat_lt (n + 1) (2 ^ 20)

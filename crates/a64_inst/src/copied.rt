@@ -24,12 +24,34 @@ fn copied_integer(inst: &Inst) -> Result<Inst, AllocError>
     ensures { IfOk result (λ copy. copy ≡ inst.now) }
 {
     copied!(inst;
+        Nop0 {},
         Nop4 {},
         AluRRR { alu_op, size, rd, rn, rm },
+        AluRRRR { alu_op, size, rd, rn, rm, ra },
         AluRRImm12 { alu_op, size, rd, rn, imm12 },
         AluRRImmLogic { alu_op, size, rd, rn, imml },
+        AluRRImmShift { alu_op, size, rd, rn, immshift },
+        AluRRRShift { alu_op, size, rd, rn, rm, shiftop },
+        AluRRRExtend { alu_op, size, rd, rn, rm, extendop },
+        BitRR { op, size, rd, rn },
+        Mov { size, rd, rm },
+        MovFromPReg { rd, rm },
+        MovToPReg { rd, rm },
         MovWide { op, rd, imm, size },
-        MovK { rd, rn, imm, size }
+        MovK { rd, rn, imm, size },
+        CSel { rd, rn, rm, cond },
+        CSNeg { rd, rn, rm, cond },
+        CSet { rd, cond },
+        CSetm { rd, cond },
+        CCmp { size, rn, rm, nzcv, cond },
+        CCmpImm { size, rn, imm, nzcv, cond },
+        Extend { rd, rn, signed, from_bits, to_bits },
+        BitfieldMove { size, bfm_op, rd, rn, immr, imms },
+        BitfieldMoveMod { size, rd, ri, rn, immr, imms },
+        MovToNZCV { rn },
+        MovFromNZCV { rd },
+        Adr { rd, off },
+        Adrp { rd, off }
     )
 }
 

@@ -4,13 +4,15 @@ ghost use Rattle.std.specs.Prelude.{◌≡◌};
 ghost use Rattle.a64_inst.specs.Groups.{group_of};
 
 use crate::group::Group;
-use a64_base::{BranchTarget, OperandSize, Reg, Writable};
-use a64_imms::{Imm12, ImmLogic, MoveWideConst};
-use a64_ops::{ALUOp, MoveWideOp};
+use a64_base::{BranchTarget, Cond, ExtendOp, OperandSize, PReg, Reg, ShiftOpAndAmt, Writable};
+use a64_imms::{Imm12, ImmLogic, ImmShift, MoveWideConst, NZCV, UImm5, UImm6};
+use a64_ops::{ALUOp, ALUOp3, BfmOp, BitOp, MoveWideOp};
 
 /// An AArch64 instruction, or a short sequence of instructions (Cranelift's `Inst`).
 #[derive(Drop)]
 pub enum Inst {
+    /// No word at all.
+    Nop0,
     /// `nop`: one word that does nothing.
     Nop4,
     /// An integer operation on two registers.
@@ -25,6 +27,21 @@ pub enum Inst {
         rn: Reg,
         /// The second operand.
         rm: Reg,
+    },
+    /// An integer operation on three registers.
+    AluRRRR {
+        /// The operator.
+        alu_op: ALUOp3,
+        /// The size of the operands.
+        size: OperandSize,
+        /// The result.
+        rd: Writable<Reg>,
+        /// The first factor.
+        rn: Reg,
+        /// The second factor.
+        rm: Reg,
+        /// What the product is added to, or subtracted from.
+        ra: Reg,
     },
     /// An addition or subtraction of an immediate.
     AluRRImm12 {
@@ -52,6 +69,83 @@ pub enum Inst {
         /// The immediate, which is one of the size.
         imml: ImmLogic,
     },
+    /// A shift or a rotation by an amount.
+    AluRRImmShift {
+        /// The operator: a shift, or `Extr` for the rotation.
+        alu_op: ALUOp,
+        /// The size of the operands.
+        size: OperandSize,
+        /// The result.
+        rd: Writable<Reg>,
+        /// What is shifted.
+        rn: Reg,
+        /// The amount in bits, below the size.
+        immshift: ImmShift,
+    },
+    /// An operation on a register and a shifted register, or an extraction from two.
+    AluRRRShift {
+        /// The operator.
+        alu_op: ALUOp,
+        /// The size of the operands.
+        size: OperandSize,
+        /// The result.
+        rd: Writable<Reg>,
+        /// The first operand.
+        rn: Reg,
+        /// The second operand, before it is shifted.
+        rm: Reg,
+        /// The shift, by less than the size.
+        shiftop: ShiftOpAndAmt,
+    },
+    /// An addition or subtraction of an extended register.
+    AluRRRExtend {
+        /// The operator.
+        alu_op: ALUOp,
+        /// The size of the operands.
+        size: OperandSize,
+        /// The result.
+        rd: Writable<Reg>,
+        /// The first operand.
+        rn: Reg,
+        /// The second operand, before it is extended.
+        rm: Reg,
+        /// How it is extended.
+        extendop: ExtendOp,
+    },
+    /// An operation on the bits of one register.
+    BitRR {
+        /// The operator.
+        op: BitOp,
+        /// The size of the operands.
+        size: OperandSize,
+        /// The result.
+        rd: Writable<Reg>,
+        /// The operand.
+        rn: Reg,
+    },
+    /// `mov` of a register.
+    Mov {
+        /// The size of the registers.
+        size: OperandSize,
+        /// The result.
+        rd: Writable<Reg>,
+        /// What is moved.
+        rm: Reg,
+    },
+    /// `mov` at 64 bits out of one of x21, x29, x30 and the stack pointer.
+    MovFromPReg {
+        /// The result.
+        rd: Writable<Reg>,
+        /// What is moved.
+        rm: PReg,
+    },
+    /// `mov` at 64 bits into one of x21, x29 and x30.
+    MovToPReg {
+        /// The result.
+        rd: PReg,
+        /// What is moved.
+        rm: Reg,
+    },
     /// `movz` or `movn`: sets a register to a halfword at one of its places.
     MovWide {
         /// The operator.
@@ -74,6 +168,135 @@ pub enum Inst {
         /// The size of the register.
         size: OperandSize,
     },
+    /// `csel` at 64 bits: one of two registers, by a condition.
+    CSel {
+        /// The result.
+        rd: Writable<Reg>,
+        /// What it is where the condition holds.
+        rn: Reg,
+        /// What it is where the condition fails.
+        rm: Reg,
+        /// The condition.
+        cond: Cond,
+    },
+    /// `csneg` at 64 bits: a register, or the negative of another, by a condition.
+    CSNeg {
+        /// The result.
+        rd: Writable<Reg>,
+        /// What it is where the condition holds.
+        rn: Reg,
+        /// What it is the negative of where the condition fails.
+        rm: Reg,
+        /// The condition.
+        cond: Cond,
+    },
+    /// `cset` at 64 bits: 1 where a condition holds, else 0.
+    CSet {
+        /// The result.
+        rd: Writable<Reg>,
+        /// The condition.
+        cond: Cond,
+    },
+    /// `csetm` at 64 bits: all ones where a condition holds, else 0.
+    CSetm {
+        /// The result.
+        rd: Writable<Reg>,
+        /// The condition.
+        cond: Cond,
+    },
+    /// `ccmp` of two registers: a comparison where a condition holds, else these flags.
+    CCmp {
+        /// The size of the operands.
+        size: OperandSize,
+        /// The first operand.
+        rn: Reg,
+        /// The second operand.
+        rm: Reg,
+        /// The flags where the condition fails.
+        nzcv: NZCV,
+        /// The condition.
+        cond: Cond,
+    },
+    /// `ccmp` of a register and an immediate.
+    CCmpImm {
+        /// The size of the operands.
+        size: OperandSize,
+        /// The first operand.
+        rn: Reg,
+        /// The second operand.
+        imm: UImm5,
+        /// The flags where the condition fails.
+        nzcv: NZCV,
+        /// The condition.
+        cond: Cond,
+    },
+    /// An extension of the lowest bits of a register.
+    Extend {
+        /// The result.
+        rd: Writable<Reg>,
+        /// What is extended.
+        rn: Reg,
+        /// Whether the bits are a signed number.
+        signed: bool,
+        /// How many bits are extended, from 1.
+        from_bits: u8,
+        /// To how many bits, at most 64; above them stand zeros.
+        to_bits: u8,
+    },
+    /// `ubfm` or `sbfm`: moves a bitfield, and sets the other bits.
+    BitfieldMove {
+        /// The size of the operands.
+        size: OperandSize,
+        /// The operator.
+        bfm_op: BfmOp,
+        /// The result.
+        rd: Writable<Reg>,
+        /// The operand.
+        rn: Reg,
+        /// By how many bits the operand is rotated to the right.
+        immr: UImm6,
+        /// The highest bit of the field.
+        imms: UImm6,
+    },
+    /// `bfm`: moves a bitfield, and keeps the other bits.
+    BitfieldMoveMod {
+        /// The size of the operands.
+        size: OperandSize,
+        /// The result.
+        rd: Writable<Reg>,
+        /// The register of which the other bits stay, which is the result's.
+        ri: Reg,
+        /// The operand.
+        rn: Reg,
+        /// By how many bits the operand is rotated to the right.
+        immr: UImm6,
+        /// The highest bit of the field.
+        imms: UImm6,
+    },
+    /// `msr nzcv`: sets the flags.
+    MovToNZCV {
+        /// The flags, in bits 31 to 28.
+        rn: Reg,
+    },
+    /// `mrs` of `nzcv`: reads the flags.
+    MovFromNZCV {
+        /// The result.
+        rd: Writable<Reg>,
+    },
+    /// `adr`: an address near the code.
+    Adr {
+        /// The result.
+        rd: Writable<Reg>,
+        /// The distance in bytes, above -2^20 and below 2^20.
+        off: i32,
+    },
+    /// `adrp`: the address of a page near the code.
+    Adrp {
+        /// The result.
+        rd: Writable<Reg>,
+        /// The distance in pages of 4096 bytes, above -2^20 and below 2^20.
+        off: i32,
+    },
     /// `ret`: a return to the address in x30.
     Ret,
     /// `b`: an unconditional branch.
@@ -89,12 +312,34 @@ impl Inst {
         ensures { result ≡ group_of self.now }
     {
         match self {
-            Inst::Nop4
+            Inst::Nop0
+            | Inst::Nop4
             | Inst::AluRRR { .. }
+            | Inst::AluRRRR { .. }
             | Inst::AluRRImm12 { .. }
             | Inst::AluRRImmLogic { .. }
+            | Inst::AluRRImmShift { .. }
+            | Inst::AluRRRShift { .. }
+            | Inst::AluRRRExtend { .. }
+            | Inst::BitRR { .. }
+            | Inst::Mov { .. }
+            | Inst::MovFromPReg { .. }
+            | Inst::MovToPReg { .. }
             | Inst::MovWide { .. }
-            | Inst::MovK { .. } => Group::Integer,
+            | Inst::MovK { .. }
+            | Inst::CSel { .. }
+            | Inst::CSNeg { .. }
+            | Inst::CSet { .. }
+            | Inst::CSetm { .. }
+            | Inst::CCmp { .. }
+            | Inst::CCmpImm { .. }
+            | Inst::Extend { .. }
+            | Inst::BitfieldMove { .. }
+            | Inst::BitfieldMoveMod { .. }
+            | Inst::MovToNZCV { .. }
+            | Inst::MovFromNZCV { .. }
+            | Inst::Adr { .. }
+            | Inst::Adrp { .. } => Group::Integer,
             Inst::Ret | Inst::Jump { .. } => Group::Control,
         }
     }

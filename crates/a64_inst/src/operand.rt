@@ -33,6 +33,32 @@ pub fn is_register_or_stack(virtuals: VirtualRegisters, reg: Reg) -> bool
     }
 }
 
+/// Whether a register is x0 to x30.
+pub fn is_register(virtuals: VirtualRegisters, reg: &Reg) -> bool
+    ensures { result ≡ operands.is_register virtuals reg.now }
+{
+    match *reg {
+        Reg::Real(p) => match p.class() {
+            RegClass::Int => p.hw_enc() < 31,
+            RegClass::Float => false,
+        },
+        Reg::Virtual { class, .. } => virtuals.are_allowed() && matches!(class, RegClass::Int),
+    }
+}
+
+/// Whether a register is the stack pointer.
+pub fn is_stack_pointer(virtuals: VirtualRegisters, reg: &Reg) -> bool
+    ensures { result ≡ operands.is_stack_pointer virtuals reg.now }
+{
+    match *reg {
+        Reg::Real(p) => match p.class() {
+            RegClass::Int => p.hw_enc() == 63,
+            RegClass::Float => false,
+        },
+        Reg::Virtual { class, .. } => virtuals.are_allowed() && matches!(class, RegClass::Int),
+    }
+}
+
 /// Whether two registers may be one; a virtual one may be any.
 pub fn is_same_register(a: &Reg, b: &Reg) -> bool
     ensures { result ≡ operands.is_same_register a.now b.now }
@@ -56,6 +82,13 @@ pub fn is_wide_in(size: OperandSize, imm: MoveWideConst) -> bool
     }
 }
 
+/// Whether a number of bits is below a size.
+pub fn is_bit_of(size: OperandSize, bit: u8) -> bool
+    ensures { result ≡ operands.is_bit_of size bit }
+{
+    bit < size.bits()
+}
+
 /// Whether an immediate of 12 bits has no more bits.
 pub fn is_imm12(imm: Imm12) -> bool
     ensures { result ≡ operands.is_imm12 imm }
@@ -75,4 +108,11 @@ pub fn is_offset26(offset: i32) -> bool
     ensures { result ≡ operands.is_offset26 offset }
 {
     offset % 4 == 0 && offset >= -(1 << 27) && offset < 1 << 27
+}
+
+/// Whether an address stands near the code, at an offset in its unit.
+pub fn is_near(offset: i32) -> bool
+    ensures { result ≡ operands.is_near offset }
+{
+    offset > -(1 << 20) && offset < 1 << 20
 }

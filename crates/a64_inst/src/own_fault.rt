@@ -1,79 +1,16 @@
 //! What is wrong with an instruction by itself.
 
 ghost use Rattle.std.specs.Prelude.{◌≡◌};
-ghost use Rattle.a64_inst.specs.declared.group.Group.TheVariants.{Integer, Control};
-ghost use Rattle.a64_inst.specs.Groups.{group_of};
 ghost use Rattle.a64_inst.specs.Faults.{fault_with, has_operands};
 
 use crate::emission::EmitInfo;
-use crate::fault::{OwnFault, control, integer};
+use crate::fault::OwnFault;
+use crate::fault::control::has_control_operands;
+use crate::fault::integer::has_integer_operands;
 use crate::frame::FrameLayout;
 use crate::group::Group;
 use crate::inst::Inst;
 use crate::virtuals::VirtualRegisters;
-
-/// Whether the operands of an integer instruction are in their sets.
-fn has_integer_operands(
-    inst: &Inst,
-    frame: &FrameLayout,
-    info: &EmitInfo,
-    virtuals: VirtualRegisters,
-) -> bool
-    requires { group_of inst.now ≡ Integer }
-    ensures { result ≡ has_operands frame.now info.now virtuals inst.now }
-{
-    match inst {
-        Inst::Nop4 => true,
-        Inst::AluRRR {
-            alu_op,
-            size,
-            rd,
-            rn,
-            rm,
-        } => integer::alu_rrr(virtuals, *alu_op, *size, rd.to_reg(), *rn, *rm),
-        Inst::AluRRImm12 {
-            alu_op,
-            size: _,
-            rd,
-            rn,
-            imm12,
-        } => integer::alu_rr_imm12(virtuals, *alu_op, rd.to_reg(), *rn, *imm12),
-        Inst::AluRRImmLogic {
-            alu_op,
-            size,
-            rd,
-            rn,
-            imml,
-        } => integer::alu_rr_imm_logic(virtuals, *alu_op, *size, rd.to_reg(), *rn, *imml),
-        Inst::MovWide {
-            op: _,
-            rd,
-            imm,
-            size,
-        } => integer::mov_wide(virtuals, rd.to_reg(), *imm, *size),
-        Inst::MovK { rd, rn, imm, size } => {
-            integer::mov_k(virtuals, rd.to_reg(), *rn, *imm, *size)
-        }
-        _ => unreachable!(),
-    }
-}
-
-/// Whether the operands of a branch are in their sets.
-fn has_control_operands(
-    inst: &Inst,
-    frame: &FrameLayout,
-    info: &EmitInfo,
-    virtuals: VirtualRegisters,
-) -> bool
-    requires { group_of inst.now ≡ Control }
-    ensures { result ≡ has_operands frame.now info.now virtuals inst.now }
-{
-    match inst {
-        Inst::Ret => true,
-        Inst::Jump { dest } => control::jump(*dest),
-        _ => unreachable!(),
-    }
-}
 
 /// Whether the operands of an instruction are in their sets.
 fn has_operands(

@@ -3,4 +3,4 @@
 
 mod operator;
 
-pub use operator::{ALUOp, AtomicRMWOp, MoveWideOp};
+pub use operator::{ALUOp, ALUOp3, AtomicRMWOp, BfmOp, BitOp, MoveWideOp};

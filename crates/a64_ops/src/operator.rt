@@ -51,6 +51,45 @@ pub enum ALUOp {
     UMulH,
 }
 
+/// An integer operator with three operands (Cranelift's `ALUOp3`).
+#[derive(Clone, Copy, Debug, PartialEq, Eq)]
+pub enum ALUOp3 {
+    /// A product that is added.
+    MAdd,
+    /// A product that is subtracted.
+    MSub,
+    /// The 64-bit product of unsigned 32-bit operands, which is added.
+    UMAddL,
+    /// The 64-bit product of signed 32-bit operands, which is added.
+    SMAddL,
+}
+
+/// An operation on the bits of one register (Cranelift's `BitOp`).
+#[derive(Clone, Copy, Debug, PartialEq, Eq)]
+pub enum BitOp {
+    /// The bits in reverse order.
+    RBit,
+    /// The number of leading zeros.
+    Clz,
+    /// The number of bits behind the sign that are as the sign.
+    Cls,
+    /// The bytes of each halfword in reverse order.
+    Rev16,
+    /// The bytes of each word in reverse order.
+    Rev32,
+    /// The bytes of the doubleword in reverse order, at 64 bits alone.
+    Rev64,
+}
+
+/// A move of a bitfield that sets the whole register (Cranelift's `BfmOp`).
+#[derive(Clone, Copy, Debug, PartialEq, Eq)]
+pub enum BfmOp {
+    /// With zeros elsewhere.
+    UBfm,
+    /// With the field's sign above it, and zeros below.
+    SBfm,
+}
+
 /// A wide move that sets the whole register (Cranelift's `MoveWideOp`).
 #[derive(Clone, Copy, Debug, PartialEq, Eq)]
 pub enum MoveWideOp {

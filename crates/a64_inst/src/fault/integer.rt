@@ -1,115 +1,161 @@
 //! Whether the operands of integer instructions are in their sets.
 
+mod immediate;
+mod register;
+
 ghost use Rattle.std.specs.Prelude.{◌≡◌};
-ghost use Rattle.a64_inst.specs.IntegerOperands as sets;
+ghost use Rattle.a64_inst.specs.declared.group.Group.TheVariants.{Integer};
+ghost use Rattle.a64_inst.specs.Groups.{group_of};
+ghost use Rattle.a64_inst.specs.Faults.{has_operands};
 
-use crate::operand::{
-    is_imm12, is_logic_of, is_register_or_stack, is_register_or_zero, is_same_register, is_wide_in,
-};
+use crate::emission::EmitInfo;
+use crate::frame::FrameLayout;
+use crate::inst::Inst;
+use crate::operand::is_register_or_zero;
 use crate::virtuals::VirtualRegisters;
-use a64_base::{OperandSize, Reg};
-use a64_imms::{Imm12, ImmLogic, MoveWideConst};
-use a64_ops::ALUOp;
 
-/// Whether an operator gives the high half of a product.
-fn is_high_product(op: ALUOp) -> bool
-    ensures { result ≡ sets.is_high_product op }
-{
-    matches!(op, ALUOp::SMulH | ALUOp::UMulH)
-}
-
-/// Of an `AluRRR`.
-#[tactic(auto, unfolding(crate::specs::IntegerOperands::are_alu_rrr_operands))]
-pub fn alu_rrr(
+/// Whether the operands of an integer instruction are in their sets.
+pub fn has_integer_operands(
+    inst: &Inst,
+    frame: &FrameLayout,
+    info: &EmitInfo,
     virtuals: VirtualRegisters,
-    op: ALUOp,
-    size: OperandSize,
-    rd: Reg,
-    rn: Reg,
-    rm: Reg,
 ) -> bool
-    ensures { result ≡ sets.are_alu_rrr_operands virtuals op size rd rn rm }
+    requires { group_of inst.now ≡ Integer }
+    ensures { result ≡ has_operands frame.now info.now virtuals inst.now }
 {
-    let there = !is_high_product(op) || size.is64();
-    is_register_or_zero(virtuals, rd)
-        && is_register_or_zero(virtuals, rn)
-        && is_register_or_zero(virtuals, rm)
-        && there
-}
-
-/// Whether the operator adds or subtracts, and may put its result into the register: into the
-/// stack pointer, or where it sets the flags, into the zero register.
-fn is_add_sub_result(virtuals: VirtualRegisters, op: ALUOp, rd: Reg) -> bool
-    ensures { result ≡ sets.is_add_sub_result virtuals op rd }
-{
-    match op {
-        ALUOp::Add | ALUOp::Sub => is_register_or_stack(virtuals, rd),
-        ALUOp::AddS | ALUOp::SubS => is_register_or_zero(virtuals, rd),
-        _ => false,
+    match inst {
+        Inst::Nop0 | Inst::Nop4 => true,
+        Inst::AluRRR {
+            alu_op,
+            size,
+            rd,
+            rn,
+            rm,
+        } => register::alu_rrr(virtuals, *alu_op, *size, rd.to_reg(), *rn, *rm),
+        Inst::AluRRRR {
+            alu_op,
+            size,
+            rd,
+            rn,
+            rm,
+            ra,
+        } => register::alu_rrrr(virtuals, *alu_op, *size, rd.to_reg(), *rn, *rm, *ra),
+        Inst::AluRRImm12 {
+            alu_op,
+            size: _,
+            rd,
+            rn,
+            imm12,
+        } => immediate::alu_rr_imm12(virtuals, *alu_op, rd.to_reg(), *rn, *imm12),
+        Inst::AluRRImmLogic {
+            alu_op,
+            size,
+            rd,
+            rn,
+            imml,
+        } => immediate::alu_rr_imm_logic(virtuals, *alu_op, *size, rd.to_reg(), *rn, *imml),
+        Inst::AluRRImmShift {
+            alu_op,
+            size,
+            rd,
+            rn,
+            immshift,
+        } => immediate::alu_rr_imm_shift(virtuals, *alu_op, *size, rd.to_reg(), *rn, *immshift),
+        Inst::AluRRRShift {
+            alu_op,
+            size,
+            rd,
+            rn,
+            rm,
+            shiftop,
+        } => register::alu_rrr_shift(virtuals, *alu_op, *size, rd.to_reg(), *rn, *rm, *shiftop),
+        Inst::AluRRRExtend {
+            alu_op,
+            size: _,
+            rd,
+            rn,
+            rm,
+            extendop: _,
+        } => register::alu_rrr_extend(virtuals, *alu_op, rd.to_reg(), *rn, *rm),
+        Inst::BitRR { op, size, rd, rn } => register::bit_rr(
+            virtuals,
+            *op,
+            *size,
+            rd.to_reg(),
+            *rn,
+        ),
+        Inst::Mov { size, rd, rm } => register::mov(virtuals, *size, rd.to_reg(), *rm),
+        Inst::MovFromPReg { rd, rm } => register::mov_from_preg(virtuals, rd.to_reg(), *rm),
+        Inst::MovToPReg { rd, rm } => register::mov_to_preg(virtuals, *rd, *rm),
+        Inst::MovWide {
+            op: _,
+            rd,
+            imm,
+            size,
+        } => immediate::mov_wide(virtuals, rd.to_reg(), *imm, *size),
+        Inst::MovK { rd, rn, imm, size } => immediate::mov_k(
+            virtuals,
+            rd.to_reg(),
+            *rn,
+            *imm,
+            *size,
+        ),
+        Inst::CSel {
+            rd,
+            rn,
+            rm,
+            cond: _,
+        } => register::select(virtuals, rd.to_reg(), *rn, *rm),
+        Inst::CSNeg {
+            rd,
+            rn,
+            rm,
+            cond: _,
+        } => register::select(virtuals, rd.to_reg(), *rn, *rm),
+        Inst::CSet { rd, cond: _ } => is_register_or_zero(virtuals, rd.to_reg()),
+        Inst::CSetm { rd, cond: _ } => is_register_or_zero(virtuals, rd.to_reg()),
+        Inst::CCmp {
+            size: _,
+            rn,
+            rm,
+            nzcv: _,
+            cond: _,
+        } => register::ccmp(virtuals, *rn, *rm),
+        Inst::CCmpImm {
+            size: _,
+            rn,
+            imm: _,
+            nzcv: _,
+            cond: _,
+        } => is_register_or_zero(virtuals, *rn),
+        Inst::Extend {
+            rd,
+            rn,
+            signed,
+            from_bits,
+            to_bits,
+        } => immediate::extend(virtuals, rd.to_reg(), *rn, *signed, *from_bits, *to_bits),
+        Inst::BitfieldMove {
+            size,
+            bfm_op: _,
+            rd,
+            rn,
+            immr,
+            imms,
+        } => immediate::bitfield_move(virtuals, *size, rd.to_reg(), *rn, *immr, *imms),
+        Inst::BitfieldMoveMod {
+            size,
+            rd,
+            ri,
+            rn,
+            immr,
+            imms,
+        } => immediate::bitfield_move_mod(virtuals, *size, rd.to_reg(), *ri, *rn, *immr, *imms),
+        Inst::MovToNZCV { rn } => is_register_or_zero(virtuals, *rn),
+        Inst::MovFromNZCV { rd } => is_register_or_zero(virtuals, rd.to_reg()),
+        Inst::Adr { rd, off } => immediate::adr(virtuals, rd.to_reg(), *off),
+        Inst::Adrp { rd, off } => immediate::adr(virtuals, rd.to_reg(), *off),
+        _ => unreachable!(),
     }
-}
-
-/// Of an `AluRRImm12`.
-#[tactic(auto, unfolding(crate::specs::IntegerOperands::are_alu_rr_imm12_operands))]
-pub fn alu_rr_imm12(virtuals: VirtualRegisters, op: ALUOp, rd: Reg, rn: Reg, imm12: Imm12) -> bool
-    ensures { result ≡ sets.are_alu_rr_imm12_operands virtuals op rd rn imm12 }
-{
-    is_add_sub_result(virtuals, op, rd) && is_register_or_stack(virtuals, rn) && is_imm12(imm12)
-}
-
-/// Whether the operator is a logical one, and may put its result into the register: into the
-/// stack pointer, or where it sets the flags, into the zero register.
-fn is_logic_result(virtuals: VirtualRegisters, op: ALUOp, rd: Reg) -> bool
-    ensures { result ≡ sets.is_logic_result virtuals op rd }
-{
-    match op {
-        ALUOp::And | ALUOp::Orr | ALUOp::Eor | ALUOp::AndNot | ALUOp::OrrNot | ALUOp::EorNot => {
-            is_register_or_stack(virtuals, rd)
-        }
-        ALUOp::AndS => is_register_or_zero(virtuals, rd),
-        _ => false,
-    }
-}
-
-/// Of an `AluRRImmLogic`.
-#[tactic(auto, unfolding(crate::specs::IntegerOperands::are_alu_rr_imm_logic_operands))]
-pub fn alu_rr_imm_logic(
-    virtuals: VirtualRegisters,
-    op: ALUOp,
-    size: OperandSize,
-    rd: Reg,
-    rn: Reg,
-    imml: ImmLogic,
-) -> bool
-    ensures { result ≡ sets.are_alu_rr_imm_logic_operands virtuals op size rd rn imml }
-{
-    is_logic_result(virtuals, op, rd)
-        && is_register_or_zero(virtuals, rn)
-        && is_logic_of(size, imml)
-}
-
-/// Of a `MovWide`.
-#[tactic(auto, unfolding(crate::specs::IntegerOperands::are_mov_wide_operands))]
-pub fn mov_wide(virtuals: VirtualRegisters, rd: Reg, imm: MoveWideConst, size: OperandSize) -> bool
-    ensures { result ≡ sets.are_mov_wide_operands virtuals rd imm size }
-{
-    is_register_or_zero(virtuals, rd) && is_wide_in(size, imm)
-}
-
-/// Of a `MovK`.
-#[tactic(auto, unfolding(crate::specs::IntegerOperands::are_mov_k_operands))]
-pub fn mov_k(
-    virtuals: VirtualRegisters,
-    rd: Reg,
-    rn: Reg,
-    imm: MoveWideConst,
-    size: OperandSize,
-) -> bool
-    ensures { result ≡ sets.are_mov_k_operands virtuals rd rn imm size }
-{
-    let same = is_same_register(&rd, &rn);
-    is_register_or_zero(virtuals, rd)
-        && is_register_or_zero(virtuals, rn)
-        && same
-        && is_wide_in(size, imm)
 }
