@@ -1,3 +1,4 @@
 pub mod Bytes
+pub mod Found
 pub mod LogicRuns
 pub mod Table

@@ -71,10 +71,10 @@ run_found imm run is triple =
 
 -- ---- the test of an immediate
 
-run_passes : (run : Run) → IsRun run → is_run run ≡ true
+pub run_passes : (run : Run) → IsRun run → is_run run ≡ true
 run_passes run is = rw (lt-ltb 0 run.ones is.some, lt-ltb run.ones (width run.period) is.part, lt-ltb run.turn (width run.period) is.turned) refl
 
-passed_run : (run : Run) → is_run run ≡ true → IsRun run
+pub passed_run : (run : Run) → is_run run ≡ true → IsRun run
 passed_run run passed =
     let (some, rest) = and_parts (nat_lt 0 run.ones) _ passed in
     let (part, turned) = and_parts (nat_lt run.ones (width run.period)) _ rest in

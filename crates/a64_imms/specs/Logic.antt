@@ -1,5 +1,5 @@
 -- Immediates of logical instructions: the numbers of rotated runs.
-use Rattle.std.specs.Prelude.{ℕ, ◌≡◌, ◌+◌, ◌-◌, ◌*◌, ◌%◌, ◌^◌, Bool, true, false, ◌&&◌, nat_eq, nat_lt, if◌then◌else◌, Option, None, Some}
+use Rattle.std.specs.Prelude.{ℕ, ◌≡◌, ◌+◌, ◌-◌, ◌*◌, ◌%◌, ◌^◌, Bool, true, false, ◌&&◌, nat_eq, nat_lt, if◌then◌else◌, Option, None, Some, option_map, option_and_then}
 use Rattle.a64_base.specs.declared.ir_type.IrType.{IrType}
 use Rattle.a64_base.specs.declared.ir_type.IrType.TheVariants.{I32, I64}
 use Rattle.a64_base.specs.declared.size.OperandSize.{OperandSize}
@@ -8,7 +8,7 @@ use Rattle.a64_imms.specs.declared.imm_logic.ImmLogic.{ImmLogic}
 use Rattle.a64_imms.specs.declared.run.Period.{Period}
 use Rattle.a64_imms.specs.declared.run.Period.TheVariants.{Two, Four, Eight, Sixteen, ThirtyTwo, SixtyFour}
 use Rattle.a64_imms.specs.declared.run.Run.{Run}
-use Rattle.a64_imms.specs.Runs.{prefix, copies, number, IsRun, is_run, opposite}
+use Rattle.a64_imms.specs.Runs.{prefix, copies, number, IsRun, is_run, opposite, run_of}
 
 -- the size of an integer type that logical instructions have
 abbrev pub size_for : IrType → Option OperandSize
@@ -61,6 +61,23 @@ pub record IsLogicOf (size : OperandSize) (value : ℕ) (imm : ImmLogic) : Type 
   pub triple : HasTriple run imm
   pub value_is : logic_value imm ≡ value
   pub size_is : imm.size ≡ size
+
+-- the immediate of a value at a size, with the triple of a run
+abbrev pub logic_with : OperandSize → ℕ → Run → ImmLogic
+logic_with size value run = record {
+  value = value;
+  n = is_widest run.period;
+  r = run.turn;
+  s = prefix run.period + (run.ones - 1);
+  size = size;
+}
+
+-- the immediate of a value at a size, and at a type: that of the run whose number is seen
+abbrev pub logic_of : OperandSize → ℕ → Option ImmLogic
+logic_of size value = option_map (logic_with size value) (run_of (seen size value))
+
+abbrev pub logic_at : IrType → ℕ → Option ImmLogic
+logic_at ty value = option_and_then (λ size. logic_of size value) (size_for ty)
 
 -- the fields are those of the immediate of its value at its size
 abbrev pub IsImmLogic : ImmLogic → Type 0

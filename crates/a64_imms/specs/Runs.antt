@@ -1,5 +1,6 @@
 -- Rotated runs of ones: the numbers that logical instructions can hold.
-use Rattle.std.specs.Prelude.{ℕ, zero, suc, ◌<◌, ◌+◌, ◌-◌, ◌*◌, ◌/◌, ◌%◌, ◌^◌, Bool, ◌&&◌, nat_lt}
+use Rattle.std.specs.Prelude.{ℕ, zero, suc, ◌<◌, ◌+◌, ◌-◌, ◌*◌, ◌/◌, ◌%◌, ◌^◌, Bool, ◌&&◌, nat_lt, nat_eq, Option, List, [], ◌∷◌, find, map, flat_map}
+use Rattle.std.specs.List.{range_with_len}
 use Rattle.a64_imms.specs.declared.run.Period.{Period}
 use Rattle.a64_imms.specs.declared.run.Period.TheVariants.{Two, Four, Eight, Sixteen, ThirtyTwo, SixtyFour}
 use Rattle.a64_imms.specs.declared.run.Run.{Run}
@@ -54,6 +55,20 @@ opposite run =
 -- the number of a run: its ones, rotated right, and repeated to 64 bits
 unfoldable pub number : Run → ℕ
 number run = let bits = width run.period in repeated bits (rotated bits run.turn (2 ^ run.ones - 1))
+
+-- words of every period, with up to 63 ones and turned by less than 64: among them are all runs
+abbrev pub turns_of : Period → ℕ → List Run
+turns_of period ones = map (λ turn. record { period = period; ones = ones; turn = turn }) (range_with_len 0 64)
+
+abbrev pub words_of : Period → List Run
+words_of period = flat_map (turns_of period) (range_with_len 0 64)
+
+abbrev pub periods : List Period
+periods = Two ∷ Four ∷ Eight ∷ Sixteen ∷ ThirtyTwo ∷ SixtyFour ∷ []
+
+-- the run with this number, by trying all of them. No program does that; it only says which run it is.
+unfoldable pub run_of : ℕ → Option Run
+run_of value = find (λ run. is_run run && nat_eq (number run) value) (flat_map words_of periods)
 
 -- a one at each multiple of the period
 abbrev pub ones_apart : Period → ℕ

@@ -6,7 +6,7 @@ ghost use Rattle.a64_base.specs.declared.size.OperandSize.TheVariants.{Size32};
 ghost use Rattle.a64_imms.specs.declared.run.Run.{Run};
 ghost use Rattle.a64_imms.specs.Texts.{number_text};
 ghost use Rattle.a64_imms.specs.Runs.{number, IsRun};
-ghost use Rattle.a64_imms.specs.Logic.{size_for, seen, counted, logic_value, logic_field, IsLogicValue, HasTriple, IsLogicOf, IsImmLogic, is_imm_logic, inverted};
+ghost use Rattle.a64_imms.specs.Logic.{size_for, seen, counted, logic_value, logic_field, IsLogicValue, HasTriple, IsLogicOf, IsImmLogic, is_imm_logic, inverted, logic_with, logic_at};
 ghost use Rattle.a64_imms.specs.LogicLaws.{logic_within, one_logic};
 
 use crate::class::ImmClass;
@@ -30,6 +30,17 @@ pub struct ImmLogic {
     pub size: OperandSize,
 }
 
+/// The size of logical instructions on values of a type: `I32` and `I64` have one.
+fn logic_size(ty: IrType) -> Option<OperandSize>
+    ensures { result ≡ size_for ty }
+{
+    match ty {
+        IrType::I32 => Some(OperandSize::Size32),
+        IrType::I64 => Some(OperandSize::Size64),
+        _ => None,
+    }
+}
+
 /// The number that an instruction of this size makes of a value: of 32 bits it takes the low half
 /// twice.
 fn seen_at(size: OperandSize, value: u64) -> u64
@@ -49,7 +60,8 @@ impl ImmLogic {
     fn of_run(value: u64, size: OperandSize, run: Run) -> ImmLogic
         requires run { IsRun run }
         requires number { number run ≡ seen size value }
-        ensures { IsLogicOf size value result }
+        ensures lawful { IsLogicOf size value result }
+        ensures fields { result ≡ logic_with size value run }
     {
         ImmLogic {
             value,
@@ -71,12 +83,9 @@ impl ImmLogic {
         // Only one run has the number.
         ensures one { IfSome result (λ imm. (run : Run) → IsRun run
             → number run ≡ seen imm.size value → HasTriple run imm) }
+        ensures immediate { result ≡ logic_at ty value }
     {
-        let size = match ty {
-            IrType::I32 => OperandSize::Size32,
-            IrType::I64 => OperandSize::Size64,
-            _ => return None,
-        };
+        let size = logic_size(ty)?;
         let number = seen_at(size, value);
         match Run::find(number) {
             Some(run) if run.number() == number => Some(ImmLogic::of_run(value, size, run)),

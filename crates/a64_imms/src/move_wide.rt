@@ -1,7 +1,7 @@
 //! The immediate of wide moves.
 
 ghost use Rattle.std.specs.Prelude.{◌≡◌, ℕ, ◌<◌, ◌≤◌, ◌+◌, ◌/◌, ◌*◌, ◌^◌, MatchOption};
-ghost use Rattle.a64_imms.specs.MoveWides.{wide_value, wide_field, wide_text, IsWideValue, IsWide, HasWide};
+ghost use Rattle.a64_imms.specs.MoveWides.{wide_value, wide_field, wide_text, IsWideValue, IsWide, HasWide, wide_of};
 ghost use Rattle.a64_imms.specs.Laws.{wide_within, one_wide};
 
 use crate::class::ImmClass;
@@ -40,7 +40,8 @@ impl MoveWideConst {
     ///
     /// The halfwords are tried from the lowest on, so that of 0 is halfword 0.
     pub fn maybe_from_u64(value: u64) -> Option<MoveWideConst>
-        ensures { MatchOption result (¬ IsWideValue value) (HasWide value) }
+        ensures set { MatchOption result (¬ IsWideValue value) (HasWide value) }
+        ensures immediate { result ≡ wide_of value }
     {
         for shift in 0..4 {
             if let Some(imm) = halfword(value, shift) {
