@@ -1,0 +1,4 @@
+pub mod Bound
+pub mod Counts
+pub mod Moves
+pub mod Shortest

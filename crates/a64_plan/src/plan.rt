@@ -1,0 +1,134 @@
+//! The plan of a constant.
+
+ghost use Rattle.std.specs.Prelude.{◌≡◌, ◌<◌, ◌≤◌, length, [], ◌∷◌};
+ghost use Rattle.a64_imms.specs.MoveWides.{halfword};
+ghost use Rattle.a64_plan.specs.Shapes.{halfword_count, IsShape, Leave, NoneFewer};
+ghost use Rattle.a64_plan.specs.Plans.{count, given, places, takes_movn, move_at, moves_at, moves_of, moves_size, plan_of};
+
+use crate::step::ConstStep;
+use a64_base::{IrType, OperandSize};
+use a64_imms::{ImmLogic, MoveWideConst};
+use arrayvec::ArrayVec;
+
+/// The number of halfwords of a size.
+fn halfwords_of(size: OperandSize) -> u8
+    ensures { result ≡ halfword_count size }
+{
+    size.bits() / 16
+}
+
+/// A halfword of a value, counted from the lowest.
+fn halfword_of(value: u64, shift: u8) -> u16
+    requires { shift < 4 }
+    ensures { result ≡ halfword shift value }
+{
+    ((value >> (16 * shift)) % (1 << 16)) as u16
+}
+
+/// How many halfwords of a size are these bits in a value.
+fn count_of(bits: u16, value: u64, size: OperandSize) -> u8
+    ensures { result ≡ count bits value (halfword_count size) }
+{
+    let mut count = 0;
+    for shift in 0..halfwords_of(size) {
+        if halfword_of(value, shift) == bits {
+            count += 1;
+        }
+    }
+    count
+}
+
+/// The bits of the halfwords that a first move gives without naming them.
+fn given_by(negated: bool) -> u16
+    ensures { result ≡ given negated }
+{
+    if negated { u16::MAX } else { 0 }
+}
+
+/// The move that gives a halfword of the value, as the first move or as a further one.
+fn move_giving(is_first: bool, size: OperandSize, negated: bool, value: u64, shift: u8) -> ConstStep
+    requires { shift < 4 }
+    ensures { result ≡ move_at is_first size negated value shift }
+{
+    let bits = halfword_of(value, shift);
+    match (is_first, negated) {
+        (false, _) => ConstStep::MovK(MoveWideConst { bits, shift }, size),
+        (true, false) => ConstStep::MovZ(MoveWideConst { bits, shift }, size),
+        (true, true) => ConstStep::MovN(MoveWideConst { bits: !bits, shift }, size),
+    }
+}
+
+/// The moves that give a value at a size, the first one a `movn` or else a `movz`.
+fn moves_beginning(negated: bool, size: OperandSize, value: u64) -> ArrayVec<ConstStep, 4>
+    ensures { result.items ≡ moves_at size negated value (places negated value (halfword_count size)) }
+{
+    let given = given_by(negated);
+    let mut steps = ArrayVec::new();
+    for shift in 0..halfwords_of(size) {
+        if halfword_of(value, shift) == given {
+            continue;
+        }
+        let is_first = steps.is_empty();
+        steps.push(move_giving(is_first, size, negated, value, shift));
+    }
+    steps
+}
+
+/// Whether the moves of a value at a size begin with a `movn`.
+fn begins_negated(size: OperandSize, value: u64) -> bool
+    ensures { result ≡ takes_movn size value }
+{
+    count_of(u16::MAX, value, size) > count_of(0, value, size)
+}
+
+/// The moves that give a value.
+#[tactic(auto, unfolding(crate::specs::Plans::moves_of))]
+fn moves(value: u64) -> ArrayVec<ConstStep, 4>
+    ensures { result.items ≡ moves_of (moves_size value) value }
+{
+    let size = if value < 1 << 32 {
+        OperandSize::Size32
+    } else {
+        OperandSize::Size64
+    };
+    moves_beginning(begins_negated(size, value), size, value)
+}
+
+/// A plan of one step.
+fn alone(step: ConstStep) -> ArrayVec<ConstStep, 4>
+    ensures { result.items ≡ step ∷ [] }
+{
+    let mut steps = ArrayVec::new();
+    steps.push(step);
+    steps
+}
+
+/// The plan of a value, as its definition has it.
+#[tactic(auto, unfolding(crate::specs::Plans::plan_of))]
+fn plan(value: u64) -> ArrayVec<ConstStep, 4>
+    ensures { result.items ≡ plan_of value }
+{
+    if let Some(imm) = MoveWideConst::maybe_from_u64(value) {
+        alone(ConstStep::MovZ(imm, OperandSize::Size64))
+    } else if let Some(imm) = MoveWideConst::maybe_from_u64(!value) {
+        alone(ConstStep::MovN(imm, OperandSize::Size64))
+    } else if let Some(imm) = ImmLogic::maybe_from_u64(value, IrType::I64) {
+        alone(ConstStep::Orr(imm))
+    } else {
+        moves(value)
+    }
+}
+
+/// The shortest steps that leave a value in a register. They take no memory.
+///
+/// One `movz`, `movn` or `orr` of 64 bits where it can, and else a `movz` or `movn` with a `movk`
+/// for each further halfword, at 32 bits where the upper half of the value is zero.
+pub fn const_plan(value: u64) -> ArrayVec<ConstStep, 4>
+    ensures shape { IsShape result.items }
+    ensures value { Leave result.items value }
+    ensures least { NoneFewer (length result.items) value }
+    ensures few { length result.items ≤ 4 }
+    ensures plan { result.items ≡ plan_of value }
+{
+    plan(value)
+}
