@@ -1,3 +1,4 @@
+pub mod Constants
 pub mod State
 pub mod Groups
 pub mod Operands

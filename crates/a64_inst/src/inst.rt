@@ -306,6 +306,18 @@ pub enum Inst {
     },
 }
 
+/// `nop`. Vectors that keep their first elements in the value ask for it.
+impl Default for Inst {
+    ghost use Rattle.std.specs.Prelude.{◌≡◌};
+    ghost use Rattle.a64_inst.specs.declared.inst.Inst.TheVariants.{Nop4};
+
+    ghost is_default = { λ inst. inst ≡ Nop4 };
+
+    fn default() -> Inst {
+        Inst::Nop4
+    }
+}
+
 impl Inst {
     /// The group of the instruction.
     pub fn group(&self) -> Group

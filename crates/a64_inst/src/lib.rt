@@ -1,6 +1,7 @@
 //! AArch64 instructions, and what emission is told beside them.
 #![tactic(auto)]
 
+mod constant;
 mod copied;
 mod emission;
 mod fault;
@@ -14,6 +15,7 @@ mod virtuals;
 
 pub use crate::item::Item;
 pub use a64_ops::{ALUOp, AtomicRMWOp, MoveWideOp};
+pub use a64_plan::{ConstStep, const_plan};
 pub use emission::{EmitFlags, EmitInfo, EmitState};
 pub use fault::OwnFault;
 pub use frame::FrameLayout;
