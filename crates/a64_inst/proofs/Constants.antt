@@ -23,10 +23,11 @@ use Rattle.a64_plan.specs.Shapes.{IsWithin, IsMovK, IsShape}
 use Rattle.a64_inst.specs.declared.emission.EmitFlags.{EmitFlags}
 use Rattle.a64_inst.specs.declared.frame.FrameLayout.{FrameLayout}
 use Rattle.a64_inst.specs.declared.virtuals.VirtualRegisters.{VirtualRegisters}
-use Rattle.a64_inst.specs.Operands.{is_int, is_register_or_zero, is_register_or_stack, is_same_register, is_same_size, is_wide_in, is_logic_of}
+use Rattle.a64_inst.specs.declared.virtuals.VirtualRegisters.TheVariants.{Refused}
+use Rattle.a64_inst.specs.Operands.{is_int, is_register, is_register_or_zero, is_register_or_stack, is_same_register, is_same_size, is_wide_in, is_logic_of}
 use Rattle.a64_inst.specs.IntegerOperands.{are_mov_wide_operands, are_mov_k_operands, are_alu_rr_imm_logic_operands}
 use Rattle.a64_inst.specs.Faults.{has_operands, inst_fault}
-use Rattle.a64_inst.specs.Constants.{is_numbered_register, step_into, HaveNoFault}
+use Rattle.a64_inst.specs.Constants.{step_into, HaveNoFault}
 
 -- ---- operands
 
@@ -49,7 +50,7 @@ good_int virtuals number e =
       itself = eq-eqb number number refl;
     }
 
-good : (virtuals : VirtualRegisters) (rd : Reg) → is_numbered_register rd ≡ true → IsGood virtuals rd
+good : (virtuals : VirtualRegisters) (rd : Reg) → is_register Refused rd ≡ true → IsGood virtuals rd
 good virtuals (Real p) e =
     let (int, low) = and_parts (is_int p.class) (nat_lt p.number 31) e in
     subst (λ (class : RegClass). IsGood virtuals (Real (record { number = p.number; class = class }))) (sym (int_class p.class int))
@@ -66,7 +67,7 @@ same_size Size64 = refl
 
 -- ---- each step
 
-module _ (frame : FrameLayout) (flags : EmitFlags) (constants : FinMap nat_cmp (List ℕ)) (virtuals : VirtualRegisters) (rd : Reg) (numbered : is_numbered_register rd ≡ true) where
+module _ (frame : FrameLayout) (flags : EmitFlags) (constants : FinMap nat_cmp (List ℕ)) (virtuals : VirtualRegisters) (rd : Reg) (numbered : is_register Refused rd ≡ true) where
   abbrev IsFaultless : ConstStep → Type 0
   IsFaultless step = inst_fault frame flags constants virtuals (step_into rd step) ≡ None
 
@@ -126,5 +127,5 @@ module _ (frame : FrameLayout) (flags : EmitFlags) (constants : FinMap nat_cmp (
   shape_good (steps.Orr imm ∷ []) (wide, is, e) = one_more (steps.Orr imm) [] (orr_good imm is) (movks_good Size64 [] tt)
   shape_good (steps.Orr imm ∷ step ∷ rest) (wide, is, e) = absurd cc
 
-pub steps_good : (rd : Reg) (all : List ConstStep) → is_numbered_register rd ≡ true → IsShape all → HaveNoFault (map (step_into rd) all)
+pub steps_good : (rd : Reg) (all : List ConstStep) → is_register Refused rd ≡ true → IsShape all → HaveNoFault (map (step_into rd) all)
 steps_good rd all numbered is = λ frame flags constants virtuals. shape_good frame flags constants virtuals rd numbered all is

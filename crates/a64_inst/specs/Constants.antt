@@ -1,9 +1,8 @@
 -- The instructions of a constant's plan.
-use Rattle.std.specs.Prelude.{ℕ, ◌≡◌, Bool, false, ◌&&◌, nat_lt, None, List, All}
+use Rattle.std.specs.Prelude.{ℕ, ◌≡◌, None, List, All}
 use Rattle.std.specs.Ordering.{nat_cmp}
 use Rattle.std.specs.FinMap.{FinMap}
 use Rattle.a64_base.specs.declared.reg.Reg.{Reg}
-use Rattle.a64_base.specs.declared.reg.Reg.TheVariants.{Real, Virtual}
 use Rattle.a64_base.specs.Registers.{integer_register}
 use Rattle.a64_ops.specs.declared.operator.ALUOp.TheVariants as alu
 use Rattle.a64_ops.specs.declared.operator.MoveWideOp.TheVariants as wide
@@ -14,13 +13,7 @@ use Rattle.a64_inst.specs.declared.frame.FrameLayout.{FrameLayout}
 use Rattle.a64_inst.specs.declared.virtuals.VirtualRegisters.{VirtualRegisters}
 use Rattle.a64_inst.specs.declared.inst.Inst.{Inst}
 use Rattle.a64_inst.specs.declared.inst.Inst.TheVariants.{MovWide, MovK, AluRRImmLogic}
-use Rattle.a64_inst.specs.Operands.{is_int}
 use Rattle.a64_inst.specs.Faults.{inst_fault}
-
--- a register from x0 to x30
-abbrev pub is_numbered_register : Reg → Bool
-is_numbered_register (Real p) = is_int p.class && nat_lt p.number 31
-is_numbered_register (Virtual index class) = false
 
 -- a step as an instruction into a register. A movk keeps the rest of the register itself, and an orr
 -- takes the zero register.

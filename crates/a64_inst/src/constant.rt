@@ -3,7 +3,9 @@
 ghost use Rattle.std.specs.Prelude.{◌≡◌, ◌≤◌, true, map, length, IsOk, IfOk};
 ghost use Rattle.a64_plan.specs.Shapes.{IsShape, Leave, NoneFewer};
 ghost use Rattle.a64_plan.specs.Plans.{plan_of};
-ghost use Rattle.a64_inst.specs.Constants.{is_numbered_register, step_into, HaveNoFault};
+ghost use Rattle.a64_inst.specs.declared.virtuals.VirtualRegisters.TheVariants.{Refused};
+ghost use Rattle.a64_inst.specs.Operands.{is_register};
+ghost use Rattle.a64_inst.specs.Constants.{step_into, HaveNoFault};
 
 use crate::inst::Inst;
 use a64_base::{Reg, Writable, zero_reg};
@@ -57,7 +59,7 @@ impl Inst {
         rd: Writable<Reg>,
         value: u64,
     ) -> Result<SmallVec<Inst, 4>, AllocError>
-        requires { is_numbered_register rd ≡ true }
+        requires { is_register Refused rd ≡ true }
         ensures succeeds { IsOk result }
         // They are the plan's steps, which have a shape of the move machine and leave the value.
         ensures steps { IfOk result (λ insts. insts.items ≡ map (step_into rd) (plan_of value)) }
