@@ -1,21 +1,33 @@
 -- What is known of the operands of instructions without a fault.
-use Rattle.std.proofs.Common.{◌≡◌, true, refl}
-use Rattle.std.specs.Prelude.{◌||◌, nat_lt, nat_eq}
-use Rattle.std.proofs.lemmas.Bool.{and_parts}
+use Rattle.std.proofs.Common.{ℕ, ℤ, pos, negsuc, ◌≡◌, ◌+◌, ◌-◌, ◌<◌, ◌^◌, Bool, true, false, inl, inr, refl, sym, lit<, arith}
+use Rattle.std.specs.Prelude.{◌&&◌, ◌||◌, ◌==◌, not, nat_lt, nat_eq, if◌then◌else◌}
+use Rattle.std.proofs.lemmas.Bool.{and_parts, or_cases, cases_cond, both_ways, ltb-true}
+use Rattle.std.proofs.lemmas.Bool.Decides.{nat_tests}
+use Rattle.std.proofs.lemmas.Int.{ints}
 use Rattle.a64_base.specs.declared.reg.Reg.{Reg}
 use Rattle.a64_base.specs.declared.reg.Reg.TheVariants.{Real, Virtual}
 use Rattle.a64_base.specs.declared.reg.RegClass.{RegClass}
 use Rattle.a64_base.specs.declared.reg.RegClass.TheVariants.{Int, Float}
 use Rattle.a64_base.specs.declared.size.OperandSize.{OperandSize}
+use Rattle.a64_base.specs.declared.size.OperandSize.TheVariants.{Size32, Size64}
+use Rattle.a64_base.specs.OperandSizes.{sf_of, operand_bits}
+use Rattle.a64_base.specs.RegisterNumbers.{RealRegister}
+use Rattle.a64_base.specs.Registers.{integer_register}
+use Rattle.a64_base.specs.Target.{IsWithinField}
 use Rattle.a64_imms.specs.declared.imm_logic.ImmLogic.{ImmLogic}
 use Rattle.a64_imms.specs.Logic.{is_imm_logic, IsImmLogic}
 use Rattle.a64_imms.proofs.LogicRuns.{passed}
 use Rattle.a64_ops.specs.declared.operator.ALUOp.{ALUOp}
 use Rattle.a64_ops.specs.declared.operator.ALUOp.TheVariants as alu
 use Rattle.a64_inst.specs.declared.virtuals.VirtualRegisters.TheVariants.{Refused}
-use Rattle.a64_inst.specs.Operands.{is_int, is_register_or_zero, is_register_or_stack, is_same_size, is_logic_of}
-use Rattle.a64_inst.specs.IntegerOperands.{is_add_sub_result, is_logic_result}
-use Rattle.a64_enc_int.specs.Registers.{IsGeneral}
+use Rattle.a64_inst.specs.Operands.{is_int, is_register, is_register_or_zero, is_register_or_stack, is_stack_pointer, is_same_size, is_bit_of, is_logic_of, is_near}
+use Rattle.a64_inst.specs.IntegerOperands.{is_add_sub_result, is_logic_result, is_fixed_operand, is_fixed_result, is_extension, is_extend_result, are_alu_rrr_operands, are_alu_rr_imm12_operands, are_move_registers, are_mov_operands, are_mov_from_preg_operands, are_mov_to_preg_operands, are_extend_operands}
+use Rattle.a64_rows.specs.Forms.{IsFormOf}
+use Rattle.a64_rows.specs.Limits.{is_bit_number}
+use Rattle.a64_rows.specs.DataProcessing.{bitfield}
+use Rattle.a64_enc_int.specs.Registers.{IsReal, IsGeneral, register_field}
+
+-- ---- registers of a test are general
 
 int_class : (class : RegClass) → is_int class ≡ true → class ≡ Int
 int_class Int e = refl
@@ -25,6 +37,10 @@ int_class Float e = absurd cc
 pub general : (reg : Reg) → is_register_or_zero Refused reg ≡ true → IsGeneral reg
 general (Real p) e = int_class p.class (and_parts (is_int p.class) (nat_lt p.number 32) e).0
 general (Virtual index class) e = absurd cc
+
+pub real : (reg : Reg) → is_register_or_zero Refused reg ≡ true → IsReal reg
+real (Real p) e = tt
+real (Virtual index class) e = absurd cc
 
 pub stack_general : (reg : Reg) → is_register_or_stack Refused reg ≡ true → IsGeneral reg
 stack_general (Real p) e = int_class p.class (and_parts (is_int p.class) (nat_lt p.number 31 || nat_eq p.number 63) e).0
@@ -47,5 +63,187 @@ logic_general alu.EorNot rd e = stack_general rd e
 logic_general alu.AndS rd e = general rd e
 logic_general _ rd e = absurd cc
 
+-- ---- and their fields have five bits
+
+zero_number : (class : RegClass) (n : ℕ) → (is_int class && nat_lt n 32) ≡ true → register_field (Real (record { number = n; class = class })) < 32
+zero_number Int n e = grind (arith, nat_tests)
+zero_number Float n e = absurd cc
+
+pub zero_below : (reg : Reg) → is_register_or_zero Refused reg ≡ true → register_field reg < 32
+zero_below (Real p) e = zero_number p.class p.number e
+zero_below (Virtual index class) e = absurd cc
+
+stack_number : (class : RegClass) (n : ℕ) → (is_int class && (nat_lt n 31 || nat_eq n 63)) ≡ true → register_field (Real (record { number = n; class = class })) < 32
+stack_number Int n e = grind (arith, nat_tests)
+stack_number Float n e = absurd cc
+
+pub stack_below : (reg : Reg) → is_register_or_stack Refused reg ≡ true → register_field reg < 32
+stack_below (Real p) e = stack_number p.class p.number e
+stack_below (Virtual index class) e = absurd cc
+
+pub add_sub_below : (op : ALUOp) (rd : Reg) → is_add_sub_result Refused op rd ≡ true → register_field rd < 32
+add_sub_below alu.Add rd e = stack_below rd e
+add_sub_below alu.Sub rd e = stack_below rd e
+add_sub_below alu.AddS rd e = zero_below rd e
+add_sub_below alu.SubS rd e = zero_below rd e
+add_sub_below _ rd e = absurd cc
+
+pub logic_below : (op : ALUOp) (rd : Reg) → is_logic_result Refused op rd ≡ true → register_field rd < 32
+logic_below alu.And rd e = stack_below rd e
+logic_below alu.Orr rd e = stack_below rd e
+logic_below alu.Eor rd e = stack_below rd e
+logic_below alu.AndNot rd e = stack_below rd e
+logic_below alu.OrrNot rd e = stack_below rd e
+logic_below alu.EorNot rd e = stack_below rd e
+logic_below alu.AndS rd e = zero_below rd e
+logic_below _ rd e = absurd cc
+
+-- ---- moves
+
+zero_of_register : (class : RegClass) (n : ℕ) → (is_int class && nat_lt n 31) ≡ true → (is_int class && nat_lt n 32) ≡ true
+zero_of_register Int n e = grind (arith, nat_tests)
+zero_of_register Float n e = absurd cc
+
+pub register_zero : (reg : Reg) → is_register Refused reg ≡ true → is_register_or_zero Refused reg ≡ true
+register_zero (Real p) e = zero_of_register p.class p.number e
+register_zero (Virtual index class) e = absurd cc
+
+stack_of_register : (class : RegClass) (n : ℕ) → (is_int class && nat_lt n 31) ≡ true → (is_int class && (nat_lt n 31 || nat_eq n 63)) ≡ true
+stack_of_register Int n e = grind (arith, nat_tests)
+stack_of_register Float n e = absurd cc
+
+pub register_stack : (reg : Reg) → is_register Refused reg ≡ true → is_register_or_stack Refused reg ≡ true
+register_stack (Real p) e = stack_of_register p.class p.number e
+register_stack (Virtual index class) e = absurd cc
+
+not_zero_number : (class : RegClass) (n : ℕ) → (is_int class && nat_eq n 63) ≡ true → (is_int class && nat_lt n 32) ≡ true → ⊥
+not_zero_number Int n e f = grind (arith, nat_tests)
+not_zero_number Float n e f = absurd cc
+
+-- the stack pointer is no register that another operand may be
+not_zero : (reg : Reg) → is_stack_pointer Refused reg ≡ true → is_register_or_zero Refused reg ≡ true → ⊥
+not_zero (Real p) e f = not_zero_number p.class p.number e f
+not_zero (Virtual index class) e f = absurd cc
+
+stack_of_number : (class : RegClass) (n : ℕ) → (is_int class && nat_eq n 63) ≡ true → (is_int class && (nat_lt n 31 || nat_eq n 63)) ≡ true
+stack_of_number Int n e = grind (arith, nat_tests)
+stack_of_number Float n e = absurd cc
+
+stack_stack : (reg : Reg) → is_stack_pointer Refused reg ≡ true → is_register_or_stack Refused reg ≡ true
+stack_stack (Real p) e = stack_of_number p.class p.number e
+stack_stack (Virtual index class) e = absurd cc
+
+stack_number_field : (class : RegClass) (n : ℕ) → (is_int class && nat_eq n 63) ≡ true → register_field (Real (record { number = n; class = class })) ≡ 31
+stack_number_field Int n e = grind (arith, nat_tests)
+stack_number_field Float n e = absurd cc
+
+-- a word names it 31
+pub stack_field : (reg : Reg) → is_stack_pointer Refused reg ≡ true → register_field reg ≡ 31
+stack_field (Real p) e = stack_number_field p.class p.number e
+stack_field (Virtual index class) e = absurd cc
+
+-- a move out of the stack pointer is an addition of 0
+pub moved_from_stack : (size : OperandSize) (rd rm : Reg) → are_mov_operands Refused size rd rm ≡ true → is_stack_pointer Refused rm ≡ true
+    → are_alu_rr_imm12_operands Refused alu.Add rd rm (record { bits = 0; shift12 = false }) ≡ true
+unfolding are_mov_operands are_alu_rr_imm12_operands
+moved_from_stack Size32 rd rm e stack = absurd (not_zero rm stack (and_parts (is_register Refused rd) (is_register_or_zero Refused rm) e).1)
+moved_from_stack Size64 rd rm e stack = elim (or_cases (is_register_or_zero Refused rd && is_register_or_zero Refused rm) (is_register Refused rd && is_stack_pointer Refused rm) e) [
+  | inl registers ↦ absurd (not_zero rm stack (and_parts (is_register_or_zero Refused rd) (is_register_or_zero Refused rm) registers).1)
+  | inr out ↦
+      let result = register_stack rd (and_parts (is_register Refused rd) (is_stack_pointer Refused rm) out).0 in
+      rw (result, stack_stack rm stack) refl
+]
+
+-- any other move is an or with the zero register
+pub moved_from_register : (size : OperandSize) (rd zero rm : Reg) → are_mov_operands Refused size rd rm ≡ true → is_stack_pointer Refused rm ≡ false → zero ≡ integer_register 31
+    → are_alu_rrr_operands Refused alu.Orr size rd zero rm ≡ true
+unfolding are_mov_operands are_alu_rrr_operands
+moved_from_register Size32 rd zero rm e other is =
+    let (result, operand) = and_parts (is_register Refused rd) (is_register_or_zero Refused rm) e in
+    rw (register_zero rd result, is, operand) refl
+moved_from_register Size64 rd zero rm e other is = elim (or_cases (is_register_or_zero Refused rd && is_register_or_zero Refused rm) (is_register Refused rd && is_stack_pointer Refused rm) e) [
+  | inl registers ↦
+      let (result, operand) = and_parts (is_register_or_zero Refused rd) (is_register_or_zero Refused rm) registers in
+      rw (result, is, operand) refl
+  | inr out ↦ absurd (both_ways (is_stack_pointer Refused rm) other (and_parts (is_register Refused rd) (is_stack_pointer Refused rm) out).1)
+]
+
+-- the moves out of fixed registers, and into them, are moves at 64 bits
+pub moved_from : (rd : Reg) (rm : RealRegister) → are_mov_from_preg_operands Refused rd rm ≡ true → are_mov_operands Refused Size64 rd (Real rm) ≡ true
+unfolding are_mov_from_preg_operands are_mov_operands
+moved_from rd rm e = (and_parts (is_fixed_operand rm) (are_move_registers Refused rd (Real rm)) e).1
+
+pub moved_to : (rd : RealRegister) (rm : Reg) → are_mov_to_preg_operands Refused rd rm ≡ true → are_mov_operands Refused Size64 (Real rd) rm ≡ true
+unfolding are_mov_to_preg_operands are_mov_operands
+moved_to rd rm e = (and_parts (is_fixed_result rd) (are_move_registers Refused (Real rd) rm) e).1
+
+-- ---- immediates and offsets
+
 pub logic_lawful : (size : OperandSize) (imm : ImmLogic) → is_logic_of size imm ≡ true → IsImmLogic imm
 logic_lawful size imm e = passed imm (and_parts (is_same_size imm.size size) (is_imm_logic imm) e).1
+
+pub sf_below : (size : OperandSize) → sf_of size < 2
+sf_below Size32 = omega arith
+sf_below Size64 = omega arith
+
+-- a number of bits below a size
+pub bit_below : (size : OperandSize) (bit : ℕ) → is_bit_of size bit ≡ true → bit < operand_bits size
+bit_below size bit e = ltb-true bit (operand_bits size) e
+
+-- it has six bits, and five of them where the size flag asks for that
+pub bit_in : (size : OperandSize) (bit : ℕ) → bit < operand_bits size → bit < 2 ^ 6
+bit_in Size32 bit h = omega (arith, h)
+bit_in Size64 bit h = omega (arith, h)
+
+pub bit_number : (size : OperandSize) (bit : ℕ) → bit < operand_bits size → is_bit_number (sf_of size) bit ≡ true
+bit_number Size32 bit h = grind (arith, nat_tests)
+bit_number Size64 bit h = refl
+
+-- a distance to an address near the code has 21 bits
+pub near_fits : (off : ℤ) → is_near off ≡ true → IsWithinField 21 off
+near_fits (pos n) e = let small : n < 2 ^ 20 = ltb-true n (2 ^ 20) e in record { low = omega (arith, ints); high = omega (arith, ints) }
+near_fits (negsuc n) e = let small : n + 1 < 2 ^ 20 = ltb-true (n + 1) (2 ^ 20) e in record { low = omega (arith, ints); high = omega (arith, ints) }
+
+-- ---- extensions
+
+-- the extension of 32 bits to 64 without a sign is a move of 32 bits
+pub moved_extension : (rd rn : Reg) (signed : Bool) (from_bits to_bits : ℕ) → are_extend_operands Refused rd rn signed from_bits to_bits ≡ true → signed ≡ false → from_bits ≡ 32 → to_bits ≡ 64
+    → are_mov_operands Refused Size32 rd rn ≡ true
+unfolding are_extend_operands are_mov_operands
+moved_extension rd rn signed from_bits to_bits e unsigned from to = rw (unsigned, from, to) at e
+
+-- the highest bit of what is extended is below the size of the bitfield move
+extension_bit : (signed : Bool) (from_bits to_bits : ℕ) (size : OperandSize) → is_extension signed from_bits to_bits ≡ true → sf_of size ≡ (if signed && nat_lt 32 to_bits then 1 else 0)
+    → from_bits - 1 < operand_bits size
+extension_bit true from_bits to_bits Size32 e size_is = grind (arith, nat_tests)
+extension_bit true from_bits to_bits Size64 e size_is = grind (arith, nat_tests)
+extension_bit false from_bits to_bits Size32 e size_is = grind (arith, nat_tests)
+extension_bit false from_bits to_bits Size64 e size_is = absurd cc
+
+extend_result_below : (signed : Bool) (from_bits to_bits : ℕ) (rd : Reg) → is_extend_result Refused signed from_bits to_bits rd ≡ true → register_field rd < 32
+extend_result_below signed from_bits to_bits rd e = elim (cases_cond (not signed && nat_eq from_bits 1) (is_register_or_stack Refused rd) (if not signed && (nat_eq from_bits 32 && nat_eq to_bits 64) then is_register Refused rd else is_register_or_zero Refused rd) true (sym e)) [
+  | inl bit ↦ stack_below rd (sym bit)
+  | inr others ↦ elim (cases_cond (not signed && (nat_eq from_bits 32 && nat_eq to_bits 64)) (is_register Refused rd) (is_register_or_zero Refused rd) true others) [
+    | inl word ↦ zero_below rd (register_zero rd (sym word))
+    | inr field ↦ zero_below rd (sym field)
+  ]
+]
+
+opc_number : (signed : Bool) (opc : ℕ) → opc ≡ (if signed then 0 else 2) → (opc < 2 ^ 2) × (not (opc == 3) ≡ true)
+opc_number true opc e = rw e (lit< tt, refl)
+opc_number false opc e = rw e (lit< tt, refl)
+
+-- any other extension is a bitfield move
+pub extension_is_form : (rd rn : Reg) (signed : Bool) (from_bits to_bits : ℕ) (size : OperandSize) (opc : ℕ) → are_extend_operands Refused rd rn signed from_bits to_bits ≡ true
+    → sf_of size ≡ (if signed && nat_lt 32 to_bits then 1 else 0) → opc ≡ (if signed then 0 else 2)
+    → IsFormOf (bitfield (record { sf = sf_of size; opc = opc; immr = 0; imms = from_bits - 1; rn = register_field rn; rd = register_field rd }))
+unfolding are_extend_operands
+extension_is_form rd rn signed from_bits to_bits size opc e size_is opc_is =
+    let (extension, registers) = and_parts (is_extension signed from_bits to_bits) (is_extend_result Refused signed from_bits to_bits rd && is_register_or_zero Refused rn) e in
+    let (result, operand) = and_parts (is_extend_result Refused signed from_bits to_bits rd) (is_register_or_zero Refused rn) registers in
+    let bit = extension_bit signed from_bits to_bits size extension size_is in
+    let lowest : 0 < operand_bits size = omega (arith, bit) in
+    let opc_good = opc_number signed opc opc_is in (
+      (sf_below size, (opc_good.0, (lit< tt, (bit_in size (from_bits - 1) bit, (zero_below rn operand, (extend_result_below signed from_bits to_bits rd result, tt)))))),
+      rw (opc_good.1, bit_number size 0 lowest, bit_number size (from_bits - 1) bit) refl,
+    )

@@ -1,6 +1,8 @@
 -- The words that items are made of.
 use Rattle.std.specs.Prelude.{ℕ, ◌+◌, List, [], ◌∷◌, ◌++◌, Option, None, Some}
 use Rattle.std.specs.List.{flat_map, filter_map}
+use Rattle.a64_base.specs.declared.reg.Reg.TheVariants.{Real}
+use Rattle.a64_base.specs.declared.size.OperandSize.TheVariants.{Size64}
 use Rattle.a64_base.specs.declared.target.BranchTarget.{BranchTarget}
 use Rattle.a64_base.specs.declared.target.BranchTarget.TheVariants as branch_targets
 use Rattle.a64_inst.specs.declared.emission.EmitFlags.{EmitFlags}
@@ -51,12 +53,34 @@ pub data Shape : Type 0 where
   Words : List Cell → Shape
 
 abbrev pub shape_of : FrameLayout → EmitFlags → Inst → Shape
+shape_of frame flags insts.Nop0 = Words []
 shape_of frame flags insts.Nop4 = OneWord integer.nop4_form
 shape_of frame flags (insts.AluRRR alu_op size rd rn rm) = OneWord (integer.alu_rrr_form alu_op size rd rn rm)
+shape_of frame flags (insts.AluRRRR alu_op size rd rn rm ra) = OneWord (integer.alu_rrrr_form alu_op size rd rn rm ra)
 shape_of frame flags (insts.AluRRImm12 alu_op size rd rn imm12) = OneWord (integer.alu_rr_imm12_form alu_op size rd rn imm12)
 shape_of frame flags (insts.AluRRImmLogic alu_op size rd rn imml) = OneWord (integer.alu_rr_imm_logic_form alu_op size rd rn imml)
+shape_of frame flags (insts.AluRRImmShift alu_op size rd rn immshift) = OneWord (integer.alu_rr_imm_shift_form alu_op size rd rn immshift)
+shape_of frame flags (insts.AluRRRShift alu_op size rd rn rm shiftop) = OneWord (integer.alu_rrr_shift_form alu_op size rd rn rm shiftop)
+shape_of frame flags (insts.AluRRRExtend alu_op size rd rn rm extendop) = OneWord (integer.alu_rrr_extend_form alu_op size rd rn rm extendop)
+shape_of frame flags (insts.BitRR op size rd rn) = OneWord (integer.bit_rr_form op size rd rn)
+shape_of frame flags (insts.Mov size rd rm) = OneWord (integer.mov_form size rd rm)
+shape_of frame flags (insts.MovFromPReg rd rm) = OneWord (integer.mov_form Size64 rd (Real rm))
+shape_of frame flags (insts.MovToPReg rd rm) = OneWord (integer.mov_form Size64 (Real rd) rm)
 shape_of frame flags (insts.MovWide op rd imm size) = OneWord (integer.mov_wide_form op rd imm size)
 shape_of frame flags (insts.MovK rd rn imm size) = OneWord (integer.mov_k_form rd imm size)
+shape_of frame flags (insts.CSel rd rn rm cond) = OneWord (integer.csel_form rd rn rm cond)
+shape_of frame flags (insts.CSNeg rd rn rm cond) = OneWord (integer.csneg_form rd rn rm cond)
+shape_of frame flags (insts.CSet rd cond) = OneWord (integer.cset_form rd cond)
+shape_of frame flags (insts.CSetm rd cond) = OneWord (integer.csetm_form rd cond)
+shape_of frame flags (insts.CCmp size rn rm nzcv cond) = OneWord (integer.ccmp_form size rn rm nzcv cond)
+shape_of frame flags (insts.CCmpImm size rn imm nzcv cond) = OneWord (integer.ccmp_imm_form size rn imm nzcv cond)
+shape_of frame flags (insts.Extend rd rn signed from_bits to_bits) = OneWord (integer.extend_form rd rn signed from_bits to_bits)
+shape_of frame flags (insts.BitfieldMove size bfm_op rd rn immr imms) = OneWord (integer.bitfield_move_form size bfm_op rd rn immr imms)
+shape_of frame flags (insts.BitfieldMoveMod size rd ri rn immr imms) = OneWord (integer.bitfield_move_mod_form size rd rn immr imms)
+shape_of frame flags (insts.MovToNZCV rn) = OneWord (integer.mov_to_nzcv_form rn)
+shape_of frame flags (insts.MovFromNZCV rd) = OneWord (integer.mov_from_nzcv_form rd)
+shape_of frame flags (insts.Adr rd off) = OneWord (integer.adr_form rd off)
+shape_of frame flags (insts.Adrp rd off) = OneWord (integer.adrp_form rd off)
 shape_of frame flags insts.Ret = OneWord control.ret_form
 shape_of frame flags (insts.Jump dest) = Words (branch (control.jump_form dest) uses.Branch26 dest ∷ [])
 

@@ -3,8 +3,6 @@
 ghost use Rattle.std.specs.Prelude.{◌≡◌, ◌+◌, ◌^◌, ◌<◌, [], ◌∷◌, OnOk, OnErr, true, None};
 ghost use Rattle.a64_inst.specs.declared.emission.EmitFlags.{EmitFlags};
 ghost use Rattle.a64_inst.specs.declared.virtuals.VirtualRegisters.TheVariants.{Refused};
-ghost use Rattle.a64_inst.specs.declared.group.Group.TheVariants.{Integer, Control};
-ghost use Rattle.a64_inst.specs.Groups.{group_of};
 ghost use Rattle.a64_inst.specs.Faults.{has_operands};
 ghost use Rattle.a64_inst.specs.State.{State};
 ghost use Rattle.a64_buffer.specs.Buffer.{Buffer, end_of};
@@ -14,7 +12,8 @@ ghost use Rattle.a64_emit.specs.Cells.{plain, branch, shape_of, only_word, other
 ghost use Rattle.a64_emit.specs.Emission.{appended, Emits, EmitsInPart, IsAppendedInPart, HasRoom, IsReady};
 
 use crate::label_use::LabelUse;
-use crate::word::{control, integer};
+use crate::word::control::{jump_word, only_control_word};
+use crate::word::integer::only_integer_word;
 use a64_base::BranchTarget;
 use a64_buffer::MachBuffer;
 use a64_inst::{EmitInfo, EmitState, FrameLayout, Group, Inst};
@@ -46,56 +45,6 @@ pub trait MachInstEmit {
         ensures ok { OnOk result (emits self.now info.now state.old sink.old sink.new) }
         ensures state { OnOk result (state.new ≡ record state.old { map = None }) }
         ensures err { OnErr result (emits_in_part self.now info.now state.old sink.old sink.new) };
-}
-
-/// The word of an integer instruction that is one word without a use.
-fn only_integer_word(inst: &Inst, frame: &FrameLayout, info: &EmitInfo) -> Option<u32>
-    requires group { group_of inst.now ≡ Integer }
-    requires good { has_operands frame.now info.now Refused inst.now ≡ true }
-    ensures { result ≡ only_word (shape_of frame.now info.now inst.now) }
-{
-    match inst {
-        Inst::Nop4 => Some(integer::nop4_word()),
-        Inst::AluRRR {
-            alu_op,
-            size,
-            rd,
-            rn,
-            rm,
-        } => Some(integer::alu_rrr_word(*alu_op, *size, *rd, *rn, *rm)),
-        Inst::AluRRImm12 {
-            alu_op,
-            size,
-            rd,
-            rn,
-            imm12,
-        } => Some(integer::alu_rr_imm12_word(*alu_op, *size, *rd, *rn, *imm12)),
-        Inst::AluRRImmLogic {
-            alu_op,
-            size,
-            rd,
-            rn,
-            imml,
-        } => Some(integer::alu_rr_imm_logic_word(*alu_op, *size, *rd, *rn, *imml)),
-        Inst::MovWide { op, rd, imm, size } => {
-            Some(integer::mov_wide_word(*op, *rd, *imm, *size))
-        }
-        Inst::MovK { rd, rn, imm, size } => Some(integer::mov_k_word(*rd, *rn, *imm, *size)),
-        _ => unreachable!(),
-    }
-}
-
-/// The word of a branch that is one word without a use.
-fn only_control_word(inst: &Inst, frame: &FrameLayout, info: &EmitInfo) -> Option<u32>
-    requires group { group_of inst.now ≡ Control }
-    requires good { has_operands frame.now info.now Refused inst.now ≡ true }
-    ensures { result ≡ only_word (shape_of frame.now info.now inst.now) }
-{
-    match inst {
-        Inst::Ret => Some(control::ret_word()),
-        Inst::Jump { .. } => None,
-        _ => unreachable!(),
-    }
 }
 
 /// The word of an instruction that is one word without a use.
@@ -151,9 +100,7 @@ fn emit_other(
     ensures err { OnErr result (IsAppendedInPart sink.old sink.new (other_cells (shape_of state.old.frame info.now inst.now))) }
 {
     match inst {
-        Inst::Jump { dest } => {
-            emit_branch(sink, control::jump_word(*dest), LabelUse::Branch26, *dest)
-        }
+        Inst::Jump { dest } => { emit_branch(sink, jump_word(*dest), LabelUse::Branch26, *dest) }
         _ => Ok(()),
     }
 }

@@ -73,11 +73,14 @@ fn wanting_in(inst: &Inst, frame: &FrameLayout, info: &EmitInfo) -> Wanting
     }
 }
 
-/// How many words an instruction has: each that exists is one.
+/// How many words an instruction has.
 fn cell_count(inst: &Inst, frame: &FrameLayout, info: &EmitInfo) -> u64
     ensures { result ≡ length (inst_cells frame.now info.now inst.now) }
 {
-    1
+    match inst {
+        Inst::Nop0 => 0,
+        _ => 1,
+    }
 }
 
 /// How much an instruction of so many words may add to code, beside these.

@@ -1,12 +1,31 @@
-//! The words of branches.
+//! The words of branches and returns.
 
 ghost use Rattle.std.specs.Prelude.{◌≡◌, true};
+ghost use Rattle.a64_inst.specs.declared.group.Group.TheVariants.{Control};
+ghost use Rattle.a64_inst.specs.declared.virtuals.VirtualRegisters.TheVariants.{Refused};
+ghost use Rattle.a64_inst.specs.Groups.{group_of};
+ghost use Rattle.a64_inst.specs.Faults.{has_operands};
 ghost use Rattle.a64_inst.specs.ControlOperands.{are_jump_operands};
 ghost use Rattle.a64_rows.specs.Forms.{form_word};
+ghost use Rattle.a64_emit.specs.Cells.{shape_of, only_word};
 ghost use Rattle.a64_emit.specs.ControlForms.{ret_form, jump_form};
 
 use a64_base::BranchTarget;
 use a64_enc_int::enc_jump26;
+use a64_inst::{EmitInfo, FrameLayout, Inst};
+
+/// The word of a branch that is one word without a use.
+pub fn only_control_word(inst: &Inst, frame: &FrameLayout, info: &EmitInfo) -> Option<u32>
+    requires group { group_of inst.now ≡ Control }
+    requires good { has_operands frame.now info.now Refused inst.now ≡ true }
+    ensures { result ≡ only_word (shape_of frame.now info.now inst.now) }
+{
+    match inst {
+        Inst::Ret => Some(ret_word()),
+        Inst::Jump { .. } => None,
+        _ => unreachable!(),
+    }
+}
 
 /// The word of a `Ret`.
 #[tactic(auto, unfolding(crate::specs::ControlForms::ret_form))]

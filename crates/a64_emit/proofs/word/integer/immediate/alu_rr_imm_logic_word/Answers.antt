@@ -3,8 +3,9 @@ use Rattle.a64_rows.specs.Forms.{Form, IsFormOf}
 use Rattle.a64_imms.specs.LogicLaws.{r_fits, s_fits}
 use Rattle.a64_enc_int.proofs.Naming.{logic_imm_named}
 use Rattle.a64_emit.specs.IntegerForms.{logic_fields}
-use Rattle.a64_emit.proofs.OneWord.{sf_below, alu_rr_imm_logic_is_form}
-use Rattle.a64_emit.proofs.word.integer.alu_rr_imm_logic_word.Goals as goal
+use Rattle.a64_emit.proofs.OneWord.{alu_rr_imm_logic_is_form}
+use Rattle.a64_emit.proofs.Operands.{sf_below}
+use Rattle.a64_emit.proofs.word.integer.immediate.alu_rr_imm_logic_word.Goals as goal
 
 pub enc_arith_rr_imml-requires-clause-form : goal.enc_arith_rr_imml-requires-clause-form
 enc_arith_rr_imml-requires-clause-form c =
