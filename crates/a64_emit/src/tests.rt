@@ -1,13 +1,13 @@
 //! What no clause says: that ample memory is enough, and words from outside.
 
-ghost use Rattle.std.specs.Prelude.{◌<◌, ◌^◌, length};
+ghost use Rattle.std.specs.Prelude.{◌≡◌, ◌<◌, ◌^◌, length, IfOk};
 
 use crate::{Code, EmitError, Item, LabelUse, assemble};
-use a64_base::{BranchTarget, MachLabel};
+use a64_base::{BranchTarget, MachLabel, writable_xreg};
 use a64_buffer::{Constants, ForceVeneers, MachInstLabelUse};
 use a64_inst::{EmitFlags, EmitInfo, FrameLayout, Inst};
 use a64_list::ListVec;
-use std::alloc::Global;
+use std::alloc::{AllocError, Global};
 use std::test::Fail;
 
 fn item(inst: Inst) -> Item {
@@ -83,5 +83,42 @@ fn refusals(rt: HostRuntime) -> Result<(), Fail> {
     );
     assert_eq!(rt; LabelUse::Branch26.read(0x17ff_ffff), -4);
     assert_eq!(rt; LabelUse::Branch26.patch_size(), LabelUse::ALIGN);
+    Ok(())
+}
+
+/// Instructions as items.
+fn items_of(alloc: Global, insts: &[Inst]) -> Result<Vec<Item>, AllocError>
+    ensures { IfOk result (λ items. length items.items ≡ length insts.now) }
+{
+    let mut items = Vec::new(alloc);
+    for inst in insts {
+        items.push(item(inst.try_clone(alloc)?))?;
+    }
+    Ok(items)
+}
+
+#[test]
+fn words_of_constants(rt: HostRuntime) -> Result<(), Fail> {
+    let alloc = rt.alloc();
+    for (value, bytes) in [
+        // movz x0, #0
+        (0, [0x00, 0x00, 0x80, 0xd2].as_slice()),
+        // movn x0, #0
+        (u64::MAX, [0x00, 0x00, 0x80, 0x92].as_slice()),
+        // movn w0, #0xedcb, lsl #16
+        (0x1234_ffff, [0x60, 0xb9, 0xbd, 0x12].as_slice()),
+        // orr x0, xzr, #0x5555555555555555
+        (0x5555_5555_5555_5555, [0xe0, 0xf3, 0x00, 0xb2].as_slice()),
+        // movz w0, #0x5555; movk w0, #0x5555, lsl #16
+        (
+            0x5555_5555,
+            [0xa0, 0xaa, 0x8a, 0x52, 0xa0, 0xaa, 0xaa, 0x72].as_slice(),
+        ),
+    ] {
+        let insts = Inst::load_constant(alloc, writable_xreg(0), value)?;
+        let items = items_of(alloc, insts.as_slice())?;
+        let code = assembled(alloc, items.as_slice())?;
+        assert_eq!(rt; code.bytes.as_slice(), bytes, "of {value:x}");
+    }
     Ok(())
 }
