@@ -14,6 +14,8 @@ mod state;
 mod tests;
 mod uses;
 mod word;
+#[cfg(test)]
+mod word_tests;
 
 pub use crate::code::Code;
 pub use a64_inst::Item;

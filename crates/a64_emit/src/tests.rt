@@ -10,7 +10,7 @@ use a64_list::ListVec;
 use std::alloc::{AllocError, Global};
 use std::test::Fail;
 
-fn item(inst: Inst) -> Item {
+pub fn item(inst: Inst) -> Item {
     Item::Emit { inst, map: None }
 }
 
@@ -24,7 +24,7 @@ fn bind(label: u32) -> Item {
     Item::Bind(MachLabel(label))
 }
 
-fn assembled(alloc: Global, items: &[Item]) -> Result<Code, EmitError>
+pub fn assembled(alloc: Global, items: &[Item]) -> Result<Code, EmitError>
     requires { length items.now < 2 ^ 32 }
 {
     let constants = Constants::new(alloc);
@@ -67,6 +67,25 @@ fn words_of_jumps(rt: HostRuntime) -> Result<(), Fail> {
         3, 0, 0, 0x14, 0x1f, 0x20, 0x03, 0xd5, 0xfe, 0xff, 0xff, 0x17, 0xc0, 0x03, 0x5f, 0xd6,
     ];
     assert_eq!(rt; code.bytes.as_slice(), words.as_slice());
+    Ok(())
+}
+
+#[test]
+fn places_of_items_without_words(rt: HostRuntime) -> Result<(), Fail> {
+    let alloc = rt.alloc();
+    let items = [
+        item(Inst::Nop0),
+        jump(1),
+        item(Inst::Nop0),
+        bind(1),
+        item(Inst::Nop0),
+    ];
+    let code = assembled(alloc, &items)?;
+    assert_eq!(rt; code.places.as_slice(), [0, 0, 4, 4, 4].as_slice());
+    assert_eq!(rt; code.pool, 4);
+    // b #4
+    assert_eq!(rt; code.bytes.as_slice(), [1, 0, 0, 0x14].as_slice());
+    assert_eq!(rt; assembled(alloc, &[item(Inst::Nop0)])?.bytes.len(), 0);
     Ok(())
 }
 
