@@ -97,6 +97,7 @@ fn rotate_word(size: OperandSize, rd: Writable<Reg>, rn: Reg, amount: u8) -> u32
     ensures { result ≡ form_word (forms.extraction amount (forms.two_registers size rd rn rn)) }
 {
     let (top, low) = extract_bits(size, amount);
+    // The prover does not cover a call that takes one variable twice.
     let again = rn;
     enc_arith_rrr(top, low, rd, rn, again)
 }
