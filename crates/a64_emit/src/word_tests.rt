@@ -4,8 +4,8 @@ ghost use Rattle.std.specs.Prelude.{◌≤◌, ◌<◌};
 
 use crate::tests::{assembled, item};
 use a64_base::{
-    Cond, ExtendOp, OperandSize, PReg, RegClass, ShiftOp, ShiftOpAndAmt, ShiftOpShiftImm,
-    stack_reg, writable_xreg, writable_zero_reg, xreg, zero_reg,
+    Cond, ExtendOp, OperandSize, PReg, Reg, RegClass, ShiftOp, ShiftOpAndAmt, ShiftOpShiftImm,
+    Writable, stack_reg, writable_zero_reg, zero_reg,
 };
 use a64_imms::{Imm12, ImmShift, NZCV, UImm5, UImm6};
 use a64_inst::Inst;
@@ -15,6 +15,18 @@ use std::test::Fail;
 const W: OperandSize = OperandSize::Size32;
 
 const X: OperandSize = OperandSize::Size64;
+
+fn p(number: u8) -> PReg {
+    PReg::new(number.min(31), RegClass::Int)
+}
+
+fn x(number: u8) -> Reg {
+    Reg::from_real_reg(p(number))
+}
+
+fn writable_x(number: u8) -> Writable<Reg> {
+    Writable::from_reg(x(number))
+}
 
 fn shift(op: ShiftOp, amount: u64) -> ShiftOpAndAmt
     requires { amount ≤ 63 }
@@ -42,10 +54,10 @@ fn operations_on_registers(rt: HostRuntime) -> Result<(), Fail> {
             Inst::AluRRRR {
                 alu_op: ALUOp3::MAdd,
                 size: W,
-                rd: writable_xreg(20),
-                rn: xreg(12),
-                rm: xreg(9),
-                ra: xreg(29),
+                rd: writable_x(20),
+                rn: x(12),
+                rm: x(9),
+                ra: x(29),
             },
             0x1b09_7594,
         ),
@@ -53,10 +65,10 @@ fn operations_on_registers(rt: HostRuntime) -> Result<(), Fail> {
             Inst::AluRRRR {
                 alu_op: ALUOp3::MSub,
                 size: X,
-                rd: writable_xreg(27),
-                rn: xreg(9),
+                rd: writable_x(27),
+                rn: x(9),
                 rm: zero_reg(),
-                ra: xreg(30),
+                ra: x(30),
             },
             0x9b1f_f93b,
         ),
@@ -64,10 +76,10 @@ fn operations_on_registers(rt: HostRuntime) -> Result<(), Fail> {
             Inst::AluRRRR {
                 alu_op: ALUOp3::SMAddL,
                 size: W,
-                rd: writable_xreg(21),
-                rn: xreg(10),
-                rm: xreg(7),
-                ra: xreg(14),
+                rd: writable_x(21),
+                rn: x(10),
+                rm: x(7),
+                ra: x(14),
             },
             0x9b27_3955,
         ),
@@ -75,10 +87,10 @@ fn operations_on_registers(rt: HostRuntime) -> Result<(), Fail> {
             Inst::AluRRRR {
                 alu_op: ALUOp3::UMAddL,
                 size: W,
-                rd: writable_xreg(29),
-                rn: xreg(20),
-                rm: xreg(19),
-                ra: xreg(25),
+                rd: writable_x(29),
+                rn: x(20),
+                rm: x(19),
+                ra: x(25),
             },
             0x9bb3_669d,
         ),
@@ -86,9 +98,9 @@ fn operations_on_registers(rt: HostRuntime) -> Result<(), Fail> {
             Inst::AluRRRShift {
                 alu_op: ALUOp::Extr,
                 size: W,
-                rd: writable_xreg(3),
-                rn: xreg(2),
-                rm: xreg(18),
+                rd: writable_x(3),
+                rn: x(2),
+                rm: x(18),
                 shiftop: shift(ShiftOp::LSL, 11),
             },
             0x1392_2c43,
@@ -97,9 +109,9 @@ fn operations_on_registers(rt: HostRuntime) -> Result<(), Fail> {
             Inst::AluRRRShift {
                 alu_op: ALUOp::And,
                 size: X,
-                rd: writable_xreg(5),
+                rd: writable_x(5),
                 rn: zero_reg(),
-                rm: xreg(11),
+                rm: x(11),
                 shiftop: shift(ShiftOp::ROR, 14),
             },
             0x8acb_3be5,
@@ -108,9 +120,9 @@ fn operations_on_registers(rt: HostRuntime) -> Result<(), Fail> {
             Inst::AluRRRShift {
                 alu_op: ALUOp::EorNot,
                 size: X,
-                rd: writable_xreg(7),
-                rn: xreg(26),
-                rm: xreg(8),
+                rd: writable_x(7),
+                rn: x(26),
+                rm: x(8),
                 shiftop: shift(ShiftOp::LSL, 24),
             },
             0xca28_6347,
@@ -119,9 +131,9 @@ fn operations_on_registers(rt: HostRuntime) -> Result<(), Fail> {
             Inst::AluRRRShift {
                 alu_op: ALUOp::Sub,
                 size: W,
-                rd: writable_xreg(5),
-                rn: xreg(22),
-                rm: xreg(12),
+                rd: writable_x(5),
+                rn: x(22),
+                rm: x(12),
                 shiftop: shift(ShiftOp::LSR, 30),
             },
             0x4b4c_7ac5,
@@ -130,9 +142,9 @@ fn operations_on_registers(rt: HostRuntime) -> Result<(), Fail> {
             Inst::AluRRRShift {
                 alu_op: ALUOp::Add,
                 size: W,
-                rd: writable_xreg(17),
-                rn: xreg(18),
-                rm: xreg(29),
+                rd: writable_x(17),
+                rn: x(18),
+                rm: x(29),
                 shiftop: shift(ShiftOp::ASR, 18),
             },
             0x0b9d_4a51,
@@ -141,7 +153,7 @@ fn operations_on_registers(rt: HostRuntime) -> Result<(), Fail> {
             Inst::AluRRRExtend {
                 alu_op: ALUOp::SubS,
                 size: X,
-                rd: writable_xreg(0),
+                rd: writable_x(0),
                 rn: stack_reg(),
                 rm: zero_reg(),
                 extendop: ExtendOp::SXTX,
@@ -152,9 +164,9 @@ fn operations_on_registers(rt: HostRuntime) -> Result<(), Fail> {
             Inst::AluRRRExtend {
                 alu_op: ALUOp::Sub,
                 size: X,
-                rd: writable_xreg(7),
-                rn: xreg(21),
-                rm: xreg(6),
+                rd: writable_x(7),
+                rn: x(21),
+                rm: x(6),
                 extendop: ExtendOp::UXTW,
             },
             0xcb26_42a7,
@@ -163,7 +175,7 @@ fn operations_on_registers(rt: HostRuntime) -> Result<(), Fail> {
             Inst::BitRR {
                 op: BitOp::RBit,
                 size: W,
-                rd: writable_xreg(25),
+                rd: writable_x(25),
                 rn: zero_reg(),
             },
             0x5ac0_03f9,
@@ -173,7 +185,7 @@ fn operations_on_registers(rt: HostRuntime) -> Result<(), Fail> {
                 op: BitOp::Rev16,
                 size: X,
                 rd: writable_zero_reg(),
-                rn: xreg(9),
+                rn: x(9),
             },
             0xdac0_053f,
         ),
@@ -181,8 +193,8 @@ fn operations_on_registers(rt: HostRuntime) -> Result<(), Fail> {
             Inst::BitRR {
                 op: BitOp::Rev32,
                 size: X,
-                rd: writable_xreg(18),
-                rn: xreg(16),
+                rd: writable_x(18),
+                rn: x(16),
             },
             0xdac0_0a12,
         ),
@@ -190,7 +202,7 @@ fn operations_on_registers(rt: HostRuntime) -> Result<(), Fail> {
             Inst::BitRR {
                 op: BitOp::Rev64,
                 size: X,
-                rd: writable_xreg(17),
+                rd: writable_x(17),
                 rn: zero_reg(),
             },
             0xdac0_0ff1,
@@ -199,8 +211,8 @@ fn operations_on_registers(rt: HostRuntime) -> Result<(), Fail> {
             Inst::BitRR {
                 op: BitOp::Clz,
                 size: X,
-                rd: writable_xreg(3),
-                rn: xreg(10),
+                rd: writable_x(3),
+                rn: x(10),
             },
             0xdac0_1143,
         ),
@@ -208,8 +220,8 @@ fn operations_on_registers(rt: HostRuntime) -> Result<(), Fail> {
             Inst::BitRR {
                 op: BitOp::Cls,
                 size: W,
-                rd: writable_xreg(13),
-                rn: xreg(1),
+                rd: writable_x(13),
+                rn: x(1),
             },
             0x5ac0_142d,
         ),
@@ -232,15 +244,15 @@ fn moves_and_selects(rt: HostRuntime) -> Result<(), Fail> {
         (
             Inst::Mov {
                 size: X,
-                rd: writable_xreg(1),
-                rm: xreg(25),
+                rd: writable_x(1),
+                rm: x(25),
             },
             0xaa19_03e1,
         ),
         (
             Inst::Mov {
                 size: W,
-                rd: writable_xreg(10),
+                rd: writable_x(10),
                 rm: zero_reg(),
             },
             0x2a1f_03ea,
@@ -248,61 +260,61 @@ fn moves_and_selects(rt: HostRuntime) -> Result<(), Fail> {
         (
             Inst::Mov {
                 size: X,
-                rd: writable_xreg(28),
+                rd: writable_x(28),
                 rm: stack_reg(),
             },
             0x9100_03fc,
         ),
         (
             Inst::MovFromPReg {
-                rd: writable_xreg(17),
+                rd: writable_x(17),
                 rm: PReg::new(63, RegClass::Int),
             },
             0x9100_03f1,
         ),
         (
             Inst::MovFromPReg {
-                rd: writable_xreg(30),
-                rm: PReg::new(21, RegClass::Int),
+                rd: writable_x(30),
+                rm: p(21),
             },
             0xaa15_03fe,
         ),
         (
             Inst::MovToPReg {
-                rd: PReg::new(29, RegClass::Int),
+                rd: p(29),
                 rm: zero_reg(),
             },
             0xaa1f_03fd,
         ),
         (
             Inst::MovToPReg {
-                rd: PReg::new(30, RegClass::Int),
-                rm: xreg(7),
+                rd: p(30),
+                rm: x(7),
             },
             0xaa07_03fe,
         ),
         (
             Inst::CSel {
                 rd: writable_zero_reg(),
-                rn: xreg(17),
-                rm: xreg(6),
+                rn: x(17),
+                rm: x(6),
                 cond: Cond::Eq,
             },
             0x9a86_023f,
         ),
         (
             Inst::CSel {
-                rd: writable_xreg(24),
-                rn: xreg(13),
-                rm: xreg(14),
+                rd: writable_x(24),
+                rn: x(13),
+                rm: x(14),
                 cond: Cond::Le,
             },
             0x9a8e_d1b8,
         ),
         (
             Inst::CSNeg {
-                rd: writable_xreg(9),
-                rn: xreg(12),
+                rd: writable_x(9),
+                rn: x(12),
                 rm: zero_reg(),
                 cond: Cond::Ne,
             },
@@ -310,16 +322,16 @@ fn moves_and_selects(rt: HostRuntime) -> Result<(), Fail> {
         ),
         (
             Inst::CSNeg {
-                rd: writable_xreg(24),
-                rn: xreg(20),
-                rm: xreg(11),
+                rd: writable_x(24),
+                rn: x(20),
+                rm: x(11),
                 cond: Cond::Lt,
             },
             0xda8b_b698,
         ),
         (
             Inst::CSet {
-                rd: writable_xreg(0),
+                rd: writable_x(0),
                 cond: Cond::Eq,
             },
             0x9a9f_17e0,
@@ -333,14 +345,14 @@ fn moves_and_selects(rt: HostRuntime) -> Result<(), Fail> {
         ),
         (
             Inst::CSetm {
-                rd: writable_xreg(25),
+                rd: writable_x(25),
                 cond: Cond::Le,
             },
             0xda9f_c3f9,
         ),
         (
             Inst::CSetm {
-                rd: writable_xreg(11),
+                rd: writable_x(11),
                 cond: Cond::Hi,
             },
             0xda9f_93eb,
@@ -348,8 +360,8 @@ fn moves_and_selects(rt: HostRuntime) -> Result<(), Fail> {
         (
             Inst::CCmp {
                 size: X,
-                rn: xreg(6),
-                rm: xreg(9),
+                rn: x(6),
+                rm: x(9),
                 nzcv: NZCV::new(false, true, false, false),
                 cond: Cond::Ge,
             },
@@ -359,7 +371,7 @@ fn moves_and_selects(rt: HostRuntime) -> Result<(), Fail> {
             Inst::CCmp {
                 size: W,
                 rn: zero_reg(),
-                rm: xreg(11),
+                rm: x(11),
                 nzcv: NZCV::new(false, true, true, false),
                 cond: Cond::Al,
             },
@@ -368,7 +380,7 @@ fn moves_and_selects(rt: HostRuntime) -> Result<(), Fail> {
         (
             Inst::CCmpImm {
                 size: W,
-                rn: xreg(20),
+                rn: x(20),
                 imm: imm5(23),
                 nzcv: NZCV::new(true, false, false, false),
                 cond: Cond::Pl,
@@ -378,21 +390,16 @@ fn moves_and_selects(rt: HostRuntime) -> Result<(), Fail> {
         (
             Inst::CCmpImm {
                 size: X,
-                rn: xreg(10),
+                rn: x(10),
                 imm: imm5(0),
                 nzcv: NZCV::new(true, true, true, false),
                 cond: Cond::Mi,
             },
             0xfa40_494e,
         ),
-        (Inst::MovToNZCV { rn: xreg(27) }, 0xd51b_421b),
+        (Inst::MovToNZCV { rn: x(27) }, 0xd51b_421b),
         (Inst::MovToNZCV { rn: zero_reg() }, 0xd51b_421f),
-        (
-            Inst::MovFromNZCV {
-                rd: writable_xreg(1),
-            },
-            0xd53b_4201,
-        ),
+        (Inst::MovFromNZCV { rd: writable_x(1) }, 0xd53b_4201),
         (
             Inst::MovFromNZCV {
                 rd: writable_zero_reg(),
@@ -420,7 +427,7 @@ fn immediates_and_addresses(rt: HostRuntime) -> Result<(), Fail> {
                 alu_op: ALUOp::SubS,
                 size: X,
                 rd: writable_zero_reg(),
-                rn: xreg(0),
+                rn: x(0),
                 imm12: Imm12 {
                     bits: 1,
                     shift12: false,
@@ -442,8 +449,8 @@ fn immediates_and_addresses(rt: HostRuntime) -> Result<(), Fail> {
             Inst::AluRRImmShift {
                 alu_op: ALUOp::Lsl,
                 size: X,
-                rd: writable_xreg(10),
-                rn: xreg(15),
+                rd: writable_x(10),
+                rn: x(15),
                 immshift: ImmShift { imm: 16 },
             },
             0xd370_bdea,
@@ -452,8 +459,8 @@ fn immediates_and_addresses(rt: HostRuntime) -> Result<(), Fail> {
             Inst::AluRRImmShift {
                 alu_op: ALUOp::Lsr,
                 size: W,
-                rd: writable_xreg(16),
-                rn: xreg(3),
+                rd: writable_x(16),
+                rn: x(3),
                 immshift: ImmShift { imm: 20 },
             },
             0x5314_7c70,
@@ -462,16 +469,16 @@ fn immediates_and_addresses(rt: HostRuntime) -> Result<(), Fail> {
             Inst::AluRRImmShift {
                 alu_op: ALUOp::Extr,
                 size: X,
-                rd: writable_xreg(24),
-                rn: xreg(15),
+                rd: writable_x(24),
+                rn: x(15),
                 immshift: ImmShift { imm: 15 },
             },
             0x93cf_3df8,
         ),
         (
             Inst::Extend {
-                rd: writable_xreg(0),
-                rn: xreg(1),
+                rd: writable_x(0),
+                rn: x(1),
                 signed: false,
                 from_bits: 1,
                 to_bits: 32,
@@ -480,8 +487,8 @@ fn immediates_and_addresses(rt: HostRuntime) -> Result<(), Fail> {
         ),
         (
             Inst::Extend {
-                rd: writable_xreg(17),
-                rn: xreg(26),
+                rd: writable_x(17),
+                rn: x(26),
                 signed: false,
                 from_bits: 1,
                 to_bits: 64,
@@ -490,8 +497,8 @@ fn immediates_and_addresses(rt: HostRuntime) -> Result<(), Fail> {
         ),
         (
             Inst::Extend {
-                rd: writable_xreg(30),
-                rn: xreg(1),
+                rd: writable_x(30),
+                rn: x(1),
                 signed: false,
                 from_bits: 16,
                 to_bits: 64,
@@ -500,8 +507,8 @@ fn immediates_and_addresses(rt: HostRuntime) -> Result<(), Fail> {
         ),
         (
             Inst::Extend {
-                rd: writable_xreg(8),
-                rn: xreg(12),
+                rd: writable_x(8),
+                rn: x(12),
                 signed: true,
                 from_bits: 32,
                 to_bits: 64,
@@ -510,8 +517,8 @@ fn immediates_and_addresses(rt: HostRuntime) -> Result<(), Fail> {
         ),
         (
             Inst::Extend {
-                rd: writable_xreg(19),
-                rn: xreg(24),
+                rd: writable_x(19),
+                rn: x(24),
                 signed: true,
                 from_bits: 16,
                 to_bits: 32,
@@ -520,8 +527,8 @@ fn immediates_and_addresses(rt: HostRuntime) -> Result<(), Fail> {
         ),
         (
             Inst::Extend {
-                rd: writable_xreg(29),
-                rn: xreg(19),
+                rd: writable_x(29),
+                rn: x(19),
                 signed: true,
                 from_bits: 32,
                 to_bits: 60,
@@ -532,8 +539,8 @@ fn immediates_and_addresses(rt: HostRuntime) -> Result<(), Fail> {
             Inst::BitfieldMove {
                 size: W,
                 bfm_op: BfmOp::SBfm,
-                rd: writable_xreg(24),
-                rn: xreg(7),
+                rd: writable_x(24),
+                rn: x(7),
                 immr: UImm6 { imm: 12 },
                 imms: UImm6 { imm: 26 },
             },
@@ -544,7 +551,7 @@ fn immediates_and_addresses(rt: HostRuntime) -> Result<(), Fail> {
                 size: X,
                 bfm_op: BfmOp::UBfm,
                 rd: writable_zero_reg(),
-                rn: xreg(24),
+                rn: x(24),
                 immr: UImm6 { imm: 8 },
                 imms: UImm6 { imm: 62 },
             },
@@ -553,9 +560,9 @@ fn immediates_and_addresses(rt: HostRuntime) -> Result<(), Fail> {
         (
             Inst::BitfieldMoveMod {
                 size: W,
-                rd: writable_xreg(13),
-                ri: xreg(13),
-                rn: xreg(16),
+                rd: writable_x(13),
+                ri: x(13),
+                rn: x(16),
                 immr: UImm6 { imm: 2 },
                 imms: UImm6 { imm: 26 },
             },
@@ -564,9 +571,9 @@ fn immediates_and_addresses(rt: HostRuntime) -> Result<(), Fail> {
         (
             Inst::BitfieldMoveMod {
                 size: X,
-                rd: writable_xreg(30),
-                ri: xreg(30),
-                rn: xreg(16),
+                rd: writable_x(30),
+                ri: x(30),
+                rn: x(16),
                 immr: UImm6 { imm: 57 },
                 imms: UImm6 { imm: 56 },
             },
@@ -574,21 +581,21 @@ fn immediates_and_addresses(rt: HostRuntime) -> Result<(), Fail> {
         ),
         (
             Inst::Adr {
-                rd: writable_xreg(0),
+                rd: writable_x(0),
                 off: -1048575,
             },
             0x3080_0000,
         ),
         (
             Inst::Adr {
-                rd: writable_xreg(27),
+                rd: writable_x(27),
                 off: 821943,
             },
             0x7064_55bb,
         ),
         (
             Inst::Adr {
-                rd: writable_xreg(4),
+                rd: writable_x(4),
                 off: -886444,
             },
             0x1093_caa4,
@@ -602,7 +609,7 @@ fn immediates_and_addresses(rt: HostRuntime) -> Result<(), Fail> {
         ),
         (
             Inst::Adrp {
-                rd: writable_xreg(27),
+                rd: writable_x(27),
                 off: -748624,
             },
             0x90a4_9d9b,
