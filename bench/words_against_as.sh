@@ -1,5 +1,6 @@
 #!/usr/bin/env bash
-# Holds the words of the program against those of GNU as: random instructions, jumps and labels.
+# Holds the words of the program against those of GNU as: random integer instructions, jumps and labels. `Adrp` is left out:
+# of it GNU as leaves the offset to the linker.
 # Usage: bench/words_against_as.sh [ITEMS] [SEED]
 set -eu
 cd "$(dirname "$0")/.."
@@ -40,44 +41,161 @@ def bitmask(size):
     word = (run >> turn | run << (period - turn)) & ((1 << period) - 1)
     return sum(word << place for place in range(0, size, period))
 
-def item(labels):
-    """A line of the program's file, and one of assembly."""
-    kind = random.randrange(10)
-    if kind == 0:
+CONDITIONS = ["Eq", "Ne", "Hs", "Lo", "Mi", "Pl", "Vs", "Vc", "Hi", "Ls", "Ge", "Lt", "Gt", "Le", "Al", "Nv"]
+LOGICAL = ["And", "Orr", "Eor", "AndS", "AndNot", "OrrNot", "EorNot"]
+
+def sized():
+    return random.choice([(32, "w"), (64, "x")])
+
+def jump(labels):
+    if random.randrange(2):
         label = random.randrange(labels)
         return f"Jump L{label}", f"b L{label}"
-    if kind == 1:
-        offset = 4 * random.randrange(-2**25, 2**25)
-        return f"Jump {offset}", f"b .{offset:+d}"
-    if kind == 2:
-        return random.choice([("Nop4", "nop"), ("Ret", "ret")])
-    size = random.choice([32, 64])
-    letter = "x" if size == 64 else "w"
-    if kind == 3:
-        op, mnemonic = random.choice([("MovZ", "movz"), ("MovN", "movn")])
-        rd, bits, shift = register(), random.randrange(65536), 16 * random.randrange(size // 16)
-        return f"MovWide {op} x{rd} {bits},{shift} {size}", f"{mnemonic} {letter}{rd}, #{bits}, lsl #{shift}"
-    if kind == 4:
-        rd, bits, shift = register(), random.randrange(65536), 16 * random.randrange(size // 16)
-        return f"MovK x{rd} x{rd} {bits},{shift} {size}", f"movk {letter}{rd}, #{bits}, lsl #{shift}"
-    if kind == 5:
-        op = random.choice(["Add", "Sub", "AddS", "SubS"])
-        rd, rn = named(letter, op in ("AddS", "SubS")), named(letter, False)
-        value = random.randrange(4096) * random.choice([1, 4096])
-        return f"AluRRImm12 {op} {size} {rd[0]} {rn[0]} {value}", f"{MNEMONICS[op]} {rd[1]}, {rn[1]}, #{value}"
-    if kind == 6:
-        op = random.choice(["And", "Orr", "Eor", "AndS", "AndNot", "OrrNot", "EorNot"])
-        rd, rn, value = named(letter, op == "AndS"), named(letter, True), bitmask(size)
-        # The operators that invert have no immediate in assembly: they take that of the complement.
-        taken = value ^ ((1 << size) - 1) if op.endswith("Not") else value
-        mnemonic = {"AndNot": "and", "OrrNot": "orr", "EorNot": "eor"}.get(op, MNEMONICS[op])
-        above = random.getrandbits(32) << 32 if size == 32 else 0
-        return f"AluRRImmLogic {op} {size} {rd[0]} {rn[0]} {value + above}", f"{mnemonic} {rd[1]}, {rn[1]}, #{taken}"
+    offset = 4 * random.randrange(-2**25, 2**25)
+    return f"Jump {offset}", f"b .{offset:+d}"
+
+def alone(labels):
+    number = register()
+    return random.choice([
+        ("Nop4", "nop"), ("Ret", "ret"),
+        (f"MovToNZCV x{number}", f"msr nzcv, x{number}"), (f"MovFromNZCV x{number}", f"mrs x{number}, nzcv"),
+    ])
+
+def move_wide(labels):
+    size, letter = sized()
+    op, mnemonic = random.choice([("MovZ", "movz"), ("MovN", "movn"), ("", "movk")])
+    rd, bits, shift = register(), random.randrange(65536), 16 * random.randrange(size // 16)
+    line = f"MovWide {op} x{rd} {bits},{shift} {size}" if op else f"MovK x{rd} x{rd} {bits},{shift} {size}"
+    return line, f"{mnemonic} {letter}{rd}, #{bits}, lsl #{shift}"
+
+def alu_rr_imm12(labels):
+    size, letter = sized()
+    op = random.choice(["Add", "Sub", "AddS", "SubS"])
+    rd, rn = named(letter, op in ("AddS", "SubS")), named(letter, False)
+    value = random.randrange(4096) * random.choice([1, 4096])
+    return f"AluRRImm12 {op} {size} {rd[0]} {rn[0]} {value}", f"{MNEMONICS[op]} {rd[1]}, {rn[1]}, #{value}"
+
+def alu_rr_imm_logic(labels):
+    size, letter = sized()
+    op = random.choice(LOGICAL)
+    rd, rn, value = named(letter, op == "AndS"), named(letter, True), bitmask(size)
+    # The operators that invert have no immediate in assembly: they take that of the complement.
+    taken = value ^ ((1 << size) - 1) if op.endswith("Not") else value
+    mnemonic = {"AndNot": "and", "OrrNot": "orr", "EorNot": "eor"}.get(op, MNEMONICS[op])
+    above = random.getrandbits(32) << 32 if size == 32 else 0
+    return f"AluRRImmLogic {op} {size} {rd[0]} {rn[0]} {value + above}", f"{mnemonic} {rd[1]}, {rn[1]}, #{taken}"
+
+def alu_rrr(labels):
+    size, letter = sized()
     op = random.choice(list(MNEMONICS))
     if op in ("SMulH", "UMulH"):
         size, letter = 64, "x"
     rd, rn, rm = register(), register(), register()
     return f"AluRRR {op} {size} x{rd} x{rn} x{rm}", f"{MNEMONICS[op]} {letter}{rd}, {letter}{rn}, {letter}{rm}"
+
+def alu_rrrr(labels):
+    size, letter = sized()
+    op = random.choice(["MAdd", "MSub", "UMAddL", "SMAddL"])
+    rd, rn, rm, ra = register(), register(), register(), register()
+    long = op.endswith("L")
+    wide = "x" if long else letter
+    factor = "w" if long else letter
+    return f"AluRRRR {op} {32 if long else size} x{rd} x{rn} x{rm} x{ra}", f"{op.lower()} {wide}{rd}, {factor}{rn}, {factor}{rm}, {wide}{ra}"
+
+def alu_rr_imm_shift(labels):
+    size, letter = sized()
+    op, rd, rn, amount = random.choice(["Lsl", "Lsr", "Asr", "Extr"]), register(), register(), random.randrange(size)
+    return f"AluRRImmShift {op} {size} x{rd} x{rn} {amount}", f"{MNEMONICS[op]} {letter}{rd}, {letter}{rn}, #{amount}"
+
+def alu_rrr_shift(labels):
+    size, letter = sized()
+    op = random.choice(["Add", "Sub", "AddS", "SubS", "Extr", *LOGICAL])
+    shifts = {"Extr": ["LSL" if size == 32 else "LSR"]}.get(op, ["LSL", "LSR", "ASR", "ROR"][: 4 if op in LOGICAL else 3])
+    rd, rn, rm, shift, amount = register(), register(), register(), random.choice(shifts), random.randrange(size)
+    operands = f"{letter}{rd}, {letter}{rn}, {letter}{rm}"
+    text = f"extr {operands}, #{amount}" if op == "Extr" else f"{MNEMONICS[op]} {operands}, {shift.lower()} #{amount}"
+    return f"AluRRRShift {op} {size} x{rd} x{rn} x{rm} {shift}({amount})", text
+
+def alu_rrr_extend(labels):
+    size, letter = sized()
+    op = random.choice(["Add", "Sub", "AddS", "SubS"])
+    extend = random.choice(["UXTB", "UXTH", "UXTW", "UXTX", "SXTB", "SXTH", "SXTW", "SXTX"])
+    rd, rn, rm = named(letter, op in ("AddS", "SubS")), named(letter, False), register()
+    second = "x" if size == 64 and extend.endswith("X") else "w"
+    return f"AluRRRExtend {op} {size} {rd[0]} {rn[0]} x{rm} {extend}", f"{MNEMONICS[op]} {rd[1]}, {rn[1]}, {second}{rm}, {extend.lower()}"
+
+def bit_rr(labels):
+    size, letter = sized()
+    op, mnemonic = random.choice([
+        ("RBit", "rbit"), ("Clz", "clz"), ("Cls", "cls"), ("Rev16", "rev16"), ("Rev32", "rev32" if size == 64 else "rev"), ("Rev64", "rev"),
+    ])
+    if op == "Rev64":
+        size, letter = 64, "x"
+    rd, rn = register(), register()
+    return f"BitRR {op} {size} x{rd} x{rn}", f"{mnemonic} {letter}{rd}, {letter}{rn}"
+
+def move(labels):
+    rd, rm, fixed = random.randrange(31), register(), random.choice([21, 29, 30])
+    return random.choice([
+        (f"Mov 32 x{rd} x{rm}", f"mov w{rd}, w{rm}"), (f"Mov 64 x{rm} x{rd}", f"mov x{rm}, x{rd}"),
+        (f"Mov 64 x{rd} sp", f"mov x{rd}, sp"), (f"MovFromPReg x{rd} sp", f"mov x{rd}, sp"),
+        (f"MovFromPReg x{rm} x{fixed}", f"mov x{rm}, x{fixed}"), (f"MovToPReg x{fixed} x{rm}", f"mov x{fixed}, x{rm}"),
+        (f"MovToPReg x{fixed} sp", f"mov x{fixed}, sp"),
+    ])
+
+def select(labels):
+    rd, rn, rm, place = register(), register(), register(), random.randrange(16)
+    cond, inverted = CONDITIONS[place], CONDITIONS[place ^ 1].lower()
+    return random.choice([
+        (f"CSel x{rd} x{rn} x{rm} {cond}", f"csel x{rd}, x{rn}, x{rm}, {cond.lower()}"),
+        (f"CSNeg x{rd} x{rn} x{rm} {cond}", f"csneg x{rd}, x{rn}, x{rm}, {cond.lower()}"),
+        (f"CSet x{rd} {cond}", f"csinc x{rd}, xzr, xzr, {inverted}"),
+        (f"CSetm x{rd} {cond}", f"csinv x{rd}, xzr, xzr, {inverted}"),
+    ])
+
+def compare(labels):
+    size, letter = sized()
+    rn, rm, flags, cond = register(), register(), random.randrange(16), random.choice(CONDITIONS)
+    if random.randrange(2):
+        return f"CCmp {size} x{rn} x{rm} {flags} {cond}", f"ccmp {letter}{rn}, {letter}{rm}, #{flags}, {cond.lower()}"
+    value = random.randrange(32)
+    return f"CCmpImm {size} x{rn} {value} {flags} {cond}", f"ccmp {letter}{rn}, #{value}, #{flags}, {cond.lower()}"
+
+def extend(labels):
+    signed, end = random.randrange(2), random.randrange(1, 65)
+    start = random.choice([1, 8, 16, 32, random.randrange(1, 65)])
+    start = min(start, end) if signed else min(start, end, 32)
+    rn = register()
+    rd = named("x", False) if not signed and start == 1 else named("x", True)
+    if not signed and (start, end) == (32, 64):
+        rd = (f"x{random.randrange(31)}",) * 2
+    line = f"Extend {rd[0]} x{rn} {'true' if signed else 'false'} {start} {end}"
+    if not signed and start == 1:
+        return line, f"and {rd[1]}, x{rn}, #1".replace("x", "w").replace("sp", "wsp")
+    if not signed and (start, end) == (32, 64):
+        return line, f"mov {rd[1]}, x{rn}".replace("x", "w")
+    if signed and end > 32:
+        return line, f"sbfm {rd[1]}, x{rn}, #0, #{start - 1}"
+    return line, f"{'sbfm' if signed else 'ubfm'} {rd[1]}, x{rn}, #0, #{start - 1}".replace("x", "w")
+
+def bitfield(labels):
+    size, letter = sized()
+    op, rd, rn, turn, top = random.choice(["UBfm", "SBfm", ""]), register(), register(), random.randrange(size), random.randrange(size)
+    line = f"BitfieldMove {size} {op} x{rd} x{rn} {turn} {top}" if op else f"BitfieldMoveMod {size} x{rd} x{rd} x{rn} {turn} {top}"
+    return line, f"{op.lower() or 'bfm'} {letter}{rd}, {letter}{rn}, #{turn}, #{top}"
+
+def address(labels):
+    rd, offset = register(), random.randrange(-2**20 + 1, 2**20)
+    return f"Adr x{rd} {offset}", f"adr x{rd}, .{offset:+d}"
+
+KINDS = [
+    jump, alone, move_wide, alu_rr_imm12, alu_rr_imm_logic, alu_rrr, alu_rrrr, alu_rr_imm_shift, alu_rrr_shift, alu_rrr_extend,
+    bit_rr, move, select, compare, extend, bitfield, address,
+]
+
+def item(labels):
+    """A line of the program's file, and one of assembly."""
+    return random.choice(KINDS)(labels)
 
 labels = max(1, count // 10)
 items = [item(labels) for _ in range(count)]

@@ -1,0 +1,39 @@
+#!/usr/bin/env bash
+# Holds the program against vectors: single lines with the words, or the refusal, that they must give.
+# Usage: bench/vectors.sh FOLDER
+# FOLDER has words.tsv and refusals.tsv. A row is a number, a line of a file, and the words of its code in hex, or the line on
+# standard error. Words behind " | " are those of a form that does not exist yet. Rows of instructions that do not exist are left out.
+set -eu
+cd "$(dirname "$0")/.."
+folder=$(cd "$OLDPWD" && cd "${1:?a folder of vectors}" && pwd)
+(cd crates/a64_cli && rt run </dev/null >/dev/null 2>&1)
+
+python3 - "$folder" <<'P'
+import re, subprocess, sys
+folder = sys.argv[1]
+source = open("crates/a64_inst/src/inst.rt").read()
+names = set(re.findall(r"^    (\w+)(?: \{|,)$", source[source.index("pub enum Inst"):source.index("impl Inst")], re.M))
+
+def rows(name):
+    for row in open(f"{folder}/{name}"):
+        _, line, answer = row.rstrip("\n").split("\t")
+        if line.split(" ")[0] in names:
+            yield line, answer.split(" | ")[0]
+
+def run(line):
+    return subprocess.run(["crates/a64_cli/out/a64_cli"], input=line.encode(), capture_output=True)
+
+def words(report):
+    return " ".join(row.split(b" ")[2].decode() for row in report.splitlines() if row.startswith(b"word "))
+
+judged = different = 0
+for name, given in ("words.tsv", lambda run: words(run.stdout)), ("refusals.tsv", lambda run: run.stderr.decode().rstrip("\n")):
+    for line, answer in rows(name):
+        judged += 1
+        ours = given(run(line))
+        if ours != answer:
+            different += 1
+            print(f"{line}: {ours!r}, and not {answer!r}")
+print(f"{judged} vectors of {len(names)} instructions, {different} different")
+sys.exit(different != 0 or not judged)
+P
