@@ -4,7 +4,7 @@ use Rattle.a64_emit.specs.declared.code.Code.{Code}
 use Rattle.a64_emit.specs.declared.error.EmitError.{EmitError}
 use Rattle.a64_cli.specs.declared.command.Command.{Command}
 use Rattle.a64_cli.specs.declared.command.Command.TheVariants.{Asm}
-use Rattle.a64_cli.specs.declared.file.File.{File}
+use Rattle.a64_text.specs.declared.file.File.{File}
 use Rattle.a64_cli.specs.declared.ran.Fault.{Fault}
 use Rattle.a64_cli.specs.declared.ran.Fault.TheVariants as faults
 use Rattle.a64_cli.specs.Commands.{contents_fault, file_fault}

@@ -1,14 +1,3 @@
-pub mod Decimals
-pub mod Signed
-pub mod Guesses
-pub mod Registers
-pub mod Wides
-pub mod Logics
-pub mod Splits
-pub mod Entries
-pub mod Sequences
-pub mod Givens
-pub mod Lines
 pub mod Ending
 pub mod Numbered
 pub mod Inputs

@@ -8,9 +8,9 @@ use Rattle.a64_emit.specs.Assembled.{IsAssembled}
 use Rattle.a64_emit.specs.Faults.{fault_of}
 use Rattle.a64_cli.specs.declared.command.Command.{Command}
 use Rattle.a64_cli.specs.declared.command.Command.TheVariants.{Asm}
-use Rattle.a64_cli.specs.declared.file.File.{File}
-use Rattle.a64_cli.specs.States.{Contents, contents_of}
-use Rattle.a64_cli.specs.FileText.{IsFile}
+use Rattle.a64_text.specs.declared.file.File.{File}
+use Rattle.a64_text.specs.States.{Contents, contents_of}
+use Rattle.a64_text.specs.FileText.{IsFile}
 use Rattle.a64_cli.specs.Report.{report_of}
 
 -- the words of the command

@@ -1,14 +1,3 @@
-pub mod Reads
-pub mod Operators
-pub mod Fields
-pub mod PlainLaws
-pub mod Tokens
-pub mod Names
-pub mod ReadsAs
-pub mod States
-pub mod FileText
-pub mod AddsLine
-pub mod Reading
 pub mod Report
 pub mod Streams
 pub mod Commands

@@ -6,10 +6,10 @@ use Rattle.a64_emit.specs.declared.error.EmitError.{EmitError}
 use Rattle.a64_emit.specs.declared.error.EmitError.TheVariants as errors
 use Rattle.a64_cli.specs.declared.command.Command.{Command}
 use Rattle.a64_cli.specs.declared.command.Command.TheVariants.{Asm}
-use Rattle.a64_cli.specs.declared.file.File.{File}
+use Rattle.a64_text.specs.declared.file.File.{File}
 use Rattle.a64_cli.specs.declared.ran.Fault.{Fault}
 use Rattle.a64_cli.specs.declared.ran.Fault.TheVariants as faults
-use Rattle.a64_cli.specs.FileText.{IsFile, IsFirstBad}
+use Rattle.a64_text.specs.FileText.{IsFile, IsFirstBad}
 use Rattle.a64_cli.specs.Commands.{limit, file_fault, IsInput, IsMade}
 use Rattle.a64_cli.specs.Streams.{Takes, TakesPart}
 

@@ -5,11 +5,11 @@ use Rattle.a64_emit.specs.declared.code.Code.{Code}
 use Rattle.a64_emit.specs.declared.error.EmitError.TheVariants as errors
 use Rattle.a64_cli.specs.declared.command.Command.{Command}
 use Rattle.a64_cli.specs.declared.command.Command.TheVariants.{Asm}
-use Rattle.a64_cli.specs.declared.file.File.{File}
+use Rattle.a64_text.specs.declared.file.File.{File}
 use Rattle.a64_cli.specs.declared.ran.Fault.{Fault}
 use Rattle.a64_cli.specs.declared.ran.Fault.TheVariants as faults
-use Rattle.a64_cli.specs.States.{contents_of}
-use Rattle.a64_cli.specs.FileText.{IsFile, IsFirstBad}
+use Rattle.a64_text.specs.States.{contents_of}
+use Rattle.a64_text.specs.FileText.{IsFile, IsFirstBad}
 use Rattle.a64_cli.specs.Report.{report_of}
 use Rattle.a64_cli.specs.Streams.{HasFailed, Takes, TakesPart}
 use Rattle.a64_cli.specs.Commands.{limit, IsCommand, OfCommand, assembly_fault, file_fault, IsCodeOf, IsMade}

@@ -4,9 +4,9 @@ ghost use Rattle.std.specs.Prelude.{◌^◌, ◌<◌, length, IfOk, IfErr};
 ghost use Rattle.a64_cli.specs.Stages.{IsReported, IsAssemblyFault};
 
 use crate::command::Command;
-use crate::file::File;
 use crate::ran::Fault;
 use crate::report::report;
+use a64_text::File;
 use a64_emit::{Code, EmitError, assemble};
 use std::alloc::Global;
 

@@ -7,10 +7,9 @@ ghost use Rattle.a64_cli.specs.Run.{Held, TakesFew, IsDueAnswer};
 ghost use Rattle.a64_cli.specs.Stages.{HasRead, TakesBehind, TakesAtMost, IsWhole, IsFileOf, IsTextDue, IsParsed, IsReadFault, IsTextFault, IsInputFault, IsDueInput};
 
 use crate::command::Command;
-use crate::file::{File, FileError};
 use crate::ran::Fault;
-use crate::read::read_file;
 use crate::stream::Source;
+use a64_text::{File, FileError, read_file};
 use std::alloc::Global;
 
 /// The most bytes that a file may have.

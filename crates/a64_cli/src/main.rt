@@ -5,16 +5,12 @@
 mod adapter;
 mod assembling;
 mod command;
-mod entry;
 mod fault_lines;
-mod file;
 mod input;
 mod making;
 mod memory;
-mod name;
 mod output;
 mod ran;
-mod read;
 mod report;
 mod report_text;
 mod run;

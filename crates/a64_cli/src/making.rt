@@ -6,8 +6,8 @@ ghost use Rattle.a64_cli.specs.Stages.{IsFileFault};
 
 use crate::assembling::assemble_file;
 use crate::command::Command;
-use crate::file::File;
 use crate::ran::Fault;
+use a64_text::File;
 use a64_emit::Code;
 use std::alloc::Global;
 

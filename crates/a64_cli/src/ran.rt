@@ -3,7 +3,7 @@
 ghost use Rattle.std.specs.Prelude.{◌≡◌, None, Some};
 ghost use Rattle.a64_cli.specs.Run.{status_of};
 
-use crate::file::File;
+use a64_text::File;
 use a64_emit::{Code, EmitError};
 
 /// Why a run did not end with status 0.

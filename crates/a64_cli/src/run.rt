@@ -10,12 +10,12 @@ ghost use Rattle.a64_cli.specs.Stages.{Ends, EndsWriting};
 
 use crate::command::{Command, command_of};
 use crate::fault_lines::line_of_fault;
-use crate::file::File;
 use crate::input::input_of;
 use crate::making::{Made, make};
 use crate::output::write_all;
 use crate::ran::{Fault, Ran};
 use crate::stream::{Failed, Sink, Source};
+use a64_text::File;
 use std::alloc::Global;
 
 /// Writes what was made of a file.

@@ -1,5 +1,0 @@
-use Rattle.a64_cli.proofs.Givens.{has_none}
-use Rattle.a64_cli.proofs.read.state.start_state.Goals as goal
-
-pub returns : goal.returns
-returns c = record { file = c.empty_file.ensures; given = has_none c.new.result c.new.ensures.empty }

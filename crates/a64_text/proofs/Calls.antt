@@ -1,0 +1,89 @@
+-- Names with something in parentheses behind them.
+use Rattle.std.proofs.Common.{Bor, ◌≡◌, ℕ, ◌<◌, Bool, true, false, List, [], ◌∷◌, ◌++◌, length, length-append, eqb, Option, Some, None, refl, sym, ap, subst, ◌∙◌, arith}
+use Rattle.std.specs.Prelude.{MatchOption}
+use Rattle.std.specs.List.{slice_split, join_with_byte, onto_first}
+use Rattle.std.proofs.lemmas.List.Splits.{join_with_byte-slice_split, slice_split-cons_yes, slice_split-cons_no}
+use Rattle.a64_text.specs.Fields.{HasNo, IsCall, call_text}
+use Rattle.a64_text.specs.Reads.{Reads}
+use Rattle.a64_text.proofs.Splits.{split_at, parts_left}
+
+abbrev split : List ℕ → List (List ℕ)
+split token = slice_split (λ b. eqb b 40) token
+
+abbrev join : List (List ℕ) → List ℕ
+join tokens = join_with_byte 40 tokens
+
+heads : {A : Type 0} (a b : A) (xs ys : List A) → a ∷ xs ≡ b ∷ ys → (a ≡ b) × (xs ≡ ys)
+heads a b xs ys e = (cc, cc)
+
+same_split : (a b : List ℕ) → split a ≡ split b → a ≡ b
+same_split a b e = sym (join_with_byte-slice_split 40 a) ∙ ap join e ∙ join_with_byte-slice_split 40 b
+
+-- the last byte, and those before it
+same_last : (xs ys : List ℕ) (x y : ℕ) → xs ++ x ∷ [] ≡ ys ++ y ∷ [] → (xs ≡ ys) × (x ≡ y)
+same_last [] [] x y e = (refl, cc)
+same_last [] (b ∷ ys) x y e = absurd (omega (arith, length-append ys (y ∷ []), ap (λ (t : List ℕ). length t) e))
+same_last (a ∷ xs) [] x y e = absurd (omega (arith, length-append xs (x ∷ []), ap (λ (t : List ℕ). length t) e))
+same_last (a ∷ xs) (b ∷ ys) x y e =
+    let both = heads a b (xs ++ x ∷ []) (ys ++ y ∷ []) e in
+    let rest = same_last xs ys x y both.1 in
+    (rw (both.0, rest.0) refl, rest.1)
+
+-- the first part has no parenthesis
+next_plain : (b : ℕ) (w name : List ℕ) (ws : List (List ℕ)) → ((v : List ℕ) (vs : List (List ℕ)) → split w ≡ v ∷ vs → HasNo 40 v) → split (b ∷ w) ≡ name ∷ ws → (test : Bool) → eqb b 40 ≡ test → (vs : List (List ℕ)) → split w ≡ vs → HasNo 40 name
+next_plain b w name ws plain e true is vs s = subst (λ (u : List ℕ). HasNo 40 u) (heads [] name (split w) ws (sym (slice_split-cons_yes (λ c. eqb c 40) b w is) ∙ e)).0 refl
+next_plain b w name ws plain e false is [] s = absurd (omega (arith, parts_left 40 w, ap (λ (u : List (List ℕ)). length u) s))
+next_plain b w name ws plain e false is (v ∷ vs) s =
+    let both = heads (b ∷ v) name vs ws (sym (slice_split-cons_no (λ c. eqb c 40) b w is ∙ ap (λ (u : List (List ℕ)). onto_first b u) s) ∙ e) in
+    subst (λ (u : List ℕ). HasNo 40 u) both.0 (rw (is, plain v vs s) refl)
+
+first_plain : (w name : List ℕ) (ws : List (List ℕ)) → split w ≡ name ∷ ws → HasNo 40 name
+first_plain [] name ws e = subst (λ (t : List ℕ). HasNo 40 t) (heads [] name [] ws e).0 refl
+first_plain (b ∷ w) name ws e = next_plain b w name ws (λ v vs s. first_plain w v vs s) e (eqb b 40) refl (split w) refl
+
+-- what is cut off at the first parenthesis, where there is one
+abbrev pub IsFront : List ℕ → List ℕ → Option (Bor (List ℕ)) → Type 0
+IsFront token name more = MatchOption more (split token ≡ name ∷ []) (λ rest. (split token ≡ name ∷ split rest.now) × (length rest.now < length token))
+
+module _ (token name : List ℕ) where
+  -- no parenthesis
+  pub no_call : (more : Option (Bor (List ℕ))) → more ≡ None → IsFront token name more → Reads IsCall call_text token None
+  no_call (Some rest) is cut = absurd cc
+  no_call None is cut = record {
+    some = tt;
+    only = λ x fits e.
+        let two : split token ≡ x.0 ∷ split (x.1 ++ 41 ∷ []) = ap split e ∙ split_at 40 x.0 (x.1 ++ 41 ∷ []) fits in
+        let none : [] ≡ split (x.1 ++ 41 ∷ []) = (heads name x.0 [] (split (x.1 ++ 41 ∷ [])) (sym cut ∙ two)).1 in
+        absurd (omega (arith, parts_left 40 (x.1 ++ 41 ∷ []), ap (λ (t : List (List ℕ)). length t) none));
+  }
+
+  pub behind : (more : Option (Bor (List ℕ))) (rest : Bor (List ℕ)) → more ≡ Some rest → IsFront token name more → split token ≡ name ∷ split rest.now
+  behind None rest is cut = absurd cc
+  behind (Some other) rest is cut = let same : other ≡ rest = cc in cut.0 ∙ ap (λ (t : Bor (List ℕ)). name ∷ split t.now) same
+
+  module _ (rest : List ℕ) (cut : split token ≡ name ∷ split rest) where
+    call_is : (x : List ℕ × List ℕ) → IsCall x → token ≡ call_text x → (name ≡ x.0) × (rest ≡ x.1 ++ 41 ∷ [])
+    call_is x fits e =
+        let both = heads name x.0 (split rest) (split (x.1 ++ 41 ∷ [])) (sym cut ∙ ap split e ∙ split_at 40 x.0 (x.1 ++ 41 ∷ []) fits) in
+        (both.0, same_split rest (x.1 ++ 41 ∷ []) both.1)
+
+    -- nothing behind the parenthesis
+    pub no_end : length rest ≡ 0 → Reads IsCall call_text token None
+    no_end none = record { some = tt; only = λ x fits e. absurd (omega (arith, length-append x.1 (41 ∷ []), none, ap (λ (t : List ℕ). length t) (call_is x fits e).1)) }
+
+    module _ (inside : List ℕ) (last : ℕ) (is : rest ≡ inside ++ last ∷ []) where
+      pub other_end : (last ≡ 41 → ⊥) → Reads IsCall call_text token None
+      other_end apart = record { some = tt; only = λ x fits e. absurd (apart (same_last inside x.1 last 41 (sym is ∙ (call_is x fits e).1)).1) }
+
+      pub is_call : last ≡ 41 → Reads IsCall call_text token (Some (name, inside))
+      is_call ends = record {
+        some = (first_plain token name (split rest) cut, sym (join_with_byte-slice_split 40 token) ∙ ap join cut ∙ joined (split rest) (parts_left 40 rest) ∙ ap (λ (t : List ℕ). name ++ 40 ∷ t) (join_with_byte-slice_split 40 rest ∙ is ∙ ap (λ (b : ℕ). inside ++ b ∷ []) ends));
+        only = λ x fits e.
+            let both = call_is x fits e in
+            let insides : inside ≡ x.1 = (same_last inside x.1 last 41 (sym is ∙ both.1)).0 in
+            ap (λ (t : List ℕ). Some (t, inside)) both.0 ∙ ap (λ (t : List ℕ). Some (x.0, t)) insides;
+      }
+        where
+          joined : (ws : List (List ℕ)) → 0 < length ws → join (name ∷ ws) ≡ name ++ 40 ∷ join ws
+          joined [] h = absurd (omega (arith, h))
+          joined (v ∷ ws) h = refl

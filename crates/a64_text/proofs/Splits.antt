@@ -1,0 +1,87 @@
+-- Texts that are cut at a byte, and joined by it.
+use Rattle.std.proofs.Common.{Bor, ◌≡◌, ℕ, ◌+◌, ◌<◌, Bool, true, false, eqb, List, [], ◌∷◌, ◌++◌, length, get_or, take, drop, Some, None, refl, sym, ap, ◌∙◌, arith, add-one}
+use Rattle.std.specs.Prelude.{◌||◌}
+use Rattle.std.specs.List.{slice_split, join_with_byte, list_any, onto_first, AllByRecursion}
+use Rattle.std.proofs.lemmas.List.{take-append-drop}
+use Rattle.std.proofs.Math.Seq.{drop-cons}
+use Rattle.std.proofs.lemmas.Bool.{eq-eqb}
+use Rattle.std.proofs.lemmas.List.Elements.{All-from_recursion}
+use Rattle.std.proofs.lemmas.List.Splits.{slice_split_none, slice_split_at, slice_split-cons_no, length-slice_split}
+use Rattle.a64_text.specs.Fields.{HasNo}
+use Rattle.a64_text.specs.Splitting.{lines_of, first, others, first_line, line_tokens, lines_behind, IsCut}
+
+neither : (a b : Bool) → (a || b) ≡ false → (a ≡ false) × (b ≡ false)
+neither true b h = absurd cc
+neither false b h = (refl, h)
+
+apart : (c : ℕ) (xs : List ℕ) → HasNo c xs → AllByRecursion (λ b. eqb b c ≡ false) xs
+apart c [] h = tt
+apart c (x ∷ xs) h = let n = neither (eqb x c) (list_any (λ b. eqb b c) xs) h in (n.0, apart c xs n.1)
+
+pub split_none : (c : ℕ) (xs : List ℕ) → HasNo c xs → slice_split (λ b. eqb b c) xs ≡ xs ∷ []
+split_none c xs h = slice_split_none (λ b. eqb b c) xs (All-from_recursion (λ b. eqb b c ≡ false) xs (apart c xs h))
+
+pub split_at : (c : ℕ) (xs ys : List ℕ) → HasNo c xs → slice_split (λ b. eqb b c) (xs ++ c ∷ ys) ≡ xs ∷ slice_split (λ b. eqb b c) ys
+split_at c xs ys h = slice_split_at (λ b. eqb b c) xs c ys (All-from_recursion (λ b. eqb b c ≡ false) xs (apart c xs h)) (eq-eqb c c refl)
+
+-- what was joined is split again
+pub split-join : (c : ℕ) (w : List ℕ) (ws : List (List ℕ)) → AllByRecursion (HasNo c) (w ∷ ws) → slice_split (λ b. eqb b c) (join_with_byte c (w ∷ ws)) ≡ w ∷ ws
+split-join c w [] h = split_none c w h.0
+split-join c w (v ∷ ws) h = split_at c w (join_with_byte c (v ∷ ws)) h.0 ∙ ap (λ (t : List (List ℕ)). w ∷ t) (split-join c v ws h.1)
+
+-- a text in two parts, at a byte
+parts_at : (c i : ℕ) (text : List ℕ) → i < length text → get_or text i 0 ≡ c → text ≡ take i text ++ (c ∷ drop (i + 1) text)
+parts_at c i text lt e = sym (take-append-drop i text) ∙ ap (λ (t : List ℕ). take i text ++ t) (drop-cons text i 0 lt ∙ rw (e, add-one) refl)
+
+pub cut_at : (c i : ℕ) (text : List ℕ) → i < length text → get_or text i 0 ≡ c → HasNo c (take i text) → slice_split (λ b. eqb b c) text ≡ take i text ∷ slice_split (λ b. eqb b c) (drop (i + 1) text)
+cut_at c i text lt e h =
+    ap (λ (t : List ℕ). slice_split (λ b. eqb b c) t) (parts_at c i text lt e) ∙ split_at c (take i text) (drop (i + 1) text) h
+
+-- a text has a part at least
+pub parts_left : (c : ℕ) (text : List ℕ) → 0 < length (slice_split (λ b. eqb b c) text)
+parts_left c text = omega (arith, length-slice_split (λ b. eqb b c) text)
+
+-- ---- lines and tokens of a text
+
+whole : (ts : List (List ℕ)) → 0 < length ts → ts ≡ first ts ∷ others ts
+whole [] h = absurd (omega (arith, h))
+whole (t ∷ ts) h = refl
+
+-- what has no separator stands in front of the first part
+pub front_split : (c : ℕ) (xs ys : List ℕ) → HasNo c xs → slice_split (λ b. eqb b c) (xs ++ ys) ≡ (xs ++ first (slice_split (λ b. eqb b c) ys)) ∷ others (slice_split (λ b. eqb b c) ys)
+front_split c [] ys h = whole (slice_split (λ b. eqb b c) ys) (parts_left c ys)
+front_split c (x ∷ xs) ys h =
+    let n = neither (eqb x c) (list_any (λ b. eqb b c) xs) h in
+    slice_split-cons_no (λ b. eqb b c) x (xs ++ ys) n.0 ∙ ap (λ (ts : List (List ℕ)). onto_first x ts) (front_split c xs ys n.1)
+
+-- the first line, and those behind it
+pub lines_whole : (text : List ℕ) → lines_of text ≡ first_line text ∷ lines_behind text
+lines_whole text = whole (lines_of text) (parts_left 10 text)
+
+module _ (i : ℕ) (text : List ℕ) (no_space : HasNo 32 (take i text)) (no_feed : HasNo 10 (take i text)) where
+  pub at_space : (rest : Bor (List ℕ)) → i < length text → get_or text i 0 ≡ 32 → rest.now ≡ drop (i + 1) text → IsCut line_tokens lines_behind text (take i text) (Some rest) None
+  at_space rest lt e is =
+      let front = take i text in
+      let feeds = front_split 10 (32 ∷ []) (drop (i + 1) text) refl in
+      let lines : lines_of text ≡ (front ++ 32 ∷ first_line (drop (i + 1) text)) ∷ lines_behind (drop (i + 1) text) =
+      ap lines_of (parts_at 32 i text lt e) ∙ front_split 10 front (32 ∷ drop (i + 1) text) no_feed ∙ ap (λ (ts : List (List ℕ)). (front ++ first ts) ∷ others ts) feeds in
+      record {
+        token_first = ap (λ (ts : List (List ℕ)). slice_split (λ b. eqb b 32) (first ts)) lines ∙ split_at 32 front (first_line (drop (i + 1) text)) no_space ∙ ap (λ (t : List ℕ). front ∷ line_tokens t) (sym is);
+        same_lines = ap others lines ∙ ap lines_behind (sym is);
+      }
+
+  pub at_feed : (rest : Bor (List ℕ)) → i < length text → get_or text i 0 ≡ 10 → rest.now ≡ drop (i + 1) text → IsCut line_tokens lines_behind text (take i text) None (Some rest)
+  at_feed rest lt e is =
+      let lines = cut_at 10 i text lt e no_feed in
+      record {
+        token_first = ap (λ (ts : List (List ℕ)). slice_split (λ b. eqb b 32) (first ts)) lines ∙ split_none 32 (take i text) no_space;
+        same_lines = ap others lines ∙ ap lines_of (sym is);
+      }
+
+pub at_end : (text : List ℕ) → HasNo 32 text → HasNo 10 text → IsCut line_tokens lines_behind text text None None
+at_end text no_space no_feed =
+    let lines = split_none 10 text no_feed in
+    record {
+      token_first = ap (λ (ts : List (List ℕ)). slice_split (λ b. eqb b 32) (first ts)) lines ∙ split_none 32 text no_space;
+      same_lines = ap others lines;
+    }

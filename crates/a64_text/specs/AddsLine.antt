@@ -1,0 +1,48 @@
+-- What taking a line into the state of the reader does.
+use Rattle.std.specs.Prelude.{◌≡◌, ◌↔◌, List, ℕ, Bool, true, false, Option, Some, None, IfSome, IsSomeAnd}
+use Rattle.std.proofs.Common.{Bor}
+use Rattle.std.specs.BTreeSet.{BTreeSet, contains}
+use Rattle.std.specs.List.{Contains, cons_option}
+use Rattle.std.specs.declared.cmp.Ordering.{Ordering}
+use Rattle.a64_text.specs.declared.entry.Entry.{Entry}
+use Rattle.a64_text.specs.declared.entry.OnceName.{OnceName}
+use Rattle.a64_text.specs.declared.state.ReaderState.{ReaderState}
+use Rattle.a64_text.specs.contracts.entry.OnceNameOrd.TheImpl as order
+use Rattle.a64_text.specs.Reads.{Reads}
+use Rattle.a64_text.specs.Splitting.{lines_of, first_line, lines_behind, of_text}
+use Rattle.a64_text.specs.Tokens.{line_of, IsEntry}
+use Rattle.a64_text.specs.States.{contents_of, State, MayStand, state_after}
+
+-- the order in which the reader keeps the names
+abbrev pub once_cmp : OnceName → OnceName → Ordering
+once_cmp = (order.ghosts).cmp
+
+-- the set has these names and no others
+abbrev pub HasNames : BTreeSet OnceName → List OnceName → Type 0
+HasNames set names = (name : OnceName) → (contains once_cmp set name ≡ true) ↔ Contains names name
+
+-- the reader's state is what was said
+pub record Holds (reader : ReaderState) (state : State) : Type 0 where
+  pub file : contents_of reader.file ≡ state.file
+  pub given : HasNames reader.given state.given
+
+-- true: the set had not the name, and has it now. False: it had the name
+abbrev pub AddsName : BTreeSet OnceName → BTreeSet OnceName → Option OnceName → Bool → Type 0
+AddsName old new name true = (names : List OnceName) → HasNames old names → IfSome name (λ n. ¬ Contains names n) × HasNames new (cons_option name names)
+AddsName old new name false = (names : List OnceName) → HasNames old names → IsSomeAnd name (Contains names)
+
+-- the line is the entry and no other, which may stand there; the state is now the one behind it
+pub record Added (old new : ReaderState) (line : List ℕ) (entry : Entry) : Type 0 where
+  pub read : Reads IsEntry line_of line (Some entry)
+  pub stands : (state : State) → Holds old state → MayStand state entry
+  pub holds : (state : State) → Holds old state → Holds new (state_after state entry)
+
+-- no entry that the line is may stand there
+abbrev pub AddsNothing : ReaderState → List ℕ → Type 0
+AddsNothing old line = (e : Entry) → IsEntry e → line ≡ line_of e → (state : State) → Holds old state → ¬ MayStand state e
+
+-- Some: the first line of the text is taken into the state, and these are the lines behind it. None: it
+-- is no entry that may stand there
+abbrev pub AddsLine : ReaderState → ReaderState → List ℕ → Option (Option (Bor (List ℕ))) → Type 0
+AddsLine old new text (Some lines) = ((entry : Entry) × Added old new (first_line text) entry) × (of_text lines_of lines ≡ lines_behind text)
+AddsLine old new text None = AddsNothing old (first_line text)

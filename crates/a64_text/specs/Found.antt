@@ -1,0 +1,58 @@
+-- Each operator, shift, extension and condition stands where its name leads.
+use Rattle.std.specs.Prelude.{◌≡◌, map, Bool, true, Some, refl}
+use Rattle.a64_ops.specs.declared.operator.ALUOp.{ALUOp}
+use Rattle.a64_ops.specs.declared.operator.ALUOp.TheVariants as alu_ops
+use Rattle.a64_ops.specs.declared.operator.ALUOp3.{ALUOp3}
+use Rattle.a64_ops.specs.declared.operator.ALUOp3.TheVariants as alu_op3s
+use Rattle.a64_ops.specs.declared.operator.BitOp.{BitOp}
+use Rattle.a64_ops.specs.declared.operator.BitOp.TheVariants as bit_ops
+use Rattle.a64_ops.specs.declared.operator.BfmOp.{BfmOp}
+use Rattle.a64_ops.specs.declared.operator.BfmOp.TheVariants as bfm_ops
+use Rattle.a64_ops.specs.declared.operator.MoveWideOp.{MoveWideOp}
+use Rattle.a64_ops.specs.declared.operator.MoveWideOp.TheVariants as move_wide_ops
+use Rattle.a64_base.specs.declared.shift.ShiftOp.{ShiftOp}
+use Rattle.a64_base.specs.declared.shift.ShiftOp.TheVariants as shift_ops
+use Rattle.a64_base.specs.declared.shift.ExtendOp.{ExtendOp}
+use Rattle.a64_base.specs.declared.shift.ExtendOp.TheVariants as extends
+use Rattle.a64_base.specs.declared.cond.Cond.{Cond}
+use Rattle.a64_base.specs.declared.cond.Cond.TheVariants as conds
+use Rattle.a64_text.specs.declared.operator.TheConstants.{ALU_OP_HOMES, ALU_OPS, ALU_OP3_HOMES, ALU_OP3S, BIT_OP_HOMES, BIT_OPS, BFM_OP_HOMES, BFM_OPS, MOVE_WIDE_OP_HOMES, MOVE_WIDE_OPS}
+use Rattle.a64_text.specs.declared.modifier.TheConstants.{SHIFT_OP_HOMES, SHIFT_OPS, EXTEND_HOMES, EXTENDS, COND_HOMES, CONDS, BOOL_HOMES, BOOLS}
+use Rattle.a64_text.specs.Hash.{look_up}
+use Rattle.a64_text.specs.Operators.{alu_op_text, alu_op3_text, bit_op_text, bfm_op_text, move_wide_op_text, shift_op_text, extend_text, cond_text, bool_text}
+
+pub alu_op_found : (x : ALUOp) → look_up ALU_OP_HOMES (map (λ row. row.2) ALU_OPS) (alu_op_text x) ≡ Some x
+alu_op_found alu_ops.Add = refl
+alu_op_found _ = refl
+
+pub alu_op3_found : (x : ALUOp3) → look_up ALU_OP3_HOMES (map (λ row. row.2) ALU_OP3S) (alu_op3_text x) ≡ Some x
+alu_op3_found alu_op3s.MAdd = refl
+alu_op3_found _ = refl
+
+pub bit_op_found : (x : BitOp) → look_up BIT_OP_HOMES (map (λ row. row.2) BIT_OPS) (bit_op_text x) ≡ Some x
+bit_op_found bit_ops.RBit = refl
+bit_op_found _ = refl
+
+pub bfm_op_found : (x : BfmOp) → look_up BFM_OP_HOMES (map (λ row. row.2) BFM_OPS) (bfm_op_text x) ≡ Some x
+bfm_op_found bfm_ops.UBfm = refl
+bfm_op_found _ = refl
+
+pub move_wide_op_found : (x : MoveWideOp) → look_up MOVE_WIDE_OP_HOMES (map (λ row. row.2) MOVE_WIDE_OPS) (move_wide_op_text x) ≡ Some x
+move_wide_op_found move_wide_ops.MovZ = refl
+move_wide_op_found _ = refl
+
+pub shift_op_found : (x : ShiftOp) → look_up SHIFT_OP_HOMES (map (λ row. row.2) SHIFT_OPS) (shift_op_text x) ≡ Some x
+shift_op_found shift_ops.LSL = refl
+shift_op_found _ = refl
+
+pub extend_found : (x : ExtendOp) → look_up EXTEND_HOMES (map (λ row. row.2) EXTENDS) (extend_text x) ≡ Some x
+extend_found extends.UXTB = refl
+extend_found _ = refl
+
+pub cond_found : (x : Cond) → look_up COND_HOMES (map (λ row. row.2) CONDS) (cond_text x) ≡ Some x
+cond_found conds.Eq = refl
+cond_found _ = refl
+
+pub bool_found : (x : Bool) → look_up BOOL_HOMES (map (λ row. row.2) BOOLS) (bool_text x) ≡ Some x
+bool_found true = refl
+bool_found _ = refl

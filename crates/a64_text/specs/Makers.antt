@@ -1,0 +1,75 @@
+-- From the fields behind a name to the entry that they make.
+use Rattle.std.specs.Prelude.{◌≡◌, ◌≤◌, List, length, map, Option, Some, None, IfSome, refl}
+use Rattle.std.proofs.Common.{lit≤, sym, ap, ◌∙◌}
+use Rattle.std.specs.List.{AllByRecursion}
+use Rattle.a64_base.specs.declared.entity.UserStackMap.{UserStackMap}
+use Rattle.a64_inst.specs.declared.inst.Inst.{Inst}
+use Rattle.a64_inst.specs.declared.inst.Inst.TheVariants as insts
+use Rattle.a64_inst.specs.declared.item.Item.TheVariants.{Bind, Emit}
+use Rattle.a64_text.specs.declared.entry.Entry.{Entry}
+use Rattle.a64_text.specs.declared.entry.Entry.TheVariants as entries
+use Rattle.a64_text.specs.declared.name.ControlName.TheVariants as control
+use Rattle.a64_text.specs.declared.name.IntegerName.TheVariants as integer
+use Rattle.a64_text.specs.declared.name.Name.{Name}
+use Rattle.a64_text.specs.declared.name.Name.TheVariants as names
+use Rattle.a64_text.specs.declared.name_table.TheConstants.{NAME_HOMES, NAMES}
+use Rattle.a64_text.specs.declared.value.Value.{Value}
+use Rattle.a64_text.specs.Fields.{HasNo}
+use Rattle.a64_text.specs.Hash.{look_up}
+use Rattle.a64_text.specs.Makes.{emitted, entry_of, Makes}
+use Rattle.a64_text.specs.Names.{name_text, kinds_of}
+use Rattle.a64_text.specs.Same.{at_their_places}
+use Rattle.a64_text.specs.Tokens.{inst_parts, name_of, fields_of, IsOwnInst, IsOwn}
+use Rattle.a64_text.specs.Values.{kind_of, IsValue}
+
+made : (P : Entry → Type 0) (r : Option Entry) (e : Entry) → r ≡ Some e → P e → IfSome r P
+made P r e is h = rw is h
+
+-- ---- by cases: one line for all names that need nothing but their fields, and one for each other
+
+abbrev pub IsMade : Name → List Value → Entry → Type 0
+IsMade name values entry = (name_of entry ≡ name) × (fields_of entry ≡ values) × IsOwn entry
+
+pub made_some : (name : Name) (values : List Value) (r : Option Entry) → Makes name values r → map kind_of values ≡ kinds_of name → IfSome r (IsMade name values)
+unfolding Makes
+made_some (names.Integer integer.AluRRImmLogic) values r h are = h.some are
+made_some (names.Integer name) values r h are = made (IsMade (names.Integer name) values) r (entry_of (names.Integer name) values) h (refl, at_their_places (kinds_of (names.Integer name)) values are, (tt, refl))
+made_some (names.Control control.Ret) values r h are = made (IsMade (names.Control control.Ret) values) r (entry_of (names.Control control.Ret) values) h (refl, at_their_places (kinds_of (names.Control control.Ret)) values are, (tt, refl))
+made_some (names.Control name) values r h are = made (IsMade (names.Control name) values) r (entry_of (names.Control name) values) h (refl, at_their_places (kinds_of (names.Control name)) values are, (tt, refl))
+made_some names.Bind values r h are = made (IsMade names.Bind values) r (entry_of names.Bind values) h (refl, at_their_places (kinds_of names.Bind) values are, tt)
+
+without_map : (inst : Inst) (map : Option UserStackMap) (r : Option Entry) → map ≡ None → r ≡ Some (emitted inst) → r ≡ Some (entries.Item (Emit inst map))
+without_map inst map r none e = e ∙ ap (λ (m : Option UserStackMap). Some (entries.Item (Emit inst m))) (sym none)
+
+inst_only : (inst : Inst) (values : List Value) (r : Option Entry) → Makes (inst_parts inst).name values r → AllByRecursion IsValue (inst_parts inst).fields → IsOwnInst inst → (inst_parts inst).fields ≡ values → r ≡ Some (emitted inst)
+unfolding Makes
+inst_only (insts.AluRRImmLogic alu_op size rd rn imml) values r h fits own e = h.only (alu_op, size, rd, rn, imml) (record { fields = fits; own = (own, refl) }) e
+inst_only inst values r h fits own e = h ∙ ap (λ (t : List Value). Some (entry_of (inst_parts inst).name t)) (sym e)
+
+pub made_only : (entry : Entry) (values : List Value) (r : Option Entry) → Makes (name_of entry) values r → AllByRecursion IsValue (fields_of entry) → IsOwn entry → fields_of entry ≡ values → r ≡ Some entry
+unfolding Makes
+made_only (entries.Item (Bind label)) values r h fits own e = h ∙ ap (λ (t : List Value). Some (entry_of names.Bind t)) (sym e)
+made_only (entries.Item (Emit inst map)) values r h fits own e = without_map inst map r own.1 (inst_only inst values r h fits own.0 e)
+
+inst_kinds : (inst : Inst) → map kind_of (inst_parts inst).fields ≡ kinds_of (inst_parts inst).name
+inst_kinds insts.Nop4 = refl
+inst_kinds inst = refl
+
+pub fields_kinds : (entry : Entry) → map kind_of (fields_of entry) ≡ kinds_of (name_of entry)
+fields_kinds (entries.Item (Bind label)) = refl
+fields_kinds (entries.Item (Emit inst map)) = inst_kinds inst
+
+pub few_kinds : (name : Name) → length (kinds_of name) ≤ 12
+few_kinds (names.Integer integer.Nop4) = lit≤ tt
+few_kinds (names.Control control.Ret) = lit≤ tt
+few_kinds _ = lit≤ tt
+
+pub name_plain : (name : Name) → HasNo 32 (name_text name)
+name_plain (names.Integer integer.Nop4) = refl
+name_plain (names.Control control.Ret) = refl
+name_plain _ = refl
+
+pub name_found : (x : Name) → look_up NAME_HOMES (map (λ row. row.2) NAMES) (name_text x) ≡ Some x
+name_found (names.Integer integer.Nop4) = refl
+name_found (names.Control control.Ret) = refl
+name_found _ = refl

@@ -1,0 +1,75 @@
+-- What a name makes of the fields behind it.
+use Rattle.std.specs.Prelude.{◌≡◌, map, List, Option, Some, None, IfSome}
+use Rattle.a64_base.specs.declared.reg.Reg.{Reg}
+use Rattle.a64_base.specs.declared.size.OperandSize.{OperandSize}
+use Rattle.a64_imms.specs.declared.imm_logic.ImmLogic.{ImmLogic}
+use Rattle.a64_inst.specs.declared.inst.Inst.{Inst}
+use Rattle.a64_inst.specs.declared.inst.Inst.TheVariants as insts
+use Rattle.a64_inst.specs.declared.item.Item.TheVariants.{Bind, Emit}
+use Rattle.a64_ops.specs.declared.operator.ALUOp.{ALUOp}
+use Rattle.a64_text.specs.declared.entry.Entry.{Entry}
+use Rattle.a64_text.specs.declared.entry.Entry.TheVariants as entries
+use Rattle.a64_text.specs.declared.name.ControlName.{ControlName}
+use Rattle.a64_text.specs.declared.name.ControlName.TheVariants as control
+use Rattle.a64_text.specs.declared.name.IntegerName.{IntegerName}
+use Rattle.a64_text.specs.declared.name.IntegerName.TheVariants as integer
+use Rattle.a64_text.specs.declared.name.Name.{Name}
+use Rattle.a64_text.specs.declared.name.Name.TheVariants as names
+use Rattle.a64_text.specs.declared.value.Value.{Value}
+use Rattle.a64_text.specs.At.{alu_op3_at, alu_op_at, bfm_op_at, bit_op_at, cond_at, extend_at, i32_at, imm12_at, imm_shift_at, label_at, move_wide_op_at, nzcv_at, preg_at, reg_at, shift_at, size_at, target_at, truth_at, u8_at, uimm5_at, uimm6_at, wide_at}
+use Rattle.a64_text.specs.Names.{kinds_of}
+use Rattle.a64_text.specs.Tokens.{name_of, fields_of, IsOwn, IsEntry}
+use Rattle.a64_text.specs.Values.{kind_of}
+
+-- the entry that is an instruction without a map
+abbrev pub emitted : Inst → Entry
+emitted inst = entries.Item (Emit inst None)
+
+abbrev pub integer_of : IntegerName → List Value → Inst
+integer_of integer.Nop0 values = insts.Nop0
+integer_of integer.Nop4 values = insts.Nop4
+integer_of integer.AluRRR values = insts.AluRRR (alu_op_at values 0) (size_at values 1) (reg_at values 2) (reg_at values 3) (reg_at values 4)
+integer_of integer.AluRRRR values = insts.AluRRRR (alu_op3_at values 0) (size_at values 1) (reg_at values 2) (reg_at values 3) (reg_at values 4) (reg_at values 5)
+integer_of integer.AluRRImm12 values = insts.AluRRImm12 (alu_op_at values 0) (size_at values 1) (reg_at values 2) (reg_at values 3) (imm12_at values 4)
+integer_of integer.AluRRImmShift values = insts.AluRRImmShift (alu_op_at values 0) (size_at values 1) (reg_at values 2) (reg_at values 3) (imm_shift_at values 4)
+integer_of integer.AluRRRShift values = insts.AluRRRShift (alu_op_at values 0) (size_at values 1) (reg_at values 2) (reg_at values 3) (reg_at values 4) (shift_at values 5)
+integer_of integer.AluRRRExtend values = insts.AluRRRExtend (alu_op_at values 0) (size_at values 1) (reg_at values 2) (reg_at values 3) (reg_at values 4) (extend_at values 5)
+integer_of integer.BitRR values = insts.BitRR (bit_op_at values 0) (size_at values 1) (reg_at values 2) (reg_at values 3)
+integer_of integer.Mov values = insts.Mov (size_at values 0) (reg_at values 1) (reg_at values 2)
+integer_of integer.MovFromPReg values = insts.MovFromPReg (reg_at values 0) (preg_at values 1)
+integer_of integer.MovToPReg values = insts.MovToPReg (preg_at values 0) (reg_at values 1)
+integer_of integer.MovWide values = insts.MovWide (move_wide_op_at values 0) (reg_at values 1) (wide_at values 2) (size_at values 3)
+integer_of integer.MovK values = insts.MovK (reg_at values 0) (reg_at values 1) (wide_at values 2) (size_at values 3)
+integer_of integer.CSel values = insts.CSel (reg_at values 0) (reg_at values 1) (reg_at values 2) (cond_at values 3)
+integer_of integer.CSNeg values = insts.CSNeg (reg_at values 0) (reg_at values 1) (reg_at values 2) (cond_at values 3)
+integer_of integer.CSet values = insts.CSet (reg_at values 0) (cond_at values 1)
+integer_of integer.CSetm values = insts.CSetm (reg_at values 0) (cond_at values 1)
+integer_of integer.CCmp values = insts.CCmp (size_at values 0) (reg_at values 1) (reg_at values 2) (nzcv_at values 3) (cond_at values 4)
+integer_of integer.CCmpImm values = insts.CCmpImm (size_at values 0) (reg_at values 1) (uimm5_at values 2) (nzcv_at values 3) (cond_at values 4)
+integer_of integer.Extend values = insts.Extend (reg_at values 0) (reg_at values 1) (truth_at values 2) (u8_at values 3) (u8_at values 4)
+integer_of integer.BitfieldMove values = insts.BitfieldMove (size_at values 0) (bfm_op_at values 1) (reg_at values 2) (reg_at values 3) (uimm6_at values 4) (uimm6_at values 5)
+integer_of integer.BitfieldMoveMod values = insts.BitfieldMoveMod (size_at values 0) (reg_at values 1) (reg_at values 2) (reg_at values 3) (uimm6_at values 4) (uimm6_at values 5)
+integer_of integer.MovToNZCV values = insts.MovToNZCV (reg_at values 0)
+integer_of integer.MovFromNZCV values = insts.MovFromNZCV (reg_at values 0)
+integer_of integer.Adr values = insts.Adr (reg_at values 0) (i32_at values 1)
+integer_of integer.Adrp values = insts.Adrp (reg_at values 0) (i32_at values 1)
+integer_of _ values = insts.Nop4
+
+abbrev pub control_of : ControlName → List Value → Inst
+control_of control.Ret values = insts.Ret
+control_of control.Jump values = insts.Jump (target_at values 0)
+
+-- the entry of this name with these fields, where it needs nothing but these
+abbrev pub entry_of : Name → List Value → Entry
+entry_of (names.Integer name) values = emitted (integer_of name values)
+entry_of (names.Control name) values = emitted (control_of name values)
+entry_of names.Bind values = entries.Item (Bind (label_at values 0))
+
+-- some entry of this name with these fields, exactly where there is one. `make` makes all entries of the name
+pub record MakesOwn {X : Type 0} (name : Name) (make : X → Entry) (values : List Value) (result : Option Entry) : Type 0 where
+  pub some : map kind_of values ≡ kinds_of name → IfSome result (λ entry. (name_of entry ≡ name) × (fields_of entry ≡ values) × IsOwn entry)
+  pub only : (x : X) → IsEntry (make x) → fields_of (make x) ≡ values → result ≡ Some (make x)
+
+unfoldable pub Makes : Name → List Value → Option Entry → Type 0
+Makes (names.Integer integer.AluRRImmLogic) values result = MakesOwn (names.Integer integer.AluRRImmLogic) (λ (x : ALUOp × OperandSize × Reg × Reg × ImmLogic). emitted (insts.AluRRImmLogic x.0 x.1 x.2 x.3 x.4)) values result
+Makes name values result = result ≡ Some (entry_of name values)

@@ -1,0 +1,60 @@
+-- The names of entries, each with the kinds of its fields.
+use Rattle.std.specs.Prelude.{ℕ, List, [], ◌∷◌, codes}
+use Rattle.a64_text.specs.declared.name.IntegerName.{IntegerName}
+use Rattle.a64_text.specs.declared.name.IntegerName.TheVariants as integer
+use Rattle.a64_text.specs.declared.name.ControlName.{ControlName}
+use Rattle.a64_text.specs.declared.name.ControlName.TheVariants as control
+use Rattle.a64_text.specs.declared.name.Name.{Name}
+use Rattle.a64_text.specs.declared.name.Name.TheVariants.{Integer, Control, Bind}
+use Rattle.a64_text.specs.declared.value.Kind.{Kind}
+use Rattle.a64_text.specs.declared.value.Kind.TheVariants as kinds
+
+-- a name and the kinds of the fields behind it
+pub record Heading : Type 0 where
+  pub text : List ℕ
+  pub kinds : List Kind
+
+abbrev pub integer_heading : IntegerName → Heading
+integer_heading integer.Nop0 = record { text = codes "Nop0"; kinds = [] }
+integer_heading integer.Nop4 = record { text = codes "Nop4"; kinds = [] }
+integer_heading integer.AluRRR = record { text = codes "AluRRR"; kinds = kinds.AluOp ∷ kinds.Size ∷ kinds.Reg ∷ kinds.Reg ∷ kinds.Reg ∷ [] }
+integer_heading integer.AluRRRR = record { text = codes "AluRRRR"; kinds = kinds.AluOp3 ∷ kinds.Size ∷ kinds.Reg ∷ kinds.Reg ∷ kinds.Reg ∷ kinds.Reg ∷ [] }
+integer_heading integer.AluRRImm12 = record { text = codes "AluRRImm12"; kinds = kinds.AluOp ∷ kinds.Size ∷ kinds.Reg ∷ kinds.Reg ∷ kinds.Imm12 ∷ [] }
+integer_heading integer.AluRRImmLogic = record { text = codes "AluRRImmLogic"; kinds = kinds.AluOp ∷ kinds.Size ∷ kinds.Reg ∷ kinds.Reg ∷ kinds.U64 ∷ [] }
+integer_heading integer.AluRRImmShift = record { text = codes "AluRRImmShift"; kinds = kinds.AluOp ∷ kinds.Size ∷ kinds.Reg ∷ kinds.Reg ∷ kinds.ImmShift ∷ [] }
+integer_heading integer.AluRRRShift = record { text = codes "AluRRRShift"; kinds = kinds.AluOp ∷ kinds.Size ∷ kinds.Reg ∷ kinds.Reg ∷ kinds.Reg ∷ kinds.Shift ∷ [] }
+integer_heading integer.AluRRRExtend = record { text = codes "AluRRRExtend"; kinds = kinds.AluOp ∷ kinds.Size ∷ kinds.Reg ∷ kinds.Reg ∷ kinds.Reg ∷ kinds.Extend ∷ [] }
+integer_heading integer.BitRR = record { text = codes "BitRR"; kinds = kinds.BitOp ∷ kinds.Size ∷ kinds.Reg ∷ kinds.Reg ∷ [] }
+integer_heading integer.Mov = record { text = codes "Mov"; kinds = kinds.Size ∷ kinds.Reg ∷ kinds.Reg ∷ [] }
+integer_heading integer.MovFromPReg = record { text = codes "MovFromPReg"; kinds = kinds.Reg ∷ kinds.PReg ∷ [] }
+integer_heading integer.MovToPReg = record { text = codes "MovToPReg"; kinds = kinds.PReg ∷ kinds.Reg ∷ [] }
+integer_heading integer.MovWide = record { text = codes "MovWide"; kinds = kinds.MoveWideOp ∷ kinds.Reg ∷ kinds.Wide ∷ kinds.Size ∷ [] }
+integer_heading integer.MovK = record { text = codes "MovK"; kinds = kinds.Reg ∷ kinds.Reg ∷ kinds.Wide ∷ kinds.Size ∷ [] }
+integer_heading integer.CSel = record { text = codes "CSel"; kinds = kinds.Reg ∷ kinds.Reg ∷ kinds.Reg ∷ kinds.Cond ∷ [] }
+integer_heading integer.CSNeg = record { text = codes "CSNeg"; kinds = kinds.Reg ∷ kinds.Reg ∷ kinds.Reg ∷ kinds.Cond ∷ [] }
+integer_heading integer.CSet = record { text = codes "CSet"; kinds = kinds.Reg ∷ kinds.Cond ∷ [] }
+integer_heading integer.CSetm = record { text = codes "CSetm"; kinds = kinds.Reg ∷ kinds.Cond ∷ [] }
+integer_heading integer.CCmp = record { text = codes "CCmp"; kinds = kinds.Size ∷ kinds.Reg ∷ kinds.Reg ∷ kinds.Nzcv ∷ kinds.Cond ∷ [] }
+integer_heading integer.CCmpImm = record { text = codes "CCmpImm"; kinds = kinds.Size ∷ kinds.Reg ∷ kinds.UImm5 ∷ kinds.Nzcv ∷ kinds.Cond ∷ [] }
+integer_heading integer.Extend = record { text = codes "Extend"; kinds = kinds.Reg ∷ kinds.Reg ∷ kinds.Bool ∷ kinds.U8 ∷ kinds.U8 ∷ [] }
+integer_heading integer.BitfieldMove = record { text = codes "BitfieldMove"; kinds = kinds.Size ∷ kinds.BfmOp ∷ kinds.Reg ∷ kinds.Reg ∷ kinds.UImm6 ∷ kinds.UImm6 ∷ [] }
+integer_heading integer.BitfieldMoveMod = record { text = codes "BitfieldMoveMod"; kinds = kinds.Size ∷ kinds.Reg ∷ kinds.Reg ∷ kinds.Reg ∷ kinds.UImm6 ∷ kinds.UImm6 ∷ [] }
+integer_heading integer.MovToNZCV = record { text = codes "MovToNZCV"; kinds = kinds.Reg ∷ [] }
+integer_heading integer.MovFromNZCV = record { text = codes "MovFromNZCV"; kinds = kinds.Reg ∷ [] }
+integer_heading integer.Adr = record { text = codes "Adr"; kinds = kinds.Reg ∷ kinds.I32 ∷ [] }
+integer_heading integer.Adrp = record { text = codes "Adrp"; kinds = kinds.Reg ∷ kinds.I32 ∷ [] }
+
+abbrev pub control_heading : ControlName → Heading
+control_heading control.Ret = record { text = codes "Ret"; kinds = [] }
+control_heading control.Jump = record { text = codes "Jump"; kinds = kinds.Target ∷ [] }
+
+abbrev pub heading : Name → Heading
+heading (Integer name) = integer_heading name
+heading (Control name) = control_heading name
+heading Bind = record { text = codes "bind"; kinds = kinds.Label ∷ [] }
+
+abbrev pub name_text : Name → List ℕ
+name_text name = (heading name).text
+
+abbrev pub kinds_of : Name → List Kind
+kinds_of name = (heading name).kinds

@@ -1,0 +1,97 @@
+-- The line of an entry: its name and its fields, with one space between.
+use Rattle.std.specs.Prelude.{ℕ, ◌≡◌, List, [], ◌∷◌, map, Option, None}
+use Rattle.std.specs.List.{join_with_byte, AllByRecursion}
+use Rattle.a64_base.specs.declared.entity.UserStackMap.{UserStackMap}
+use Rattle.a64_imms.specs.Logic.{logic_value, IsLogicOf}
+use Rattle.a64_inst.specs.declared.inst.Inst.{Inst}
+use Rattle.a64_inst.specs.declared.inst.Inst.TheVariants as insts
+use Rattle.a64_inst.specs.declared.item.Item.{Item}
+use Rattle.a64_inst.specs.declared.item.Item.TheVariants.{Bind, Emit}
+use Rattle.a64_text.specs.declared.entry.Entry.{Entry}
+use Rattle.a64_text.specs.declared.entry.Entry.TheVariants as entries
+use Rattle.a64_text.specs.declared.name.ControlName.TheVariants as control
+use Rattle.a64_text.specs.declared.name.IntegerName.TheVariants as integer
+use Rattle.a64_text.specs.declared.name.Name.{Name}
+use Rattle.a64_text.specs.declared.name.Name.TheVariants as names
+use Rattle.a64_text.specs.declared.value.Value.{Value}
+use Rattle.a64_text.specs.declared.value.Value.TheVariants as values
+use Rattle.a64_text.specs.Names.{name_text}
+use Rattle.a64_text.specs.Values.{value_text, IsValue}
+
+-- a name and the fields behind it
+pub record Parts : Type 0 where
+  pub name : Name
+  pub fields : List Value
+
+abbrev pub inst_parts : Inst → Parts
+inst_parts insts.Nop0 = record { name = names.Integer integer.Nop0; fields = [] }
+inst_parts insts.Nop4 = record { name = names.Integer integer.Nop4; fields = [] }
+inst_parts (insts.AluRRR alu_op size rd rn rm) = record { name = names.Integer integer.AluRRR; fields = values.AluOp alu_op ∷ values.Size size ∷ values.Reg rd ∷ values.Reg rn ∷ values.Reg rm ∷ [] }
+inst_parts (insts.AluRRRR alu_op size rd rn rm ra) = record { name = names.Integer integer.AluRRRR; fields = values.AluOp3 alu_op ∷ values.Size size ∷ values.Reg rd ∷ values.Reg rn ∷ values.Reg rm ∷ values.Reg ra ∷ [] }
+inst_parts (insts.AluRRImm12 alu_op size rd rn imm12) = record { name = names.Integer integer.AluRRImm12; fields = values.AluOp alu_op ∷ values.Size size ∷ values.Reg rd ∷ values.Reg rn ∷ values.Imm12 imm12 ∷ [] }
+inst_parts (insts.AluRRImmLogic alu_op size rd rn imml) = record { name = names.Integer integer.AluRRImmLogic; fields = values.AluOp alu_op ∷ values.Size size ∷ values.Reg rd ∷ values.Reg rn ∷ values.U64 (logic_value imml) ∷ [] }
+inst_parts (insts.AluRRImmShift alu_op size rd rn immshift) = record { name = names.Integer integer.AluRRImmShift; fields = values.AluOp alu_op ∷ values.Size size ∷ values.Reg rd ∷ values.Reg rn ∷ values.ImmShift immshift ∷ [] }
+inst_parts (insts.AluRRRShift alu_op size rd rn rm shiftop) = record { name = names.Integer integer.AluRRRShift; fields = values.AluOp alu_op ∷ values.Size size ∷ values.Reg rd ∷ values.Reg rn ∷ values.Reg rm ∷ values.Shift shiftop ∷ [] }
+inst_parts (insts.AluRRRExtend alu_op size rd rn rm extendop) = record { name = names.Integer integer.AluRRRExtend; fields = values.AluOp alu_op ∷ values.Size size ∷ values.Reg rd ∷ values.Reg rn ∷ values.Reg rm ∷ values.Extend extendop ∷ [] }
+inst_parts (insts.BitRR op size rd rn) = record { name = names.Integer integer.BitRR; fields = values.BitOp op ∷ values.Size size ∷ values.Reg rd ∷ values.Reg rn ∷ [] }
+inst_parts (insts.Mov size rd rm) = record { name = names.Integer integer.Mov; fields = values.Size size ∷ values.Reg rd ∷ values.Reg rm ∷ [] }
+inst_parts (insts.MovFromPReg rd rm) = record { name = names.Integer integer.MovFromPReg; fields = values.Reg rd ∷ values.PReg rm ∷ [] }
+inst_parts (insts.MovToPReg rd rm) = record { name = names.Integer integer.MovToPReg; fields = values.PReg rd ∷ values.Reg rm ∷ [] }
+inst_parts (insts.MovWide op rd imm size) = record { name = names.Integer integer.MovWide; fields = values.MoveWideOp op ∷ values.Reg rd ∷ values.Wide imm ∷ values.Size size ∷ [] }
+inst_parts (insts.MovK rd rn imm size) = record { name = names.Integer integer.MovK; fields = values.Reg rd ∷ values.Reg rn ∷ values.Wide imm ∷ values.Size size ∷ [] }
+inst_parts (insts.CSel rd rn rm cond) = record { name = names.Integer integer.CSel; fields = values.Reg rd ∷ values.Reg rn ∷ values.Reg rm ∷ values.Cond cond ∷ [] }
+inst_parts (insts.CSNeg rd rn rm cond) = record { name = names.Integer integer.CSNeg; fields = values.Reg rd ∷ values.Reg rn ∷ values.Reg rm ∷ values.Cond cond ∷ [] }
+inst_parts (insts.CSet rd cond) = record { name = names.Integer integer.CSet; fields = values.Reg rd ∷ values.Cond cond ∷ [] }
+inst_parts (insts.CSetm rd cond) = record { name = names.Integer integer.CSetm; fields = values.Reg rd ∷ values.Cond cond ∷ [] }
+inst_parts (insts.CCmp size rn rm nzcv cond) = record { name = names.Integer integer.CCmp; fields = values.Size size ∷ values.Reg rn ∷ values.Reg rm ∷ values.Nzcv nzcv ∷ values.Cond cond ∷ [] }
+inst_parts (insts.CCmpImm size rn imm nzcv cond) = record { name = names.Integer integer.CCmpImm; fields = values.Size size ∷ values.Reg rn ∷ values.UImm5 imm ∷ values.Nzcv nzcv ∷ values.Cond cond ∷ [] }
+inst_parts (insts.Extend rd rn signed from_bits to_bits) = record { name = names.Integer integer.Extend; fields = values.Reg rd ∷ values.Reg rn ∷ values.Bool signed ∷ values.U8 from_bits ∷ values.U8 to_bits ∷ [] }
+inst_parts (insts.BitfieldMove size bfm_op rd rn immr imms) = record { name = names.Integer integer.BitfieldMove; fields = values.Size size ∷ values.BfmOp bfm_op ∷ values.Reg rd ∷ values.Reg rn ∷ values.UImm6 immr ∷ values.UImm6 imms ∷ [] }
+inst_parts (insts.BitfieldMoveMod size rd ri rn immr imms) = record { name = names.Integer integer.BitfieldMoveMod; fields = values.Size size ∷ values.Reg rd ∷ values.Reg ri ∷ values.Reg rn ∷ values.UImm6 immr ∷ values.UImm6 imms ∷ [] }
+inst_parts (insts.MovToNZCV rn) = record { name = names.Integer integer.MovToNZCV; fields = values.Reg rn ∷ [] }
+inst_parts (insts.MovFromNZCV rd) = record { name = names.Integer integer.MovFromNZCV; fields = values.Reg rd ∷ [] }
+inst_parts (insts.Adr rd off) = record { name = names.Integer integer.Adr; fields = values.Reg rd ∷ values.I32 off ∷ [] }
+inst_parts (insts.Adrp rd off) = record { name = names.Integer integer.Adrp; fields = values.Reg rd ∷ values.I32 off ∷ [] }
+inst_parts insts.Ret = record { name = names.Control control.Ret; fields = [] }
+inst_parts (insts.Jump dest) = record { name = names.Control control.Jump; fields = values.Target dest ∷ [] }
+
+abbrev pub item_parts : Item → Parts
+item_parts (Bind label) = record { name = names.Bind; fields = values.Label label ∷ [] }
+item_parts (Emit inst map) = inst_parts inst
+
+abbrev pub parts : Entry → Parts
+parts (entries.Item item) = item_parts item
+
+abbrev pub name_of : Entry → Name
+name_of entry = (parts entry).name
+
+abbrev pub fields_of : Entry → List Value
+fields_of entry = (parts entry).fields
+
+-- what an instruction asks beside that its fields have texts
+abbrev pub IsOwnInst : Inst → Type 0
+IsOwnInst (insts.AluRRImmLogic alu_op size rd rn imml) = IsLogicOf size (logic_value imml) imml
+IsOwnInst _ = Unit {0}
+
+-- no instruction so far has a map
+abbrev pub IsMap : Inst → Option UserStackMap → Type 0
+IsMap inst map = map ≡ None
+
+abbrev pub IsOwnItem : Item → Type 0
+IsOwnItem (Bind label) = Unit {0}
+IsOwnItem (Emit inst map) = IsOwnInst inst × IsMap inst map
+
+abbrev pub IsOwn : Entry → Type 0
+IsOwn (entries.Item item) = IsOwnItem item
+
+-- an entry that has a line
+pub record IsEntry (entry : Entry) : Type 0 where
+  pub fields : AllByRecursion IsValue (fields_of entry)
+  pub own : IsOwn entry
+
+-- the tokens of an entry, and its line
+abbrev pub tokens_of : Entry → List (List ℕ)
+tokens_of entry = name_text (name_of entry) ∷ map value_text (fields_of entry)
+
+abbrev pub line_of : Entry → List ℕ
+line_of entry = join_with_byte 32 (tokens_of entry)

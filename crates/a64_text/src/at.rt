@@ -1,0 +1,279 @@
+//! The fields of an entry, each at its place. At another place, or where a field of another kind stands, the
+//! answer is some value of the type: no caller looks there.
+
+ghost use Rattle.std.specs.Prelude.{◌≡◌, None};
+ghost use Rattle.a64_text.specs.At.{uimm5_of, shift_of, alu_op_at, alu_op3_at, bit_op_at, bfm_op_at, move_wide_op_at, size_at, reg_at, preg_at, imm12_at, wide_at, imm_shift_at, uimm5_at, uimm6_at, shift_at, extend_at, cond_at, nzcv_at, truth_at, u8_at, u32_at, u64_at, i32_at, target_at, label_at};
+
+use crate::value::Value;
+use a64_base::{
+    BranchTarget, Cond, ExtendOp, MachLabel, OperandSize, PReg, Reg, RegClass, ShiftOp,
+    ShiftOpAndAmt, ShiftOpShiftImm,
+};
+use a64_imms::{Imm12, ImmShift, MoveWideConst, NZCV, UImm5, UImm6};
+use a64_ops::{ALUOp, ALUOp3, BfmOp, BitOp, MoveWideOp};
+
+/// An integer operator.
+pub fn alu_op(values: &[Value], i: usize) -> ALUOp
+    ensures { result ≡ alu_op_at values.now i }
+{
+    match values.get(i) {
+        Some(Value::AluOp(x)) => *x,
+        _ => ALUOp::Add,
+    }
+}
+
+/// An integer operator with three operands.
+pub fn alu_op3(values: &[Value], i: usize) -> ALUOp3
+    ensures { result ≡ alu_op3_at values.now i }
+{
+    match values.get(i) {
+        Some(Value::AluOp3(x)) => *x,
+        _ => ALUOp3::MAdd,
+    }
+}
+
+/// An operation on bits.
+pub fn bit_op(values: &[Value], i: usize) -> BitOp
+    ensures { result ≡ bit_op_at values.now i }
+{
+    match values.get(i) {
+        Some(Value::BitOp(x)) => *x,
+        _ => BitOp::RBit,
+    }
+}
+
+/// A move of a bitfield.
+pub fn bfm_op(values: &[Value], i: usize) -> BfmOp
+    ensures { result ≡ bfm_op_at values.now i }
+{
+    match values.get(i) {
+        Some(Value::BfmOp(x)) => *x,
+        _ => BfmOp::UBfm,
+    }
+}
+
+/// A wide move.
+pub fn move_wide_op(values: &[Value], i: usize) -> MoveWideOp
+    ensures { result ≡ move_wide_op_at values.now i }
+{
+    match values.get(i) {
+        Some(Value::MoveWideOp(x)) => *x,
+        _ => MoveWideOp::MovZ,
+    }
+}
+
+/// The size of operands.
+pub fn size(values: &[Value], i: usize) -> OperandSize
+    ensures { result ≡ size_at values.now i }
+{
+    match values.get(i) {
+        Some(Value::Size(x)) => *x,
+        _ => OperandSize::Size32,
+    }
+}
+
+/// A register.
+pub fn reg(values: &[Value], i: usize) -> Reg
+    ensures { result ≡ reg_at values.now i }
+{
+    match values.get(i) {
+        Some(Value::Reg(x)) => *x,
+        _ => Reg::Virtual {
+            index: 0,
+            class: RegClass::Int,
+        },
+    }
+}
+
+/// A register of the machine.
+pub fn preg(values: &[Value], i: usize) -> PReg
+    ensures { result ≡ preg_at values.now i }
+{
+    match values.get(i) {
+        Some(Value::PReg(x)) => *x,
+        _ => PReg::new(0, RegClass::Int),
+    }
+}
+
+/// An immediate of 12 bits, shifted or not.
+pub fn imm12(values: &[Value], i: usize) -> Imm12
+    ensures { result ≡ imm12_at values.now i }
+{
+    match values.get(i) {
+        Some(Value::Imm12(x)) => *x,
+        _ => Imm12 {
+            bits: 0,
+            shift12: false,
+        },
+    }
+}
+
+/// A halfword and its place.
+pub fn wide(values: &[Value], i: usize) -> MoveWideConst
+    ensures { result ≡ wide_at values.now i }
+{
+    match values.get(i) {
+        Some(Value::Wide(x)) => *x,
+        _ => MoveWideConst { bits: 0, shift: 0 },
+    }
+}
+
+/// The amount of a shift.
+pub fn imm_shift(values: &[Value], i: usize) -> ImmShift
+    ensures { result ≡ imm_shift_at values.now i }
+{
+    match values.get(i) {
+        Some(Value::ImmShift(x)) => *x,
+        _ => ImmShift { imm: 0 },
+    }
+}
+
+/// The least immediate.
+fn least_uimm5() -> UImm5
+    ensures { result ≡ uimm5_of None }
+{
+    match UImm5::maybe_from_u8(0) {
+        Some(imm) => imm,
+        None => unreachable!(),
+    }
+}
+
+/// An immediate of 5 bits.
+pub fn uimm5(values: &[Value], i: usize) -> UImm5
+    ensures { result ≡ uimm5_at values.now i }
+{
+    match values.get(i) {
+        Some(Value::UImm5(x)) => *x,
+        _ => least_uimm5(),
+    }
+}
+
+/// An immediate of 6 bits.
+pub fn uimm6(values: &[Value], i: usize) -> UImm6
+    ensures { result ≡ uimm6_at values.now i }
+{
+    match values.get(i) {
+        Some(Value::UImm6(x)) => *x,
+        _ => UImm6 { imm: 0 },
+    }
+}
+
+/// The shift to the left by nothing.
+fn no_shift() -> ShiftOpAndAmt
+    ensures { result ≡ shift_of None }
+{
+    match ShiftOpShiftImm::maybe_from_shift(0) {
+        Some(amount) => ShiftOpAndAmt::new(ShiftOp::LSL, amount),
+        None => unreachable!(),
+    }
+}
+
+/// A shift and its amount.
+pub fn shift(values: &[Value], i: usize) -> ShiftOpAndAmt
+    ensures { result ≡ shift_at values.now i }
+{
+    match values.get(i) {
+        Some(Value::Shift(x)) => *x,
+        _ => no_shift(),
+    }
+}
+
+/// An extension.
+pub fn extend(values: &[Value], i: usize) -> ExtendOp
+    ensures { result ≡ extend_at values.now i }
+{
+    match values.get(i) {
+        Some(Value::Extend(x)) => *x,
+        _ => ExtendOp::UXTB,
+    }
+}
+
+/// A condition.
+pub fn cond(values: &[Value], i: usize) -> Cond
+    ensures { result ≡ cond_at values.now i }
+{
+    match values.get(i) {
+        Some(Value::Cond(x)) => *x,
+        _ => Cond::Eq,
+    }
+}
+
+/// The flags.
+pub fn nzcv(values: &[Value], i: usize) -> NZCV
+    ensures { result ≡ nzcv_at values.now i }
+{
+    match values.get(i) {
+        Some(Value::Nzcv(x)) => *x,
+        _ => NZCV::new(false, false, false, false),
+    }
+}
+
+/// Whether something is so.
+pub fn truth(values: &[Value], i: usize) -> bool
+    ensures { result ≡ truth_at values.now i }
+{
+    match values.get(i) {
+        Some(Value::Bool(x)) => *x,
+        _ => false,
+    }
+}
+
+/// A number below 2^8.
+pub fn u8(values: &[Value], i: usize) -> u8
+    ensures { result ≡ u8_at values.now i }
+{
+    match values.get(i) {
+        Some(Value::U8(x)) => *x,
+        _ => 0,
+    }
+}
+
+/// A number below 2^32.
+pub fn u32(values: &[Value], i: usize) -> u32
+    ensures { result ≡ u32_at values.now i }
+{
+    match values.get(i) {
+        Some(Value::U32(x)) => *x,
+        _ => 0,
+    }
+}
+
+/// A number below 2^64.
+pub fn u64(values: &[Value], i: usize) -> u64
+    ensures { result ≡ u64_at values.now i }
+{
+    match values.get(i) {
+        Some(Value::U64(x)) => *x,
+        _ => 0,
+    }
+}
+
+/// A number of 32 bits, which may be below zero.
+pub fn i32(values: &[Value], i: usize) -> i32
+    ensures { result ≡ i32_at values.now i }
+{
+    match values.get(i) {
+        Some(Value::I32(x)) => *x,
+        _ => 0,
+    }
+}
+
+/// Where a branch goes.
+pub fn target(values: &[Value], i: usize) -> BranchTarget
+    ensures { result ≡ target_at values.now i }
+{
+    match values.get(i) {
+        Some(Value::Target(x)) => *x,
+        _ => BranchTarget::ResolvedOffset(0),
+    }
+}
+
+/// A label.
+pub fn label(values: &[Value], i: usize) -> MachLabel
+    ensures { result ≡ label_at values.now i }
+{
+    match values.get(i) {
+        Some(Value::Label(x)) => *x,
+        _ => MachLabel(0),
+    }
+}

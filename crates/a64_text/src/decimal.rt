@@ -1,0 +1,49 @@
+//! Reads decimal numbers.
+
+ghost use Rattle.std.specs.Fmt.{decimal};
+ghost use Rattle.a64_text.specs.Reads.{Reads, IsU8, IsU32, IsU64};
+
+/// The number below 2^64 whose decimal text the token is. No text has a sign, or a needless `0` at
+/// its front.
+pub fn read_u64(token: &[u8]) -> Option<u64>
+    ensures { Reads IsU64 decimal token.now result }
+{
+    if token.is_empty() || token.len() > 20 || (token[0] == b'0' && token.len() > 1) {
+        return None;
+    }
+    let mut value: u64 = 0;
+    for byte in token {
+        let byte = *byte;
+        if byte < b'0' || byte > b'9' {
+            return None;
+        }
+        let digit = (byte - b'0') as u64;
+        if value > (u64::MAX - digit) / 10 {
+            return None;
+        }
+        value = value * 10 + digit;
+    }
+    Some(value)
+}
+
+/// The number below 2^32 whose decimal text the token is.
+pub fn read_u32(token: &[u8]) -> Option<u32>
+    ensures { Reads IsU32 decimal token.now result }
+{
+    let value = read_u64(token)?;
+    if value > u32::MAX as u64 {
+        return None;
+    }
+    Some(value as u32)
+}
+
+/// The number below 2^8 whose decimal text the token is.
+pub fn read_u8(token: &[u8]) -> Option<u8>
+    ensures { Reads IsU8 decimal token.now result }
+{
+    let value = read_u64(token)?;
+    if value > u8::MAX as u64 {
+        return None;
+    }
+    Some(value as u8)
+}

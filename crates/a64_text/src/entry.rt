@@ -1,0 +1,31 @@
+//! What a line of a file says.
+
+ghost use Rattle.std.specs.Prelude.{◌≡◌};
+ghost use Rattle.a64_text.specs.States.{once_name};
+
+use a64_inst::Item;
+
+/// A name that a file gives at most once. No entry gives one so far.
+#[derive(Clone, Copy, Debug, PartialEq, Eq, PartialOrd, Ord)]
+pub enum OnceName {
+    /// The constant of this number.
+    Constant(u32),
+}
+
+/// What a line of a file says.
+#[derive(Drop)]
+pub enum Entry {
+    /// An item of the code: an instruction or a binding.
+    Item(Item),
+}
+
+impl Entry {
+    /// The name that the entry gives, where a file gives it at most once.
+    pub fn once_name(&self) -> Option<OnceName>
+        ensures { result ≡ once_name self.now }
+    {
+        match self {
+            Entry::Item(_) => None,
+        }
+    }
+}

@@ -1,0 +1,63 @@
+//! Reads fields that stand in a row.
+
+ghost use Rattle.std.specs.Prelude.{◌≡◌, ◌≤◌, ◌<◌, ℕ, List, length, option_map, IfSome};
+ghost use Rattle.a64_text.specs.declared.value.Value.{Value};
+ghost use Rattle.a64_text.specs.Reads.{Reads};
+ghost use Rattle.a64_text.specs.Values.{kind_of, value_text, IsValue};
+ghost use Rattle.a64_text.specs.Splitting.{lines_of, of_text, behind_text, IsCut};
+ghost use Rattle.a64_text.specs.Rows.{AreFields, texts};
+
+use crate::split::CutToken;
+use crate::value::{Kind, Value};
+use arrayvec::ArrayVec;
+
+/// A way in which fields stand in a row.
+pub trait FieldRow {
+    /// Which fields may stand there.
+    ghost fits: { Value → Type 0 };
+
+    /// The tokens of a text.
+    ghost tokens: { List ℕ → List (List ℕ) };
+
+    /// The lines behind them.
+    ghost behind: { List ℕ → List (List ℕ) };
+
+    /// The first token of a text, and what comes after it.
+    fn cut(text: &[u8]) -> CutToken<'_>
+        ensures { IsCut tokens behind text.now result.token.now result.more result.lines };
+
+    /// The field of the kind that the token is.
+    fn read(kind: Kind, token: &[u8]) -> Option<Value>
+        ensures { Reads (λ v. (kind_of v ≡ kind) × fits v) value_text token.now result };
+
+    /// A text has a token.
+    ghost some_token: { (text : List ℕ) → 0 < length (tokens text) };
+
+    /// What may stand there is a field.
+    ghost each_field: { (v : Value) → fits v → IsValue v };
+}
+
+/// The fields of these kinds that the text is, and the lines behind them.
+pub fn read_fields<'t, L: FieldRow>(
+    kinds: &[Kind],
+    text: Option<&'t [u8]>,
+    lines: Option<&'t [u8]>,
+) -> Option<(ArrayVec<Value, 12>, Option<&'t [u8]>)>
+    requires { length kinds.now ≤ 12 }
+    ensures read { Reads (AreFields L.fits kinds.now) texts (of_text L.tokens text.entry) (option_map (λ r. r.0.items) result) }
+    ensures lines { IfSome result (λ r. of_text lines_of r.1 ≡ behind_text L.behind text.entry lines.entry) }
+{
+    let mut values = ArrayVec::new();
+    let mut more = text;
+    let mut left = lines;
+    for kind in kinds {
+        let cut = L::cut(more?);
+        values.push(L::read(*kind, cut.token)?);
+        more = cut.more;
+        left = cut.lines;
+    }
+    match more {
+        None => Some((values, left)),
+        Some(_) => None,
+    }
+}

@@ -1,0 +1,40 @@
+//! Makes entries of their names and fields.
+
+mod control;
+mod integer;
+
+ghost use Rattle.std.specs.Prelude.{◌≡◌};
+ghost use Rattle.a64_text.specs.Makes.{Makes};
+ghost use Rattle.a64_text.specs.Makes as makes;
+
+use crate::at;
+use crate::entry::Entry;
+use crate::name::Name;
+use crate::value::Value;
+use a64_inst::{Inst, Item};
+
+/// The entry that is an instruction without a map of the stack.
+fn emitted(inst: Inst) -> Entry
+    ensures { result ≡ makes.emitted inst }
+{
+    Entry::Item(Item::Emit { inst, map: None })
+}
+
+/// The binding of the label.
+#[tactic(auto, unfolding(crate::specs::Makes::Makes))]
+fn make_bind(values: &[Value]) -> Option<Entry>
+    ensures { Makes Name.Bind values.now result }
+{
+    Some(Entry::Item(Item::Bind(at::label(values, 0))))
+}
+
+/// The entry of this name with these fields.
+pub fn make(name: Name, values: &[Value]) -> Option<Entry>
+    ensures { Makes name values.now result }
+{
+    match name {
+        Name::Integer(name) => integer::make_integer(name, values),
+        Name::Control(name) => control::make_control(name, values),
+        Name::Bind => make_bind(values),
+    }
+}

@@ -1,0 +1,82 @@
+//! The names with which lines begin.
+
+/// The name of an integer instruction.
+#[derive(Clone, Copy)]
+pub enum IntegerName {
+    /// `Nop0`.
+    Nop0,
+    /// `Nop4`.
+    Nop4,
+    /// `AluRRR`.
+    AluRRR,
+    /// `AluRRRR`.
+    AluRRRR,
+    /// `AluRRImm12`.
+    AluRRImm12,
+    /// `AluRRImmLogic`.
+    AluRRImmLogic,
+    /// `AluRRImmShift`.
+    AluRRImmShift,
+    /// `AluRRRShift`.
+    AluRRRShift,
+    /// `AluRRRExtend`.
+    AluRRRExtend,
+    /// `BitRR`.
+    BitRR,
+    /// `Mov`.
+    Mov,
+    /// `MovFromPReg`.
+    MovFromPReg,
+    /// `MovToPReg`.
+    MovToPReg,
+    /// `MovWide`.
+    MovWide,
+    /// `MovK`.
+    MovK,
+    /// `CSel`.
+    CSel,
+    /// `CSNeg`.
+    CSNeg,
+    /// `CSet`.
+    CSet,
+    /// `CSetm`.
+    CSetm,
+    /// `CCmp`.
+    CCmp,
+    /// `CCmpImm`.
+    CCmpImm,
+    /// `Extend`.
+    Extend,
+    /// `BitfieldMove`.
+    BitfieldMove,
+    /// `BitfieldMoveMod`.
+    BitfieldMoveMod,
+    /// `MovToNZCV`.
+    MovToNZCV,
+    /// `MovFromNZCV`.
+    MovFromNZCV,
+    /// `Adr`.
+    Adr,
+    /// `Adrp`.
+    Adrp,
+}
+
+/// The name of a control instruction.
+#[derive(Clone, Copy)]
+pub enum ControlName {
+    /// `Ret`.
+    Ret,
+    /// `Jump`.
+    Jump,
+}
+
+/// The name with which a line begins.
+#[derive(Clone, Copy)]
+pub enum Name {
+    /// An integer instruction.
+    Integer(IntegerName),
+    /// A branch or another instruction of control.
+    Control(ControlName),
+    /// `bind`.
+    Bind,
+}

@@ -1,0 +1,95 @@
+//! Reads files.
+
+ghost use Rattle.std.specs.Prelude.{◌≡◌, ◌≤◌, ◌+◌, length, IfOk, OnOk};
+ghost use Rattle.a64_text.specs.States.{contents_of, said};
+ghost use Rattle.a64_text.specs.FileText as FileText;
+ghost use Rattle.a64_text.specs.Splitting.{first_line};
+ghost use Rattle.a64_text.specs.AddsLine.{AddsName, AddsLine};
+ghost use Rattle.a64_text.specs.Reading.{Answers};
+
+use crate::entry::{Entry, OnceName};
+use crate::file::{File, FileError};
+use crate::line::read_line;
+use crate::split::cut;
+use crate::state::{ReaderState, start_state};
+use std::alloc::{AllocError, Global};
+use std::collections::BTreeSet;
+
+/// Whether the first line means nothing.
+fn is_blank(text: &[u8]) -> bool
+    ensures { result ≡ FileText.is_blank (first_line text.now) }
+{
+    match text {
+        [] => true,
+        [first, ..] => *first == b'\n' || *first == b';',
+    }
+}
+
+/// Adds the name to those that were given. False: it was given before.
+fn add_name(given: &mut BTreeSet<OnceName>, name: Option<OnceName>) -> Result<bool, AllocError>
+    ensures { IfOk result (AddsName given.old given.new name) }
+{
+    match name {
+        None => Ok(true),
+        Some(name) => Ok(given.insert(name)?),
+    }
+}
+
+/// Adds what the entry says to the file.
+fn add_entry(file: &mut File, entry: Entry) -> Result<(), AllocError>
+    ensures { OnOk result (contents_of file.new ≡ said entry (contents_of file.old)) }
+{
+    match entry {
+        Entry::Item(item) => {
+            file.items.push(item)?;
+            Ok(())
+        }
+    }
+}
+
+/// Takes what the first line says into the state, and answers the lines behind it. None: it is no
+/// entry that may stand there.
+fn add_line<'t>(
+    state: &mut ReaderState,
+    text: &'t [u8],
+) -> Result<Option<Option<&'t [u8]>>, AllocError>
+    ensures { IfOk result (AddsLine state.old state.new text.now) }
+{
+    let Some((entry, lines)) = read_line(text) else {
+        return Ok(None);
+    };
+    if !add_name(&mut state.given, entry.once_name())? {
+        return Ok(None);
+    }
+    add_entry(&mut state.file, entry)?;
+    Ok(Some(lines))
+}
+
+/// The file that the bytes are.
+///
+/// # Errors
+///
+/// The number of the first line that is no entry, or want of memory.
+pub fn read_file(alloc: Global, bytes: &[u8]) -> Result<File, FileError>
+    ensures answers { Answers bytes.now result }
+
+    // A file has no more items than lines.
+    ensures few { IfOk result (λ file. length file.items.items ≤ length bytes.now + 1) }
+{
+    let mut state = start_state(alloc);
+    let mut number: u64 = 0;
+    let mut rest = Some(bytes);
+    while let Some(text) = rest {
+        number += 1;
+        if is_blank(text) {
+            let (_, lines) = cut(text, b'\n');
+            rest = lines;
+        } else {
+            let Some(lines) = add_line(&mut state, text)? else {
+                return Err(FileError::BadLine(number));
+            };
+            rest = lines;
+        }
+    }
+    Ok(state.file)
+}

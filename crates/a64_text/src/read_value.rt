@@ -1,0 +1,240 @@
+//! Reads a field by its kind.
+
+ghost use Rattle.a64_text.specs.Values.{ReadsKind};
+
+use crate::decimal::{read_u8, read_u32, read_u64};
+use crate::immediate::{read_imm_shift, read_imm12, read_nzcv, read_uimm5, read_uimm6};
+use crate::label::{read_label, read_target};
+use crate::named::read_named;
+use crate::offset::read_i32;
+use crate::register::{read_preg, read_reg};
+use crate::shift::read_shift;
+use crate::size::read_size;
+use crate::value::{Kind, Value};
+use crate::wide::read_wide;
+use a64_base::{Cond, ExtendOp};
+use a64_ops::{ALUOp, ALUOp3, BfmOp, BitOp, MoveWideOp};
+
+/// Reads an integer operator.
+#[tactic(auto, unfolding(crate::specs::Values::ReadsKind))]
+fn alu_op(token: &[u8]) -> Option<Value>
+    ensures { ReadsKind Kind.AluOp token.now result }
+{
+    Some(Value::AluOp(read_named::<ALUOp>(token)?))
+}
+
+/// Reads an integer operator with three operands.
+#[tactic(auto, unfolding(crate::specs::Values::ReadsKind))]
+fn alu_op3(token: &[u8]) -> Option<Value>
+    ensures { ReadsKind Kind.AluOp3 token.now result }
+{
+    Some(Value::AluOp3(read_named::<ALUOp3>(token)?))
+}
+
+/// Reads an operation on bits.
+#[tactic(auto, unfolding(crate::specs::Values::ReadsKind))]
+fn bit_op(token: &[u8]) -> Option<Value>
+    ensures { ReadsKind Kind.BitOp token.now result }
+{
+    Some(Value::BitOp(read_named::<BitOp>(token)?))
+}
+
+/// Reads a move of a bitfield.
+#[tactic(auto, unfolding(crate::specs::Values::ReadsKind))]
+fn bfm_op(token: &[u8]) -> Option<Value>
+    ensures { ReadsKind Kind.BfmOp token.now result }
+{
+    Some(Value::BfmOp(read_named::<BfmOp>(token)?))
+}
+
+/// Reads a wide move.
+#[tactic(auto, unfolding(crate::specs::Values::ReadsKind))]
+fn move_wide_op(token: &[u8]) -> Option<Value>
+    ensures { ReadsKind Kind.MoveWideOp token.now result }
+{
+    Some(Value::MoveWideOp(read_named::<MoveWideOp>(token)?))
+}
+
+/// Reads the size of operands.
+#[tactic(auto, unfolding(crate::specs::Values::ReadsKind))]
+fn size(token: &[u8]) -> Option<Value>
+    ensures { ReadsKind Kind.Size token.now result }
+{
+    Some(Value::Size(read_size(token)?))
+}
+
+/// Reads a register.
+#[tactic(auto, unfolding(crate::specs::Values::ReadsKind))]
+fn reg(token: &[u8]) -> Option<Value>
+    ensures { ReadsKind Kind.Reg token.now result }
+{
+    Some(Value::Reg(read_reg(token)?))
+}
+
+/// Reads a register of the machine.
+#[tactic(auto, unfolding(crate::specs::Values::ReadsKind))]
+fn preg(token: &[u8]) -> Option<Value>
+    ensures { ReadsKind Kind.PReg token.now result }
+{
+    Some(Value::PReg(read_preg(token)?))
+}
+
+/// Reads an immediate of 12 bits, shifted or not.
+#[tactic(auto, unfolding(crate::specs::Values::ReadsKind))]
+fn imm12(token: &[u8]) -> Option<Value>
+    ensures { ReadsKind Kind.Imm12 token.now result }
+{
+    Some(Value::Imm12(read_imm12(token)?))
+}
+
+/// Reads a halfword and its place.
+#[tactic(auto, unfolding(crate::specs::Values::ReadsKind))]
+fn wide(token: &[u8]) -> Option<Value>
+    ensures { ReadsKind Kind.Wide token.now result }
+{
+    Some(Value::Wide(read_wide(token)?))
+}
+
+/// Reads the amount of a shift.
+#[tactic(auto, unfolding(crate::specs::Values::ReadsKind))]
+fn imm_shift(token: &[u8]) -> Option<Value>
+    ensures { ReadsKind Kind.ImmShift token.now result }
+{
+    Some(Value::ImmShift(read_imm_shift(token)?))
+}
+
+/// Reads an immediate of 5 bits.
+#[tactic(auto, unfolding(crate::specs::Values::ReadsKind))]
+fn uimm5(token: &[u8]) -> Option<Value>
+    ensures { ReadsKind Kind.UImm5 token.now result }
+{
+    Some(Value::UImm5(read_uimm5(token)?))
+}
+
+/// Reads an immediate of 6 bits.
+#[tactic(auto, unfolding(crate::specs::Values::ReadsKind))]
+fn uimm6(token: &[u8]) -> Option<Value>
+    ensures { ReadsKind Kind.UImm6 token.now result }
+{
+    Some(Value::UImm6(read_uimm6(token)?))
+}
+
+/// Reads a shift and its amount.
+#[tactic(auto, unfolding(crate::specs::Values::ReadsKind))]
+fn shift(token: &[u8]) -> Option<Value>
+    ensures { ReadsKind Kind.Shift token.now result }
+{
+    Some(Value::Shift(read_shift(token)?))
+}
+
+/// Reads an extension.
+#[tactic(auto, unfolding(crate::specs::Values::ReadsKind))]
+fn extend(token: &[u8]) -> Option<Value>
+    ensures { ReadsKind Kind.Extend token.now result }
+{
+    Some(Value::Extend(read_named::<ExtendOp>(token)?))
+}
+
+/// Reads a condition.
+#[tactic(auto, unfolding(crate::specs::Values::ReadsKind))]
+fn cond(token: &[u8]) -> Option<Value>
+    ensures { ReadsKind Kind.Cond token.now result }
+{
+    Some(Value::Cond(read_named::<Cond>(token)?))
+}
+
+/// Reads the flags.
+#[tactic(auto, unfolding(crate::specs::Values::ReadsKind))]
+fn nzcv(token: &[u8]) -> Option<Value>
+    ensures { ReadsKind Kind.Nzcv token.now result }
+{
+    Some(Value::Nzcv(read_nzcv(token)?))
+}
+
+/// Reads whether something is so.
+#[tactic(auto, unfolding(crate::specs::Values::ReadsKind))]
+fn truth(token: &[u8]) -> Option<Value>
+    ensures { ReadsKind Kind.Bool token.now result }
+{
+    Some(Value::Bool(read_named::<bool>(token)?))
+}
+
+/// Reads a number below 2^8.
+#[tactic(auto, unfolding(crate::specs::Values::ReadsKind))]
+fn u8(token: &[u8]) -> Option<Value>
+    ensures { ReadsKind Kind.U8 token.now result }
+{
+    Some(Value::U8(read_u8(token)?))
+}
+
+/// Reads a number below 2^32.
+#[tactic(auto, unfolding(crate::specs::Values::ReadsKind))]
+fn u32(token: &[u8]) -> Option<Value>
+    ensures { ReadsKind Kind.U32 token.now result }
+{
+    Some(Value::U32(read_u32(token)?))
+}
+
+/// Reads a number below 2^64.
+#[tactic(auto, unfolding(crate::specs::Values::ReadsKind))]
+fn u64(token: &[u8]) -> Option<Value>
+    ensures { ReadsKind Kind.U64 token.now result }
+{
+    Some(Value::U64(read_u64(token)?))
+}
+
+/// Reads a number of 32 bits, which may be below zero.
+#[tactic(auto, unfolding(crate::specs::Values::ReadsKind))]
+fn i32(token: &[u8]) -> Option<Value>
+    ensures { ReadsKind Kind.I32 token.now result }
+{
+    Some(Value::I32(read_i32(token)?))
+}
+
+/// Reads where a branch goes.
+#[tactic(auto, unfolding(crate::specs::Values::ReadsKind))]
+fn target(token: &[u8]) -> Option<Value>
+    ensures { ReadsKind Kind.Target token.now result }
+{
+    Some(Value::Target(read_target(token)?))
+}
+
+/// Reads a label.
+#[tactic(auto, unfolding(crate::specs::Values::ReadsKind))]
+fn label(token: &[u8]) -> Option<Value>
+    ensures { ReadsKind Kind.Label token.now result }
+{
+    Some(Value::Label(read_label(token)?))
+}
+
+/// The field of the kind that the token is.
+pub fn read_value(kind: Kind, token: &[u8]) -> Option<Value>
+    ensures { ReadsKind kind token.now result }
+{
+    match kind {
+        Kind::AluOp => alu_op(token),
+        Kind::AluOp3 => alu_op3(token),
+        Kind::BitOp => bit_op(token),
+        Kind::BfmOp => bfm_op(token),
+        Kind::MoveWideOp => move_wide_op(token),
+        Kind::Size => size(token),
+        Kind::Reg => reg(token),
+        Kind::PReg => preg(token),
+        Kind::Imm12 => imm12(token),
+        Kind::Wide => wide(token),
+        Kind::ImmShift => imm_shift(token),
+        Kind::UImm5 => uimm5(token),
+        Kind::UImm6 => uimm6(token),
+        Kind::Shift => shift(token),
+        Kind::Extend => extend(token),
+        Kind::Cond => cond(token),
+        Kind::Nzcv => nzcv(token),
+        Kind::Bool => truth(token),
+        Kind::U8 => u8(token),
+        Kind::U32 => u32(token),
+        Kind::U64 => u64(token),
+        Kind::I32 => i32(token),
+        Kind::Target => target(token),
+        Kind::Label => label(token),
+    }
+}

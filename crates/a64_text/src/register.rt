@@ -1,0 +1,52 @@
+//! Reads registers.
+
+ghost use Rattle.a64_text.specs.Reads.{Reads};
+ghost use Rattle.a64_text.specs.Fields.{reg_text, IsReg, preg_text, IsPReg};
+
+use crate::decimal::read_u32;
+use a64_base::{PReg, Reg, RegClass};
+
+/// The register that the token is: `x0` to `x30`, `xzr`, `sp`, `v0` to `v31`, `%i` and a number, or
+/// `%f` and a number.
+#[tactic(auto, using(crate::proofs::Decimals::decimal_first))]
+pub fn read_reg(token: &[u8]) -> Option<Reg>
+    ensures { Reads IsReg reg_text token.now result }
+{
+    match token {
+        b"sp" => Some(Reg::Real(PReg::new(63, RegClass::Int))),
+        b"xzr" => Some(Reg::Real(PReg::new(31, RegClass::Int))),
+        [b'x', number @ ..] => {
+            let n = read_u32(number)?;
+            if n > 30 {
+                return None;
+            }
+            Some(Reg::Real(PReg::new(n as u8, RegClass::Int)))
+        }
+        [b'v', number @ ..] => {
+            let n = read_u32(number)?;
+            if n > 31 {
+                return None;
+            }
+            Some(Reg::Real(PReg::new(n as u8, RegClass::Float)))
+        }
+        [b'%', b'i', number @ ..] => Some(Reg::Virtual {
+            index: read_u32(number)?,
+            class: RegClass::Int,
+        }),
+        [b'%', b'f', number @ ..] => Some(Reg::Virtual {
+            index: read_u32(number)?,
+            class: RegClass::Float,
+        }),
+        _ => None,
+    }
+}
+
+/// The register of the machine that the token is.
+pub fn read_preg(token: &[u8]) -> Option<PReg>
+    ensures { Reads IsPReg preg_text token.now result }
+{
+    match read_reg(token)? {
+        Reg::Real(preg) => Some(preg),
+        Reg::Virtual { .. } => None,
+    }
+}

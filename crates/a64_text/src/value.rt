@@ -1,0 +1,117 @@
+//! The fields of entries.
+
+use a64_base::{BranchTarget, Cond, ExtendOp, MachLabel, OperandSize, PReg, Reg, ShiftOpAndAmt};
+use a64_imms::{Imm12, ImmShift, MoveWideConst, NZCV, UImm5, UImm6};
+use a64_ops::{ALUOp, ALUOp3, BfmOp, BitOp, MoveWideOp};
+
+/// What a field is.
+#[derive(Clone, Copy)]
+pub enum Kind {
+    /// An integer operator.
+    AluOp,
+    /// An integer operator with three operands.
+    AluOp3,
+    /// An operation on bits.
+    BitOp,
+    /// A move of a bitfield.
+    BfmOp,
+    /// A wide move.
+    MoveWideOp,
+    /// The size of operands.
+    Size,
+    /// A register.
+    Reg,
+    /// A register of the machine.
+    PReg,
+    /// An immediate of 12 bits, shifted or not.
+    Imm12,
+    /// A halfword and its place.
+    Wide,
+    /// The amount of a shift.
+    ImmShift,
+    /// An immediate of 5 bits.
+    UImm5,
+    /// An immediate of 6 bits.
+    UImm6,
+    /// A shift and its amount.
+    Shift,
+    /// An extension.
+    Extend,
+    /// A condition.
+    Cond,
+    /// The flags.
+    Nzcv,
+    /// Whether something is so.
+    Bool,
+    /// A number below 2^8.
+    U8,
+    /// A number below 2^32.
+    U32,
+    /// A number below 2^64.
+    U64,
+    /// A number of 32 bits, which may be below zero.
+    I32,
+    /// Where a branch goes.
+    Target,
+    /// A label.
+    Label,
+}
+
+/// A field.
+#[derive(Clone, Copy)]
+pub enum Value {
+    /// An integer operator.
+    AluOp(ALUOp),
+    /// An integer operator with three operands.
+    AluOp3(ALUOp3),
+    /// An operation on bits.
+    BitOp(BitOp),
+    /// A move of a bitfield.
+    BfmOp(BfmOp),
+    /// A wide move.
+    MoveWideOp(MoveWideOp),
+    /// The size of operands.
+    Size(OperandSize),
+    /// A register.
+    Reg(Reg),
+    /// A register of the machine.
+    PReg(PReg),
+    /// An immediate of 12 bits, shifted or not.
+    Imm12(Imm12),
+    /// A halfword and its place.
+    Wide(MoveWideConst),
+    /// The amount of a shift.
+    ImmShift(ImmShift),
+    /// An immediate of 5 bits.
+    UImm5(UImm5),
+    /// An immediate of 6 bits.
+    UImm6(UImm6),
+    /// A shift and its amount.
+    Shift(ShiftOpAndAmt),
+    /// An extension.
+    Extend(ExtendOp),
+    /// A condition.
+    Cond(Cond),
+    /// The flags.
+    Nzcv(NZCV),
+    /// Whether something is so.
+    Bool(bool),
+    /// A number below 2^8.
+    U8(u8),
+    /// A number below 2^32.
+    U32(u32),
+    /// A number below 2^64.
+    U64(u64),
+    /// A number of 32 bits, which may be below zero.
+    I32(i32),
+    /// Where a branch goes.
+    Target(BranchTarget),
+    /// A label.
+    Label(MachLabel),
+}
+
+impl Default for Value {
+    fn default() -> Value {
+        Value::U64(0)
+    }
+}
