@@ -1,5 +1,6 @@
 #!/usr/bin/env bash
-# Times the program against GNU as and llvm-mc on the same jumps and labels, in one run.
+# Times the program against GNU as and llvm-mc on the same items, in one run: the least of three
+# times of each, and beside those of the two assemblers how many times the program's own they are.
 # It installs the two assemblers where they are missing, and builds the program.
 set -eu
 cd "$(dirname "$0")/.."
@@ -36,27 +37,52 @@ again = order[:]
 random.shuffle(again)
 write("shuffled", [("jump", i) for i in order] + [("bind", i) for i in again])
 write("nops", [("nop", 0)] * 1_000_000)
+
+def register():
+    return f"x{random.randrange(31)}"
+
+with open(f"{work}/mixed.txt", "w") as ours, open(f"{work}/mixed.s", "w") as theirs:
+    for i in range(80_000):
+        first, second, third = register(), register(), register()
+        operator = random.choice(["Add", "Sub", "And", "Orr", "Eor"])
+        ours.write(f"AluRRR {operator} 64 {first} {second} {third}\n")
+        theirs.write(f"{operator.lower()} {first}, {second}, {third}\n")
+        number = random.randrange(4096)
+        ours.write(f"AluRRImm12 Add 64 {first} {second} {number}\n")
+        theirs.write(f"add {first}, {second}, #{number}\n")
+        half, shift = random.randrange(65536), random.choice([0, 16, 32, 48])
+        ours.write(f"MovWide MovZ {third} {half},{shift} 64\n")
+        theirs.write(f"movz {third}, #{half}, lsl #{shift}\n")
+        label = random.randrange(80_000)
+        ours.write(f"Jump L{label}\nbind L{i}\n")
+        theirs.write(f"b L{label}\nL{i}:\n")
 P
 
-seconds() {
+# The least time of three runs, in milliseconds.
+least() {
     local best=
     for _ in 1 2 3; do
         local start end took
         start=$(date +%s%N)
         "$@" >/dev/null
         end=$(date +%s%N)
-        took=$(( (end - start) / 1000000 ))
+        took=$(((end - start) / 1000000))
         if [ -z "$best" ] || [ "$took" -lt "$best" ]; then best=$took; fi
     done
-    printf '%s.%03d s' $((best / 1000)) $((best % 1000))
+    echo "$best"
 }
 ours() { "$program" < "$1"; }
 
-echo "| file | \`asm\` | GNU as | llvm-mc |"
-echo "|---|---|---|---|"
-for name in near far one_label shuffled nops; do
-    printf '| %s | %s | %s | %s |\n' "$name" \
-        "$(seconds ours "$work/$name.txt")" \
-        "$(seconds aarch64-linux-gnu-as "$work/$name.s" -o "$work/$name.gas.o")" \
-        "$(seconds llvm-mc -triple=aarch64 -filetype=obj "$work/$name.s" -o "$work/$name.llvm.o")"
+# Milliseconds as seconds, and how many times those of the program they are.
+seconds() { printf '%d.%03d s' $(($1 / 1000)) $(($1 % 1000)); }
+ratio() { printf '%d.%d' $(($1 * 10 / $2 / 10)) $(($1 * 10 / $2 % 10)); }
+
+echo "| file | \`asm\` | GNU as | times ours | llvm-mc | times ours |"
+echo "|---|---|---|---|---|---|"
+for name in near far one_label shuffled nops mixed; do
+    own=$(least ours "$work/$name.txt")
+    gnu=$(least aarch64-linux-gnu-as "$work/$name.s" -o "$work/$name.gas.o")
+    llvm=$(least llvm-mc -triple=aarch64 -filetype=obj "$work/$name.s" -o "$work/$name.llvm.o")
+    printf '| %s | %s | %s | %s | %s | %s |\n' "$name" "$(seconds "$own")" \
+        "$(seconds "$gnu")" "$(ratio "$gnu" "$own")" "$(seconds "$llvm")" "$(ratio "$llvm" "$own")"
 done

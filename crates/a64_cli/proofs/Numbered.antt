@@ -1,18 +1,19 @@
 -- The lines of numbered items.
-use Rattle.std.proofs.Common.{◌≡◌, ℕ, ◌+◌, ◌<◌, List, [], ◌∷◌, ◌++◌, length, take, get_or, arith}
+use Rattle.std.proofs.Common.{◌≡◌, ℕ, ◌+◌, ◌<◌, List, ◌++◌, length, drop, get_or, refl}
 use Rattle.std.specs.List.{flat_map, enumerate_from}
-use Rattle.std.proofs.lemmas.List.{take_more}
-use Rattle.std.proofs.lemmas.Grind.{common_steps, flat_map-append}
+use Rattle.std.proofs.lemmas.List.{drop_more}
 
--- one more at the end has the next number
-pub enumerate_from_push : {X : Type 0} (n : ℕ) (xs : List X) (x : X) → enumerate_from n (xs ++ x ∷ []) ≡ enumerate_from n xs ++ (n + length xs, x) ∷ []
-enumerate_from_push n [] x = grind arith
-enumerate_from_push n (y ∷ xs) x = rw (enumerate_from_push (n + 1) xs x) (grind arith)
+-- the lines of those that are left are the next line and those of the rest
+pub lines_left : {X : Type 0} (f : ℕ × X → List ℕ) (xs : List X) (i : ℕ) (d : X) → i < length xs
+    → flat_map f (enumerate_from i (drop i xs)) ≡ f (i, get_or xs i d) ++ flat_map f (enumerate_from (i + 1) (drop (i + 1) xs))
+lines_left f xs i d h = rw (drop_more xs i d h) refl
 
--- the lines of one item more
-pub lines_more : (f : ℕ × ℕ → List ℕ) (xs : List ℕ) (i : ℕ) → i < length xs
-    → flat_map f (enumerate_from 0 (take (i + 1) xs)) ≡ flat_map f (enumerate_from 0 (take i xs)) ++ f (i, get_or xs i 0)
-lines_more f xs i h =
-    let e = take_more xs i 0 h in
-    let n : length (take i xs) ≡ i = grind (arith, common_steps) in
-    rw (e, enumerate_from_push, flat_map-append, n) (grind (arith, common_steps))
+-- the same, where they have no numbers
+pub plain_lines_left : {X : Type 0} (f : X → List ℕ) (xs : List X) (i : ℕ) (d : X) → i < length xs
+    → flat_map f (drop i xs) ≡ f (get_or xs i d) ++ flat_map f (drop (i + 1) xs)
+plain_lines_left f xs i d h = rw (drop_more xs i d h) refl
+
+-- the same, for the item that stands there
+pub lines_of_item : {X : Type 0} (f : X → List ℕ) (xs : List X) (i : ℕ) (x : X) → i < length xs → x ≡ get_or xs i x
+    → flat_map f (drop i xs) ≡ f x ++ flat_map f (drop (i + 1) xs)
+lines_of_item f xs i x h e = rw (drop_more xs i x h, ← e) refl

@@ -1,5 +1,5 @@
 -- What the parts of a run answer.
-use Rattle.std.specs.Prelude.{ℕ, ◌≡◌, ◌≢◌, ◌<◌, ◌≤◌, ◌^◌, ◌++◌, List, [], take, drop, length, Option, None, Some, IfSome, Result, IfOk, IfErr, ⊤}
+use Rattle.std.specs.Prelude.{ℕ, ◌≡◌, ◌≢◌, ◌<◌, ◌≤◌, ◌^◌, ◌/◌, ◌%◌, ◌++◌, ◌∷◌, List, [], take, drop, length, Option, None, Some, IfSome, Result, IfOk, IfErr, ⊤}
 use Rattle.std.specs.Fmt.{decimal}
 use Rattle.a64_emit.specs.declared.code.Code.{Code}
 use Rattle.a64_emit.specs.declared.error.EmitError.TheVariants as errors
@@ -10,9 +10,11 @@ use Rattle.a64_cli.specs.declared.ran.Fault.{Fault}
 use Rattle.a64_cli.specs.declared.ran.Fault.TheVariants as faults
 use Rattle.a64_text.specs.States.{contents_of}
 use Rattle.a64_text.specs.FileText.{IsFile, IsFirstBad}
-use Rattle.a64_cli.specs.Report.{report_of}
+use Rattle.a64_cli.specs.declared.making.Made.{Made}
+use Rattle.a64_cli.specs.declared.making.Made.TheVariants.{Report}
+use Rattle.a64_cli.specs.Report.{hex_digit, report_of}
 use Rattle.a64_cli.specs.Streams.{HasFailed, Takes, TakesPart}
-use Rattle.a64_cli.specs.Commands.{limit, IsCommand, OfCommand, assembly_fault, file_fault, IsCodeOf, IsMade}
+use Rattle.a64_cli.specs.Commands.{limit, IsCommand, OfCommand, assembly_fault, file_fault, IsMade}
 use Rattle.a64_cli.specs.Run.{Held, IsDueForText}
 
 -- what is answered for words: Some exactly for the command that they are
@@ -102,10 +104,12 @@ IsAssemblyFault command file (faults.Assembly error) = (assembly_fault command (
 IsAssemblyFault command file faults.Memory = ⊤
 IsAssemblyFault command file _ = ⊥
 
--- code of a file, and its report
-pub record IsReported (command : Command) (file : File) (code : Code) (bytes : List ℕ) : Type 0 where
-  pub assembled : IsCodeOf command file code
-  pub report : bytes ≡ report_of code
+-- what is kept of what a command made, and what is written of it
+abbrev pub kept_of : Made → Option Code
+kept_of (Report code) = Some code
+
+abbrev pub text_of : Made → List ℕ
+text_of (Report code) = report_of code
 
 -- why a command makes nothing of a file
 abbrev pub IsFileFault : Command → File → Fault → Type 0
@@ -113,11 +117,12 @@ IsFileFault command file (faults.Assembly error) = (file_fault command file ≡ 
 IsFileFault command file faults.Memory = ⊤
 IsFileFault command file _ = ⊥
 
--- how the writing of some bytes ends
-abbrev pub EndsWriting : Option (List ℕ) → Option (List ℕ) → List ℕ → Option Fault → Type 0
-EndsWriting taken taken' output None = Takes taken taken' output
-EndsWriting taken taken' output (Some faults.Write) = TakesPart taken taken' output
-EndsWriting taken taken' output (Some _) = ⊥
+-- how the writing of what was made ends: what the sink has taken, and the code that is kept
+abbrev pub EndsWriting : Option (List ℕ) → Option (List ℕ) → Made → Option Fault → Option Code → Type 0
+EndsWriting taken taken' made None code = Takes taken taken' (text_of made) × (code ≡ kept_of made)
+EndsWriting taken taken' made (Some faults.Write) code = TakesPart taken taken' (text_of made) × (code ≡ kept_of made)
+EndsWriting taken taken' made (Some faults.Memory) code = (taken' ≡ taken) × (code ≡ None)
+EndsWriting taken taken' made (Some _) code = ⊥
 
 module _ (command : Command) (taken taken' : Option (List ℕ)) (file : File) where
   -- what the command makes of the file was written
@@ -143,3 +148,7 @@ module _ (command : Command) (taken taken' : Option (List ℕ)) (file : File) wh
 -- a text, a number, and a text
 abbrev pub numbered_text : List ℕ → ℕ → List ℕ → List ℕ
 numbered_text before number after = before ++ decimal number ++ after
+
+-- a byte as two hexadecimal digits
+abbrev pub hex_pair : ℕ → List ℕ
+hex_pair byte = hex_digit (byte / 16) ∷ hex_digit (byte % 16) ∷ []

@@ -1,5 +1,5 @@
 -- What sources give and sinks take.
-use Rattle.std.specs.Prelude.{ℕ, ◌≡◌, ◌↔◌, ◌⊎◌, ◌-◌, ◌^◌, ◌<◌, List, [], ◌++◌, take, drop, length, Option, Some, IfSome}
+use Rattle.std.specs.Prelude.{ℕ, ◌≡◌, ◌↔◌, ◌⊎◌, ◌-◌, ◌^◌, ◌<◌, ◌≤◌, List, [], ◌++◌, take, drop, length, Option, Some, IfSome}
 
 -- a count of failures rose in a call, or stands at its last value
 abbrev pub HasFailed : ℕ → ℕ → Type 0
@@ -18,3 +18,14 @@ Takes old new bytes = IfSome old (λ before. new ≡ Some (before ++ bytes))
 -- a sink that tells what it has taken has got a proper prefix of these bytes more
 abbrev pub TakesPart : Option (List ℕ) → Option (List ℕ) → List ℕ → Type 0
 TakesPart old new bytes = IfSome old (λ before. (n : ℕ) × (n < length bytes) × (new ≡ Some (before ++ take n bytes)))
+
+-- where text waits for a sink: the sink has got some bytes more, and they and what waits now are what
+-- waited and the bytes of a text
+pub record Puts (taken : Option (List ℕ)) (faults : ℕ) (waits : List ℕ) (taken' : Option (List ℕ)) (faults' : ℕ) (waits' bytes : List ℕ) : Type 0 where
+  pub told : IfSome taken (λ before. (more : List ℕ) × (taken' ≡ Some (before ++ more)) × (more ++ waits' ≡ waits ++ bytes))
+  pub rises : faults ≤ faults'
+
+-- a write failed before the sink had got all of what waited and the bytes of a text
+pub record IsCut (taken : Option (List ℕ)) (faults : ℕ) (waits : List ℕ) (taken' : Option (List ℕ)) (faults' : ℕ) (bytes : List ℕ) : Type 0 where
+  pub part : TakesPart taken taken' (waits ++ bytes)
+  pub cause : HasFailed faults faults'

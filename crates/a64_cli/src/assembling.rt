@@ -1,26 +1,26 @@
-//! Assembles a file, and makes the report of its code.
+//! Assembles a file.
 
 ghost use Rattle.std.specs.Prelude.{◌^◌, ◌<◌, length, IfOk, IfErr};
-ghost use Rattle.a64_cli.specs.Stages.{IsReported, IsAssemblyFault};
+ghost use Rattle.a64_cli.specs.Commands.{IsCodeOf};
+ghost use Rattle.a64_cli.specs.Stages.{IsAssemblyFault};
 
 use crate::command::Command;
 use crate::ran::Fault;
-use crate::report::report;
 use a64_text::File;
 use a64_emit::{Code, EmitError, assemble};
 use std::alloc::Global;
 
-/// The code of a file, and its report, with islands forced where the command asks for it.
+/// The code of a file, with islands forced where the command asks for it.
 ///
 /// # Errors
 ///
 /// The first fault of the file, or want of memory.
-pub fn assemble_file(alloc: Global, command: Command, file: &File) -> Result<(Code, Vec<u8>), Fault>
+pub fn assemble_file(alloc: Global, command: Command, file: &File) -> Result<Code, Fault>
     requires { length file.now.items.items < 2 ^ 32 }
-    ensures ok { IfOk result (λ made. IsReported command file.now made.0 made.1.items) }
+    ensures ok { IfOk result (IsCodeOf command file.now) }
     ensures err { IfErr result (IsAssemblyFault command file.now) }
 {
-    let code = match assemble(
+    match assemble(
         alloc,
         &file.items,
         &file.constants,
@@ -28,12 +28,8 @@ pub fn assemble_file(alloc: Global, command: Command, file: &File) -> Result<(Co
         &file.frame,
         command.force(),
     ) {
-        Ok(code) => code,
-        Err(EmitError::OutOfMemory) => return Err(Fault::Memory),
-        Err(error) => return Err(Fault::Assembly(error)),
-    };
-    match report(alloc, &code) {
-        Ok(bytes) => Ok((code, bytes)),
-        Err(_) => Err(Fault::Memory),
+        Ok(code) => Ok(code),
+        Err(EmitError::OutOfMemory) => Err(Fault::Memory),
+        Err(error) => Err(Fault::Assembly(error)),
     }
 }

@@ -7,12 +7,16 @@ mod assembling;
 mod command;
 mod fault_lines;
 mod input;
+mod line;
 mod making;
 mod memory;
 mod output;
+mod piece;
 mod ran;
 mod report;
-mod report_text;
+mod report_lines;
+#[cfg(test)]
+mod report_tests;
 mod run;
 mod stream;
 #[cfg(test)]

@@ -1,23 +1,52 @@
-//! What each command makes of its file.
+//! What each command makes of its file, and how that is written.
 
-ghost use Rattle.std.specs.Prelude.{◌^◌, ◌<◌, length, IfOk, IfErr};
+ghost use Rattle.std.specs.Prelude.{◌≡◌, ◌^◌, ◌<◌, [], length, IfOk, IfErr, OnOk, OnErr};
+ghost use Rattle.a64_cli.specs.Streams.{HasFailed, Takes, TakesPart};
 ghost use Rattle.a64_cli.specs.Commands.{IsMade};
-ghost use Rattle.a64_cli.specs.Stages.{IsFileFault};
+ghost use Rattle.a64_cli.specs.Stages.{IsFileFault, kept_of, text_of};
 
 use crate::assembling::assemble_file;
 use crate::command::Command;
+use crate::piece::Piece;
 use crate::ran::Fault;
+use crate::report::write_report;
+use crate::stream::{Failed, Sink};
 use a64_text::File;
 use a64_emit::Code;
 use std::alloc::Global;
 
 /// What a command makes of its file.
 #[derive(Drop)]
-pub struct Made {
+pub enum Made {
+    /// Code, of which the report is written.
+    Report(Code),
+}
+
+impl Made {
+    /// Writes it, by way of an empty piece. No memory is asked for.
+    ///
+    /// # Errors
+    ///
+    /// A write failed; some first bytes may have been taken, but not all.
+    pub fn write<K: Sink>(&self, sink: &mut K, piece: &mut Piece) -> Result<(), Failed>
+        requires { piece.old ≡ [] }
+        ensures all { OnOk result (Takes (K.taken sink.old) (K.taken sink.new) (text_of self.now)) }
+        ensures part { OnErr result (TakesPart (K.taken sink.old) (K.taken sink.new) (text_of self.now)) }
+        ensures cause { OnErr result (HasFailed (K.faults sink.old) (K.faults sink.new)) }
+    {
+        match self {
+            Made::Report(code) => write_report(sink, piece, code),
+        }
+    }
+
     /// The code that is kept.
-    pub code: Option<Code>,
-    /// The bytes that are to be written.
-    pub output: Vec<u8>,
+    pub fn into_code(self) -> Option<Code>
+        ensures { result ≡ kept_of self }
+    {
+        match self {
+            Made::Report(code) => Some(code),
+        }
+    }
 }
 
 /// What the command makes of the file.
@@ -27,16 +56,13 @@ pub struct Made {
 /// The first fault that the command finds in the file, or want of memory.
 pub fn make(alloc: Global, command: Command, file: &File) -> Result<Made, Fault>
     requires { length file.now.items.items < 2 ^ 32 }
-    ensures ok { IfOk result (λ made. IsMade command file.now made.code made.output.items) }
+    ensures ok { IfOk result (λ made. IsMade command file.now (kept_of made) (text_of made)) }
     ensures err { IfErr result (IsFileFault command file.now) }
 {
     match command {
-        Command::Asm => {
-            let (code, report) = assemble_file(alloc, command, file)?;
-            Ok(Made {
-                code: Some(code),
-                output: report,
-            })
-        }
+        Command::Asm => match assemble_file(alloc, command, file) {
+            Ok(code) => Ok(Made::Report(code)),
+            Err(fault) => Err(fault),
+        },
     }
 }

@@ -13,27 +13,30 @@ use crate::fault_lines::line_of_fault;
 use crate::input::input_of;
 use crate::making::{Made, make};
 use crate::output::write_all;
+use crate::piece::Piece;
 use crate::ran::{Fault, Ran};
 use crate::stream::{Failed, Sink, Source};
 use a64_text::File;
 use std::alloc::Global;
 
-/// Writes what was made of a file.
-fn write_made<K: Sink>(sink: &mut K, file: File, made: Made) -> Ran
+/// Writes what was made of a file. The memory for that is taken before the first write.
+fn write_made<K: Sink>(alloc: Global, sink: &mut K, file: File, made: Made) -> Ran
     ensures status { result.status ≡ status_of result.fault }
     ensures file { result.file ≡ Some file }
-    ensures code { result.code ≡ made.code }
-    ensures ends { EndsWriting (K.taken sink.old) (K.taken sink.new) made.output.items result.fault }
+    ensures ends { EndsWriting (K.taken sink.old) (K.taken sink.new) made result.fault result.code }
     ensures write { result.fault ≡ Some faults.Write → HasFailed (K.faults sink.old) (K.faults sink.new) }
 {
-    let (status, fault) = match write_all(sink, &made.output) {
+    let Ok(mut piece) = Piece::new(alloc) else {
+        return Ran::refused(Some(file), Fault::Memory);
+    };
+    let (status, fault) = match made.write(sink, &mut piece) {
         Ok(()) => (0, None),
         Err(Failed) => (4, Some(Fault::Write)),
     };
     Ran {
         status,
         file: Some(file),
-        code: made.code,
+        code: made.into_code(),
         fault,
     }
 }
@@ -47,7 +50,7 @@ fn run_file<K: Sink>(alloc: Global, command: Command, sink: &mut K, file: File) 
     ensures write { result.fault ≡ Some faults.Write → HasFailed (K.faults sink.old) (K.faults sink.new) }
 {
     match make(alloc, command, &file) {
-        Ok(made) => write_made(sink, file, made),
+        Ok(made) => write_made(alloc, sink, file, made),
         Err(fault) => Ran::refused(Some(file), fault),
     }
 }

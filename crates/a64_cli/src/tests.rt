@@ -5,11 +5,8 @@ ghost use Rattle.std.specs.Prelude.{◌≢◌};
 use crate::adapter::{ReadSource, WriteSink};
 use crate::memory::{MemSink, MemSource, SureSink, SureSource};
 use crate::output::write_all;
-use crate::report::report;
 use crate::run::run;
 use crate::stream::{Failed, Sink, Source};
-use a64_base::{ExternalName, MachLabel, Reloc, TrapCode, UserStackMap};
-use a64_emit::Code;
 use std::alloc::{AllocError, Global};
 use std::test::Fail;
 
@@ -33,22 +30,6 @@ pub fn words_from(alloc: Global, texts: &[&str]) -> Result<Vec<String>, AllocErr
     Ok(words)
 }
 
-/// Code with a record of each kind.
-fn code_of_all_kinds(alloc: Global) -> Result<Code, AllocError> {
-    Ok(Code {
-        bytes: Vec::from_slice(alloc, &[0x1f, 0x20, 0x03, 0xd5, 0xc0, 0x03, 0x5f, 0xd6])?,
-        places: Vec::from_slice(alloc, &[0, 4])?,
-        labels: Vec::from_array(alloc, [(MachLabel(3), 4)])?,
-        islands: Vec::from_array(alloc, [(4, 28)])?,
-        pool: 8,
-        relocs: Vec::from_array(alloc, [(0, Reloc::Arm64Call, ExternalName(5), -16)])?,
-        traps: Vec::from_array(alloc, [(4, TrapCode(9))])?,
-        calls: Vec::from_slice(alloc, &[4])?,
-        patchable: Vec::from_array(alloc, [(4, 12)])?,
-        maps: Vec::from_array(alloc, [(4, UserStackMap(7))])?,
-    })
-}
-
 /// The status of a run over a source and sinks that never fail: neither a failed read nor a failed
 /// write.
 fn status_of_sure_run(alloc: Global, words: &[String], bytes: Vec<u8>) -> u8
@@ -59,16 +40,6 @@ fn status_of_sure_run(alloc: Global, words: &[String], bytes: Vec<u8>) -> u8
     let mut sink = SureSink::new();
     let mut errs = SureSink::new();
     run(alloc, words, &mut source, &mut sink, &mut errs).status
-}
-
-#[test]
-fn a_report_has_a_line_for_each_record(rt: HostRuntime) -> Result<(), Fail> {
-    let code = code_of_all_kinds(rt.alloc())?;
-    let lines = report(rt.alloc(), &code)?;
-    let want =
-        b"item 0 0\nitem 1 4\nlabel L3 4\nisland 4 28\npool 8\nword 0 d503201f\nword 4 d65f03c0\nreloc 0 Arm64Call userextname5 -16\ntrap 4 9\ncall 4\npatchable 4 12\nmap 4 7\n";
-    assert_eq!(rt; lines.as_slice(), want.as_slice());
-    Ok(())
 }
 
 #[test]
