@@ -25,6 +25,8 @@ mod shift;
 mod size;
 mod split;
 mod state;
+#[cfg(test)]
+mod tests;
 mod value;
 mod wide;
 
