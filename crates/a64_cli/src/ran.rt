@@ -3,8 +3,8 @@
 ghost use Rattle.std.specs.Prelude.{◌≡◌, None, Some};
 ghost use Rattle.a64_cli.specs.Run.{status_of};
 
-use a64_text::File;
 use a64_emit::{Code, EmitError};
+use a64_text::File;
 
 /// Why a run did not end with status 0.
 #[derive(Clone, Copy, Debug, PartialEq, Eq)]
