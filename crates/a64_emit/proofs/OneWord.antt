@@ -193,22 +193,22 @@ alu_rrr_names op size rd rn rm top low good e =
     alu_names top low (two_registers size rd rn rm) (zeros_within size rd rn rm registers) op no_shift (no_shift_within (sf_of size) (sf_below size)) (grind arith) e
 
 -- of which the second is shifted
-shifted_names : (op : ALUOp) (size : OperandSize) (shift : Shift) (top low : ℕ) (r : TwoRegisters) → AreWithin r → takes_shift op size shift.op ≡ true → shift.amount < 2 ^ 6 → is_bit_number r.sf shift.amount ≡ true
+shifted_names : (op : ALUOp) (size : OperandSize) (shift : Shift) (top low : ℕ) (r : TwoRegisters) → AreWithin r → takes_shift op size shift.op ≡ true → IsShift r.sf shift
     → AreBitsOf top low r.sf (shifted_form op shift)
     → NamesForm top low r (shifted_form op shift)
-shifted_names alu.Add size shift top low r w takes small bit e = alu_names top low r w alu.Add shift (record { amount = small; bit = bit }) takes e
-shifted_names alu.Sub size shift top low r w takes small bit e = alu_names top low r w alu.Sub shift (record { amount = small; bit = bit }) takes e
-shifted_names alu.AddS size shift top low r w takes small bit e = alu_names top low r w alu.AddS shift (record { amount = small; bit = bit }) takes e
-shifted_names alu.SubS size shift top low r w takes small bit e = alu_names top low r w alu.SubS shift (record { amount = small; bit = bit }) takes e
-shifted_names alu.And size shift top low r w takes small bit e = alu_names top low r w alu.And shift (record { amount = small; bit = bit }) refl e
-shifted_names alu.Orr size shift top low r w takes small bit e = alu_names top low r w alu.Orr shift (record { amount = small; bit = bit }) refl e
-shifted_names alu.Eor size shift top low r w takes small bit e = alu_names top low r w alu.Eor shift (record { amount = small; bit = bit }) refl e
-shifted_names alu.AndS size shift top low r w takes small bit e = alu_names top low r w alu.AndS shift (record { amount = small; bit = bit }) refl e
-shifted_names alu.AndNot size shift top low r w takes small bit e = alu_names top low r w alu.AndNot shift (record { amount = small; bit = bit }) refl e
-shifted_names alu.OrrNot size shift top low r w takes small bit e = alu_names top low r w alu.OrrNot shift (record { amount = small; bit = bit }) refl e
-shifted_names alu.EorNot size shift top low r w takes small bit e = alu_names top low r w alu.EorNot shift (record { amount = small; bit = bit }) refl e
-shifted_names alu.Extr size shift top low r w takes small bit e = extraction_names top low r w shift.amount small bit e
-shifted_names _ size shift top low r w takes small bit e = absurd cc
+shifted_names alu.Add size shift top low r w takes is e = alu_names top low r w alu.Add shift is takes e
+shifted_names alu.Sub size shift top low r w takes is e = alu_names top low r w alu.Sub shift is takes e
+shifted_names alu.AddS size shift top low r w takes is e = alu_names top low r w alu.AddS shift is takes e
+shifted_names alu.SubS size shift top low r w takes is e = alu_names top low r w alu.SubS shift is takes e
+shifted_names alu.And size shift top low r w takes is e = alu_names top low r w alu.And shift is refl e
+shifted_names alu.Orr size shift top low r w takes is e = alu_names top low r w alu.Orr shift is refl e
+shifted_names alu.Eor size shift top low r w takes is e = alu_names top low r w alu.Eor shift is refl e
+shifted_names alu.AndS size shift top low r w takes is e = alu_names top low r w alu.AndS shift is refl e
+shifted_names alu.AndNot size shift top low r w takes is e = alu_names top low r w alu.AndNot shift is refl e
+shifted_names alu.OrrNot size shift top low r w takes is e = alu_names top low r w alu.OrrNot shift is refl e
+shifted_names alu.EorNot size shift top low r w takes is e = alu_names top low r w alu.EorNot shift is refl e
+shifted_names alu.Extr size shift top low r w takes is e = extraction_names top low r w shift.amount is.amount is.bit e
+shifted_names _ size shift top low r w takes is e = absurd cc
 
 pub alu_rrr_shift_names : (op : ALUOp) (size : OperandSize) (rd rn rm : Reg) (shiftop : Shift) (top low : ℕ) → are_alu_rrr_shift_operands Refused op size rd rn rm shiftop ≡ true
     → AreBitsOf top low (sf_of size) (shifted_form op shiftop)
@@ -218,7 +218,7 @@ alu_rrr_shift_names op size rd rn rm shiftop top low good e =
     let (registers, shift) = and_parts (is_register_or_zero Refused rd && (is_register_or_zero Refused rn && is_register_or_zero Refused rm)) (takes_shift op size shiftop.op && is_bit_of size shiftop.amount) good in
     let (takes, bit) = and_parts (takes_shift op size shiftop.op) (is_bit_of size shiftop.amount) shift in
     let below = bit_below size shiftop.amount bit in
-    shifted_names op size shiftop top low (two_registers size rd rn rm) (zeros_within size rd rn rm registers) takes (bit_in size shiftop.amount below) (bit_number size shiftop.amount below) e
+    shifted_names op size shiftop top low (two_registers size rd rn rm) (zeros_within size rd rn rm registers) takes (record { amount = bit_in size shiftop.amount below; bit = bit_number size shiftop.amount below }) e
 
 -- of which the second is extended
 pub alu_rrr_extend_names : (op : ALUOp) (size : OperandSize) (rd rn rm : Reg) (extendop : ExtendOp) (top low : ℕ) → are_alu_rrr_extend_operands Refused op rd rn rm ≡ true
