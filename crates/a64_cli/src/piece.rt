@@ -19,11 +19,13 @@ fn copy_text(to: &mut [u8], text: &[u8])
     ensures { to.new ≡ text.now }
 {
     let len = text.len();
-    if 16 <= len && len <= 32 {
-        to[..16].copy_from_slice(&text[..16]);
-        to[len - 16..].copy_from_slice(&text[len - 16..]);
-    } else {
-        to.copy_from_slice(text);
+    match (text.first_chunk::<16>(), text.last_chunk::<16>()) {
+        (Some(front), Some(back)) if len <= 32 => {
+            let (front, back) = (*front, *back);
+            to[..16].copy_from_slice(&front);
+            to[len - 16..].copy_from_slice(&back);
+        }
+        _ => to.copy_from_slice(text),
     }
 }
 
@@ -60,6 +62,7 @@ impl Piece {
     /// # Errors
     ///
     /// A write failed; some first bytes may have been taken, but not all.
+    #[inline(never)]
     pub fn flush<K: Sink>(&mut self, sink: &mut K) -> Result<(), Failed>
         ensures all { OnOk result (Takes (K.taken sink.old) (K.taken sink.new) self.old) }
         ensures empty { OnOk result (self.new ≡ []) }
@@ -92,7 +95,7 @@ impl Piece {
     /// # Errors
     ///
     /// A write failed; some first bytes of what waited may have been taken, but not all.
-    #[inline]
+    #[inline(always)]
     pub fn put<K: Sink>(&mut self, sink: &mut K, text: &[u8]) -> Result<(), Failed>
         requires { length text.now ≤ 65536 }
         ensures ok { OnOk result (Puts (K.taken sink.old) (K.faults sink.old) self.old (K.taken sink.new) (K.faults sink.new) self.new text.now) }

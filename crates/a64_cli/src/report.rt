@@ -15,7 +15,9 @@ use crate::report_lines::{
 use crate::stream::{Failed, Sink};
 use a64_emit::Code;
 
-/// Puts the lines of one kind, in order.
+/// Puts the lines of one kind, in order. Like the other loops over lines it is not inlined: alone, it
+/// has the registers to itself.
+#[inline(never)]
 fn put_lines<L: LineKind, K: Sink>(
     sink: &mut K,
     piece: &mut Piece,
@@ -33,6 +35,7 @@ fn put_lines<L: LineKind, K: Sink>(
 }
 
 /// Puts the lines of the items.
+#[inline(never)]
 fn put_items<K: Sink>(sink: &mut K, piece: &mut Piece, places: &[u32]) -> Result<(), Failed>
     ensures ok { OnOk result (Puts (K.taken sink.old) (K.faults sink.old) piece.old (K.taken sink.new) (K.faults sink.new) piece.new (flat_map item_line (enumerate_from 0 places.now))) }
     ensures err { OnErr result (IsCut (K.taken sink.old) (K.faults sink.old) piece.old (K.taken sink.new) (K.faults sink.new) (flat_map item_line (enumerate_from 0 places.now))) }
@@ -69,6 +72,7 @@ fn first_word(bytes: &[u8]) -> Option<(u32, &[u8])>
 }
 
 /// Puts the lines of the words.
+#[inline(never)]
 fn put_words<K: Sink>(sink: &mut K, piece: &mut Piece, bytes: &[u8]) -> Result<(), Failed>
     ensures ok { OnOk result (Puts (K.taken sink.old) (K.faults sink.old) piece.old (K.taken sink.new) (K.faults sink.new) piece.new (flat_map word_line (enumerate_from 0 (words_in bytes.now)))) }
     ensures err { OnErr result (IsCut (K.taken sink.old) (K.faults sink.old) piece.old (K.taken sink.new) (K.faults sink.new) (flat_map word_line (enumerate_from 0 (words_in bytes.now)))) }
