@@ -6,8 +6,8 @@ ghost use Rattle.a64_cli.specs.Stages.{IsAssemblyFault};
 
 use crate::command::Command;
 use crate::ran::Fault;
-use a64_text::File;
 use a64_emit::{Code, EmitError, assemble};
+use a64_text::File;
 use std::alloc::Global;
 
 /// The code of a file, with islands forced where the command asks for it.

@@ -11,8 +11,8 @@ use crate::piece::Piece;
 use crate::ran::Fault;
 use crate::report::write_report;
 use crate::stream::{Failed, Sink};
-use a64_text::File;
 use a64_emit::Code;
+use a64_text::File;
 use std::alloc::Global;
 
 /// What a command makes of its file.

@@ -20,6 +20,10 @@ fn files_give_their_reports(rt: HostRuntime) -> Result<(), Fail> {
         (FILE, REPORT),
         (b"".as_slice(), b"pool 0\n".as_slice()),
         (b"; nothing\n\n".as_slice(), b"pool 0\n".as_slice()),
+        (
+            b"Nop0\nRet\nbind L1\nNop0\nJump L1\n".as_slice(),
+            b"item 0 0\nitem 1 0\nitem 2 4\nitem 3 4\nitem 4 4\nlabel L1 4\npool 8\nword 0 d65f03c0\nword 4 14000000\n".as_slice(),
+        ),
     ];
     for (file, report) in rows {
         for at_most in [1, 3, usize::MAX] {
