@@ -37,17 +37,19 @@ pub trait FieldRow {
     ghost each_field: { (v : Value) → fits v → IsValue v };
 }
 
-/// The fields of these kinds that the text is, and the lines behind them.
-pub fn read_fields<'t, L: FieldRow>(
+/// Reads the fields of these kinds that the text is into `values`, and answers the lines behind them.
+/// None: it is no such fields.
+pub fn read_fields<'t, L: FieldRow, const N: usize>(
     kinds: &[Kind],
     text: Option<&'t [u8]>,
     lines: Option<&'t [u8]>,
-) -> Option<(ArrayVec<Value, 12>, Option<&'t [u8]>)>
-    requires { length kinds.now ≤ 12 }
-    ensures read { Reads (AreFields L.fits kinds.now) texts (of_text L.tokens text.entry) (option_map (λ r. r.0.items) result) }
-    ensures lines { IfSome result (λ r. of_text lines_of r.1 ≡ behind_text L.behind text.entry lines.entry) }
+    values: &mut ArrayVec<Value, N>,
+) -> Option<Option<&'t [u8]>>
+    requires { length kinds.now ≤ N }
+    ensures read { Reads (AreFields L.fits kinds.now) texts (of_text L.tokens text.entry) (option_map (λ _. values.new.items) result) }
+    ensures lines { IfSome result (λ left. of_text lines_of left ≡ behind_text L.behind text.entry lines.entry) }
 {
-    let mut values = ArrayVec::new();
+    values.clear();
     let mut more = text;
     let mut left = lines;
     for kind in kinds {
@@ -57,7 +59,7 @@ pub fn read_fields<'t, L: FieldRow>(
         left = cut.lines;
     }
     match more {
-        None => Some((values, left)),
+        None => Some(left),
         Some(_) => None,
     }
 }

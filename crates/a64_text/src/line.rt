@@ -13,7 +13,7 @@ use crate::name::Name;
 use crate::read_value::read_value;
 use crate::schema::read_schema;
 use crate::split::{CutToken, cut_token};
-use crate::value::{Kind, Value};
+use crate::value::{Fields, Kind, Value};
 
 /// The fields of a line, with spaces between.
 struct LineFields;
@@ -38,11 +38,12 @@ impl FieldRow for LineFields {
     ghost each_field = { λ v fits. fits };
 }
 
-/// The entry that the first line is, and the lines behind it. It takes no memory.
-pub fn read_line(text: &[u8]) -> Option<(Entry, Option<&[u8]>)>
+/// The entry that the first line is, and the lines behind it. It takes no memory; the fields are left
+/// in `values`.
+pub fn read_line<'t>(text: &'t [u8], values: &mut Fields) -> Option<(Entry, Option<&'t [u8]>)>
     ensures read { Reads IsEntry line_of (first_line text.now) (option_map (λ r. r.0) result) }
     ensures lines { IfSome result (λ r. of_text lines_of r.1 ≡ lines_behind text.now) }
 {
     let cut = cut_token(text);
-    read_schema::<Name, LineFields>(cut.token, cut.more, cut.lines)
+    read_schema::<Name, LineFields>(cut.token, cut.more, cut.lines, values)
 }

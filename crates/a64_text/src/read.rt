@@ -55,7 +55,7 @@ fn add_line<'t>(
 ) -> Result<Option<Option<&'t [u8]>>, AllocError>
     ensures { IfOk result (AddsLine state.old state.new text.now) }
 {
-    let Some((entry, lines)) = read_line(text) else {
+    let Some((entry, lines)) = read_line(text, &mut state.fields) else {
         return Ok(None);
     };
     if !add_name(&mut state.given, entry.once_name())? {

@@ -10,7 +10,7 @@ ghost use Rattle.a64_text.specs.Rows.{texts};
 
 use crate::fields::{FieldRow, read_fields};
 use crate::named::{Named, read_heading};
-use crate::value::Value;
+use crate::value::{Fields, Value};
 
 /// Names that make something of the fields behind them.
 pub trait Schema: Named {
@@ -46,11 +46,13 @@ pub trait Schema: Named {
     ghost fields_kinds: { (made : Self.Made) → map kind_of (fields_of made) ≡ Self.kinds_of (name_of made) };
 }
 
-/// What the name and the fields in the text behind it are, and the lines behind that.
+/// What the name and the fields in the text behind it are, and the lines behind that. The fields are
+/// left in `values`.
 pub fn read_schema<'t, N: Schema, L: FieldRow>(
     name: &[u8],
     text: Option<&'t [u8]>,
     lines: Option<&'t [u8]>,
+    values: &mut Fields,
 ) -> Option<(N::Made, Option<&'t [u8]>)>
     ensures read { Reads (λ made. AllByRecursion L.fits (N.fields_of made) × N.own made)
         (λ made. N.text (N.name_of made) ∷ texts (N.fields_of made))
@@ -58,6 +60,6 @@ pub fn read_schema<'t, N: Schema, L: FieldRow>(
     ensures lines { IfSome result (λ r. of_text lines_of r.1 ≡ behind_text L.behind text.entry lines.entry) }
 {
     let (kinds, name) = read_heading::<N>(name)?;
-    let (values, left) = read_fields::<L>(kinds, text, lines)?;
+    let left = read_fields::<L, 12>(kinds, text, lines, values)?;
     Some((name.make(values.as_slice())?, left))
 }

@@ -3,6 +3,7 @@
 use a64_base::{BranchTarget, Cond, ExtendOp, MachLabel, OperandSize, PReg, Reg, ShiftOpAndAmt};
 use a64_imms::{Imm12, ImmShift, MoveWideConst, NZCV, UImm5, UImm6};
 use a64_ops::{ALUOp, ALUOp3, BfmOp, BitOp, MoveWideOp};
+use arrayvec::ArrayVec;
 
 /// What a field is.
 #[derive(Clone, Copy)]
@@ -109,6 +110,9 @@ pub enum Value {
     /// A label.
     Label(MachLabel),
 }
+
+/// The fields of an entry: a name has few of them.
+pub type Fields = ArrayVec<Value, 12>;
 
 impl Default for Value {
     fn default() -> Value {

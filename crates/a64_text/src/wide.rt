@@ -12,6 +12,7 @@ use crate::fields::{FieldRow, read_fields};
 use crate::split::{CutToken, cut};
 use crate::value::{Kind, Value};
 use a64_imms::MoveWideConst;
+use arrayvec::ArrayVec;
 
 /// Numbers with commas between.
 struct Numbers;
@@ -48,7 +49,8 @@ impl FieldRow for Numbers {
 pub fn read_wide(token: &[u8]) -> Option<MoveWideConst>
     ensures { Reads IsWide wide_text token.now result }
 {
-    let (values, _) = read_fields::<Numbers>(&[Kind::U32, Kind::U32], Some(token), None)?;
+    let mut values: ArrayVec<Value, 2> = ArrayVec::new();
+    let _ = read_fields::<Numbers, 2>(&[Kind::U32, Kind::U32], Some(token), None, &mut values)?;
     let (bits, shift) = (at::u32(values.as_slice(), 0), at::u32(values.as_slice(), 1));
     if bits > 0xffff || shift > 48 || shift % 16 != 0 {
         return None;

@@ -7,6 +7,6 @@ returns-then-not-branch c = not_added c.args.state.now c.add_name.new.given (fir
 
 pub returns : goal.returns
 returns c = (
-  added c.args.state.now (record { file = c.add_entry.new.file; given = c.add_name.new.given }) (first_line c.args.text.now) c.in-Some.entry c.once_name.result c.in_ok-add_name.field-0 c.in-Some.ensures.read c.once_name.ensures c.in_ok-add_name.ensures c.if-not-branch.false c.in_ok-add_entry.ensures,
+  added c.args.state.now (record { file = c.add_entry.new.file; given = c.add_name.new.given; fields = c.read_line.new.values }) (first_line c.args.text.now) c.in-Some.entry c.once_name.result c.in_ok-add_name.field-0 c.in-Some.ensures.read c.once_name.ensures c.in_ok-add_name.ensures c.if-not-branch.false c.in_ok-add_entry.ensures,
   c.in-Some.ensures.lines,
 )

@@ -29,8 +29,8 @@ returns-in_err-make-clause-read g c =
     let rest = of_text g.L.FieldRow.tokens c.args.text in
     let name = c.in_ok-kinds.name in
     let fits = g.L.FieldRow.fits in
-    let values = c.in_ok-values.values.items in
-    let read = for_kinds fits c.in_ok-kinds.kinds.now (n.kinds_of name) rest (Some values) c.in_ok-kinds.ensures.kinds c.in_ok-values.ensures.read in
+    let values = c.read_fields.new.values.items in
+    let read = for_kinds fits c.in_ok-kinds.kinds.now (n.kinds_of name) rest (Some values) c.in_ok-kinds.ensures.kinds c.in_ok-left.ensures.read in
     let makes = subst (λ (vs : List Value). s.makes name vs c.make.result) c.as_slice.ensures.value c.make.ensures in
     rw c.from_residual-in_err-make.ensures (made_of n fits g.met.L.FieldRow.each_field c.args.name.now rest name c.in_ok-kinds.ensures.read values read None (subst (λ r. s.makes name values r) c.in_err-make.was makes))
 
@@ -52,7 +52,7 @@ returns-clause-read g c =
     let rest = of_text g.L.FieldRow.tokens c.args.text in
     let name = c.in_ok-kinds.name in
     let fits = g.L.FieldRow.fits in
-    let values = c.in_ok-values.values.items in
-    let read = for_kinds fits c.in_ok-kinds.kinds.now (n.kinds_of name) rest (Some values) c.in_ok-kinds.ensures.kinds c.in_ok-values.ensures.read in
+    let values = c.read_fields.new.values.items in
+    let read = for_kinds fits c.in_ok-kinds.kinds.now (n.kinds_of name) rest (Some values) c.in_ok-kinds.ensures.kinds c.in_ok-left.ensures.read in
     let makes = subst (λ (vs : List Value). s.makes name vs c.make.result) c.as_slice.ensures.value c.make.ensures in
     made_of n fits g.met.L.FieldRow.each_field c.args.name.now rest name c.in_ok-kinds.ensures.read values read (Some c.in_ok-make.field-0) (subst (λ r. s.makes name values r) c.in_ok-make.was makes)

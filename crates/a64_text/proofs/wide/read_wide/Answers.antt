@@ -5,11 +5,11 @@ use Rattle.a64_text.proofs.Wides.{no_pair, no_wide, is_wide}
 use Rattle.a64_text.proofs.wide.read_wide.Goals as goal
 use Rattle.a64_text.proofs.wide.read_wide.Goals.{then-bits-gt65535-via-then-bits-gt65535, then-bits-gt65535-via-else-bits-gt65535+then-shift-gt48, then-bits-gt65535-via-else-bits-gt65535+else-shift-gt48+then-shift-ne0}
 
-pub returns-in_err-values : goal.returns-in_err-values
-returns-in_err-values c = rw c.from_residual.ensures (no_pair c.args.token.now c.in_err-values.ensures.read)
+pub returns-in_err-read_fields : goal.returns-in_err-read_fields
+returns-in_err-read_fields c = rw c.from_residual.ensures (no_pair c.args.token.now c.in_err-read_fields.ensures.read)
 
 pub returns-then-bits-gt65535 : goal.returns-then-bits-gt65535
-returns-then-bits-gt65535 c = no_wide c.args.token.now c.in_ok-values.values.items c.in_ok-values.ensures.read c.u32-bits.result c.u32-shift.result
+returns-then-bits-gt65535 c = no_wide c.args.token.now c.read_fields.new.values.items c.in_ok-read_fields.ensures.read c.u32-bits.result c.u32-shift.result
     (c.u32-bits.ensures ∙ ap (λ (t : List Value). u32_at t 0) c.as_slice.ensures.value) (c.u32-shift.ensures ∙ ap (λ (t : List Value). u32_at t 1) c.as_slice-2.ensures.value) (λ w fits bits_are place_is.
     elim c.then-bits-gt65535.branch [
       | then-bits-gt65535-via-then-bits-gt65535 v ↦ omega (arith, fits.0)
@@ -18,6 +18,6 @@ returns-then-bits-gt65535 c = no_wide c.args.token.now c.in_ok-values.values.ite
     ])
 
 pub returns : goal.returns
-returns c = is_wide c.args.token.now c.in_ok-values.values.items c.in_ok-values.ensures.read c.u32-bits.result c.u32-shift.result
+returns c = is_wide c.args.token.now c.read_fields.new.values.items c.in_ok-read_fields.ensures.read c.u32-bits.result c.u32-shift.result
     (c.u32-bits.ensures ∙ ap (λ (t : List Value). u32_at t 0) c.as_slice.ensures.value) (c.u32-shift.ensures ∙ ap (λ (t : List Value). u32_at t 1) c.as_slice-2.ensures.value)
     _ (omega arith, omega arith) refl (omega arith)
