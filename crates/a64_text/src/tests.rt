@@ -245,9 +245,16 @@ fn reports_the_first_bad_line(rt: HostRuntime) -> Result<(), Fail> {
         let Err(error) = read_file(rt.alloc(), text.as_bytes()) else {
             return Err(Fail::from("no error"));
         };
-        assert_eq!(rt; format!(in rt.alloc(); "{error}")?.as_str(), text_of_error, "{text:?}");
+        assert_eq!(rt;
+            format!(in rt.alloc(); "{error}")?.as_str(),
+            text_of_error,
+            "{text:?}"
+        );
     }
     let error = FileError::OutOfMemory;
-    assert_eq!(rt; format!(in rt.alloc(); "{error}")?.as_str(), "out of memory");
+    assert_eq!(rt;
+        format!(in rt.alloc(); "{error}")?.as_str(),
+        "out of memory"
+    );
     Ok(())
 }
