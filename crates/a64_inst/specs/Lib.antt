@@ -5,3 +5,5 @@ pub mod Operands
 pub mod IntegerOperands
 pub mod ControlOperands
 pub mod Faults
+pub mod Modes
+pub mod Addresses
