@@ -7,3 +7,4 @@ pub mod ControlOperands
 pub mod Faults
 pub mod Modes
 pub mod Addresses
+pub mod Accesses

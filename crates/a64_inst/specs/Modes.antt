@@ -49,11 +49,6 @@ abbrev pub FrameFits : FrameLayout → AMode → Type 0
 FrameFits frame (IncomingArg off) = frame_size frame < 2 ^ 32
 FrameFits frame _ = ⊤
 
--- a signed number of 64 bits
-pub record IsI64 (value : ℤ) : Type 0 where
-  pub low : negsuc (2 ^ 63 - 1) ≤ℤ value
-  pub high : value ≤ℤ pos (2 ^ 63 - 1)
-
 -- ---- what stands for a base and an offset
 
 -- the widths of accesses, in bytes

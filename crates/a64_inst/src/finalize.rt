@@ -1,6 +1,7 @@
 //! The mode that stands in an instruction for a base and an offset.
 
-ghost use Rattle.std.specs.Prelude.{◌≡◌, ◌<◌, ◌^◌, [], true, map, None, Some, MatchOption, IfSome, IsOk, IfOk};
+ghost use Rattle.std.specs.Prelude.{◌≡◌, ◌<◌, ◌^◌, [], true, map, None, Some, MatchOption, IfSome, IsOk, IfOk, FitsSigned};
+ghost use Rattle.std.specs.Int.{w64};
 ghost use Rattle.a64_base.specs.Registers.{integer_register};
 ghost use Rattle.a64_imms.specs.Offsets.{residue};
 ghost use Rattle.a64_imms.specs.Scales.{type_bytes};
@@ -8,16 +9,14 @@ ghost use Rattle.a64_plan.specs.Plans.{plan_of};
 ghost use Rattle.a64_base.specs.declared.shift.ExtendOp.TheVariants.{SXTX};
 ghost use Rattle.a64_inst.specs.declared.mode.AMode.TheVariants.{RegExtended};
 ghost use Rattle.a64_inst.specs.Constants.{step_into, HaveNoFault};
-ghost use Rattle.a64_inst.specs.Modes.{base_offset_of, frame_size, is_far, steps_to, FrameFits, IsAccessSize, IsI64, StandsFor};
+ghost use Rattle.a64_inst.specs.Modes.{base_offset_of, frame_size, is_far, steps_to, FrameFits, IsAccessSize, StandsFor};
 ghost use Rattle.a64_inst.specs.Addresses.{Reaches};
 
 use crate::emission::EmitState;
 use crate::frame::FrameLayout;
 use crate::inst::Inst;
 use crate::mode::AMode;
-use a64_base::{
-    ExtendOp, IrType, Reg, fp_reg, spilltmp_reg, stack_reg, writable_spilltmp_reg,
-};
+use a64_base::{ExtendOp, IrType, Reg, fp_reg, spilltmp_reg, stack_reg, writable_spilltmp_reg};
 use a64_imms::{SImm9, UImm12Scaled};
 use smallvec::SmallVec;
 use std::alloc::{AllocError, Global};
@@ -44,33 +43,19 @@ fn frame_bytes(frame: &FrameLayout) -> u32
 /// The base and the offset of a mode that no instruction holds.
 fn base_offset(mem: &AMode, frame: &FrameLayout) -> Option<BaseOffset>
     requires frame { FrameFits frame.now mem.now }
-    requires offset { IfSome (base_offset_of frame.now mem.now) (λ place. IsI64 place.offset) }
+    requires offset { IfSome (base_offset_of frame.now mem.now) (λ place. FitsSigned w64 place.offset) }
     ensures { MatchOption result (base_offset_of frame.now mem.now ≡ None)
         (λ place. base_offset_of frame.now mem.now ≡ Some (record { base = place.base; offset = place.offset })) }
 {
-    match *mem {
-        AMode::RegOffset { rn, off } => Some(BaseOffset {
-            base: rn,
-            offset: off,
-        }),
-        AMode::SPOffset { off } => Some(BaseOffset {
-            base: stack_reg(),
-            offset: off,
-        }),
-        AMode::FPOffset { off } => Some(BaseOffset {
-            base: fp_reg(),
-            offset: off,
-        }),
-        AMode::IncomingArg { off } => Some(BaseOffset {
-            base: stack_reg(),
-            offset: i64::from(frame_bytes(frame)) - off,
-        }),
-        AMode::SlotOffset { off } => Some(BaseOffset {
-            base: stack_reg(),
-            offset: off + i64::from(frame.outgoing_args_size),
-        }),
-        _ => None,
-    }
+    let (base, offset) = match *mem {
+        AMode::RegOffset { rn, off } => (rn, off),
+        AMode::SPOffset { off } => (stack_reg(), off),
+        AMode::FPOffset { off } => (fp_reg(), off),
+        AMode::IncomingArg { off } => (stack_reg(), i64::from(frame_bytes(frame)) - off),
+        AMode::SlotOffset { off } => (stack_reg(), off + i64::from(frame.outgoing_args_size)),
+        _ => return None,
+    };
+    Some(BaseOffset { base, offset })
 }
 
 /// A signed number modulo 2^64.
@@ -159,7 +144,7 @@ pub fn mem_finalize(
 ) -> Result<(SmallVec<Inst, 4>, AMode), AllocError>
     requires access { IsAccessSize (type_bytes access_ty) }
     requires frame { FrameFits state.now.frame mem.now }
-    requires offset { IfSome (base_offset_of state.now.frame mem.now) (λ place. IsI64 place.offset) }
+    requires offset { IfSome (base_offset_of state.now.frame mem.now) (λ place. FitsSigned w64 place.offset) }
     ensures succeeds { IsOk result }
     ensures others { base_offset_of state.now.frame mem.now ≡ None
         → IfOk result (λ final. (final.0.items ≡ []) × (final.1 ≡ mem.now)) }
@@ -175,5 +160,179 @@ pub fn mem_finalize(
     match base_offset(mem, state.frame_layout()) {
         Some(place) => finalized(alloc, place.base, place.offset, access_ty),
         None => Ok((SmallVec::new(alloc), *mem)),
+    }
+}
+
+#[cfg(test)]
+mod tests {
+    use super::*;
+    use crate::mode::MemLabel;
+    use a64_base::{show_ireg_sized, xreg};
+    use a64_list::ListVec;
+    use a64_ops::MoveWideOp;
+    use std::test::Fail;
+
+    /// An instruction before the access. Only wide moves into x16 have a text.
+    fn inst_text(alloc: Global, inst: &Inst) -> Result<String, AllocError> {
+        let (name, imm) = match inst {
+            Inst::MovWide {
+                op: MoveWideOp::MovZ,
+                rd,
+                imm,
+                ..
+            } if rd.to_reg() == spilltmp_reg() => ("movz", imm),
+            Inst::MovWide {
+                op: MoveWideOp::MovN,
+                rd,
+                imm,
+                ..
+            } if rd.to_reg() == spilltmp_reg() => ("movn", imm),
+            Inst::MovK { rd, imm, .. } if rd.to_reg() == spilltmp_reg() => ("movk", imm),
+            _ => return String::from_str(alloc, "another; "),
+        };
+        let bits = imm.bits;
+        let shift = imm.shift;
+        format!(in alloc; "{name} {bits:x},{shift}; ")
+    }
+
+    /// The number of a register, 63 for the stack pointer.
+    fn number(reg: Reg) -> u8 {
+        reg.to_real_reg().map_or(255, |real| real.hw_enc())
+    }
+
+    /// A final mode by its name, the numbers of its registers, and what else it has.
+    fn mode_text(alloc: Global, mode: &AMode) -> Result<String, AllocError> {
+        match *mode {
+            AMode::Unscaled { rn, simm9 } => {
+                let base = number(rn);
+                let offset = simm9.value;
+                format!(in alloc; "Unscaled {base} {offset}")
+            }
+            AMode::UnsignedOffset { rn, uimm12 } => {
+                let base = number(rn);
+                let offset = uimm12.value();
+                format!(in alloc; "UnsignedOffset {base} {offset}")
+            }
+            AMode::RegExtended { rn, rm, extendop } => {
+                let base = number(rn);
+                let index = number(rm);
+                format!(in alloc; "RegExtended {base} {index} {extendop:?}")
+            }
+            _ => format!(in alloc; "{mode:?}"),
+        }
+    }
+
+    /// The instructions and the mode that stand for a mode.
+    fn final_text(
+        alloc: Global,
+        mem: &AMode,
+        access_ty: IrType,
+        state: &EmitState,
+    ) -> Result<String, AllocError>
+        requires access { IsAccessSize (type_bytes access_ty) }
+        requires frame { FrameFits state.now.frame mem.now }
+        requires offset { IfSome (base_offset_of state.now.frame mem.now) (λ place. FitsSigned w64 place.offset) }
+    {
+        let (insts, mode) = mem_finalize(alloc, true, mem, access_ty, state)?;
+        let mut text = String::new(alloc);
+        for inst in insts.as_slice() {
+            text.push_str(inst_text(alloc, inst)?.as_str())?;
+        }
+        text.push_str(mode_text(alloc, &mode)?.as_str())?;
+        Ok(text)
+    }
+
+    /// A frame of 104 bytes, of which 8 are for the arguments of outgoing calls.
+    fn state(alloc: Global) -> EmitState {
+        EmitState::new(FrameLayout {
+            setup_area_size: 16,
+            tail_args_size: 0,
+            clobber_size: 32,
+            fixed_frame_storage_size: 48,
+            outgoing_args_size: 8,
+            restore: ListVec::new(alloc),
+        })
+    }
+
+    #[test]
+    fn offsets_from_a_register(rt: HostRuntime) -> Result<(), Fail> {
+        let alloc = rt.alloc();
+        let state = state(alloc);
+        for (off, text) in [
+            (255, "Unscaled 1 255"),
+            (256, "UnsignedOffset 1 256"),
+            (65536, "movz 1,1; RegExtended 1 16 SXTX"),
+            (-256, "Unscaled 1 -256"),
+            (-257, "movn 100,0; RegExtended 1 16 SXTX"),
+            // No multiple of 8.
+            (257, "movz 101,0; RegExtended 1 16 SXTX"),
+            (
+                0x1_2345_6789,
+                "movz 6789,0; movk 2345,1; movk 1,2; RegExtended 1 16 SXTX",
+            ),
+        ] {
+            let mem = AMode::RegOffset { rn: xreg(1), off };
+            let found = final_text(alloc, &mem, IrType::I64, &state)?;
+            assert_eq!(rt; found.as_str(), text, "at {off}");
+        }
+        Ok(())
+    }
+
+    #[test]
+    fn offsets_in_the_frame(rt: HostRuntime) -> Result<(), Fail> {
+        let alloc = rt.alloc();
+        let state = state(alloc);
+        let from_stack = final_text(alloc, &AMode::SPOffset { off: 16 }, IrType::I64, &state)?;
+        assert_eq!(rt; from_stack.as_str(), "Unscaled 63 16");
+        let from_frame = final_text(alloc, &AMode::FPOffset { off: -16 }, IrType::I64, &state)?;
+        assert_eq!(rt; from_frame.as_str(), "Unscaled 29 -16");
+        let incoming = final_text(alloc, &AMode::IncomingArg { off: 24 }, IrType::I64, &state)?;
+        assert_eq!(rt; incoming.as_str(), "Unscaled 63 80");
+        let slot = final_text(alloc, &AMode::SlotOffset { off: 4096 }, IrType::I64, &state)?;
+        assert_eq!(rt; slot.as_str(), "UnsignedOffset 63 4104");
+        Ok(())
+    }
+
+    /// Whether a mode stays as it is, without an instruction before it.
+    fn stays(alloc: Global, mem: &AMode, state: &EmitState) -> Result<bool, AllocError>
+        requires offset { base_offset_of state.now.frame mem.now ≡ None }
+        requires frame { FrameFits state.now.frame mem.now }
+    {
+        let before = mode_text(alloc, mem)?;
+        let found = final_text(alloc, mem, IrType::I32, state)?;
+        Ok(found == before)
+    }
+
+    #[test]
+    fn other_modes_stay(rt: HostRuntime) -> Result<(), Fail> {
+        let alloc = rt.alloc();
+        let state = state(alloc);
+        let (rn, rm, extendop) = (xreg(1), xreg(2), ExtendOp::UXTW);
+        let simm9 = SImm9 { value: -16 };
+        let uimm12 = UImm12Scaled::zero(IrType::I64);
+        let label = MemLabel::PCRel(8);
+        let indexed = AMode::RegScaledExtended { rn, rm, extendop };
+        assert!(rt; stays(alloc, &AMode::RegReg { rn, rm }, &state)?);
+        assert!(rt; stays(alloc, &AMode::RegScaled { rn, rm }, &state)?);
+        assert!(rt; stays(alloc, &indexed, &state)?);
+        assert!(rt; stays(alloc, &AMode::RegExtended { rn, rm, extendop }, &state)?);
+        assert!(rt; stays(alloc, &AMode::Unscaled { rn, simm9 }, &state)?);
+        assert!(rt; stays(alloc, &AMode::UnsignedOffset { rn, uimm12 }, &state)?);
+        assert!(rt; stays(alloc, &AMode::Label { label }, &state)?);
+        assert!(rt; stays(alloc, &AMode::SPPreIndexed { simm9 }, &state)?);
+        assert!(rt; stays(alloc, &AMode::SPPostIndexed { simm9 }, &state)?);
+        Ok(())
+    }
+
+    #[test]
+    fn modes_of_registers(rt: HostRuntime) -> Result<(), Fail> {
+        let alloc = rt.alloc();
+        let alone = mode_text(alloc, &AMode::reg(xreg(3)))?;
+        assert_eq!(rt; alone.as_str(), "UnsignedOffset 3 0");
+        let mode = AMode::reg_plus_reg_scaled_extended(xreg(3), xreg(4), ExtendOp::SXTW);
+        assert!(rt;
+            matches!(mode, AMode::RegScaledExtended { rn, rm, extendop: ExtendOp::SXTW } if rn == xreg(3) && rm == xreg(4))
+        );
+        Ok(())
     }
 }

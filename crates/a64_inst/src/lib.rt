@@ -1,6 +1,7 @@
 //! AArch64 instructions, and what emission is told beside them.
 #![tactic(auto)]
 
+mod access;
 mod constant;
 mod copied;
 mod emission;
