@@ -16,7 +16,7 @@ use Rattle.a64_plan.proofs.Shortest.{plan_shortest}
 use Rattle.a64_inst.specs.declared.mode.AMode.{AMode}
 use Rattle.a64_inst.specs.declared.mode.AMode.TheVariants.{RegReg, RegScaled, RegScaledExtended, RegExtended, Unscaled, UnsignedOffset, Label, SPPreIndexed, SPPostIndexed, FPOffset, SPOffset, IncomingArg, SlotOffset, RegOffset}
 use Rattle.a64_inst.specs.Modes.{BaseOffset, is_far, steps_to, StandsFor}
-use Rattle.a64_inst.specs.Addresses.{is_numbered, index_in, extended, displaced, indexed, address_of, after_steps, Reaches}
+use Rattle.a64_inst.specs.Addresses.{is_numbered, index_in, extended, displaced, indexed, after_steps, Reaches}
 
 -- a sum modulo 2^64
 wrapped_sum : (n : ℕ) (z : ℤ) → (n + residue (2 ^ 64) z * 1) % 2 ^ 64 ≡ residue (2 ^ 64) (pos n +ℤ z)

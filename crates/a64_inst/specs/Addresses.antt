@@ -1,6 +1,6 @@
 -- The addresses of accesses, over what the registers hold (Arm Architecture Reference Manual, C1.3.3: load/store addressing
 -- modes). Nothing here says how an instruction is written.
-use Rattle.std.specs.Prelude.{ℕ, ℤ, pos, ◌≡◌, ◌+◌, ◌*◌, ◌%◌, ◌^◌, ◌⊎◌, ◌+ℤ◌, Bool, true, false, ◌&&◌, nat_eq, if◌then◌else◌, Option, Some, None, option_map, List, []}
+use Rattle.std.specs.Prelude.{ℕ, ℤ, pos, ◌≡◌, ◌+◌, ◌*◌, ◌%◌, ◌^◌, ◌⊎◌, ◌+ℤ◌, Bool, false, ◌&&◌, nat_eq, if◌then◌else◌, Option, Some, None, option_map, List, []}
 use Rattle.a64_base.specs.declared.reg.Reg.{Reg}
 use Rattle.a64_base.specs.declared.reg.Reg.TheVariants.{Real, Virtual}
 use Rattle.a64_base.specs.declared.ir_type.IrType.{IrType}

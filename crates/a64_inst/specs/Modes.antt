@@ -1,5 +1,5 @@
 -- Addressing modes: the base and the offset of those that no instruction holds, and what stands for them.
-use Rattle.std.specs.Prelude.{ℕ, ℤ, pos, negsuc, ◌≡◌, ◌<◌, ◌≤ℤ◌, ◌+◌, ◌-◌, ◌*◌, ◌%◌, ◌^◌, ◌⊎◌, ◌+ℤ◌, ◌-ℤ◌, Bool, true, false, not, ◌&&◌, ◌||◌, nat_lt, nat_le, nat_eq, if◌then◌else◌, Option, Some, None, List, [], ⊤}
+use Rattle.std.specs.Prelude.{ℕ, ℤ, pos, negsuc, ◌≡◌, ◌<◌, ◌+◌, ◌*◌, ◌%◌, ◌^◌, ◌⊎◌, ◌+ℤ◌, ◌-ℤ◌, Bool, true, false, not, ◌&&◌, ◌||◌, nat_lt, nat_le, nat_eq, if◌then◌else◌, Option, Some, None, List, [], ⊤}
 use Rattle.a64_base.specs.declared.reg.Reg.{Reg}
 use Rattle.a64_base.specs.declared.ir_type.IrType.{IrType}
 use Rattle.a64_base.specs.declared.ir_type.IrType.TheVariants.{I64}
@@ -12,7 +12,7 @@ use Rattle.a64_plan.specs.declared.step.ConstStep.{ConstStep}
 use Rattle.a64_plan.specs.Plans.{plan_of}
 use Rattle.a64_inst.specs.declared.frame.FrameLayout.{FrameLayout}
 use Rattle.a64_inst.specs.declared.mode.AMode.{AMode}
-use Rattle.a64_inst.specs.declared.mode.AMode.TheVariants.{RegReg, RegScaled, RegScaledExtended, RegExtended, Unscaled, UnsignedOffset, Label, SPPreIndexed, SPPostIndexed, FPOffset, SPOffset, IncomingArg, SlotOffset, RegOffset}
+use Rattle.a64_inst.specs.declared.mode.AMode.TheVariants.{RegExtended, Unscaled, UnsignedOffset, FPOffset, SPOffset, IncomingArg, SlotOffset, RegOffset}
 
 -- the mode of a register alone: an unsigned offset of 0, in units of 8 bytes
 abbrev pub IsRegisterAlone : Reg → AMode → Type 0

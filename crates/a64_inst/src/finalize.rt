@@ -243,7 +243,10 @@ mod tests {
     }
 
     /// A frame of 104 bytes, of which 8 are for the arguments of outgoing calls.
-    fn state(alloc: Global) -> EmitState {
+    fn state(alloc: Global) -> EmitState
+        ensures size { frame_size result.frame ≡ 104 }
+        ensures outgoing { result.frame.outgoing_args_size ≡ 8 }
+    {
         EmitState::new(FrameLayout {
             setup_area_size: 16,
             tail_args_size: 0,
