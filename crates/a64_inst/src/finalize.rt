@@ -244,8 +244,7 @@ mod tests {
 
     /// A frame of 104 bytes, of which 8 are for the arguments of outgoing calls.
     fn state(alloc: Global) -> EmitState
-        ensures size { frame_size result.frame ≡ 104 }
-        ensures outgoing { result.frame.outgoing_args_size ≡ 8 }
+        ensures { frame_size result.frame ≡ 104 }
     {
         EmitState::new(FrameLayout {
             setup_area_size: 16,
@@ -282,16 +281,44 @@ mod tests {
     }
 
     #[test]
-    fn offsets_in_the_frame(rt: HostRuntime) -> Result<(), Fail> {
+    fn offsets_from_the_pointers(rt: HostRuntime) -> Result<(), Fail> {
         let alloc = rt.alloc();
         let state = state(alloc);
         let from_stack = final_text(alloc, &AMode::SPOffset { off: 16 }, IrType::I64, &state)?;
         assert_eq!(rt; from_stack.as_str(), "Unscaled 63 16");
         let from_frame = final_text(alloc, &AMode::FPOffset { off: -16 }, IrType::I64, &state)?;
         assert_eq!(rt; from_frame.as_str(), "Unscaled 29 -16");
-        let incoming = final_text(alloc, &AMode::IncomingArg { off: 24 }, IrType::I64, &state)?;
+        Ok(())
+    }
+
+    /// What stands for an argument that lies so far below the upper end of the frame.
+    fn incoming_text(alloc: Global, off: i32, state: &EmitState) -> Result<String, AllocError>
+        requires { frame_size state.now.frame < 2 ^ 32 }
+    {
+        let off = i64::from(off);
+        final_text(alloc, &AMode::IncomingArg { off }, IrType::I64, state)
+    }
+
+    #[test]
+    fn incoming_arguments(rt: HostRuntime) -> Result<(), Fail> {
+        let alloc = rt.alloc();
+        let incoming = incoming_text(alloc, 24, &state(alloc))?;
         assert_eq!(rt; incoming.as_str(), "Unscaled 63 80");
-        let slot = final_text(alloc, &AMode::SlotOffset { off: 4096 }, IrType::I64, &state)?;
+        Ok(())
+    }
+
+    /// What stands for a slot of the frame.
+    fn slot_text(alloc: Global, off: i32, state: &EmitState) -> Result<String, AllocError>
+        requires { frame_size state.now.frame < 2 ^ 32 }
+    {
+        let off = i64::from(off);
+        final_text(alloc, &AMode::SlotOffset { off }, IrType::I64, state)
+    }
+
+    #[test]
+    fn slots(rt: HostRuntime) -> Result<(), Fail> {
+        let alloc = rt.alloc();
+        let slot = slot_text(alloc, 4096, &state(alloc))?;
         assert_eq!(rt; slot.as_str(), "UnsignedOffset 63 4104");
         Ok(())
     }

@@ -1,5 +1,7 @@
 //! The operators of instructions.
 
+ghost use Rattle.std.specs.Prelude.{◌≡◌};
+
 /// An integer operator with two or three operands (Cranelift's `ALUOp`).
 #[derive(Clone, Copy, Debug, PartialEq, Eq)]
 pub enum ALUOp {
@@ -81,6 +83,24 @@ pub enum BitOp {
     Rev64,
 }
 
+impl BitOp {
+    ghost use Rattle.a64_ops.specs.Names.{bit_op_name};
+
+    /// Its name in assembly text.
+    pub fn op_str(&self) -> &'static str
+        ensures { result.now ≡ bit_op_name self.now }
+    {
+        match self {
+            BitOp::RBit => "rbit",
+            BitOp::Clz => "clz",
+            BitOp::Cls => "cls",
+            BitOp::Rev16 => "rev16",
+            BitOp::Rev32 => "rev32",
+            BitOp::Rev64 => "rev64",
+        }
+    }
+}
+
 /// A move of a bitfield that sets the whole register (Cranelift's `BfmOp`).
 #[derive(Clone, Copy, Debug, PartialEq, Eq)]
 pub enum BfmOp {
@@ -88,6 +108,20 @@ pub enum BfmOp {
     UBfm,
     /// With the field's sign above it, and zeros below.
     SBfm,
+}
+
+impl BfmOp {
+    ghost use Rattle.a64_ops.specs.Names.{bfm_op_name};
+
+    /// Its name in assembly text.
+    pub fn op_str(&self) -> &'static str
+        ensures { result.now ≡ bfm_op_name self.now }
+    {
+        match self {
+            BfmOp::UBfm => "ubfm",
+            BfmOp::SBfm => "sbfm",
+        }
+    }
 }
 
 /// A wide move that sets the whole register (Cranelift's `MoveWideOp`).
