@@ -87,16 +87,14 @@ fn long_code(alloc: Global) -> Result<(Code, Vec<u8>), AllocError> {
 fn a_long_report_goes_in_pieces(rt: HostRuntime) -> Result<(), Fail> {
     let alloc = rt.alloc();
     let (code, report) = long_code(alloc)?;
-    let mut ends: Vec<usize> = Vec::new(alloc);
-    for call in 1_u64..=2 {
+    for (call, least, most) in [(1_u64, 0, 0), (2, 65_521, 65_536)] {
         let mut sink = MemSink::new(alloc, report.len(), usize::MAX, vec![in alloc; call]?)?;
         let mut piece = Piece::new(alloc)?;
         assert!(rt; write_report(&mut sink, &mut piece, &code) == Err(Failed));
         assert!(rt; report.starts_with(sink.bytes()));
-        ends.push(sink.bytes().len())?;
+        let taken = sink.bytes().len();
+        assert!(rt; least <= taken && taken <= most);
     }
-    assert_eq!(rt; ends[0], 0);
-    assert!(rt; 65_536 - 16 < ends[1] && ends[1] <= 65_536);
     let mut sink = MemSink::new(alloc, report.len(), usize::MAX, Vec::new(alloc))?;
     let mut piece = Piece::new(alloc)?;
     assert!(rt; write_report(&mut sink, &mut piece, &code) == Ok(()));
