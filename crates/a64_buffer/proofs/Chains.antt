@@ -82,6 +82,26 @@ chained_push labels earlier heads label c =
       ];
     }
 
+-- one more use, of no label
+pub chained_none : (labels : List (Option ℕ)) (earlier : List ℕ) (heads : FinMap nat_cmp ℕ) (any : ℕ) → IsChained labels earlier heads → IsChained (labels ++ None ∷ []) (earlier ++ any ∷ []) heads
+chained_none labels earlier heads any c = record {
+  same_length = omega (arith, c.same_length, length_push labels None, length_push earlier any);
+  links = λ k l lt e. elim (cases_lt k (length labels)) [
+    | inl below ↦
+        let there : k < length earlier = omega (arith, c.same_length) in
+        let is : get_or labels k None ≡ Some l = sym (get_or_append_left labels (None ∷ []) None k below) ∙ e in
+        subst (IsLast (labels ++ None ∷ []) l k) (sym (get_or_append_left earlier (any ∷ []) 0 k there))
+        (last_before labels None l k (get_or earlier k 0) (omega arith) (c.links k l below is))
+    | inr past ↦
+        let here : length labels ≡ k = omega (arith, length_push labels None) in
+        absurd (let z : None ≡ Some l = sym (get_or_push labels None None k here) ∙ e in cc)
+  ];
+  last = λ q. elim (get heads q) as (λ o. HasLast labels q o → HasLast (labels ++ None ∷ []) q o) [
+    | None ↦ λ h. last_other labels None q 0 (λ e. cc) h
+    | Some x ↦ λ h. last_other labels None q x (λ e. cc) h
+  ] (c.last q);
+}
+
 -- the same, of chains that are known to be those
 pub chained_made : (labels : List (Option ℕ)) (earlier : List ℕ) (heads : FinMap nat_cmp ℕ) (label : ℕ) → IsChained labels earlier heads → (labels' : List (Option ℕ)) (earlier' : List ℕ) (heads' : FinMap nat_cmp ℕ) → labels' ≡ labels ++ Some label ∷ [] → earlier' ≡ earlier ++ unwrap_or (get heads label) 0 ∷ [] → heads' ≡ insert heads label (length labels + 1) → IsChained labels' earlier' heads'
 chained_made labels earlier heads label c labels' earlier' heads' l e h =

@@ -13,7 +13,7 @@ use Rattle.std.proofs.lemmas.List.{length-map, get_or-map, map-append, take_more
 use Rattle.std.proofs.lemmas.Map.Keys.{IsStrictlyIncreasing-from_sorted}
 use Rattle.std.proofs.lemmas.Map.Views.{Contains-from_lookup}
 use Rattle.a64_base.specs.declared.entity.MachLabel.{MachLabel}
-use Rattle.a64_buffer.specs.Finished.{Lists}
+use Rattle.a64_buffer.specs.Settled.{Lists}
 use Rattle.a64_buffer.proofs.Labels.{find_tree, same_by_cmp}
 
 first : (a b : Bool) → T (a && b) → T a

@@ -7,7 +7,7 @@ use Rattle.a64_buffer.specs.declared.site.Use.{Use}
 use Rattle.a64_buffer.specs.Kinds.{Kinds, GoesTo}
 use Rattle.a64_buffer.specs.Buffer.{IsFree}
 use Rattle.a64_buffer.specs.Sound.{IsPlaced, AreApart}
-use Rattle.a64_buffer.specs.Settled.{Reaches, MayLead, Patches, LeadsOn, AreSettled}
+use Rattle.a64_buffer.specs.Settled.{Reaches, MayLead, Patches, IsLed, AreSettled}
 
 module _ {K : Type 0} (r : Kinds K) where
   module _ (put : List ℕ) (uses : List (Use K)) (placed : All (IsPlaced (4 * length put)) uses) (apart : AreApart uses) (n : ℕ) (d : Use K) (within : n < length uses) where
@@ -38,12 +38,12 @@ module _ {K : Type 0} (r : Kinds K) where
         record {
           same_length = l ∙ t.same_length;
           free = λ i h f. p.others i (let ne : u.offset ≢ 4 * i = other (4 * i) f in omega (arith, next_placed.aligned)) ∙ t.free i h (sooner (4 * i) f);
-          settled = All-more (λ (v : Use K). LeadsOn r (get_or put (v.offset / 4) 0) v (get_or words' (v.offset / 4) 0)) uses n d within
+          settled = All-more (λ (v : Use K). IsLed r (get_or put (v.offset / 4) 0) v (get_or words' (v.offset / 4) 0)) uses n d within
               (λ k e h.
               let ne : (get_or (take n uses) k e).offset ≢ u.offset = fresh k e h in
               let al : (get_or (take n uses) k e).offset % 4 ≡ 0 = (All-take (IsPlaced (4 * length put)) n uses placed k e h).aligned in
               let apart : (get_or (take n uses) k e).offset / 4 ≢ u.offset / 4 = omega (arith, next_placed.aligned) in
-              subst (λ w. LeadsOn r (get_or put ((get_or (take n uses) k e).offset / 4) 0) (get_or (take n uses) k e) w) (sym (p.others _ apart)) (t.settled k e h))
+              subst (λ w. IsLed r (get_or put ((get_or (take n uses) k e).offset / 4) 0) (get_or (take n uses) k e) w) (sym (p.others _ apart)) (t.settled k e h))
               (record {
                 rest = p.rest ∙ ap (outside (r.mask u.kind)) as_put;
                 leads = subst (λ o. IfSome o (GoesTo r u.kind (get_or put (u.offset / 4) 0) (get_or words' (u.offset / 4) 0) u.offset)) (sym e)
@@ -60,7 +60,7 @@ module _ {K : Type 0} (r : Kinds K) where
         record {
           same_length = t.same_length;
           free = λ i h f. t.free i h (sooner (4 * i) f);
-          settled = All-more (λ (v : Use K). LeadsOn r (get_or put (v.offset / 4) 0) v (get_or words (v.offset / 4) 0)) uses n d within t.settled
+          settled = All-more (λ (v : Use K). IsLed r (get_or put (v.offset / 4) 0) v (get_or words (v.offset / 4) 0)) uses n d within t.settled
               (record {
                 rest = ap (outside (r.mask u.kind)) as_put;
                 leads = subst (λ o. IfSome o (GoesTo r u.kind (get_or put (u.offset / 4) 0) (get_or words (u.offset / 4) 0) u.offset)) (sym e) tt;

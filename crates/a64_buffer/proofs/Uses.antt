@@ -1,5 +1,5 @@
 -- Lemmas on lists of uses: one more use, and uses that are closed.
-use Rattle.std.proofs.Common.{ℕ, ◌≡◌, ◌≢◌, ◌<◌, List, [], ◌∷◌, ◌++◌, length, get_or, map, Option, None, Some, true, false, nat_eq, refl, sym, ◌∙◌, ap, arith, inl, inr}
+use Rattle.std.proofs.Common.{ℕ, ◌≡◌, ◌≢◌, ◌<◌, List, [], ◌∷◌, ◌++◌, length, get_or, map, Bool, Option, None, Some, true, false, nat_eq, refl, sym, ◌∙◌, ap, arith, inl, inr}
 use Rattle.std.specs.Option.{option_eq}
 use Rattle.std.proofs.lemmas.Bool.{cases_lt, eq-eqb, ne_eqb}
 use Rattle.std.proofs.lemmas.List.{length_push, length-map, get_or-map, get_or_push, get_or_append_left, with_items_is}
@@ -11,6 +11,7 @@ use Rattle.a64_buffer.specs.Kinds.{Kinds}
 use Rattle.a64_buffer.specs.Buffer.{label_of, leads_to, closed_at, IsFree}
 use Rattle.a64_buffer.specs.Chain.{labels_of}
 use Rattle.a64_buffer.specs.Sound.{AreApart}
+use Rattle.a64_buffer.specs.Steps.{stopped}
 
 module _ {K : Type 0} where
   pub apart_push : (uses : List (Use K)) (u : Use K) → AreApart uses → IsFree uses u.offset → AreApart (uses ++ u ∷ [])
@@ -56,3 +57,8 @@ labels_push (v ∷ uses) u = ap (λ ls. label_of v.target ∷ ls) (labels_push u
 pub closed_in_place : {K : Type 0} (r : Kinds K) (v : Vec (Use K)) (label place end : ℕ) (closed before : List (Use K)) → length closed ≡ v.len → closed ≡ map (closed_at r label place) before → before ≡ v.items → place ≡ end → (with_items v closed).items ≡ map (closed_at r label end) v.items
 closed_in_place r v label place end closed before l c b e =
     with_items_is v closed l ∙ (c ∙ (ap (map (closed_at r label place)) b ∙ ap (λ p. map (closed_at r label p) v.items) e))
+
+-- and so have uses that stop at a place
+pub stopped_labels : {K : Type 0} (test : Use K → Bool) (place : ℕ) (uses : List (Use K)) → labels_of (map (stopped test place) uses) ≡ labels_of uses
+stopped_labels test place [] = refl
+stopped_labels test place (u ∷ us) = ap (λ ls. label_of u.target ∷ ls) (stopped_labels test place us)

@@ -1,20 +1,24 @@
 -- What a buffer of code is to its callers.
-use Rattle.std.specs.Prelude.{ℕ, ◌≡◌, ◌≢◌, ◌*◌, ◌+◌, ◌≤◌, ◌&&◌, Bool, nat_eq, nat_le, if◌then◌else◌, List, [], All, length, Option, None, Some, is_none, option_and_then, IsSome, IfSome, IsSomeAnd, MatchOption, Any}
+use Rattle.std.specs.Prelude.{ℕ, ◌≡◌, ◌≢◌, ◌⊎◌, ◌*◌, ◌+◌, ◌<◌, ◌≤◌, ◌&&◌, Bool, nat_eq, nat_le, if◌then◌else◌, List, [], All, length, Option, None, Some, is_none, option_and_then, IsSome, IfSome, IsSomeAnd, MatchOption, Any}
 use Rattle.std.specs.Option.{option_eq}
 use Rattle.std.specs.Ordering.{nat_cmp}
 use Rattle.std.specs.FinMap.{FinMap, get, empty}
 use Rattle.a64_base.specs.declared.entity.MachLabel.{MachLabel}
+use Rattle.a64_base.specs.declared.entity.TrapCode.{TrapCode}
 use Rattle.a64_buffer.specs.declared.site.Target.{Target}
-use Rattle.a64_buffer.specs.declared.site.Target.TheVariants.{Label}
+use Rattle.a64_buffer.specs.declared.site.Target.TheVariants.{Label, Constant, Trap, IslandEnd}
 use Rattle.a64_buffer.specs.declared.site.Use.{Use}
 use Rattle.a64_buffer.specs.Kinds.{Kinds, IsWithin}
 
--- the words as they were put, the uses in the order in which they were made, the places of the
--- bound labels by their numbers, and the bytes of the constants by theirs
+-- the words as they were put, those of islands included; the uses in the order in which they were
+-- made, veneers included; the places of the bound labels by their numbers; the islands, where each
+-- begins and ends; the trap words of islands, with their codes; and the bytes of the constants by their numbers
 pub record Buffer (K : Type 0) : Type 0 where
   pub words : List ℕ
   pub uses : List (Use K)
   pub labels : FinMap nat_cmp ℕ
+  pub islands : List (ℕ × ℕ)
+  pub traps : List (ℕ × TrapCode)
   pub constants : FinMap nat_cmp (List ℕ)
 
 -- the length of the code, in bytes
@@ -23,11 +27,14 @@ end_of b = 4 * length b.words
 
 -- a buffer without code
 abbrev pub new_buffer : {K : Type 0} → FinMap nat_cmp (List ℕ) → Buffer K
-new_buffer constants = record { words = []; uses = []; labels = empty; constants = constants }
+new_buffer constants = record { words = []; uses = []; labels = empty; islands = []; traps = []; constants = constants }
 
 -- the number of the label that a target is, where it is one
 abbrev pub label_of : Target → Option ℕ
 label_of (Label label) = Some label.0
+label_of (Constant constant) = None
+label_of (Trap code) = None
+label_of IslandEnd = None
 
 -- whether a target is the label of a number
 abbrev pub leads_to : ℕ → Target → Bool
@@ -40,6 +47,10 @@ goal_of labels target = option_and_then (λ label. get labels label) (label_of t
 -- no use stands at a place
 abbrev pub IsFree : {K : Type 0} → List (Use K) → ℕ → Type 0
 IsFree uses place = All (λ u. u.offset ≢ place) uses
+
+-- a place is in none of some areas
+abbrev pub IsOutside : List (ℕ × ℕ) → ℕ → Type 0
+IsOutside areas place = All (λ area. (place < area.0) ⊎ (area.1 ≤ place)) areas
 
 -- the label of a use is bound; a use of something else asks for none
 abbrev pub IsBound : {K : Type 0} → FinMap nat_cmp ℕ → Use K → Type 0

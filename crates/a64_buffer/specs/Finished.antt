@@ -1,37 +1,49 @@
 -- What finished code is to its callers.
-use Rattle.std.specs.Prelude.{ℕ, ◌≡◌, ◌↔◌, ◌*◌, ◌/◌, ◌<◌, List, [], All, Contains, map, length, slice_index, IfSome, Some}
-use Rattle.std.specs.List.Sorted.{IsStrictlyIncreasing}
-use Rattle.std.specs.Ordering.{nat_cmp}
-use Rattle.std.specs.FinMap.{FinMap, get}
-use Rattle.a64_base.specs.declared.entity.MachLabel.{MachLabel}
+use Rattle.std.specs.Prelude.{ℕ, ◌≡◌, ◌+◌, ◌*◌, ◌/◌, ◌<◌, ◌≤◌, List, [], ◌∷◌, ◌++◌, All, length, slice_index, slice_index_or, IfSome, MatchOption}
 use Rattle.a64_buffer.specs.declared.site.Use.{Use}
+use Rattle.a64_buffer.specs.declared.site.Target.TheVariants.{IslandEnd}
 use Rattle.a64_buffer.specs.declared.finish.Finished.{Finished}
 use Rattle.a64_buffer.specs.Word.{outside, word_at}
 use Rattle.a64_buffer.specs.Kinds.{Kinds, GoesTo}
-use Rattle.a64_buffer.specs.Buffer.{Buffer, end_of, goal_of, IsFree}
-
--- a list has each label of a map once with its place, by number
-pub record Lists (labels : FinMap nat_cmp ℕ) (list : List (MachLabel × ℕ)) : Type 0 where
-  pub ordered : IsStrictlyIncreasing (map (λ e. e.0.0) list)
-  pub listed : (label : MachLabel) (place : ℕ) → Contains list (label, place) ↔ (get labels label.0 ≡ Some place)
+use Rattle.a64_buffer.specs.Buffer.{Buffer, end_of, IsFree}
+use Rattle.a64_buffer.specs.Classes.{trap_words, weight_of, owed}
+use Rattle.a64_buffer.specs.Later.{IsLater}
+use Rattle.a64_buffer.specs.Sound.{IsSound}
+use Rattle.a64_buffer.specs.Islands.{IsVeneerUse}
+use Rattle.a64_buffer.specs.Leads.{TargetLeads}
+use Rattle.a64_buffer.specs.Settled.{Lists}
 
 module _ {K : Type 0} (r : Kinds K) where
-  -- the finished word of a use: as it was put outside of the kind's field, and leading to the label,
-  -- where the use is of one
-  pub record IsSettled (labels : FinMap nat_cmp ℕ) (put : ℕ) (u : Use K) (word : ℕ) : Type 0 where
-    pub rest : outside (r.mask u.kind) word ≡ outside (r.mask u.kind) put
-    pub leads : IfSome (goal_of labels u.target) (λ place. GoesTo r u.kind put word u.offset place)
+  -- a jump word from one place to the other
+  pub record JumpsOver (bytes : List ℕ) (island : ℕ × ℕ) : Type 0 where
+    pub word : outside (r.mask r.jump) (word_at bytes island.0) ≡ outside (r.mask r.jump) r.jump_word
+    pub goes : GoesTo r r.jump r.jump_word (word_at bytes island.0) island.0 island.1
 
-  -- code in which each word stands where it was put, and each use of a label leads to it
+  -- the finished word of a use: as it was put outside of the kind's field, and leading to the use's stop
+  pub record IsSettled (put : ℕ) (u : Use K) (word : ℕ) : Type 0 where
+    pub rest : outside (r.mask u.kind) word ≡ outside (r.mask u.kind) put
+    pub stops : IfSome u.stop (λ stop. GoesTo r u.kind put word u.offset stop)
+
+  -- finished code: the buffer as it is with the pool at its end, each word of which stands where it was
+  -- put, and each use of which leads to its target
   pub record IsFinished (b : Buffer K) (code : Finished) : Type 0 where
-    pub same_length : length code.bytes.items ≡ end_of b
-    pub free : (i : ℕ) → i < length b.words → IsFree b.uses (4 * i) → word_at code.bytes.items (4 * i) ≡ slice_index b.words i
-    pub settled : All (λ u. IsSettled b.labels (slice_index b.words (u.offset / 4)) u (word_at code.bytes.items u.offset)) b.uses
+    pub final : Buffer K
+    pub sound : IsSound r b b.islands
+    pub later : IsLater b final
+    pub labels_kept : final.labels ≡ b.labels
+    pub longest : end_of final ≤ end_of b + owed r b
+    pub few_traps : length final.traps ≤ length b.traps + weight_of r trap_words b.uses
+    pub same_length : length code.bytes.items ≡ end_of final
+    pub free : (i : ℕ) → i < length final.words → IsFree final.uses (4 * i) → word_at code.bytes.items (4 * i) ≡ slice_index final.words i
+    pub settled : All (λ u. IsSettled (slice_index final.words (u.offset / 4)) u (word_at code.bytes.items u.offset)) final.uses
+    pub leads : All (λ u. MatchOption u.stop (u.target ≡ IslandEnd) (TargetLeads r code.bytes.items (b.islands ++ (end_of b, end_of final) ∷ []) b.labels b.constants code.traps.items u.kind u.target)) final.uses
+    pub given : (k : ℕ) (d : Use K) → length b.uses ≤ k → k < length final.uses → IsVeneerUse r b (slice_index_or final.uses k d)
+    pub jumps : All (JumpsOver code.bytes.items) b.islands
     pub labels : Lists b.labels code.labels.items
-    pub islands : code.islands.items ≡ []
+    pub islands : code.islands.items ≡ b.islands
     pub pool : code.pool ≡ end_of b
+    pub traps : code.traps.items ≡ final.traps
     pub relocs : code.relocs.items ≡ []
-    pub traps : code.traps.items ≡ []
     pub calls : code.calls.items ≡ []
     pub patchable : code.patchable.items ≡ []
     pub maps : code.maps.items ≡ []

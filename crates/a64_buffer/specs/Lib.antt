@@ -1,7 +1,15 @@
 pub mod Word
+pub mod Constants
 pub mod Kinds
 pub mod Buffer
+pub mod Areas
+pub mod Classes
 pub mod Chain
 pub mod Sound
+pub mod Later
+pub mod Space
+pub mod Steps
 pub mod Settled
+pub mod Leads
+pub mod Islands
 pub mod Finished

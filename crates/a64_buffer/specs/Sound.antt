@@ -1,15 +1,23 @@
 -- What is true of every buffer of code.
-use Rattle.std.specs.Prelude.{ℕ, ◌≡◌, ◌≢◌, ◌%◌, ◌^◌, ◌<◌, ◌≤◌, List, All, length, slice_index_or, IfSome}
-use Rattle.std.specs.FinMap.{get}
+use Rattle.std.specs.Prelude.{ℕ, ◌≡◌, ◌≢◌, ◌⊎◌, ◌+◌, ◌*◌, ◌/◌, ◌%◌, ◌^◌, ◌<◌, ◌≤◌, false, IsTrue, List, [], ◌∷◌, All, Contains, length, slice_index, slice_index_or, Some, IfSome, IsSomeAnd, MatchOption}
+use Rattle.std.specs.Ordering.{nat_cmp}
+use Rattle.std.specs.FinMap.{FinMap, get}
+use Rattle.a64_base.specs.declared.entity.TrapCode.{TrapCode}
 use Rattle.a64_buffer.specs.declared.site.Use.{Use}
+use Rattle.a64_buffer.specs.declared.site.Target.{Target}
+use Rattle.a64_buffer.specs.declared.site.Target.TheVariants.{Label, Constant, Trap, IslandEnd}
 use Rattle.a64_buffer.specs.declared.parts.Parts.{Parts}
-use Rattle.a64_buffer.specs.Kinds.{Kinds}
-use Rattle.a64_buffer.specs.Buffer.{Buffer, end_of, stop_of}
+use Rattle.a64_buffer.specs.Word.{words_of}
+use Rattle.a64_buffer.specs.Constants.{IsConstant}
+use Rattle.a64_buffer.specs.Kinds.{Kinds, IsWithin}
+use Rattle.a64_buffer.specs.Buffer.{Buffer, end_of, goal_of, is_within}
+use Rattle.a64_buffer.specs.Areas.{InArea, HasUse, Stands}
+use Rattle.a64_buffer.specs.Classes.{Fits}
 use Rattle.a64_buffer.specs.Chain.{labels_of, IsChained}
 
 -- what the parts of a buffer are to its callers
 abbrev pub seen : {K : Type 0} → Parts K → Buffer K
-seen p = record { words = p.words.items; uses = p.uses.items; labels = p.labels; constants = p.constants.now }
+seen p = record { words = p.words.items; uses = p.uses.items; labels = p.labels; islands = p.islands.items; traps = p.traps.items; constants = p.constants.now }
 
 -- a use stands on a word of code that ends there
 pub record IsPlaced {K : Type 0} (end : ℕ) (u : Use K) : Type 0 where
@@ -20,17 +28,102 @@ pub record IsPlaced {K : Type 0} (end : ℕ) (u : Use K) : Type 0 where
 abbrev pub AreApart : {K : Type 0} → List (Use K) → Type 0
 AreApart {K} uses = (j k : ℕ) (d : Use K) → j < k → k < length uses → (slice_index_or uses j d).offset ≢ (slice_index_or uses k d).offset
 
-module _ {K : Type 0} (r : Kinds K) where
-  -- the code is short; uses stand apart on words of it, and stop where their labels are bound in
-  -- range; labels are bound to places of words
-  pub record IsSound (b : Buffer K) : Type 0 where
-    pub short : end_of b < 2 ^ 31
-    pub placed : All (IsPlaced (end_of b)) b.uses
-    pub apart : AreApart b.uses
-    pub bound : (label : ℕ) → IfSome (get b.labels label) (λ place. (place % 4 ≡ 0) × (place ≤ end_of b))
-    pub stops : All (λ u. u.stop ≡ stop_of r b.labels u.kind u.offset u.target) b.uses
+-- a constant that a use loads is there
+abbrev pub IsKnown : FinMap nat_cmp (List ℕ) → Target → Type 0
+IsKnown constants (Label label) = Unit {0}
+IsKnown constants (Constant constant) = IsSomeAnd (get constants constant.0) IsConstant
+IsKnown constants (Trap code) = Unit {0}
+IsKnown constants IslandEnd = Unit {0}
 
-  -- the parts of a sound buffer, with its chains of uses
+module _ {K : Type 0} (r : Kinds K) where
+  -- the uses of constants and traps are of urgency 2, and an island begins with a jump
+  abbrev pub IsKinded : Target → K → Type 0
+  IsKinded (Label label) kind = Unit {0}
+  IsKinded (Constant constant) kind = r.urgency kind ≡ 2
+  IsKinded (Trap code) kind = r.urgency kind ≡ 2
+  IsKinded IslandEnd kind = kind ≡ r.jump
+
+  module _ (b : Buffer K) (areas : List (ℕ × ℕ)) where
+    -- at a place stands a jump word, which is a use of the target
+    pub record IsJump (target : Target) (place : ℕ) : Type 0 where
+      pub word : slice_index b.words (place / 4) ≡ r.jump_word
+      pub use' : HasUse b.uses place target r.jump
+      pub area : InArea areas place 4
+
+    -- from a place on stand the words of a far veneer, of which the last alone is a use, of the target
+    pub record IsFar (target : Target) (place : ℕ) : Type 0 where
+      pub stands : Stands b areas place r.far_words (4 * length r.far_words + 4)
+      pub last : slice_index b.words (place / 4 + length r.far_words) ≡ 0
+      pub use' : HasUse b.uses (place + 4 * length r.far_words) target r.far_use
+
+    -- at a place stands a copy of a constant
+    pub record IsCopy (content : List ℕ) (place : ℕ) : Type 0 where
+      pub aligned : place % length content ≡ 0
+      pub stands : Stands b areas place (words_of content) (length content)
+
+    -- at a place stands a trap word, which is recorded
+    pub record IsTrapWord (code : TrapCode) (place : ℕ) : Type 0 where
+      pub stands : Stands b areas place (r.trap_word ∷ []) 4
+      pub recorded : Contains b.traps (place, code)
+
+    -- a veneer for a use of this kind: a jump word, or a far veneer
+    abbrev pub IsVeneerFor : K → Target → ℕ → Type 0
+    IsVeneerFor kind target stop = (r.urgency kind ≢ 3 × IsJump target stop) ⊎ IsFar target stop
+
+    -- what stands where a use stops: its target, or a veneer for it
+    abbrev pub LeadsOn : K → Target → ℕ → Type 0
+    LeadsOn kind (Label label) stop = (get b.labels label.0 ≡ Some stop) ⊎ (IsTrue (r.veneers kind) × IsVeneerFor kind (Label label) stop)
+    LeadsOn kind (Constant constant) stop = IsSomeAnd (get b.constants constant.0) (λ content. IsCopy content stop)
+    LeadsOn kind (Trap code) stop = IsTrapWord code stop
+    LeadsOn kind IslandEnd stop = stop ≤ end_of b
+
+    pub record IsStop (target : Target) (kind : K) (offset stop : ℕ) : Type 0 where
+      pub aligned : stop % 4 ≡ 0
+      pub within : IsWithin (r.forward kind) (r.backward kind) offset stop
+      pub leads : LeadsOn kind target stop
+
+    -- a use without a stop does not reach its label, if that is bound
+    abbrev pub IsRightlyOpen : Target → K → ℕ → Type 0
+    IsRightlyOpen target kind offset = IfSome (goal_of b.labels target) (λ place. is_within r kind offset place ≡ false)
+
+    abbrev pub IsStoppedOrOpen : Use K → Type 0
+    IsStoppedOrOpen u = MatchOption u.stop (IsRightlyOpen u.target u.kind u.offset) (IsStop u.target u.kind u.offset)
+
+    -- the code is short; uses stand apart on words of it, and stop at their targets or at veneers for
+    -- them; labels are bound to places of words
+    pub record IsSound : Type 0 where
+      pub short : end_of b < 2 ^ 31
+      pub placed : All (IsPlaced (end_of b)) b.uses
+      pub apart : AreApart b.uses
+      pub kinded : All (λ u. IsKinded u.target u.kind) b.uses
+      pub known : All (λ u. IsKnown b.constants u.target) b.uses
+      pub bound : (label : ℕ) → IfSome (get b.labels label) (λ place. (place % 4 ≡ 0) × (place ≤ end_of b))
+      pub stops : All IsStoppedOrOpen b.uses
+
+  -- an island of code that ends there: it begins with a jump to its end
+  pub record IsIsland (b : Buffer K) (island : ℕ × ℕ) : Type 0 where
+    pub aligned : island.0 % 4 ≡ 0
+    pub long : island.0 + 4 ≤ island.1
+    pub inside : island.1 ≤ end_of b
+    pub word : slice_index b.words (island.0 / 4) ≡ r.jump_word
+    pub index : ℕ
+    pub within : index < length b.uses
+    pub offset_is : (d : Use K) → (slice_index_or b.uses index d).offset ≡ island.0
+    pub kind_is : (d : Use K) → (slice_index_or b.uses index d).kind ≡ r.jump
+    pub stop_is : (d : Use K) → (slice_index_or b.uses index d).stop ≡ Some island.1
+
+  -- the islands of code: each begins with a jump to its end, and they stand one behind another
+  pub record AreIslands (b : Buffer K) : Type 0 where
+    pub each : All (IsIsland b) b.islands
+    pub in_order : (j k : ℕ) → j < k → k < length b.islands → (slice_index_or b.islands j (0, 0)).1 ≤ (slice_index_or b.islands k (0, 0)).0
+
+  -- a buffer between two calls
+  pub record IsWhole (b : Buffer K) : Type 0 where
+    pub sound : IsSound b b.islands
+    pub islands : AreIslands b
+    pub fits : Fits r b 0
+
+  -- the parts of such a buffer, with its chains of uses
   pub record AreSound (p : Parts K) : Type 0 where
-    pub sound : IsSound (seen p)
+    pub whole : IsWhole (seen p)
     pub chained : IsChained (labels_of p.uses.items) p.earlier.items p.heads

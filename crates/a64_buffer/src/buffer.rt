@@ -1,14 +1,18 @@
 //! A buffer of code.
 
-ghost use Rattle.std.specs.Prelude.{◌≡◌, ◌+◌, ◌%◌, ◌^◌, ◌<◌, All, IfOk, OnOk, OnErr, [], ◌∷◌, ◌++◌, None, map};
+ghost use Rattle.std.specs.Prelude.{◌≡◌, ◌+◌, ◌%◌, ◌^◌, ◌<◌, All, IfOk, OnOk, OnErr, [], ◌∷◌, ◌++◌, None, IsSomeAnd, MatchBool, false, map};
 ghost use Rattle.std.specs.FinMap as finmap;
-ghost use Rattle.a64_buffer.specs.declared.site.Target.TheVariants.{Label};
+ghost use Rattle.a64_buffer.specs.declared.site.Target.TheVariants.{Label, Constant, Trap};
+ghost use Rattle.a64_buffer.specs.Constants.{IsConstant};
+ghost use Rattle.a64_buffer.specs.Classes.{owed, Fits};
 
 use crate::constants::Constants;
 use crate::finish::Finished;
+use crate::force::ForceVeneers;
 use crate::label_use::MachInstLabelUse;
 use crate::parts::Parts;
-use a64_base::MachLabel;
+use crate::site::Target;
+use a64_base::{MachLabel, TrapCode, VCodeConstant};
 use std::alloc::{AllocError, Global};
 use std::marker::Model;
 
@@ -37,7 +41,9 @@ impl<'c, K: MachInstLabelUse> Model for MachBuffer<'c, K> {
 }
 
 impl<'c, K: MachInstLabelUse> MachBuffer<'c, K> {
-    ghost use Rattle.a64_buffer.specs.Buffer.{new_buffer, end_of, IsFree, IsFirstUnbound, made_use, closed_at, IsReached};
+    ghost use Rattle.a64_buffer.specs.Buffer.{new_buffer, end_of, IsFree, IsOutside, IsBound, IsFirstUnbound, made_use, closed_at, IsReached};
+    ghost use Rattle.a64_buffer.specs.Sound.{IsWhole};
+    ghost use Rattle.a64_buffer.specs.Islands.{HasIsland};
     ghost use Rattle.a64_buffer.specs.Finished.{IsFinished};
 
     /// A buffer without code, over the constants that the code may load. It takes no memory.
@@ -49,10 +55,12 @@ impl<'c, K: MachInstLabelUse> MachBuffer<'c, K> {
         }
     }
 
-    /// Where the next word will stand, in bytes from the start of the code. All uses stand before it.
+    /// Where the next word will stand, in bytes from the start of the code. What is true of every buffer
+    /// is told here: uses stand before the end, islands end at it at most, and each open use still
+    /// reaches what it gets in an island at the end.
     pub fn cur_offset(&self) -> u32
         ensures value { result ≡ end_of self.now }
-        ensures placed { All (λ u. u.offset < end_of self.now) self.now.uses }
+        ensures whole { IsWhole K.kinds self.now }
     {
         self.parts.end()
     }
@@ -64,13 +72,15 @@ impl<'c, K: MachInstLabelUse> MachBuffer<'c, K> {
     /// Want of memory, and then nothing has changed.
     pub fn put4(&mut self, word: u32) -> Result<(), AllocError>
         requires short { end_of self.old + 4 < 2 ^ 31 }
+        requires fits { Fits K.kinds self.old 4 }
         ensures ok { OnOk result (self.new ≡ record self.old { words = self.old.words ++ word ∷ [] }) }
         ensures err { OnErr result (self.new ≡ self.old) }
     {
         self.parts.put(word)
     }
 
-    /// Makes a word that was put, and that has no use yet, a use of a label.
+    /// Makes a word that was put, and that has no use yet, a use of a label. With it all open uses still
+    /// reach what they get in an island at the end.
     ///
     /// # Errors
     ///
@@ -84,12 +94,68 @@ impl<'c, K: MachInstLabelUse> MachBuffer<'c, K> {
         requires aligned { offset % 4 ≡ 0 }
         requires inside { offset < end_of self.old }
         requires free { IsFree self.old.uses offset }
+        requires outside { IsOutside self.old.islands offset }
+        requires fits { Fits K.kinds (record self.old {
+          uses = self.old.uses ++ made_use K.kinds self.old.labels offset (Label label) kind ∷ [];
+        }) 0 }
         ensures ok { OnOk result (self.new ≡ record self.old {
           uses = self.old.uses ++ made_use K.kinds self.old.labels offset (Label label) kind ∷ [];
         }) }
         ensures err { OnErr result (self.new ≡ self.old) }
     {
-        self.parts.add_use(offset, label, kind)
+        self.parts.add_use(offset, Target::Label(label), kind)
+    }
+
+    /// Makes a word that was put, and that has no use yet, a load of a constant, by a kind of urgency 2.
+    /// An island or the pool gets a copy of the constant.
+    ///
+    /// # Errors
+    ///
+    /// Want of memory, and then nothing has changed.
+    pub fn use_constant(
+        &mut self,
+        offset: u32,
+        constant: VCodeConstant,
+        kind: K,
+    ) -> Result<(), AllocError>
+        requires aligned { offset % 4 ≡ 0 }
+        requires inside { offset < end_of self.old }
+        requires free { IsFree self.old.uses offset }
+        requires outside { IsOutside self.old.islands offset }
+        requires urgency { K.kinds.urgency kind ≡ 2 }
+        requires known { IsSomeAnd (finmap.get self.old.constants constant.0) IsConstant }
+        requires fits { Fits K.kinds (record self.old {
+          uses = self.old.uses ++ made_use K.kinds self.old.labels offset (Constant constant) kind ∷ [];
+        }) 0 }
+        ensures ok { OnOk result (self.new ≡ record self.old {
+          uses = self.old.uses ++ made_use K.kinds self.old.labels offset (Constant constant) kind ∷ [];
+        }) }
+        ensures err { OnErr result (self.new ≡ self.old) }
+    {
+        self.parts.add_use(offset, Target::Constant(constant), kind)
+    }
+
+    /// Makes a word that was put, and that has no use yet, a branch to a trap, by a kind of urgency 2. An
+    /// island or the pool gets a word that traps.
+    ///
+    /// # Errors
+    ///
+    /// Want of memory, and then nothing has changed.
+    pub fn defer_trap(&mut self, offset: u32, code: TrapCode, kind: K) -> Result<(), AllocError>
+        requires aligned { offset % 4 ≡ 0 }
+        requires inside { offset < end_of self.old }
+        requires free { IsFree self.old.uses offset }
+        requires outside { IsOutside self.old.islands offset }
+        requires urgency { K.kinds.urgency kind ≡ 2 }
+        requires fits { Fits K.kinds (record self.old {
+          uses = self.old.uses ++ made_use K.kinds self.old.labels offset (Trap code) kind ∷ [];
+        }) 0 }
+        ensures ok { OnOk result (self.new ≡ record self.old {
+          uses = self.old.uses ++ made_use K.kinds self.old.labels offset (Trap code) kind ∷ [];
+        }) }
+        ensures err { OnErr result (self.new ≡ self.old) }
+    {
+        self.parts.add_use(offset, Target::Trap(code), kind)
     }
 
     /// Binds a label, which is not bound yet, to the end.
@@ -108,6 +174,29 @@ impl<'c, K: MachInstLabelUse> MachBuffer<'c, K> {
         self.parts.bind(label)
     }
 
+    /// Whether an island has to be written before so many bytes more: else some open use would no longer
+    /// reach what it gets there.
+    pub fn island_needed(&self, distance: u32) -> bool
+        ensures { MatchBool result (Fits K.kinds self.now distance → ⊥) (Fits K.kinds self.now distance) }
+    {
+        self.parts.island_needed(distance)
+    }
+
+    /// Writes an island at the end: a jump over it, a jump word for each open branch of urgency 1 or 2, a
+    /// copy of each constant that is waited for, and a word for each trap. Open branches of urgency 3 get
+    /// far veneers, all or none of them: where that is forced, or some would not reach so many bytes more.
+    ///
+    /// # Errors
+    ///
+    /// Want of memory, and then nothing has changed.
+    pub fn emit_island(&mut self, distance: u32, force: ForceVeneers) -> Result<(), AllocError>
+        requires short { end_of self.old + owed K.kinds self.old + 4 < 2 ^ 31 }
+        ensures ok { OnOk result (HasIsland K.kinds distance force self.old self.new) }
+        ensures err { OnErr result (self.new ≡ self.old) }
+    {
+        self.parts.emit_island(distance, force)
+    }
+
     /// The used label of least number that is not bound; `None` where all used labels are bound.
     pub fn first_unbound(&self) -> Option<MachLabel>
         ensures { IsFirstUnbound self.now result }
@@ -115,13 +204,16 @@ impl<'c, K: MachInstLabelUse> MachBuffer<'c, K> {
         self.parts.first_unbound()
     }
 
-    /// The finished code: each word stands where it was put, and each use of a label leads to it.
+    /// The finished code: each word stands where it was put, and each use leads to its target, if need be
+    /// through veneers in islands and in the pool behind the code.
     ///
     /// # Errors
     ///
     /// Want of memory.
     pub fn finish(self) -> Result<Finished, AllocError>
-        requires { All (IsReached K.kinds self.labels) self.uses }
+        requires short { end_of self + owed K.kinds self < 2 ^ 31 }
+        requires bound { All (IsBound self.labels) self.uses }
+        requires direct { All (λ u. K.kinds.veneers u.kind ≡ false → IsReached K.kinds self.labels u) self.uses }
         ensures { IfOk result (λ code. IsFinished K.kinds self.entry code) }
     {
         self.parts.finish()

@@ -1,10 +1,12 @@
 //! The constants that code may load.
 
-ghost use Rattle.std.specs.Prelude.{◌≡◌};
+ghost use Rattle.std.specs.Prelude.{◌≡◌, ◌^◌, ◌<◌, ◌⊎◌, length, option_map, IfSome, IsSome, is_some, not, IfOk, OnOk, OnErr, if◌then◌else◌};
 ghost use Rattle.std.specs.FinMap as map;
+ghost use Rattle.a64_buffer.specs.Constants.{IsConstant, inserted};
 
+use a64_base::VCodeConstant;
 use a64_list::ListVec;
-use std::alloc::Global;
+use std::alloc::{AllocError, Global};
 use std::collections::BTreeMap;
 use std::marker::Model;
 
@@ -12,6 +14,8 @@ use std::marker::Model;
 #[derive(Drop)]
 pub struct Constants {
     bytes: BTreeMap<u32, ListVec<u8>>,
+    /// Where memory comes from.
+    alloc: Global,
 }
 
 impl Model for Constants {
@@ -19,12 +23,15 @@ impl Model for Constants {
     ghost use Rattle.std.specs.Ordering.{nat_cmp};
     ghost use Rattle.std.specs.FinMap.{FinMap, from_entries, code};
     ghost use Rattle.std.specs.Coded.{coded_ℕ, coded_list};
+    ghost use Rattle.a64_buffer.specs.Constants.{AreConstants};
 
     ghost Value = { FinMap nat_cmp (List ℕ) };
 
     ghost coded = { code {R = nat_cmp} coded_ℕ (coded_list coded_ℕ) };
 
     ghost view = { λ c. from_entries c.bytes.entries };
+
+    ghost invariant = { λ c. AreConstants (from_entries c.bytes.entries) };
 }
 
 impl Constants {
@@ -34,6 +41,49 @@ impl Constants {
     {
         Constants {
             bytes: BTreeMap::new(alloc),
+            alloc,
+        }
+    }
+
+    /// Adds a constant of 4, 8 or 16 bytes. Where its number has a constant already, it answers `false`,
+    /// and nothing has changed.
+    ///
+    /// # Errors
+    ///
+    /// Want of memory, and then nothing has changed.
+    pub fn insert(&mut self, constant: VCodeConstant, bytes: &[u8]) -> Result<bool, AllocError>
+        requires { IsConstant bytes.now }
+        ensures answer { IfOk result (λ new. new ≡ not (is_some (map.get self.old constant.0))) }
+        ensures ok { OnOk result (self.new ≡ inserted self.old constant.0 bytes.now) }
+        ensures err { OnErr result (self.new ≡ self.old) }
+    {
+        if self.bytes.contains_key(&constant.0) {
+            return Ok(false);
+        }
+        let mut items = Vec::new(self.alloc);
+        items.extend_from_slice(bytes)?;
+        self.bytes.insert(constant.0, ListVec::from_vec(items))?;
+        Ok(true)
+    }
+
+    /// The bytes of a constant; `None` where its number has none.
+    pub fn bytes_of(&self, constant: VCodeConstant) -> Option<&[u8]>
+        ensures is { option_map (λ b. b.now) result ≡ map.get self.now constant.0 }
+        ensures sized { IfSome result (λ b. IsConstant b.now) }
+    {
+        match self.bytes.get(&constant.0) {
+            Some(bytes) => Some(bytes.as_slice()),
+            None => None,
+        }
+    }
+
+    /// How many bytes a constant has; `None` where its number has none.
+    pub fn size_of(&self, constant: VCodeConstant) -> Option<u32>
+        ensures { result ≡ option_map length (map.get self.now constant.0) }
+    {
+        match self.bytes_of(constant) {
+            Some(bytes) => Some(bytes.len() as u32),
+            None => None,
         }
     }
 }

@@ -4,14 +4,21 @@
 
 mod buffer;
 mod chain;
+mod class;
 mod constants;
+mod copy;
 mod field;
 mod finish;
 mod force;
+mod give;
+mod island;
 mod label_use;
 mod parts;
+mod room;
 mod settle;
 mod site;
+#[cfg(test)]
+mod test_use;
 #[cfg(test)]
 mod tests;
 

@@ -1,8 +1,8 @@
 //! The parts of a buffer of code, and what changes them.
 
-ghost use Rattle.std.specs.Prelude.{◌≡◌, ◌+◌, ◌%◌, ◌^◌, ◌<◌, ◌≤◌, All, IfOk, OnOk, OnErr, [], ◌∷◌, ◌++◌, None, Some, MatchOption, option_map, map, min, vec_len, vec_capacity};
+ghost use Rattle.std.specs.Prelude.{◌≡◌, ◌+◌, ◌%◌, ◌^◌, ◌<◌, ◌≤◌, All, IfOk, OnOk, OnErr, [], ◌∷◌, ◌++◌, None, Some, MatchOption, MatchBool, IfSome, false, option_map, length, map, min, vec_len, vec_capacity};
+ghost use Rattle.std.specs.Option.{unwrap_or};
 ghost use Rattle.std.specs.FinMap as finmap;
-ghost use Rattle.a64_buffer.specs.declared.site.Target.TheVariants.{Label};
 ghost use Rattle.a64_base.specs.declared.entity.MachLabel.{MachLabel};
 ghost use Rattle.a64_buffer.specs.Buffer.{label_of};
 
@@ -12,7 +12,7 @@ use crate::finish::Finished;
 use crate::label_use::MachInstLabelUse;
 use crate::settle::{bytes_of, labels_in_order, settle};
 use crate::site::{Target, Use};
-use a64_base::MachLabel;
+use a64_base::{MachLabel, TrapCode};
 use a64_label_map::LabelMap;
 use std::alloc::{AllocError, Global};
 
@@ -29,6 +29,10 @@ pub struct Parts<'c, K> {
     pub earlier: Vec<usize>,
     /// For each label that is used, one more than the index of its last use.
     pub heads: LabelMap<usize>,
+    /// Where each island begins and ends, in order.
+    pub islands: Vec<(u32, u32)>,
+    /// The trap words of islands, with their codes, in order.
+    pub traps: Vec<(u32, TrapCode)>,
     /// The constants that the code may load.
     pub constants: &'c Constants,
     /// Where memory comes from.
@@ -36,11 +40,12 @@ pub struct Parts<'c, K> {
 }
 
 /// The label that a target is, where it is one.
-fn target_label(target: Target) -> Option<MachLabel>
+pub fn target_label(target: Target) -> Option<MachLabel>
     ensures { option_map (λ (l : MachLabel). l.0) result ≡ label_of target }
 {
     match target {
         Target::Label(label) => Some(label),
+        _ => None,
     }
 }
 
@@ -55,8 +60,10 @@ fn lesser(first: Option<MachLabel>, label: MachLabel) -> MachLabel
 }
 
 impl<'c, K: MachInstLabelUse> Parts<'c, K> {
-    ghost use Rattle.a64_buffer.specs.Buffer.{new_buffer, end_of, stop_of, IsFree, IsUnboundOf, IsFirstUnbound, made_use, closed_at, IsReached};
-    ghost use Rattle.a64_buffer.specs.Sound.{seen, IsSound, AreSound};
+    ghost use Rattle.a64_buffer.specs.Buffer.{new_buffer, end_of, stop_of, IsFree, IsOutside, IsBound, IsUnboundOf, IsFirstUnbound, made_use, closed_at, IsReached};
+    ghost use Rattle.a64_buffer.specs.Classes.{owed, Fits};
+    ghost use Rattle.a64_buffer.specs.Settled.{MayLead, IsCode};
+    ghost use Rattle.a64_buffer.specs.Sound.{seen, IsPlaced, AreApart, IsKinded, IsKnown, AreSound};
     ghost use Rattle.a64_buffer.specs.Finished.{IsFinished};
 
     /// The parts of a buffer without code.
@@ -70,6 +77,8 @@ impl<'c, K: MachInstLabelUse> Parts<'c, K> {
             labels: LabelMap::new(alloc),
             earlier: Vec::new(alloc),
             heads: LabelMap::new(alloc),
+            islands: Vec::new(alloc),
+            traps: Vec::new(alloc),
             constants,
             alloc,
         }
@@ -87,6 +96,7 @@ impl<'c, K: MachInstLabelUse> Parts<'c, K> {
     pub fn put(&mut self, word: u32) -> Result<(), AllocError>
         requires sound { AreSound K.kinds self.old }
         requires short { end_of (seen self.old) + 4 < 2 ^ 31 }
+        requires fits { Fits K.kinds (seen self.old) 4 }
         ensures sound { AreSound K.kinds self.new }
         ensures ok { OnOk result (seen self.new ≡ record (seen self.old) { words = self.old.words.items ++ word ∷ [] }) }
         ensures err { OnErr result (seen self.new ≡ seen self.old) }
@@ -96,32 +106,51 @@ impl<'c, K: MachInstLabelUse> Parts<'c, K> {
     }
 
     /// Where a use that is made now stops.
-    fn stop_of(&self, offset: u32, label: MachLabel, kind: K) -> Option<u32>
-        ensures { result ≡ stop_of K.kinds (seen self.now).labels kind offset (Label label) }
+    pub fn stop_of(&self, offset: u32, target: Target, kind: K) -> Option<u32>
+        ensures { result ≡ stop_of K.kinds (seen self.now).labels kind offset target }
     {
+        let label = target_label(target)?;
         let place = self.labels.get(label.0)?;
         reached(kind, offset, place)
     }
 
+    /// Makes the use that is added next the last of its label, and answers which was the last before.
+    fn link_new(&mut self, target: Target) -> Result<usize, AllocError>
+        ensures earlier { IfOk result (λ earlier. IfSome (label_of target) (λ label. earlier ≡ unwrap_or (finmap.get self.old.heads label) 0)) }
+        ensures heads { OnOk result (self.new.heads ≡ (elim (label_of target) [ None ↦ self.old.heads | Some label ↦ finmap.insert self.old.heads label (length self.old.uses.items + 1) ])) }
+        ensures err { OnErr result (self.new.heads ≡ self.old.heads) }
+        ensures rest { self.new ≡ record self.old { heads = self.new.heads } }
+    {
+        let Some(label) = target_label(target) else {
+            return Ok(0);
+        };
+        let number = self.uses.len() + 1;
+        Ok(self.heads.insert(label.0, number)?.unwrap_or(0))
+    }
+
     /// Adds a use.
-    pub fn add_use(&mut self, offset: u32, label: MachLabel, kind: K) -> Result<(), AllocError>
+    pub fn add_use(&mut self, offset: u32, target: Target, kind: K) -> Result<(), AllocError>
         requires sound { AreSound K.kinds self.old }
         requires aligned { offset % 4 ≡ 0 }
         requires inside { offset < end_of (seen self.old) }
         requires free { IsFree self.old.uses.items offset }
+        requires outside { IsOutside self.old.islands.items offset }
+        requires kinded { IsKinded K.kinds target kind }
+        requires known { IsKnown (seen self.old).constants target }
+        requires fits { Fits K.kinds (record (seen self.old) {
+          uses = self.old.uses.items ++ made_use K.kinds (seen self.old).labels offset target kind ∷ [];
+        }) 0 }
         ensures sound { AreSound K.kinds self.new }
         ensures ok { OnOk result (seen self.new ≡ record (seen self.old) {
-          uses = self.old.uses.items ++ made_use K.kinds (seen self.old).labels offset (Label label) kind ∷ [];
+          uses = self.old.uses.items ++ made_use K.kinds (seen self.old).labels offset target kind ∷ [];
         }) }
         ensures err { OnErr result (seen self.new ≡ seen self.old) }
     {
         self.uses.reserve(1)?;
         self.earlier.reserve(1)?;
-        let number = self.uses.len() + 1;
-        let earlier = self.heads.insert(label.0, number)?.unwrap_or(0);
+        let earlier = self.link_new(target)?;
         self.earlier.push_reserved(earlier);
-        let stop = self.stop_of(offset, label, kind);
-        let target = Target::Label(label);
+        let stop = self.stop_of(offset, target, kind);
         self.uses.push_reserved(Use {
             offset,
             target,
@@ -174,17 +203,42 @@ impl<'c, K: MachInstLabelUse> Parts<'c, K> {
         first
     }
 
-    /// The finished code.
-    pub fn finish(self) -> Result<Finished, AllocError>
-        requires sound { IsSound K.kinds (seen self) }
-        requires reached { All (IsReached K.kinds (seen self).labels) self.uses.items }
+    /// Whether an island is needed before so many bytes more.
+    pub fn island_needed(&self, distance: u32) -> bool
+        requires { AreSound K.kinds self.now }
+        ensures { MatchBool result (Fits K.kinds (seen self.now) distance → ⊥) (Fits K.kinds (seen self.now) distance) }
+    {
+        !self.fits(distance)
+    }
+
+    /// The finished code: the pool is written, and each use leads to its target.
+    pub fn finish(mut self) -> Result<Finished, AllocError>
+        requires sound { AreSound K.kinds self }
+        requires short { end_of (seen self) + owed K.kinds (seen self) < 2 ^ 31 }
+        requires bound { All (IsBound (seen self).labels) self.uses.items }
+        requires direct { All (λ u. K.kinds.veneers u.kind ≡ false → IsReached K.kinds (seen self).labels u) self.uses.items }
         ensures { IfOk result (λ code. IsFinished K.kinds (seen self.entry) code) }
     {
         let pool = self.end();
+        self.reserve_all()?;
+        self.write_until(5);
+        self.finish_words(pool)
+    }
+
+    /// The finished code, once the pool is written, which begins at a place.
+    fn finish_words(self, pool: u32) -> Result<Finished, AllocError>
+        requires placed { All (IsPlaced (end_of (seen self))) self.uses.items }
+        requires apart { AreApart self.uses.items }
+        requires able { All (MayLead K.kinds) self.uses.items }
+        requires short { end_of (seen self) < 2 ^ 31 }
+        ensures { IfOk result (λ code. IsCode K.kinds (seen self.entry) pool code) }
+    {
         let Parts {
             mut words,
             uses,
             labels,
+            islands,
+            traps,
             alloc,
             ..
         } = self;
@@ -192,10 +246,10 @@ impl<'c, K: MachInstLabelUse> Parts<'c, K> {
         Ok(Finished {
             bytes: bytes_of(alloc, &words)?,
             labels: labels_in_order(alloc, &labels)?,
-            islands: Vec::new(alloc),
+            islands,
             pool,
             relocs: Vec::new(alloc),
-            traps: Vec::new(alloc),
+            traps,
             calls: Vec::new(alloc),
             patchable: Vec::new(alloc),
             maps: Vec::new(alloc),

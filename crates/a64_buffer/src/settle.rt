@@ -6,8 +6,7 @@ ghost use Rattle.std.specs.List.{flat_map};
 ghost use Rattle.a64_buffer.specs.Word.{outside};
 ghost use Rattle.a64_buffer.specs.Kinds.{IsWithin, GoesTo};
 ghost use Rattle.a64_buffer.specs.Sound.{IsPlaced, AreApart};
-ghost use Rattle.a64_buffer.specs.Settled.{IsCodeOf, Reaches, MayLead, Patches, AreSettled};
-ghost use Rattle.a64_buffer.specs.Finished.{Lists};
+ghost use Rattle.a64_buffer.specs.Settled.{IsCodeOf, Reaches, MayLead, Patches, AreSettled, Lists};
 
 use crate::label_use::MachInstLabelUse;
 use crate::site::Use;

@@ -1,12 +1,18 @@
-//! Uses of labels, and what they lead to.
+//! Uses of labels, constants and traps, and what they lead to.
 
-use a64_base::MachLabel;
+use a64_base::{MachLabel, TrapCode, VCodeConstant};
 
 /// What a use leads to.
 #[derive(Clone, Copy, Debug)]
 pub enum Target {
     /// A label.
     Label(MachLabel),
+    /// A copy of a constant.
+    Constant(VCodeConstant),
+    /// A word that traps, of its own, which is recorded with the code.
+    Trap(TrapCode),
+    /// The end of the island that begins with the use.
+    IslandEnd,
 }
 
 /// A use in a word of code.

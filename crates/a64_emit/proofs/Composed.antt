@@ -1,6 +1,6 @@
 -- From a finished buffer to code in which items are laid, and their uses lead.
-use Rattle.std.proofs.Common.{ℕ, ◌≡◌, ◌+◌, ◌*◌, ◌/◌, ◌<◌, ◌≤◌, List, [], ◌∷◌, ◌++◌, length, get_or, map, Option, None, Some, refl, sym, ap, ◌∙◌, subst, arith, inl}
-use Rattle.std.specs.Prelude.{All, Contains, IfSome, IsSomeAnd, MatchOption, ◌↔◌}
+use Rattle.std.proofs.Common.{ℕ, ◌≡◌, ◌+◌, ◌*◌, ◌/◌, ◌<◌, ◌≤◌, ◌^◌, ◌⊎◌, List, [], ◌∷◌, ◌++◌, length, get_or, map, Option, None, Some, refl, sym, ap, ◌∙◌, subst, arith, inl, inr}
+use Rattle.std.specs.Prelude.{All, Contains, IfSome, IsSome, IsSomeAnd, MatchOption, ◌↔◌}
 use Rattle.std.specs.List.Sorted.{IsStrictlyIncreasing}
 use Rattle.std.specs.Ordering.{nat_cmp}
 use Rattle.std.specs.FinMap.{FinMap, get}
@@ -15,13 +15,15 @@ use Rattle.a64_inst.specs.declared.item.Item.{Item}
 use Rattle.a64_inst.specs.declared.item.Item.TheVariants.{Bind}
 use Rattle.a64_buffer.specs.declared.site.Use.{Use}
 use Rattle.a64_buffer.specs.declared.site.Target.{Target}
-use Rattle.a64_buffer.specs.declared.site.Target.TheVariants.{Label}
+use Rattle.a64_buffer.specs.declared.site.Target.TheVariants.{Label, Constant, Trap, IslandEnd}
 use Rattle.a64_buffer.specs.declared.finish.Finished.{Finished}
 use Rattle.a64_buffer.specs.declared.force.ForceVeneers.{ForceVeneers}
 use Rattle.a64_buffer.specs.Word.{outside, word_at}
 use Rattle.a64_buffer.specs.Kinds.{IsWithin, GoesTo}
-use Rattle.a64_buffer.specs.Buffer.{Buffer, end_of, label_of, goal_of, IsFree, IsReached}
-use Rattle.a64_buffer.specs.Finished.{IsSettled, IsFinished}
+use Rattle.a64_buffer.specs.Buffer.{Buffer, end_of, label_of, goal_of, IsFree, IsBound, IsReached}
+use Rattle.a64_buffer.specs.Classes.{owed}
+use Rattle.a64_buffer.specs.Finished.{IsFinished}
+use Rattle.a64_buffer.proofs.Plain.{IsStraight, IsPlain, is_plain}
 use Rattle.a64_emit.specs.declared.label_use.LabelUse.{LabelUse}
 use Rattle.a64_emit.specs.declared.label_use.LabelUse.TheVariants as uses
 use Rattle.a64_emit.specs.declared.site.Site.{Site}
@@ -35,7 +37,9 @@ use Rattle.a64_emit.proofs.Recorded.{all_from-nothing}
 use Rattle.a64_emit.specs.Bounds.{veneer_range}
 use Rattle.a64_emit.specs.Faults.{own_fault, used_label, unbound_use, second_binding, too_large}
 use Rattle.a64_emit.specs.Assembled.{IsAssembled}
-use Rattle.a64_emit.proofs.Checked.{uses_bound, within_ranges, faultless}
+use Rattle.a64_emit.specs.LabelLaws.{label_kinds_lawful}
+use Rattle.a64_emit.proofs.Burdens.{use_labelled}
+use Rattle.a64_emit.proofs.Checked.{uses_bound, addressable, within_ranges, faultless}
 use Rattle.a64_emit.proofs.Sites.{found_in}
 
 -- ---- the labels that are used, and their ranges
@@ -43,12 +47,16 @@ use Rattle.a64_emit.proofs.Sites.{found_in}
 abbrev no_use : Use LabelUse
 no_use = record { offset = 0; target = Label (record { 0 = 0 }); kind = uses.Branch26; stop = None }
 
--- each kind that exists supports a veneer, and its range is the forward range
-range_of : (kind : LabelUse) (label : MachLabel) → veneer_range (record { kind = kind; target = Label label }) ≡ Some (forward_range kind)
-range_of uses.Branch26 label = refl
+-- a kind supports veneers, and its range is the forward range, or that range is longer than all code
+range_of : (kind : LabelUse) (label : MachLabel) → (veneer_range (record { kind = kind; target = Label label }) ≡ Some (forward_range kind)) ⊎ (forward_range kind + 1 ≡ 2 ^ 31)
+range_of uses.Branch14 label = inl refl
+range_of uses.Branch19 label = inl refl
+range_of uses.Branch26 label = inl refl
+range_of uses.PCRel32 label = inr (omega arith)
 
-behind_too : (kind : LabelUse) → forward_range kind ≤ backward_range kind
-behind_too uses.Branch26 = omega arith
+-- what is of no label is not of one
+no_label : {o : Option ℕ} → None ≡ o → (label : ℕ) × (o ≡ Some label) → ⊥
+no_label none p = let z : None ≡ Some p.0 = none ∙ p.1 in cc
 
 module _ (frame : FrameLayout) (flags : EmitFlags) (items : List Item) (places : List ℕ) (b : Buffer LabelUse) (h : HasEmitted frame flags items places b) where
   sites : List Site
@@ -76,11 +84,14 @@ module _ (frame : FrameLayout) (flags : EmitFlags) (items : List Item) (places :
         let number : binding.label.0 ≡ label.0 = binding.same ∙ ap (λ (l : MachLabel). l.0) (used.is label) in
         (get_or places binding.index 0, ap (get b.labels) (sym number) ∙ h.bound binding.index binding.label binding.binds ∙ slice_get-get_or places binding.index 0 inside)
 
-    -- the range of such a use is longer than the code
-    long_range : (j : ℕ) (d : Site) (kind : LabelUse) (label : MachLabel) → j < length (sites_of (all_cells frame flags items)) → get_or (sites_of (all_cells frame flags items)) j d ≡ record { kind = kind; target = Label label } → end_of b < forward_range kind
-    long_range j d kind label within site =
-        let range = found_in veneer_range (sites_of (all_cells frame flags items)) j d (forward_range kind) within (ap veneer_range site ∙ range_of kind label) in
-        omega (arith, h.bounded, within_ranges frame flags items short range.index range.within, range.is 0)
+    -- such a use reaches as far as the code goes
+    long_range : (j : ℕ) (d : Site) (kind : LabelUse) (label : MachLabel) → j < length (sites_of (all_cells frame flags items)) → get_or (sites_of (all_cells frame flags items)) j d ≡ record { kind = kind; target = Label label } → end_of b ≤ forward_range kind
+    long_range j d kind label within site = elim (range_of kind label) [
+      | inl counts ↦
+          let range = found_in veneer_range (sites_of (all_cells frame flags items)) j d (forward_range kind) within (ap veneer_range site ∙ counts) in
+          omega (arith, h.bounded, within_ranges frame flags items short range.index range.within, range.is 0)
+      | inr far ↦ omega (arith, h.bounded, addressable frame flags items short, far)
+    ]
 
     use_reached : (u : Use LabelUse) → IsOneOf (end_of b) (sites_of (all_cells frame flags items)) u → IsReached label_kinds b.labels u
     use_reached u one = go u.target refl
@@ -92,23 +103,44 @@ module _ (frame : FrameLayout) (flags : EmitFlags) (items : List Item) (places :
             let long = long_range one.index (site_of u).1 u.kind label one.within site in
             let before = bound_place label.0 found.0 found.1 in
             let inside = one.inside in
-            let wider = behind_too u.kind in
+            let wider = label_kinds_lawful.backward_more u.kind in
             let within : IsWithin (forward_range u.kind) (backward_range u.kind) u.offset found.0 = record { ahead = omega arith; behind = omega arith } in
             subst (λ (t : Target). IfSome (label_of t) (λ l. IsSomeAnd (get b.labels l) (λ place. IsWithin (forward_range u.kind) (backward_range u.kind) u.offset place))) (sym e)
             (subst (λ o. IsSomeAnd o (λ place. IsWithin (forward_range u.kind) (backward_range u.kind) u.offset place)) (sym found.1) within)
+        go (Constant n) e = absurd (no_label (ap label_of (sym e)) (use_labelled frame flags items (end_of b) u one))
+        go (Trap code) e = absurd (no_label (ap label_of (sym e)) (use_labelled frame flags items (end_of b) u one))
+        go IslandEnd e = absurd (no_label (ap label_of (sym e)) (use_labelled frame flags items (end_of b) u one))
 
     pub all_reached : All (IsReached label_kinds b.labels) b.uses
     all_reached k d within = use_reached (get_or b.uses k d) (h.uses k d within)
 
+    -- what finishing asks for
+    pub short_code : end_of b + owed label_kinds b < 2 ^ 31
+    short_code = omega (arith, h.bounded, addressable frame flags items short)
+
+    pub all_bound_uses : All (IsBound b.labels) b.uses
+    all_bound_uses k d within = bound_of (label_of (get_or b.uses k d).target) (all_reached k d within)
+      where
+        bound : (o : Option ℕ) → IsSomeAnd o (λ place. IsWithin (forward_range (get_or b.uses k d).kind) (backward_range (get_or b.uses k d).kind) (get_or b.uses k d).offset place) → IsSome o
+        bound None x = absurd x
+        bound (Some place) x = refl
+
+        bound_of : (o : Option ℕ) → IfSome o (λ l. IsSomeAnd (get b.labels l) (λ place. IsWithin (forward_range (get_or b.uses k d).kind) (backward_range (get_or b.uses k d).kind) (get_or b.uses k d).offset place)) → IfSome o (λ l. IsSome (get b.labels l))
+        bound_of None x = tt
+        bound_of (Some l) x = bound (get b.labels l) x
+
     -- ---- the finished code
-    module _ (code : Finished) (f : IsFinished label_kinds b code) where
+    pub plain_code : (code : Finished) → IsFinished label_kinds b code → IsPlain label_kinds b code
+    plain_code code finished = is_plain label_kinds b code finished h.islands h.traps (λ k d within. use_labelled frame flags items (end_of b) (get_or b.uses k d) (h.uses k d within)) all_reached
+
+    module _ (code : Finished) (f : IsPlain label_kinds b code) where
       -- the use of a cell, as the buffer has it and as it is finished
       record SettledUse (s : ℕ × Cell) (site : Site) : Type 0 where
         site_use : Use LabelUse
         offset_is : site_use.offset ≡ s.0
         site_is : record { kind = site_use.kind; target = site_use.target } ≡ site
         one : IsOneOf (end_of b) (sites_of (all_cells frame flags items)) site_use
-        settled : IsSettled label_kinds b.labels (cell_word s.1) site_use (word_at code.bytes.items s.0)
+        settled : IsStraight label_kinds b.labels (cell_word s.1) site_use (word_at code.bytes.items s.0)
 
       settled_use : (s : ℕ × Cell) → IsPut b s → (site : Site) → HasUse b.uses s.0 site → SettledUse s site
       settled_use s put site r =
@@ -122,8 +154,8 @@ module _ (frame : FrameLayout) (flags : EmitFlags) (items : List Item) (places :
             site_is = ap (λ (t : ℕ × Site). t.1) is;
             one = h.uses r.index no_use r.within;
             settled =
-                subst (λ w. IsSettled label_kinds b.labels w (get_or b.uses r.index no_use) (word_at code.bytes.items s.0)) put.word
-                (subst (λ n. IsSettled label_kinds b.labels (get_or b.words (n / 4) 0) (get_or b.uses r.index no_use) (word_at code.bytes.items n)) place settled);
+                subst (λ w. IsStraight label_kinds b.labels w (get_or b.uses r.index no_use) (word_at code.bytes.items s.0)) put.word
+                (subst (λ n. IsStraight label_kinds b.labels (get_or b.words (n / 4) 0) (get_or b.uses r.index no_use) (word_at code.bytes.items n)) place settled);
           }
 
       -- a cell's word stands at its place, but for the field of its use
@@ -166,6 +198,11 @@ module _ (frame : FrameLayout) (flags : EmitFlags) (items : List Item) (places :
         site_leads s put None free = tt
         site_leads s put (Some site) r = go site.target refl
           where
+            labelled : (label : ℕ) × (label_of site.target ≡ Some label)
+            labelled =
+                let u = settled_use s put site r in
+                subst (λ (t : Site). (label : ℕ) × (label_of t.target ≡ Some label)) u.site_is (use_labelled frame flags items (end_of b) u.site_use u.one)
+
             go : (t : Target) → site.target ≡ t → SiteLeads frame flags items out s.0 (cell_word s.1) (record { kind = site.kind; target = t })
             go (Label label) target =
                 let r = cell_leads s put site.kind label (subst (λ (t : Target). HasUse b.uses s.0 (record { kind = site.kind; target = t })) target r) in (
@@ -173,6 +210,9 @@ module _ (frame : FrameLayout) (flags : EmitFlags) (items : List Item) (places :
                   subst (λ (ls : List (MachLabel × ℕ)). Contains ls (label, r.0)) (sym labels_are) r.1,
                   subst (λ (bytes : List ℕ). GoesTo label_kinds site.kind (cell_word s.1) (word_at bytes s.0) s.0 r.0) (sym bytes_are) r.2,
                 )
+            go (Constant n) target = absurd (no_label (ap label_of (sym target)) labelled)
+            go (Trap code) target = absurd (no_label (ap label_of (sym target)) labelled)
+            go IslandEnd target = absurd (no_label (ap label_of (sym target)) labelled)
 
         all_lead : Leads frame flags items out
         all_lead = standing_all (λ s. IfSome s.1.site (SiteLeads frame flags items out s.0 (cell_word s.1))) (λ s put. site_leads s put s.1.site put.site)

@@ -19,13 +19,17 @@ use Rattle.a64_inst.specs.declared.item.Item.{Item}
 use Rattle.a64_inst.specs.declared.item.Item.TheVariants.{Bind, Emit}
 use Rattle.a64_buffer.specs.declared.site.Use.{Use}
 use Rattle.a64_buffer.specs.Buffer.{Buffer, end_of, closed_at}
+use Rattle.a64_buffer.specs.Classes.{third, cost, burden, owed}
+use Rattle.a64_buffer.proofs.Costs.{weight-append}
+use Rattle.a64_buffer.proofs.Sounds.{bind_weight}
 use Rattle.a64_emit.specs.declared.label_use.LabelUse.{LabelUse}
 use Rattle.a64_emit.specs.declared.site.Site.{Site}
 use Rattle.a64_emit.specs.LabelUses.{label_kinds}
 use Rattle.a64_emit.specs.Cells.{Cell, Data, cells_of, all_cells, inst_cells, sites_of}
-use Rattle.a64_emit.specs.Bounds.{growth_of}
-use Rattle.a64_emit.specs.Emission.{appended, site_of, IsPut, IsOneOf, HasEmitted, IsUnbound, Binds, Steps}
+use Rattle.a64_emit.specs.Bounds.{growth_of, ranges_in}
+use Rattle.a64_emit.specs.Emission.{uses_from, appended, site_of, IsPut, IsOneOf, HasEmitted, IsUnbound, Binds, Steps}
 use Rattle.a64_emit.specs.Layout.{placed, standing}
+use Rattle.a64_emit.proofs.Burdens.{new_burden, charge_least}
 use Rattle.a64_emit.proofs.Lists.{slice_get-append_left, slice_get-push, slice_get_pushed}
 use Rattle.a64_emit.proofs.Sites.{standing-push, found_in}
 use Rattle.a64_emit.proofs.Later.{IsLater, put_later, new_from, append_later, longer, all_put, bind_later}
@@ -37,6 +41,9 @@ no_cell = record { body = Data 0; site = None }
 pub record IsStep (cells : List Cell) (b b' : Buffer LabelUse) : Type 0 where
   pub later : IsLater b b'
   pub long : end_of b' ≡ end_of b + 4 * length cells
+  pub owes : owed label_kinds b' ≤ owed label_kinds b + 28 * length (ranges_in cells)
+  pub islands_are : b'.islands ≡ b.islands
+  pub traps_are : b'.traps ≡ b.traps
   pub put : All (IsPut b') (placed (end_of b) cells)
   pub new : (k : ℕ) (d : Use LabelUse) → length b.uses ≤ k → k < length b'.uses → IsOneOf (end_of b') (sites_of cells) (get_or b'.uses k d)
 
@@ -45,6 +52,9 @@ pub append_step : (b : Buffer LabelUse) (cells : List Cell) → All (λ u. u.off
 append_step b cells before = record {
   later = append_later b cells;
   long = longer b cells;
+  owes = omega (arith, weight-append label_kinds (cost third) b.uses (uses_from b.labels (end_of b) cells), new_burden b.labels (end_of b) cells);
+  islands_are = refl;
+  traps_are = refl;
   put = all_put b cells before;
   new = λ k d ge within.
       let from = new_from b cells k d ge within in
@@ -60,6 +70,9 @@ bind_step label b b' e =
     record {
       later = count;
       long = omega (arith, same);
+      owes = omega (arith, ap (λ (c : Buffer LabelUse). burden label_kinds third c.uses) e, bind_weight label_kinds label.0 (end_of b) (cost third) b.uses);
+      islands_are = ap (λ (c : Buffer LabelUse). c.islands) e;
+      traps_are = ap (λ (c : Buffer LabelUse). c.traps) e;
       put = λ k d within. absurd (omega arith);
       new = λ k d ge within. absurd (omega (arith, ge, within, ap (λ (c : Buffer LabelUse). length c.uses) e, length-map b.uses (closed_at label_kinds label.0 (end_of b))));
     }
@@ -140,13 +153,15 @@ module _ (items : List Item) (places : List ℕ) (b : Buffer LabelUse) (h : AreB
 
 module _ (frame : FrameLayout) (flags : EmitFlags) where
   -- before the first item
-  pub emitted_none : (b : Buffer LabelUse) → b.words ≡ [] → b.uses ≡ [] → b.labels ≡ empty → HasEmitted frame flags [] [] b
-  emitted_none b w u m = record {
+  pub emitted_none : (b : Buffer LabelUse) → b.words ≡ [] → b.uses ≡ [] → b.labels ≡ empty → b.islands ≡ [] → b.traps ≡ [] → HasEmitted frame flags [] [] b
+  emitted_none b w u m no_islands no_traps = record {
     count = refl;
     first = omega (arith, ap length w);
     next = λ i lt. absurd (omega arith);
     below = λ i lt. absurd (omega arith);
-    bounded = omega (arith, ap length w);
+    bounded = omega (arith, ap length w, ap (burden label_kinds third) u);
+    islands = no_islands;
+    traps = no_traps;
     cells = λ k d lt. absurd (omega arith);
     uses = λ k d lt. absurd (omega (arith, ap length u));
     bound = λ i label e. absurd cc;
@@ -196,7 +211,7 @@ module _ (frame : FrameLayout) (flags : EmitFlags) where
       | inr new ↦ let e = get_or_push places (end_of b) 0 i (omega (arith, h.count)) in omega (arith, e, s.long)
     ]
 
-    uses_all : All (IsOneOf (end_of b') (sites_of (all_cells frame flags (items ++ x ∷ [])))) b'.uses
+    pub uses_all : All (IsOneOf (end_of b') (sites_of (all_cells frame flags (items ++ x ∷ [])))) b'.uses
     uses_all k d within = subst (λ ss. IsOneOf (end_of b') ss (get_or b'.uses k d)) (sym sites_push) (elim (cases_lt k (length b.uses)) [
       | inl old ↦
           let u = h.uses k d old in
@@ -232,7 +247,9 @@ module _ (frame : FrameLayout) (flags : EmitFlags) where
       first = get_or_append_left (places ++ end_of b ∷ []) (end_of b' ∷ []) 0 0 (omega (arith, places_count)) ∙ h.first;
       next = λ i lt. next_all i (omega (arith, lt, length-append items (x ∷ [])));
       below = λ i lt. below_all i (omega (arith, lt, length-append items (x ∷ [])));
-      bounded = omega (arith, h.bounded, s.long, sum_by-append (growth_of frame flags) items (x ∷ []));
+      bounded = omega (arith, h.bounded, s.long, s.owes, charge_least (cells_of frame flags x), sum_by-append (growth_of frame flags) items (x ∷ []));
+      islands = s.islands_are ∙ h.islands;
+      traps = s.traps_are ∙ h.traps;
       cells = cells_all;
       uses = uses_all;
       bound = labels.bound;

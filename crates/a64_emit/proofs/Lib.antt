@@ -1,6 +1,8 @@
 pub mod Bindings
 pub mod Sizes
 pub mod Lists
+pub mod Burdens
+pub mod Fitting
 pub mod Emitted
 pub mod Checked
 pub mod Sites

@@ -1,25 +1,67 @@
 -- What emission asks of the buffer, one item after another.
-use Rattle.std.proofs.Common.{ℕ, ◌≡◌, ◌+◌, ◌^◌, ◌<◌, List, length, get_or, take, Option, None, Some, refl, sym, ◌∙◌, arith}
+use Rattle.std.proofs.Common.{ℕ, ◌≡◌, ◌+◌, ◌*◌, ◌<◌, ◌≤◌, true, List, [], ◌∷◌, ◌++◌, length, get_or, take, drop, Option, None, Some, refl, sym, ap, subst, ◌∙◌, arith}
+use Rattle.std.specs.Prelude.{All}
+use Rattle.std.proofs.lemmas.List.{take_more, take-append-drop, get_or_append_left, length-append}
+use Rattle.std.proofs.lemmas.List.Concat.{flat_map-append}
 use Rattle.std.specs.FinMap.{get}
 use Rattle.std.proofs.lemmas.Bool.{false≢true}
 use Rattle.a64_base.specs.declared.entity.MachLabel.{MachLabel}
 use Rattle.a64_inst.specs.declared.emission.EmitFlags.{EmitFlags}
 use Rattle.a64_inst.specs.declared.frame.FrameLayout.{FrameLayout}
-use Rattle.a64_buffer.specs.Buffer.{Buffer}
+use Rattle.a64_buffer.specs.declared.site.Use.{Use}
+use Rattle.a64_buffer.specs.Buffer.{Buffer, end_of}
+use Rattle.a64_buffer.specs.Classes.{third, cost, burden, is_open}
+use Rattle.a64_buffer.proofs.Costs.{weight-append}
+use Rattle.a64_buffer.proofs.Rooms.{wide_room}
 use Rattle.a64_emit.specs.declared.label_use.LabelUse.{LabelUse}
 use Rattle.a64_inst.specs.declared.item.Item.{Item}
 use Rattle.a64_inst.specs.declared.item.Item.TheVariants.{Bind, Emit}
-use Rattle.a64_emit.specs.Cells.{cells_of}
-use Rattle.a64_emit.specs.Emission.{HasRoom, IsUnbound, HasEmitted}
-use Rattle.a64_emit.specs.Bounds.{whole}
-use Rattle.a64_emit.specs.Faults.{second_binding}
-use Rattle.a64_emit.proofs.Sizes.{whole_more}
-use Rattle.a64_emit.proofs.Checked.{first_in_whole, among_bindings, not_bound_before}
+use Rattle.a64_emit.specs.LabelUses.{label_kinds, forward_range}
+use Rattle.a64_emit.specs.LabelLaws.{label_kinds_lawful}
+use Rattle.a64_emit.specs.Cells.{inst_cells, cells_of, all_cells, sites_of}
+use Rattle.a64_emit.specs.Emission.{uses_from, appended, site_of, HasRoom, ItemFits, IsUnbound, IsOneOf, HasEmitted}
+use Rattle.a64_emit.specs.Bounds.{whole, veneer_range, ranges_in}
+use Rattle.a64_emit.specs.Faults.{second_binding, too_large}
+use Rattle.a64_emit.proofs.Sizes.{whole_more, ranges_in-append}
+use Rattle.a64_emit.proofs.Sites.{found_in}
+use Rattle.a64_emit.proofs.Burdens.{new_burden, charge_some, open_range, some_cells, use_labelled, label_kinded}
+use Rattle.a64_emit.proofs.Emitted.{uses_all, append_step, before_end}
+use Rattle.a64_emit.proofs.Checked.{addressable, within_ranges, first_in_whole, among_bindings, not_bound_before}
 
 module _ (frame : FrameLayout) (flags : EmitFlags) (items : List Item) (i : ℕ) (d : Item) (within : i < length items) (places : List ℕ) (b : Buffer LabelUse) (h : HasEmitted frame flags (take i items) places b) where
   -- there is room for the next item
-  pub next_room : whole frame flags items < 2 ^ 31 → HasRoom b (cells_of frame flags (get_or items i d))
-  next_room short = omega (arith, h.bounded, whole_more frame flags items i d (get_or items i d) within refl, first_in_whole frame flags items (i + 1))
+  pub next_room : too_large frame flags items ≡ None → HasRoom b (cells_of frame flags (get_or items i d))
+  next_room small = omega (arith, addressable frame flags items small, h.bounded, whole_more frame flags items i d (get_or items i d) within refl, first_in_whole frame flags items (i + 1))
+
+  module _ (small : too_large frame flags items ≡ None) where
+    -- a use of the items so far that wants something reaches further than all items are long
+    far_enough : (u : Use LabelUse) (end : ℕ) → IsOneOf end (sites_of (all_cells frame flags (take (i + 1) items))) u → is_open label_kinds u ≡ true → whole frame flags items < forward_range u.kind
+    far_enough u end one waits =
+        let found = found_in veneer_range (sites_of (all_cells frame flags (take (i + 1) items))) one.index (site_of u).1 (forward_range u.kind) one.within (ap veneer_range (one.is (site_of u).1) ∙ open_range u waits) in
+        let all : ranges_in (all_cells frame flags items) ≡ ranges_in (all_cells frame flags (take (i + 1) items)) ++ ranges_in (all_cells frame flags (drop (i + 1) items)) =
+        ap (λ (xs : List Item). ranges_in (all_cells frame flags xs)) (sym (take-append-drop (i + 1) items))
+        ∙ ap ranges_in (flat_map-append (cells_of frame flags) (take (i + 1) items) (drop (i + 1) items))
+        ∙ ranges_in-append (all_cells frame flags (take (i + 1) items)) (all_cells frame flags (drop (i + 1) items)) in
+        let same : get_or (ranges_in (all_cells frame flags items)) found.index 0 ≡ forward_range u.kind = ap (λ (rs : List ℕ). get_or rs found.index 0) all ∙ get_or_append_left (ranges_in (all_cells frame flags (take (i + 1) items))) (ranges_in (all_cells frame flags (drop (i + 1) items))) 0 found.index found.within ∙ found.is 0 in
+        let shorter = within_ranges frame flags items small found.index (omega (arith, found.within, ap length all, length-append (ranges_in (all_cells frame flags (take (i + 1) items))) (ranges_in (all_cells frame flags (drop (i + 1) items))))) in
+        omega (arith, shorter, same)
+
+    -- no island is needed before the next item
+    pub next_fits : ItemFits frame flags b (get_or items i d)
+    next_fits = go (get_or items i d) refl
+      where
+        go : (x : Item) → get_or items i d ≡ x → ItemFits frame flags b x
+        go (Bind label) is = tt
+        go (Emit inst kept) is =
+            let next : take (i + 1) items ≡ take i items ++ Emit inst kept ∷ [] = take_more items i d within ∙ ap (λ (y : Item). take i items ++ y ∷ []) is in
+            let ones : All (IsOneOf (end_of (appended b (inst_cells frame flags inst))) (sites_of (all_cells frame flags (take (i + 1) items)))) (b.uses ++ uses_from b.labels (end_of b) (inst_cells frame flags inst)) =
+            subst (λ (t : List Item). All (IsOneOf (end_of (appended b (inst_cells frame flags inst))) (sites_of (all_cells frame flags t))) (b.uses ++ uses_from b.labels (end_of b) (inst_cells frame flags inst))) (sym next)
+            (uses_all frame flags (take i items) places b h (Emit inst kept) (appended b (inst_cells frame flags inst)) (append_step b (inst_cells frame flags inst) (before_end frame flags (take i items) places b h))) in
+            let long : end_of b + 4 * length (inst_cells frame flags inst) + 4 + burden label_kinds third (b.uses ++ uses_from b.labels (end_of b) (inst_cells frame flags inst)) ≤ whole frame flags items =
+            omega (arith, h.bounded, weight-append label_kinds (cost third) b.uses (uses_from b.labels (end_of b) (inst_cells frame flags inst)), new_burden b.labels (end_of b) (inst_cells frame flags inst), charge_some (inst_cells frame flags inst) (some_cells frame flags inst), whole_more frame flags items i d (Emit inst kept) within is, first_in_whole frame flags items (i + 1)) in
+            wide_room label_kinds label_kinds_lawful (end_of b) (4 * length (inst_cells frame flags inst)) (b.uses ++ uses_from b.labels (end_of b) (inst_cells frame flags inst))
+            (λ k e w. label_kinded (get_or (b.uses ++ uses_from b.labels (end_of b) (inst_cells frame flags inst)) k e).target (get_or (b.uses ++ uses_from b.labels (end_of b) (inst_cells frame flags inst)) k e).kind (use_labelled frame flags (take (i + 1) items) (end_of (appended b (inst_cells frame flags inst))) (get_or (b.uses ++ uses_from b.labels (end_of b) (inst_cells frame flags inst)) k e) (ones k e w)))
+            (λ k e w o. let far = far_enough (get_or (b.uses ++ uses_from b.labels (end_of b) (inst_cells frame flags inst)) k e) (end_of (appended b (inst_cells frame flags inst))) (ones k e w) o in omega (arith, far, long))
 
   -- the label that the next item binds is not bound yet
   pub next_unbound : second_binding items ≡ None → IsUnbound b (get_or items i d)

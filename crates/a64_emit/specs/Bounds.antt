@@ -5,14 +5,20 @@ use Rattle.std.specs.Option.{option_map_or}
 use Rattle.a64_inst.specs.declared.emission.EmitFlags.{EmitFlags}
 use Rattle.a64_inst.specs.declared.frame.FrameLayout.{FrameLayout}
 use Rattle.a64_inst.specs.declared.item.Item.{Item}
-use Rattle.a64_buffer.specs.declared.site.Target.TheVariants.{Label}
+use Rattle.a64_buffer.specs.declared.site.Target.TheVariants.{Label, Constant, Trap, IslandEnd}
 use Rattle.a64_emit.specs.declared.site.Site.{Site}
 use Rattle.a64_emit.specs.LabelUses.{forward_range, has_veneer}
 use Rattle.a64_emit.specs.Cells.{Cell, sites_of, cells_of, all_cells}
 
--- the forward range of a use that may want a veneer: a use of a label, of a kind that supports one
+-- the forward range of a use that may want something of an island: a use of a label, of a kind that
+-- supports a veneer, or of a constant or a trap
 abbrev pub veneer_range : Site → Option ℕ
-veneer_range site = elim site.target [ Label label ↦ if has_veneer site.kind then Some (forward_range site.kind) else None ]
+veneer_range site = elim site.target [
+  | Label label ↦ if has_veneer site.kind then Some (forward_range site.kind) else None
+  | Constant constant ↦ Some (forward_range site.kind)
+  | Trap code ↦ Some (forward_range site.kind)
+  | IslandEnd ↦ None
+]
 
 -- the ranges of the uses of cells that may want veneers
 abbrev pub ranges_in : List Cell → List ℕ

@@ -13,6 +13,7 @@ use Rattle.a64_inst.specs.Faults.{inst_fault}
 use Rattle.a64_inst.specs.State.{State}
 use Rattle.a64_buffer.specs.declared.site.Use.{Use}
 use Rattle.a64_buffer.specs.Buffer.{Buffer, end_of, made_use, closed_at, IsFree}
+use Rattle.a64_buffer.specs.Classes as classes
 use Rattle.a64_emit.specs.declared.label_use.LabelUse.{LabelUse}
 use Rattle.a64_emit.specs.declared.site.Site.{Site}
 use Rattle.a64_emit.specs.LabelUses.{label_kinds}
@@ -62,9 +63,14 @@ EmitsInPart flags state inst b b' = IsAppendedInPart b b' (inst_cells state.fram
 abbrev pub HasRoom : Buffer LabelUse → List Cell → Type 0
 HasRoom b cells = end_of b + 4 * length cells < 2 ^ 31
 
+-- with cells at the end, all open uses still reach what they get in an island behind these cells
+abbrev pub CellsFit : Buffer LabelUse → List Cell → Type 0
+CellsFit b cells = classes.HasRoom label_kinds (end_of b) (b.uses ++ uses_from b.labels (end_of b) cells) (4 * length cells)
+
 -- an instruction without a fault of its own, and room for its cells
 pub record IsReady (b : Buffer LabelUse) (frame : FrameLayout) (flags : EmitFlags) (inst : Inst) : Type 0 where
   pub room : HasRoom b (inst_cells frame flags inst)
+  pub fits : CellsFit b (inst_cells frame flags inst)
   pub good : inst_fault frame flags b.constants Refused inst ≡ None
 
 -- ---- what emitting an item does
@@ -73,6 +79,11 @@ pub record IsReady (b : Buffer LabelUse) (frame : FrameLayout) (flags : EmitFlag
 abbrev pub IsUnbound : Buffer LabelUse → Item → Type 0
 IsUnbound b (Bind label) = get b.labels label.0 ≡ None
 IsUnbound b (Emit inst map) = Unit {0}
+
+-- no island is needed before an instruction's cells
+abbrev pub ItemFits : FrameLayout → EmitFlags → Buffer LabelUse → Item → Type 0
+ItemFits frame flags b (Bind label) = Unit {0}
+ItemFits frame flags b (Emit inst map) = CellsFit b (inst_cells frame flags inst)
 
 -- a label was bound to the end
 abbrev pub Binds : MachLabel → Buffer LabelUse → Buffer LabelUse → Type 0
@@ -119,7 +130,9 @@ pub record HasEmitted (frame : FrameLayout) (flags : EmitFlags) (items : List It
   pub first : slice_index (places ++ end_of b ∷ []) 0 ≡ 0
   pub next : (i : ℕ) → i < length items → slice_index (places ++ end_of b ∷ []) (i + 1) ≡ slice_index places i + 4 * length (slice_index_or (map (cells_of frame flags) items) i [])
   pub below : (i : ℕ) → i < length items → slice_index places i ≤ end_of b
-  pub bounded : end_of b ≤ whole frame flags items
+  pub bounded : end_of b + classes.owed label_kinds b ≤ whole frame flags items
+  pub islands : b.islands ≡ []
+  pub traps : b.traps ≡ []
   pub cells : All (IsPut b) (standing (map (cells_of frame flags) items) places)
   pub uses : All (IsOneOf (end_of b) (sites_of (all_cells frame flags items))) b.uses
   pub bound : (i : ℕ) (label : MachLabel) → slice_get items i ≡ Some (Bind label) → get b.labels label.0 ≡ slice_get places i

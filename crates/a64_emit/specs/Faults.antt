@@ -12,7 +12,7 @@ use Rattle.a64_inst.specs.declared.fault.OwnFault.TheVariants as own
 use Rattle.a64_inst.specs.declared.virtuals.VirtualRegisters.TheVariants.{Refused}
 use Rattle.a64_inst.specs.Faults.{inst_fault}
 use Rattle.a64_buffer.specs.declared.force.ForceVeneers.{ForceVeneers}
-use Rattle.a64_buffer.specs.declared.site.Target.TheVariants.{Label}
+use Rattle.a64_buffer.specs.declared.site.Target.TheVariants.{Label, Constant, Trap, IslandEnd}
 use Rattle.a64_inst.specs.declared.item.Item.{Item}
 use Rattle.a64_inst.specs.declared.item.Item.TheVariants.{Bind, Emit}
 use Rattle.a64_emit.specs.declared.error.EmitError.{EmitError}
@@ -58,7 +58,7 @@ bindings items = filter_map binding_of items
 
 -- the label that a use leads to, where it leads to one
 abbrev pub used_label : Site → Option MachLabel
-used_label site = elim site.target [ Label label ↦ Some label ]
+used_label site = elim site.target [ Label label ↦ Some label | Constant constant ↦ None | Trap code ↦ None | IslandEnd ↦ None ]
 
 -- a label is one of these
 abbrev pub is_among : List MachLabel → MachLabel → Bool

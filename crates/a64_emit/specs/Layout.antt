@@ -4,7 +4,7 @@ use Rattle.std.specs.List.Sorted.{IsStrictlyIncreasing}
 use Rattle.a64_base.specs.declared.entity.MachLabel.{MachLabel}
 use Rattle.a64_inst.specs.declared.emission.EmitFlags.{EmitFlags}
 use Rattle.a64_inst.specs.declared.frame.FrameLayout.{FrameLayout}
-use Rattle.a64_buffer.specs.declared.site.Target.TheVariants.{Label}
+use Rattle.a64_buffer.specs.declared.site.Target.TheVariants.{Label, Constant, Trap, IslandEnd}
 use Rattle.a64_buffer.specs.Word.{outside, word_at}
 use Rattle.a64_buffer.specs.Kinds.{GoesTo}
 use Rattle.a64_emit.specs.declared.label_use.LabelUse.{LabelUse}
@@ -99,10 +99,15 @@ module _ (frame : FrameLayout) (flags : EmitFlags) (items : List Item) (code : C
   abbrev pub LeadsTo : LabelUse → ℕ → ℕ → ℕ → Type 0
   LeadsTo kind put place goal = GoesTo label_kinds kind put (word_at code.bytes.items place) place goal
 
-  -- a use leads to its target
+  -- a use leads to its target; no item that exists has a use of a constant or a trap
   abbrev pub SiteLeads : ℕ → ℕ → Site → Type 0
   SiteLeads place put site =
-      elim site.target [ Label label ↦ (goal : ℕ) × Contains code.labels.items (label, goal) × LeadsTo site.kind put place goal ]
+      elim site.target [
+        | Label label ↦ (goal : ℕ) × Contains code.labels.items (label, goal) × LeadsTo site.kind put place goal
+        | Constant constant ↦ ⊥
+        | Trap code ↦ ⊥
+        | IslandEnd ↦ ⊥
+      ]
 
   -- each use of each cell leads to its target
   abbrev pub Leads : Type 0

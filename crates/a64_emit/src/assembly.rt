@@ -3,10 +3,9 @@
 ghost use Rattle.std.specs.Prelude.{◌≡◌, None, [], ◌^◌, ◌<◌, length, IfOk, IfErr, OnOk};
 ghost use Rattle.std.specs.FinMap.{empty};
 ghost use Rattle.a64_buffer.specs.declared.force.ForceVeneers.TheVariants.{No};
-ghost use Rattle.a64_emit.specs.Bounds.{whole};
 ghost use Rattle.a64_emit.specs.Cells.{cells_of};
-ghost use Rattle.a64_emit.specs.Emission.{HasRoom, IsUnbound, Steps, HasEmitted};
-ghost use Rattle.a64_emit.specs.Faults.{item_fault, own_fault, second_binding};
+ghost use Rattle.a64_emit.specs.Emission.{HasRoom, ItemFits, IsUnbound, Steps, HasEmitted};
+ghost use Rattle.a64_emit.specs.Faults.{item_fault, own_fault, second_binding, too_large};
 ghost use Rattle.a64_emit.specs.Assembled.{IsAssembled, IsRefusal};
 
 use crate::checks::{bound_labels, check_items, check_size, check_uses};
@@ -27,6 +26,7 @@ fn emit_item(
 ) -> Result<(), AllocError>
     requires good { item_fault state.old.frame info.now buffer.old.constants item.now ≡ None }
     requires room { HasRoom buffer.old (cells_of state.old.frame info.now item.now) }
+    requires fits { ItemFits state.old.frame info.now buffer.old item.now }
     requires unbound { IsUnbound buffer.old item.now }
     ensures buffer { OnOk result (Steps state.old.frame info.now item.now buffer.old buffer.new) }
     ensures frame { OnOk result (state.new.frame ≡ state.old.frame) }
@@ -53,7 +53,9 @@ fn emit_items(
     requires labels { buffer.old.labels ≡ empty }
     requires good { own_fault state.old.frame info.now buffer.old.constants items.now ≡ None }
     requires once { second_binding items.now ≡ None }
-    requires short { whole state.old.frame info.now items.now < 2 ^ 31 }
+    requires islands { buffer.old.islands ≡ [] }
+    requires traps { buffer.old.traps ≡ [] }
+    requires short { too_large state.old.frame info.now items.now ≡ None }
     ensures { IfOk result (λ places. HasEmitted state.old.frame info.now items.now places.items buffer.new) }
 {
     let mut places = Vec::with_capacity(alloc, items.len())?;

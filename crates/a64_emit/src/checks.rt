@@ -98,7 +98,7 @@ fn missing(site: Site, bound: &LabelMap<()>) -> Option<MachLabel>
 {
     match site.target {
         Target::Label(label) if !bound.contains(label.0) => Some(label),
-        Target::Label(_) => None,
+        _ => None,
     }
 }
 

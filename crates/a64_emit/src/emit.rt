@@ -6,10 +6,12 @@ ghost use Rattle.a64_inst.specs.declared.virtuals.VirtualRegisters.TheVariants.{
 ghost use Rattle.a64_inst.specs.Faults.{has_operands};
 ghost use Rattle.a64_inst.specs.State.{State};
 ghost use Rattle.a64_buffer.specs.Buffer.{Buffer, end_of};
+ghost use Rattle.a64_buffer.specs.Classes.{Fits};
 ghost use Rattle.a64_emit.specs.declared.label_use.LabelUse.{LabelUse};
 ghost use Rattle.a64_rows.specs.Forms.{Form, form_word};
 ghost use Rattle.a64_emit.specs.Cells.{plain, branch, shape_of, only_word, other_cells};
-ghost use Rattle.a64_emit.specs.Emission.{appended, Emits, EmitsInPart, IsAppendedInPart, HasRoom, IsReady};
+ghost use Rattle.a64_emit.specs.LabelUses.{label_kinds};
+ghost use Rattle.a64_emit.specs.Emission.{appended, Emits, EmitsInPart, IsAppendedInPart, HasRoom, CellsFit, IsReady};
 
 use crate::label_use::LabelUse;
 use crate::word::control::{jump_word, only_control_word};
@@ -60,7 +62,8 @@ fn only_word(inst: &Inst, frame: &FrameLayout, info: &EmitInfo) -> Option<u32>
 
 /// One word without a use.
 fn emit_plain(sink: &mut MachBuffer<'_, LabelUse>, word: u32) -> Result<(), AllocError>
-    requires { end_of sink.old + 4 < 2 ^ 31 }
+    requires short { end_of sink.old + 4 < 2 ^ 31 }
+    requires fits { Fits label_kinds sink.old 4 }
     ensures ok { OnOk result ((form : Form) → word ≡ form_word form → sink.new ≡ appended sink.old (plain form ∷ [])) }
     ensures err { OnErr result ((form : Form) → IsAppendedInPart sink.old sink.new (plain form ∷ [])) }
 {
@@ -74,7 +77,8 @@ fn emit_branch(
     kind: LabelUse,
     dest: BranchTarget,
 ) -> Result<(), AllocError>
-    requires { end_of sink.old + 4 < 2 ^ 31 }
+    requires short { end_of sink.old + 4 < 2 ^ 31 }
+    requires fits { (form : Form) → CellsFit sink.old (branch form kind dest ∷ []) }
     ensures ok { OnOk result ((form : Form) → word ≡ form_word form → sink.new ≡ appended sink.old (branch form kind dest ∷ [])) }
     ensures err { OnErr result ((form : Form) → word ≡ form_word form → IsAppendedInPart sink.old sink.new (branch form kind dest ∷ [])) }
 {
@@ -94,6 +98,7 @@ fn emit_other(
     state: &mut EmitState,
 ) -> Result<(), AllocError>
     requires room { HasRoom sink.old (other_cells (shape_of state.old.frame info.now inst.now)) }
+    requires fits { CellsFit sink.old (other_cells (shape_of state.old.frame info.now inst.now)) }
     requires good { has_operands state.old.frame info.now Refused inst.now ≡ true }
     ensures ok { OnOk result (sink.new ≡ appended sink.old (other_cells (shape_of state.old.frame info.now inst.now))) }
     ensures state { OnOk result (state.new ≡ state.old) }

@@ -47,7 +47,8 @@ fn veneer_range(site: Site) -> Option<u32>
 {
     match site.target {
         Target::Label(_) if site.kind.supports_veneer() => Some(site.kind.max_pos_range()),
-        Target::Label(_) => None,
+        Target::Constant(_) | Target::Trap(_) => Some(site.kind.max_pos_range()),
+        Target::Label(_) | Target::IslandEnd => None,
     }
 }
 

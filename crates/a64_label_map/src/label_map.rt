@@ -1,6 +1,6 @@
 //! A map from numbers.
 
-ghost use Rattle.std.specs.Prelude.{◌≡◌, ◌+◌, ◌*◌, ◌^◌, ◌<◌, ◌≤◌, IfOk, OnOk, OnErr, if◌then◌else◌, is_some};
+ghost use Rattle.std.specs.Prelude.{◌≡◌, ◌+◌, ◌*◌, ◌^◌, ◌<◌, ◌≤◌, IfOk, OnOk, OnErr, if◌then◌else◌, is_some, IsSome};
 ghost use Rattle.std.specs.FinMap as map;
 ghost use Rattle.std.specs.Ordering.{nat_cmp};
 
@@ -122,6 +122,17 @@ impl<V: Copy> LabelMap<V> {
         let old = put(&mut self.table, &mut self.others, number, value)?;
         self.count = counted(self.count, old);
         Ok(old)
+    }
+
+    /// Gives a number that has a value another one. It takes no memory.
+    pub fn replace(&mut self, number: u32, value: V)
+        requires { IsSome (map.get self.old number) }
+        ensures { self.new ≡ map.insert self.old number value }
+    {
+        match put(&mut self.table, &mut self.others, number, value) {
+            Ok(_) => {}
+            Err(_) => unreachable!(),
+        }
     }
 
     /// The numbers with their values, by number.

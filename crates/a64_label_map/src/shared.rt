@@ -67,6 +67,7 @@ pub fn put<V: Copy>(
     ensures old { IfOk result (λ old. old ≡ map.get (whole table.old others.old) number) }
     ensures ok { OnOk result (whole table.new others.new ≡ map.insert (whole table.old others.old) number value) }
     ensures err { OnErr result (whole table.new others.new ≡ whole table.old others.old) }
+    ensures absent { OnErr result (map.get (whole table.old others.old) number ≡ None) }
 {
     let index = number as usize;
     if index < table.len() {

@@ -4,7 +4,7 @@ use Rattle.a64_emit.specs.declared.error.EmitError.{EmitError}
 use Rattle.a64_emit.specs.Emission.{HasEmitted}
 use Rattle.a64_emit.specs.Assembled.{IsRefusal}
 use Rattle.a64_emit.proofs.Checked.{fault_at_use, fault_at_size}
-use Rattle.a64_emit.proofs.Composed.{all_reached, is_assembled}
+use Rattle.a64_emit.proofs.Composed.{short_code, all_bound_uses, all_reached, plain_code, is_assembled}
 use Rattle.a64_emit.proofs.assembly.assemble.Goals as goal
 
 -- an error that is passed on
@@ -25,9 +25,12 @@ returns-in_err-check_size-clause-err c =
 pub finish-requires : goal.finish-requires
 finish-requires c =
     let frame_is : c.new-state.result.frame ≡ c.args.frame.now = ap (λ s. s.frame) c.new-state.ensures ∙ c.in_ok-try_clone.ensures in
-    all_reached c.args.frame.now c.args.info.now c.args.items.now c.in_ok-places.places.items c.emit_items.new.buffer
-    (subst (λ frame. HasEmitted frame c.args.info.now c.args.items.now c.in_ok-places.places.items c.emit_items.new.buffer) frame_is c.in_ok-places.ensures)
-    c.in_ok-check_uses.ensures c.in_ok-check_size.ensures
+    let emitted = subst (λ frame. HasEmitted frame c.args.info.now c.args.items.now c.in_ok-places.places.items c.emit_items.new.buffer) frame_is c.in_ok-places.ensures in
+    record {
+      short = short_code c.args.frame.now c.args.info.now c.args.items.now c.in_ok-places.places.items c.emit_items.new.buffer emitted c.in_ok-check_uses.ensures c.in_ok-check_size.ensures;
+      bound = all_bound_uses c.args.frame.now c.args.info.now c.args.items.now c.in_ok-places.places.items c.emit_items.new.buffer emitted c.in_ok-check_uses.ensures c.in_ok-check_size.ensures;
+      direct = λ k d within v. all_reached c.args.frame.now c.args.info.now c.args.items.now c.in_ok-places.places.items c.emit_items.new.buffer emitted c.in_ok-check_uses.ensures c.in_ok-check_size.ensures k d within;
+    }
 
 pub returns-clause-ok : goal.returns-clause-ok
 returns-clause-ok c =
@@ -36,7 +39,11 @@ returns-clause-ok c =
     is_assembled c.args.frame.now c.args.info.now c.args.items.now c.in_ok-places.places.items c.emit_items.new.buffer
     (subst (λ frame. HasEmitted frame c.args.info.now c.args.items.now c.in_ok-places.places.items c.emit_items.new.buffer) frame_is c.in_ok-places.ensures)
     c.in_ok-check_uses.ensures c.in_ok-check_size.ensures
-    c.in_ok-finished.finished c.in_ok-finished.ensures c.code_of.result
+    c.in_ok-finished.finished
+    (plain_code c.args.frame.now c.args.info.now c.args.items.now c.in_ok-places.places.items c.emit_items.new.buffer
+    (subst (λ frame. HasEmitted frame c.args.info.now c.args.items.now c.in_ok-places.places.items c.emit_items.new.buffer) frame_is c.in_ok-places.ensures)
+    c.in_ok-check_uses.ensures c.in_ok-check_size.ensures c.in_ok-finished.finished c.in_ok-finished.ensures)
+    c.code_of.result
     (ap (λ o. o.bytes.items) out) (ap (λ o. o.places.items) out) (ap (λ o. o.labels.items) out) (ap (λ o. o.islands.items) out) (ap (λ o. o.pool) out)
     c.args.constants.now c.args.force c.in_ok-check_items.ensures c.in_ok-bound.ensures.ok.0
     (ap (λ o. o.relocs.items) out) (ap (λ o. o.traps.items) out) (ap (λ o. o.calls.items) out) (ap (λ o. o.patchable.items) out) (ap (λ o. o.maps.items) out)

@@ -5,18 +5,18 @@ use Rattle.a64_inst.specs.declared.frame.FrameLayout.{FrameLayout}
 use Rattle.a64_inst.specs.declared.item.Item.{Item}
 use Rattle.a64_buffer.specs.Buffer.{end_of}
 use Rattle.a64_emit.specs.Cells.{cells_of}
-use Rattle.a64_emit.specs.Emission.{HasRoom, IsUnbound, HasEmitted, Steps}
+use Rattle.a64_emit.specs.Emission.{HasRoom, ItemFits, IsUnbound, HasEmitted, Steps}
 use Rattle.a64_emit.proofs.Emitted.{emitted_none, emitted_step, steps_constants}
 use Rattle.a64_emit.specs.Faults.{item_fault}
 use Rattle.a64_emit.proofs.Owns.{none_at}
-use Rattle.a64_emit.proofs.Steps.{next_room, next_unbound}
+use Rattle.a64_emit.proofs.Steps.{next_room, next_fits, next_unbound}
 use Rattle.a64_emit.proofs.assembly.emit_items.Goals as goal
 
 pub loop-item-init : goal.loop-item-init
 loop-item-init c = record {
   frame = refl;
   constants = refl;
-  emitted = subst (λ places. HasEmitted c.args.state.now.frame c.args.info.now [] places c.args.buffer.now) (sym c.in_ok-places.ensures.items) (emitted_none c.args.state.now.frame c.args.info.now c.args.buffer.now c.requires.words c.requires.uses c.requires.labels);
+  emitted = subst (λ places. HasEmitted c.args.state.now.frame c.args.info.now [] places c.args.buffer.now) (sym c.in_ok-places.ensures.items) (emitted_none c.args.state.now.frame c.args.info.now c.args.buffer.now c.requires.words c.requires.uses c.requires.labels c.requires.islands c.requires.traps);
 }
 
 pub emit_item-requires-clause-good : goal.emit_item-requires-clause-good
@@ -31,6 +31,12 @@ emit_item-requires-clause-room c =
     subst (λ (item : Item). HasRoom c.loop-item.buffer (cells_of c.loop-item.state.frame c.args.info.now item)) (sym c.item-item.is)
     (subst (λ frame. HasRoom c.loop-item.buffer (cells_of frame c.args.info.now (get_or c.args.items.now c.loop-item.item-index c.item-item.result))) (sym c.loop-item.invariant.frame)
     (next_room c.args.state.now.frame c.args.info.now c.args.items.now c.loop-item.item-index c.item-item.result c.loop-item-test.true c.loop-item.places.items c.loop-item.buffer c.loop-item.invariant.emitted c.requires.short))
+
+pub emit_item-requires-clause-fits : goal.emit_item-requires-clause-fits
+emit_item-requires-clause-fits c =
+    subst (λ (item : Item). ItemFits c.loop-item.state.frame c.args.info.now c.loop-item.buffer item) (sym c.item-item.is)
+    (subst (λ frame. ItemFits frame c.args.info.now c.loop-item.buffer (get_or c.args.items.now c.loop-item.item-index c.item-item.result)) (sym c.loop-item.invariant.frame)
+    (next_fits c.args.state.now.frame c.args.info.now c.args.items.now c.loop-item.item-index c.item-item.result c.loop-item-test.true c.loop-item.places.items c.loop-item.buffer c.loop-item.invariant.emitted c.requires.short))
 
 pub emit_item-requires-clause-unbound : goal.emit_item-requires-clause-unbound
 emit_item-requires-clause-unbound c =

@@ -1,11 +1,13 @@
-use Rattle.std.proofs.Common.{ap}
+use Rattle.std.proofs.Common.{sym, ap, subst, refl}
 use Rattle.a64_buffer.specs.Chain.{labels_of}
-use Rattle.a64_buffer.proofs.Sounds.{sound_empty}
+use Rattle.a64_buffer.specs.Sound.{IsWhole}
+use Rattle.a64_buffer.proofs.Memory.{same_buffer}
+use Rattle.a64_buffer.proofs.Sounds.{whole_empty}
 use Rattle.a64_buffer.proofs.Chains.{chained_empty}
 use Rattle.a64_buffer.proofs.parts.Parts.new.Goals as goal
 
 pub returns-clause-sound : goal.returns-clause-sound
 returns-clause-sound g c = record {
-  sound = sound_empty g.K.MachInstLabelUse.kinds _ c.new.ensures.items c.new-2.ensures.items c.new-3.ensures;
+  whole = subst (IsWhole g.K.MachInstLabelUse.kinds) (sym (same_buffer _ _ _ _ _ _ _ _ _ _ _ _ c.new.ensures.items c.new-2.ensures.items c.new-3.ensures c.new-6.ensures.items c.new-7.ensures.items refl)) (whole_empty g.K.MachInstLabelUse.kinds c.args.constants.now);
   chained = chained_empty _ _ _ (ap labels_of c.new-2.ensures.items) c.new-4.ensures.items c.new-5.ensures;
 }

@@ -5,8 +5,9 @@ use Rattle.a64_inst.specs.declared.virtuals.VirtualRegisters.TheVariants.{Refuse
 use Rattle.a64_inst.specs.Faults.{has_operands}
 use Rattle.a64_inst.specs.State.{State}
 use Rattle.a64_inst.proofs.Good.{operands_good}
-use Rattle.a64_emit.specs.Cells.{shape_of, only_word, other_cells}
-use Rattle.a64_emit.specs.Emission.{appended, IsAppendedInPart, HasRoom}
+use Rattle.a64_emit.specs.Cells.{plain, shape_of, only_word, other_cells}
+use Rattle.a64_emit.specs.Emission.{appended, IsAppendedInPart, HasRoom, CellsFit}
+use Rattle.a64_emit.proofs.Fitting.{before_word}
 use Rattle.a64_emit.proofs.Shapes.{some_word, no_word}
 use Rattle.a64_emit.proofs.emit.InstMachInstEmit.emit.Goals as goal
 
@@ -22,9 +23,19 @@ emit_other-requires c =
     let frame = ap (λ (s : State). other_cells (shape_of s.frame c.args.info.now c.args.self.now)) c.take_stack_map-map.ensures.rest in
     record {
       room = subst (HasRoom c.args.sink.now) (sym (frame ∙ cells)) c.requires.room;
+      fits = subst (CellsFit c.args.sink.now) (sym (frame ∙ cells)) c.requires.fits;
       good =
           subst (λ (f : FrameLayout). has_operands f c.args.info.now Refused c.args.self.now ≡ true) (sym (ap (λ (s : State). s.frame) c.take_stack_map-map.ensures.rest))
           (operands_good c.args.state.now.frame c.args.info.now c.args.sink.now.constants Refused c.args.self.now c.requires.good);
+    }
+
+pub emit_plain-requires : goal.emit_plain-requires
+emit_plain-requires c =
+    let frame = c.frame_layout.ensures ∙ ap (λ (s : State). s.frame) c.take_stack_map-map.ensures.rest in
+    let one = some_word (shape_of c.args.state.now.frame c.args.info.now c.args.self.now) c.in-Some.word (sym c.in-Some.is ∙ c.only_word.ensures ∙ ap (λ (f : FrameLayout). only_word (shape_of f c.args.info.now c.args.self.now)) frame) in
+    record {
+      short = subst (HasRoom c.args.sink.now) one.1 c.requires.room;
+      fits = before_word c.args.sink.now (plain one.0) (subst (CellsFit c.args.sink.now) one.1 c.requires.fits);
     }
 
 pub returns-in-Some-clause-ok : goal.returns-in-Some-clause-ok

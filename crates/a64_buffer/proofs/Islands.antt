@@ -1,0 +1,201 @@
+-- What the beginning and the end of an island leave.
+use Rattle.std.proofs.Common.{ℕ, ◌≡◌, ◌+◌, ◌/◌, ◌^◌, ◌<◌, ◌≤◌, true, false, List, [], ◌∷◌, ◌++◌, All, map, length, get_or, Option, None, Some, refl, sym, ap, ◌∙◌, subst, arith, inl, inr}
+use Rattle.std.specs.Prelude.{MatchOption}
+use Rattle.std.proofs.lemmas.Bool.{cases_lt, false≢true}
+use Rattle.std.proofs.lemmas.List.{length_push, append-nil, get_or_push, get_or_append_left}
+use Rattle.std.proofs.lemmas.List.Elements.{All-cons, All-push}
+use Rattle.a64_buffer.specs.declared.site.Use.{Use}
+use Rattle.a64_buffer.specs.declared.class.Class.{Class}
+use Rattle.a64_buffer.specs.Kinds.{Kinds, IsLawful}
+use Rattle.a64_buffer.specs.Buffer.{Buffer, end_of}
+use Rattle.a64_buffer.specs.Areas.{InArea}
+use Rattle.a64_buffer.specs.Classes.{third, level_of, cost, class, range_of, is_open, weight_of, burden, owed, HasRoom}
+use Rattle.a64_buffer.specs.Later.{IsSameUse, IsLater}
+use Rattle.a64_buffer.specs.Sound.{IsPlaced, IsKinded, IsKnown, IsStop, IsRightlyOpen, IsStoppedOrOpen, IsSound, IsWhole, IsIsland, AreIslands}
+use Rattle.a64_buffer.specs.Steps.{stopped, Adds, Within, everywhere, HoldFrom, MayWrite, over_use, begun}
+use Rattle.a64_buffer.proofs.Growth.{Grows, stop_stays}
+use Rattle.a64_buffer.proofs.Costs.{weight-append}
+use Rattle.a64_buffer.proofs.Pays.{weight_none}
+use Rattle.a64_buffer.proofs.Rooms.{within_from, next_within}
+use Rattle.a64_buffer.proofs.Adding.{added_later, added_sound}
+
+pub in_everywhere : (end p size : ℕ) → end < 2 ^ 31 → p + size ≤ end → InArea everywhere p size
+in_everywhere end p size short h = record { index = 0; within = omega arith; begins = omega arith; ends = omega arith }
+
+module _ {K : Type 0} where
+  -- the same buffer with other islands, and areas that hold what those before held
+  pub sound_islands : (r : Kinds K) (b : Buffer K) (islands areas areas' : List (ℕ × ℕ)) → IsSound r b areas → ((p size : ℕ) → p + size ≤ end_of b → InArea areas p size → InArea areas' p size) → IsSound r (record b { islands = islands }) areas'
+  sound_islands r b islands areas areas' s moves =
+      let grows : Grows b (record b { islands = islands }) areas areas' = record { end = omega arith; words = λ i h. refl; uses = λ p t k h. h; free = λ p h i f. f; labels = λ l p e. e; constants = refl; traps = λ t h. h; moves = moves } in
+      record {
+        short = s.short;
+        placed = s.placed;
+        apart = s.apart;
+        kinded = s.kinded;
+        known = s.known;
+        bound = s.bound;
+        stops = λ k d h. go grows (get_or b.uses k d) (get_or b.uses k d).stop (s.stops k d h);
+      }
+    where
+      go : Grows b (record b { islands = islands }) areas areas' → (u : Use K) (o : Option ℕ) → MatchOption o (IsRightlyOpen r b areas u.target u.kind u.offset) (IsStop r b areas u.target u.kind u.offset) → MatchOption o (IsRightlyOpen r (record b { islands = islands }) areas' u.target u.kind u.offset) (IsStop r (record b { islands = islands }) areas' u.target u.kind u.offset)
+      go grows u None h = h
+      go grows u (Some t) h = stop_stays r b (record b { islands = islands }) areas areas' s.placed grows u u.target u.kind u.offset t h
+
+  pub map_none : (place : ℕ) (us : List (Use K)) → map (stopped (λ (v : Use K). false) place) us ≡ us
+  map_none place [] = refl
+  map_none place (u ∷ us) = ap (λ vs. u ∷ vs) (map_none place us)
+
+  -- ---- an island that is begun
+
+  module _ (r : Kinds K) (law : IsLawful r) (b : Buffer K) where
+    adds_begun : Adds (λ (v : Use K). false) (end_of b) (r.jump_word ∷ []) (over_use r (end_of b) ∷ []) [] b (begun r b)
+    adds_begun = record { words = refl; uses = ap (λ us. us ++ over_use r (end_of b) ∷ []) (sym (map_none (end_of b) b.uses)); labels = refl; islands = refl; traps_are = sym (append-nil b.traps); constants = refl }
+
+    pub begun_end : end_of (begun r b) ≡ end_of b + 4
+    begun_end = omega (arith, length_push b.words r.jump_word)
+
+    pub begun_weight : (w : Class → ℕ) → weight_of r w (begun r b).uses ≡ weight_of r w b.uses
+    begun_weight w = omega (arith, weight-append r w b.uses (over_use r (end_of b) ∷ []), weight_none r w (over_use r (end_of b)) refl)
+
+    module _ (areas : List (ℕ × ℕ)) (s : IsSound r b areas) where
+      behind : All (λ u. end_of b ≤ u.offset) (over_use r (end_of b) ∷ [])
+      behind = All-cons (λ (u : Use K). end_of b ≤ u.offset) (over_use r (end_of b)) [] (omega arith) (λ k d h. absurd (omega arith))
+
+      pub begun_later : IsLater b (begun r b)
+      begun_later = added_later r law b (begun r b) areas (λ v. false) (end_of b) (r.jump_word ∷ []) (over_use r (end_of b) ∷ []) [] s adds_begun behind (λ k d h e. absurd (false≢true e)) (omega arith)
+
+      pub begun_sound : end_of b + 4 < 2 ^ 31 → IsSound r (begun r b) areas
+      begun_sound short =
+          added_sound r law b (begun r b) areas (λ v. false) (end_of b) (r.jump_word ∷ []) (over_use r (end_of b) ∷ []) [] s adds_begun behind (λ k d h e. absurd (false≢true e))
+          (omega (arith, begun_end))
+          (All-cons (IsPlaced (end_of (begun r b))) (over_use r (end_of b)) [] (record { aligned = omega arith; inside = omega (arith, begun_end) }) (λ k d h. absurd (omega arith)))
+          (λ j k d lt h. absurd (omega arith))
+          (All-cons (λ (u : Use K). IsKinded r u.target u.kind) (over_use r (end_of b)) [] refl (λ k d h. absurd (omega arith)))
+          (All-cons (λ (u : Use K). IsKnown b.constants u.target) (over_use r (end_of b)) [] tt (λ k d h. absurd (omega arith)))
+          (All-cons (IsStoppedOrOpen r (begun r b) areas) (over_use r (end_of b)) [] tt (λ k d h. absurd (omega arith)))
+
+    pub begun_within : (more : ℕ) → HasRoom r (end_of b) b.uses more → Within r (end_of (begun r b)) (begun r b).uses more
+    begun_within more h = record {
+      rooms = All-push (λ (u : Use K). is_open r u ≡ true → end_of (begun r b) + more + burden r (level_of (class r u)) (begun r b).uses ≤ u.offset + range_of r (level_of (class r u))) b.uses (over_use r (end_of b))
+          (λ k d w o. let x = h.rooms k d w o in omega (arith, begun_end, begun_weight (cost (level_of (class r (get_or b.uses k d))))))
+          (λ o. absurd (false≢true o));
+    }
+
+    pub may_begin : IsWhole r b → end_of b + owed r b + 4 < 2 ^ 31 → MayWrite r (begun r b)
+    may_begin whole short = record {
+      sound = sound_islands r (begun r b) b.islands b.islands everywhere (begun_sound b.islands whole.sound (omega arith)) (λ p size h i. in_everywhere (end_of (begun r b)) p size (omega (arith, begun_end)) h);
+      room = begun_within 0 whole.fits;
+      short = omega (arith, begun_end, begun_weight (cost third));
+    }
+
+    -- the areas of an island that is being written
+    abbrev pub open_areas : List (ℕ × ℕ)
+    open_areas = b.islands ++ (end_of b, 2 ^ 32) ∷ []
+
+    pub more_areas : (more : ℕ × ℕ) (p size : ℕ) → InArea b.islands p size → InArea (b.islands ++ more ∷ []) p size
+    more_areas more p size i =
+        let same : get_or (b.islands ++ more ∷ []) i.index (0, 0) ≡ get_or b.islands i.index (0, 0) = get_or_append_left b.islands (more ∷ []) (0, 0) i.index i.within in
+        record {
+          index = i.index;
+          within = omega (arith, i.within, length_push b.islands more);
+          begins = subst (λ (a : ℕ × ℕ). a.0 ≤ p) (sym same) i.begins;
+          ends = subst (λ (a : ℕ × ℕ). p + size ≤ a.1) (sym same) i.ends;
+        }
+
+    pub open_hold : HoldFrom open_areas (end_of b)
+    open_hold p size le fits =
+        let here : get_or open_areas (length b.islands) (0, 0) ≡ (end_of b, 2 ^ 32) = get_or_push b.islands (end_of b, 2 ^ 32) (0, 0) (length b.islands) refl in
+        record {
+          index = length b.islands;
+          within = omega (arith, length_push b.islands (end_of b, 2 ^ 32));
+          begins = subst (λ (a : ℕ × ℕ). a.0 ≤ p) (sym here) le;
+          ends = subst (λ (a : ℕ × ℕ). p + size ≤ a.1) (sym here) fits;
+        }
+
+    pub begun_sound_in : IsWhole r b → end_of b + 4 < 2 ^ 31 → IsSound r (begun r b) open_areas
+    begun_sound_in whole short = sound_islands r (begun r b) b.islands b.islands open_areas (begun_sound b.islands whole.sound short) (λ p size h i. more_areas (end_of b, 2 ^ 32) p size i)
+
+    -- an area that ends with the code is as good
+    pub close_areas : (end p size : ℕ) → p + size ≤ end → InArea open_areas p size → InArea (b.islands ++ (end_of b, end) ∷ []) p size
+    close_areas end p size h i = elim (cases_lt i.index (length b.islands)) [
+      | inl lt ↦
+          let before : get_or open_areas i.index (0, 0) ≡ get_or b.islands i.index (0, 0) = get_or_append_left b.islands ((end_of b, 2 ^ 32) ∷ []) (0, 0) i.index lt in
+          more_areas (end_of b, end) p size (record { index = i.index; within = lt; begins = subst (λ (a : ℕ × ℕ). a.0 ≤ p) before i.begins; ends = subst (λ (a : ℕ × ℕ). p + size ≤ a.1) before i.ends })
+      | inr ge ↦
+          let last : length b.islands ≡ i.index = omega (arith, i.within, length_push b.islands (end_of b, 2 ^ 32)) in
+          let before : get_or open_areas i.index (0, 0) ≡ (end_of b, 2 ^ 32) = get_or_push b.islands (end_of b, 2 ^ 32) (0, 0) i.index last in
+          let now : get_or (b.islands ++ (end_of b, end) ∷ []) i.index (0, 0) ≡ (end_of b, end) = get_or_push b.islands (end_of b, end) (0, 0) i.index last in
+          record {
+            index = i.index;
+            within = omega (arith, last, length_push b.islands (end_of b, end));
+            begins = subst (λ (a : ℕ × ℕ). a.0 ≤ p) (sym now) (subst (λ (a : ℕ × ℕ). a.0 ≤ p) before i.begins);
+            ends = subst (λ (a : ℕ × ℕ). p + size ≤ a.1) (sym now) h;
+          }
+    ]
+
+    -- what is owed is in reach of a jump
+    pub jump_reach : IsWhole r b → 4 + owed r b ≤ r.forward r.jump
+    jump_reach whole =
+        let within : Within r (end_of b) b.uses 4 = within_from r law (end_of b) b.uses 0 whole.fits in
+        let x : 4 + owed r b ≤ r.range 3 = next_within r law (end_of b) b.uses 4 (over_use r 0) whole.sound.placed within law.third_least in
+        let e : r.forward r.jump ≡ r.range 3 = law.one_range r.jump (omega (arith, law.jump_urgency)) ∙ ap r.range law.jump_urgency in
+        omega (arith, x, e)
+
+-- what is owed fits 32 bits
+pub owed_short : {K : Type 0} (r : Kinds K) (law : IsLawful r) (b : Buffer K) → IsWhole r b → owed r b < 2 ^ 32
+owed_short r law b whole =
+    let e : r.forward r.jump ≡ r.range 3 = law.one_range r.jump (omega (arith, law.jump_urgency)) ∙ ap r.range law.jump_urgency in
+    omega (arith, jump_reach r law b whole, e, law.third_short)
+
+-- ---- islands stay
+
+-- the words and uses of a buffer stay
+pub record Keeps {K : Type 0} (b b' : Buffer K) : Type 0 where
+  pub end : end_of b ≤ end_of b'
+  pub words : (i : ℕ) → i < length b.words → get_or b'.words i 0 ≡ get_or b.words i 0
+  pub count : length b.uses ≤ length b'.uses
+  pub uses : (k : ℕ) (d : Use K) → k < length b.uses → IsSameUse (end_of b) (get_or b.uses k d) (get_or b'.uses k d)
+
+pub later_keeps : {K : Type 0} (b b' : Buffer K) → IsLater b b' → Keeps b b'
+later_keeps b b' l = record { end = l.end; words = l.words; count = l.count; uses = l.uses }
+
+pub island_stays : {K : Type 0} (r : Kinds K) (b b' : Buffer K) (island : ℕ × ℕ) → Keeps b b' → IsIsland r b island → IsIsland r b' island
+island_stays r b b' island l i = record {
+  aligned = i.aligned;
+  long = i.long;
+  inside = omega (arith, i.inside, l.end);
+  word = l.words (island.0 / 4) (omega (arith, i.inside, i.long, i.aligned)) ∙ i.word;
+  index = i.index;
+  within = omega (arith, i.within, l.count);
+  offset_is = λ d. (l.uses i.index d i.within).offset ∙ i.offset_is d;
+  kind_is = λ d. (l.uses i.index d i.within).kind ∙ i.kind_is d;
+  stop_is = λ d. (l.uses i.index d i.within).kept island.1 (i.stop_is d);
+}
+
+pub islands_stay : {K : Type 0} (r : Kinds K) (b b' : Buffer K) → Keeps b b' → b'.islands ≡ b.islands → AreIslands r b → AreIslands r b'
+islands_stay r b b' keeps same a = record {
+  each = subst (All (IsIsland r b')) (sym same) (λ k d h. island_stays r b b' (get_or b.islands k d) keeps (a.each k d h));
+  in_order = subst (λ (is : List (ℕ × ℕ)). (j k : ℕ) → j < k → k < length is → (get_or is j (0, 0)).1 ≤ (get_or is k (0, 0)).0) (sym same) a.in_order;
+}
+
+pub islands_more : {K : Type 0} (r : Kinds K) (b b' : Buffer K) (end : ℕ) → IsLater b b' → b'.islands ≡ b.islands ++ (end_of b, end) ∷ [] → AreIslands r b → IsIsland r b' (end_of b, end) → AreIslands r b'
+islands_more r b b' end later is a new = record {
+  each = subst (All (IsIsland r b')) (sym is) (All-push (IsIsland r b') b.islands (end_of b, end) (λ k d h. island_stays r b b' (get_or b.islands k d) (later_keeps b b' later) (a.each k d h)) new);
+  in_order = λ j k lt h. subst (λ (is : List (ℕ × ℕ)). (get_or is j (0, 0)).1 ≤ (get_or is k (0, 0)).0) (sym is) (order j k lt (omega (arith, h, ap length is)));
+}
+  where
+    order : (j k : ℕ) → j < k → k < length (b.islands ++ (end_of b, end) ∷ []) → (get_or (b.islands ++ (end_of b, end) ∷ []) j (0, 0)).1 ≤ (get_or (b.islands ++ (end_of b, end) ∷ []) k (0, 0)).0
+    order j k lt h = elim (cases_lt k (length b.islands)) [
+      | inl below ↦
+          let first' : j < length b.islands = omega arith in
+          let x : get_or (b.islands ++ (end_of b, end) ∷ []) j (0, 0) ≡ get_or b.islands j (0, 0) = get_or_append_left b.islands ((end_of b, end) ∷ []) (0, 0) j first' in
+          let y : get_or (b.islands ++ (end_of b, end) ∷ []) k (0, 0) ≡ get_or b.islands k (0, 0) = get_or_append_left b.islands ((end_of b, end) ∷ []) (0, 0) k below in
+          omega (arith, a.in_order j k lt below, ap (λ (a : ℕ × ℕ). a.1) x, ap (λ (a : ℕ × ℕ). a.0) y)
+      | inr past ↦
+          let last : length b.islands ≡ k = omega (arith, length_push b.islands (end_of b, end)) in
+          let first' : j < length b.islands = omega arith in
+          let x : get_or (b.islands ++ (end_of b, end) ∷ []) j (0, 0) ≡ get_or b.islands j (0, 0) = get_or_append_left b.islands ((end_of b, end) ∷ []) (0, 0) j first' in
+          let y : get_or (b.islands ++ (end_of b, end) ∷ []) k (0, 0) ≡ (end_of b, end) = get_or_push b.islands (end_of b, end) (0, 0) k last in
+          let z = a.each j (0, 0) first' in
+          omega (arith, z.inside, ap (λ (a : ℕ × ℕ). a.1) x, ap (λ (a : ℕ × ℕ). a.0) y)
+    ]

@@ -1,0 +1,79 @@
+-- Bytes as words.
+use Rattle.std.proofs.Common.{ℕ, zero, suc, ◌≡◌, ◌+◌, ◌*◌, ◌%◌, ◌≤◌, cond, List, [], ◌∷◌, ◌++◌, length, take, drop, replicate, refl, sym, ap, ◌∙◌, subst, arith}
+use Rattle.std.specs.Prelude.{MatchBool}
+use Rattle.std.proofs.lemmas.Bool.{eq-eqb}
+use Rattle.std.proofs.lemmas.List.{length-drop, length-take-le}
+use Rattle.a64_buffer.specs.Word.{words_of, word_at, StandAt}
+use Rattle.a64_buffer.specs.Kinds.{Kinds, IsVeneer, IsFarVeneer, IsJumpVeneer, veneer_bytes}
+
+pub words_short : (bytes : List ℕ) → 4 * length (words_of bytes) ≤ length bytes
+words_short [] = omega arith
+words_short (a ∷ []) = omega arith
+words_short (a ∷ b ∷ []) = omega arith
+words_short (a ∷ b ∷ c ∷ []) = omega arith
+words_short (a ∷ b ∷ c ∷ d ∷ bytes) = omega (arith, words_short bytes)
+
+pub words_long : (bytes : List ℕ) → length bytes ≤ 4 * length (words_of bytes) + 3
+words_long [] = omega arith
+words_long (a ∷ []) = omega arith
+words_long (a ∷ b ∷ []) = omega arith
+words_long (a ∷ b ∷ c ∷ []) = omega arith
+words_long (a ∷ b ∷ c ∷ d ∷ bytes) = omega (arith, words_long bytes)
+
+pub words_whole : (bytes : List ℕ) → length bytes % 4 ≡ 0 → 4 * length (words_of bytes) ≡ length bytes
+words_whole bytes h = omega (arith, h, words_short bytes, words_long bytes)
+
+-- the words from a place on: the one there, and the others
+pub words_next : (place : ℕ) (bytes : List ℕ) → place + 4 ≤ length bytes → words_of (drop place bytes) ≡ word_at bytes place ∷ words_of (drop (place + 4) bytes)
+words_next zero [] h = absurd (omega arith)
+words_next zero (a ∷ []) h = absurd (omega arith)
+words_next zero (a ∷ b ∷ []) h = absurd (omega arith)
+words_next zero (a ∷ b ∷ c ∷ []) h = absurd (omega arith)
+words_next zero (a ∷ b ∷ c ∷ d ∷ bytes) h = refl
+words_next (suc place) [] h = absurd (omega arith)
+words_next (suc place) (x ∷ bytes) h =
+    let e : suc place + 4 ≡ suc (place + 4) = omega arith in
+    words_next place bytes (omega arith) ∙ ap (λ n. word_at bytes place ∷ words_of (drop n (x ∷ bytes))) (sym e)
+
+no_words : (bytes : List ℕ) → length bytes ≡ 0 → words_of bytes ≡ []
+no_words [] e = refl
+no_words (x ∷ bytes) e = absurd (omega (arith, e))
+
+stand_words : (words bytes : List ℕ) (place : ℕ) → length bytes ≡ place + (4 * length words + 4) → StandAt bytes place words → word_at bytes (place + 4 * length words) ≡ 0 → words_of (drop place bytes) ≡ words ++ 0 ∷ []
+stand_words [] bytes place long stand zero' =
+    let e : place ≡ place + 4 * length {A = ℕ} [] = omega arith in
+    words_next place bytes (omega arith)
+    ∙ (ap (λ w. w ∷ words_of (drop (place + 4) bytes)) (ap (word_at bytes) e ∙ zero')
+    ∙ ap (λ ws. 0 ∷ ws) (no_words (drop (place + 4) bytes) (omega (arith, length-drop (place + 4) bytes))))
+stand_words (w ∷ words) bytes place long stand zero' =
+    let e : place + 4 + 4 * length words ≡ place + 4 * length (w ∷ words) = omega arith in
+    words_next place bytes (omega arith)
+    ∙ (ap (λ v. v ∷ words_of (drop (place + 4) bytes)) stand.0
+    ∙ ap (λ ws. w ∷ ws) (stand_words words bytes (place + 4) (omega (arith, long)) stand.1 (ap (word_at bytes) e ∙ zero')))
+
+pub far_words_are : (words bytes : List ℕ) → length bytes ≡ 4 * length words + 4 → StandAt bytes 0 words → word_at bytes (4 * length words) ≡ 0 → words_of bytes ≡ words ++ 0 ∷ []
+far_words_are words bytes long stand zero' =
+    let e : 0 + 4 * length words ≡ 4 * length words = omega arith in
+    stand_words words bytes 0 (omega (arith, long)) stand (ap (word_at bytes) e ∙ zero')
+
+-- a word of zeros
+pub zero_word : (n size : ℕ) → n ≤ 4 → size ≡ 4 * n + 4 → word_at (take size (replicate 20 0)) (4 * n) ≡ 0
+zero_word n size h e = ap (λ s. word_at (take s (replicate 20 0)) (4 * n)) e ∙ go n h
+  where
+    go : (n : ℕ) → n ≤ 4 → word_at (take (4 * n + 4) (replicate 20 0)) (4 * n) ≡ 0
+    go zero h = refl
+    go (suc zero) h = refl
+    go (suc (suc zero)) h = refl
+    go (suc (suc (suc zero))) h = refl
+    go (suc (suc (suc (suc zero)))) h = refl
+    go (suc (suc (suc (suc (suc n))))) h = absurd (omega arith)
+
+-- what a far veneer is
+pub far_of : {K : Type 0} (r : Kinds K) (kind : K) (offset : ℕ) (old new : List ℕ) (use' : ℕ × K) → r.urgency kind ≡ 3 → IsVeneer r kind offset old new use' → IsFarVeneer r offset old new use'
+far_of r kind offset old new use' e h = subst (λ t. MatchBool t (IsFarVeneer r offset old new use') (IsJumpVeneer r offset new use')) (eq-eqb (r.urgency kind) 3 e) h
+
+pub far_size : {K : Type 0} (r : Kinds K) (kind : K) → r.urgency kind ≡ 3 → veneer_bytes r kind ≡ 4 * length r.far_words + 4
+far_size r kind e = ap (λ t. cond t (4 * length r.far_words + 4) 4) (eq-eqb (r.urgency kind) 3 e)
+
+pub zeros_length : (size : ℕ) → size ≤ 20 → length (take size (replicate {A = ℕ} 20 0)) ≡ size
+zeros_length size h = length-take-le size (replicate {A = ℕ} 20 0) h

@@ -1,0 +1,339 @@
+-- Open uses are given what they wait for, one after another.
+use Rattle.std.proofs.Common.{ℕ, ◌≡◌, ◌⊎◌, ◌+◌, ◌*◌, ◌^◌, ◌<◌, ◌≤◌, Bool, true, false, cond, List, All, length, get_or, Option, None, Some, refl, sym, ap, ◌∙◌, subst, arith, inl, inr, nat_cmp}
+use Rattle.std.specs.Prelude.{IfSome, IsSome, IsSomeAnd, nat_eq, ◌&&◌, is_none}
+use Rattle.std.specs.FinMap.{FinMap, get}
+use Rattle.std.proofs.lemmas.Bool.{cases_lt}
+use Rattle.std.proofs.lemmas.List.{get_or_default}
+use Rattle.std.proofs.lemmas.List.Sums.{get_or-le-sum_by}
+use Rattle.a64_base.specs.declared.entity.TrapCode.{TrapCode}
+use Rattle.a64_base.specs.declared.entity.VCodeConstant.{VCodeConstant}
+use Rattle.a64_buffer.specs.declared.site.Use.{Use}
+use Rattle.a64_buffer.specs.declared.site.Target.{Target}
+use Rattle.a64_buffer.specs.declared.site.Target.TheVariants.{Label, Constant, Trap, IslandEnd}
+use Rattle.a64_buffer.specs.declared.class.Class.{Class}
+use Rattle.a64_buffer.specs.declared.class.Class.TheVariants.{Near, Middle, Load, Trapping, Far, Direct}
+use Rattle.a64_buffer.specs.declared.parts.Parts.{Parts}
+use Rattle.a64_buffer.specs.Kinds.{Kinds, IsLawful}
+use Rattle.a64_buffer.specs.Constants.{IsConstant}
+use Rattle.a64_buffer.specs.Buffer.{Buffer, end_of, label_of, goal_of}
+use Rattle.a64_buffer.specs.Areas.{InArea}
+use Rattle.a64_buffer.specs.Chain.{labels_of, IsChained}
+use Rattle.a64_buffer.specs.Classes.{third, urgency_number, level_of, label_class, wants, rank_of, cost, veneer_uses, trap_words, class, is_open, weigh, weight_of, owed, class_of}
+use Rattle.a64_buffer.specs.Later.{IsSameUse, IsLater}
+use Rattle.a64_buffer.specs.Sound.{seen, IsPlaced, IsKinded, IsKnown, IsSound}
+use Rattle.a64_buffer.specs.Islands.{IsVeneerUse}
+use Rattle.a64_buffer.specs.Space.{SameRoom, HasSpace}
+use Rattle.a64_buffer.specs.Steps.{AtGoal, key_of, GivesJump, GivesFar, GivesTrap, GivesCopy, IsPart, everywhere, HoldFrom, GivesAll, MayWrite, IsWriting, Writes, IsNextOpen, IsReady}
+use Rattle.a64_buffer.proofs.Rooms.{open_wants, open_stop, wanting_urgency}
+use Rattle.a64_buffer.proofs.Pays.{label_is}
+use Rattle.a64_buffer.proofs.Given.{wants_veneer, jump_given, far_given, trap_given, copy_given}
+
+-- ---- buffers later on
+
+pub same_use : {K : Type 0} (end : ℕ) (u : Use K) → IsSameUse end u u
+same_use end u = record { offset = refl; target = refl; kind = refl; kept = λ t e. e; later = λ t e f. absurd (let z : None ≡ Some t = sym e ∙ f in cc) }
+
+same_use_trans : {K : Type 0} (a b : ℕ) (u v w : Use K) → a ≤ b → IsSameUse a u v → IsSameUse b v w → IsSameUse a u w
+same_use_trans a b u v w le p q = record {
+  offset = q.offset ∙ p.offset;
+  target = q.target ∙ p.target;
+  kind = q.kind ∙ p.kind;
+  kept = λ t e. q.kept t (p.kept t e);
+  later = λ t e f. elim v.stop as (λ o. v.stop ≡ o → a ≤ t) [
+    | None ↦ λ z. let x : b ≤ t = q.later t z f in omega arith
+    | Some s ↦ λ z. let x : a ≤ s = p.later s e z in let h : s ≡ t = cc (sym (q.kept s z) ∙ f) in omega arith
+  ] refl;
+}
+
+pub later_none : {K : Type 0} (b : Buffer K) → IsLater b b
+later_none b = record { end = omega arith; words = λ i h. refl; count = omega arith; uses = λ k d h. same_use (end_of b) (get_or b.uses k d); fresh = λ k d h w. absurd (omega arith); labels = λ l p e. e; constants = refl }
+
+pub later_trans : {K : Type 0} (a b c : Buffer K) → IsLater a b → IsLater b c → IsLater a c
+later_trans a b c p q = record {
+  end = omega (arith, p.end, q.end);
+  words = λ i h. q.words i (omega (arith, p.end)) ∙ p.words i h;
+  count = omega (arith, p.count, q.count);
+  uses = λ k d h. same_use_trans (end_of a) (end_of b) _ _ _ p.end (p.uses k d h) (q.uses k d (omega (arith, p.count)));
+  fresh = λ k d h w. elim (cases_lt k (length b.uses)) [
+    | inl lt ↦ let x : end_of a ≤ (get_or b.uses k d).offset = p.fresh k d h lt in let y : (get_or c.uses k d).offset ≡ (get_or b.uses k d).offset = (q.uses k d lt).offset in omega arith
+    | inr ge ↦ let x : end_of b ≤ (get_or c.uses k d).offset = q.fresh k d ge w in omega (arith, p.end)
+  ];
+  labels = λ l g e. q.labels l g (p.labels l g e);
+  constants = q.constants ∙ p.constants;
+}
+
+-- what is open was open before
+pub was_open : {K : Type 0} (r : Kinds K) (end : ℕ) (u v : Use K) → IsSameUse end u v → is_open r v ≡ true → is_open r u ≡ true
+was_open r end u v same o = elim u.stop as (λ s. u.stop ≡ s → is_open r u ≡ true) [
+  | None ↦ λ e.
+      let w : wants (class r u) ≡ true = ap wants (ap (class_of r u.target) (sym same.kind) ∙ ap (λ t. class_of r t v.kind) (sym same.target)) ∙ open_wants r v o in
+      ap (λ s. wants (class r u) && is_none s) e ∙ ap (λ w. w && true) w
+  | Some t ↦ λ e. absurd (let z : None ≡ Some t = sym (open_stop r v o) ∙ same.kept t e in cc)
+] refl
+
+module _ {K : Type 0} (r : Kinds K) where
+  pub part_none : (b : Buffer K) → IsPart r b b
+  part_none b = record { later = later_none b; labels = refl; islands = refl; rooms = λ more h. h; owed = omega arith; owed_to = λ t. omega arith }
+
+  pub part_trans : (a b c : Buffer K) → IsPart r a b → IsPart r b c → IsPart r a c
+  part_trans a b c p q = record {
+    later = later_trans a b c p.later q.later;
+    labels = q.labels ∙ p.labels;
+    islands = q.islands ∙ p.islands;
+    rooms = λ more h. q.rooms more (p.rooms more h);
+    owed = omega (arith, p.owed, q.owed);
+    owed_to = λ t. omega (arith, p.owed_to t, q.owed_to t);
+  }
+
+  -- ---- one step after another
+
+  pub writing_none : (limit : ℕ) (b : Buffer K) → MayWrite r b → IsWriting r limit b b
+  writing_none limit b m = record {
+    part = part_none b;
+    sound = m.sound;
+    sound_in = λ areas s h. s;
+    traps = omega arith;
+    given = λ k d h w. absurd (omega arith);
+    direct = λ k d h w. refl;
+    far_waits = λ l end h. h;
+    only_last = λ h. (h, λ k d l w. absurd (omega arith));
+  }
+
+  pub may_write_on : (limit : ℕ) (b m : Buffer K) → MayWrite r b → IsWriting r limit b m → MayWrite r m
+  may_write_on limit b m may w = record { sound = w.sound; room = w.part.rooms 0 may.room; short = omega (arith, may.short, w.part.owed) }
+
+  not_far : (c : Class) → rank_of c < 4 → c ≡ Far → ⊥
+  not_far c h e = omega (arith, ap rank_of e)
+
+  wanting : (c : Class) → rank_of c < 5 → wants c ≡ true
+  wanting Near h = refl
+  wanting Middle h = refl
+  wanting Load h = refl
+  wanting Trapping h = refl
+  wanting Far h = refl
+  wanting Direct h = absurd (omega arith)
+
+  pub writing_step : (limit : ℕ) (b m b' : Buffer K) (c : Class) → limit ≤ 5 → IsWriting r limit b m → GivesAll r c m b' → rank_of c < limit → (All (λ u. is_open r u ≡ true → class r u ≡ Far) m.uses → c ≡ Far) → IsWriting r limit b b'
+  writing_step limit b m b' c five w g lt last_far =
+      let later : IsLater m b' = g.given.part.later in
+      record {
+        part = part_trans b m b' w.part g.given.part;
+        sound = g.given.sound;
+        sound_in = λ areas s h. g.sound_in areas (w.sound_in areas s h) (λ p size le fits. h p size (omega (arith, w.part.later.end)) fits);
+        traps = omega (arith, w.traps, g.given.traps);
+        given = λ k d h l. elim (cases_lt k (length m.uses)) [
+          | inl below ↦ stays k d below (w.given k d h below)
+          | inr past ↦ through (get_or b'.uses k d) (g.given.given k d past l)
+        ];
+        far_waits = λ four end h k d l. elim (cases_lt k (length m.uses)) [
+          | inl below ↦ λ is_far.
+              let was_far : class r (get_or m.uses k d) ≡ Far = sym (same_class k d below) ∙ is_far in
+              let same : get_or b'.uses k d ≡ get_or m.uses k d = g.given.spared k d below (λ e. not_far c (omega arith) (sym e ∙ was_far)) in
+              subst (λ (v : Use K). IfSome v.stop (λ stop. (stop < end) ⊎ (goal_of b.labels v.target ≡ Some stop))) (sym same) (w.far_waits four end h k d below was_far)
+          | inr past ↦ λ far. subst (λ (ls : FinMap nat_cmp ℕ). IfSome (get_or b'.uses k d).stop (λ stop. (stop < end) ⊎ (goal_of ls (get_or b'.uses k d).target ≡ Some stop))) w.part.labels (at_goal end (get_or b'.uses k d) (g.given.waits k d past l))
+        ];
+        direct = λ k d h n. g.given.spared k d (omega (arith, w.part.later.count)) (λ e. let z : false ≡ true = sym n ∙ (ap (λ v. wants (class r v)) (sym (w.direct k d h n)) ∙ (ap wants e ∙ wanting c (omega arith))) in cc) ∙ w.direct k d h n;
+        only_last = λ h. let o = w.only_last h in (
+          λ k d l. elim (cases_lt k (length m.uses)) [
+            | inl below ↦ old_far k d below (o.0 k d below)
+            | inr past ↦ λ q. absurd (let n : wants (class r (get_or b'.uses k d)) ≡ false = g.given.last (last_far o.0) k d past l in open_not (get_or b'.uses k d) q n)
+          ],
+          λ k d low l. elim (cases_lt k (length m.uses)) [
+            | inl below ↦ ap (λ c. wants c) (same_class k d below) ∙ o.1 k d low below
+            | inr past ↦ g.given.last (last_far o.0) k d past l
+          ],
+        );
+      }
+    where
+      open_not : (u : Use K) → is_open r u ≡ true → wants (class r u) ≡ false → ⊥
+      open_not u o n = let z : false ≡ true = sym n ∙ open_wants r u o in cc
+
+      same_class : (k : ℕ) (d : Use K) → k < length m.uses → class r (get_or b'.uses k d) ≡ class r (get_or m.uses k d)
+      same_class k d below =
+          let same : IsSameUse (end_of m) (get_or m.uses k d) (get_or b'.uses k d) = g.given.part.later.uses k d below in
+          ap (λ t. class_of r t (get_or b'.uses k d).kind) same.target ∙ ap (class_of r (get_or m.uses k d).target) same.kind
+
+      stays : (k : ℕ) (d : Use K) → k < length m.uses → IsVeneerUse r b (get_or m.uses k d) → IsVeneerUse r b (get_or b'.uses k d)
+      stays k d below v =
+          let same : IsSameUse (end_of m) (get_or m.uses k d) (get_or b'.uses k d) = g.given.part.later.uses k d below in
+          record { parent = v.parent; within = v.within; target = λ e. v.target e ∙ sym same.target; labelled = subst (λ t. IsSome (label_of t)) (sym same.target) v.labelled; kind = subst (λ kind. (kind ≡ r.jump) ⊎ (kind ≡ r.far_use)) (sym same.kind) v.kind }
+
+      through : (v : Use K) → IsVeneerUse r m v → IsVeneerUse r b v
+      through v h = elim (cases_lt h.parent (length b.uses)) [
+        | inl lt ↦ record { parent = h.parent; within = lt; target = λ d. sym (w.part.later.uses h.parent d lt).target ∙ h.target d; labelled = h.labelled; kind = h.kind }
+        | inr ge ↦
+            let up : IsVeneerUse r b (get_or m.uses h.parent v) = w.given h.parent v ge h.within in
+            record { parent = up.parent; within = up.within; target = λ d. up.target d ∙ h.target v; labelled = h.labelled; kind = h.kind }
+      ]
+
+      at_goal : (end : ℕ) (v : Use K) → AtGoal m.labels v → IfSome v.stop (λ stop. (stop < end) ⊎ (goal_of m.labels v.target ≡ Some stop))
+      at_goal end v h = go v.stop h
+        where
+          go : (o : Option ℕ) → IfSome o (λ stop. goal_of m.labels v.target ≡ Some stop) → IfSome o (λ stop. (stop < end) ⊎ (goal_of m.labels v.target ≡ Some stop))
+          go None h = h
+          go (Some t) h = inr h
+
+      old_far : (k : ℕ) (d : Use K) → k < length m.uses → (is_open r (get_or m.uses k d) ≡ true → class r (get_or m.uses k d) ≡ Far) → is_open r (get_or b'.uses k d) ≡ true → class r (get_or b'.uses k d) ≡ Far
+      old_far k d below f o =
+          let same : IsSameUse (end_of m) (get_or m.uses k d) (get_or b'.uses k d) = g.given.part.later.uses k d below in
+          same_class k d below ∙ f (was_open r (end_of m) (get_or m.uses k d) (get_or b'.uses k d) same o)
+
+  -- ---- the next open use
+
+  low_place : (end : ℕ) (u : Use K) → IsPlaced end u → end < 2 ^ 31 → u.offset < 2 ^ 31
+  low_place end u p h = omega (arith, p.inside)
+
+  pub next_ranks : (b : Buffer K) (limit index : ℕ) (u : Use K) → IsSound r b everywhere → index < length b.uses → u ≡ get_or b.uses index u → key_of r u < limit * 2 ^ 32 → All (λ v. is_open r v ≡ true → key_of r u ≤ key_of r v) b.uses → (rank_of (class r u) < limit) × All (λ v. is_open r v ≡ true → rank_of (class r u) ≤ rank_of (class r v)) b.uses
+  next_ranks b limit index u s h is below least = (
+    let e : key_of r u ≡ rank_of (class r u) * 2 ^ 32 + u.offset = refl in omega arith,
+    λ k d l o.
+        let x : key_of r u ≤ key_of r (get_or b.uses k d) = least k d l o in
+        let y : (get_or b.uses k d).offset < 2 ^ 31 = low_place (end_of b) (get_or b.uses k d) (s.placed k d l) s.short in
+        omega arith,
+  )
+
+  pub none_ranks : (b : Buffer K) (limit : ℕ) → IsSound r b everywhere → All (λ u. is_open r u ≡ true → limit * 2 ^ 32 ≤ key_of r u) b.uses → All (λ u. is_open r u ≡ true → limit ≤ rank_of (class r u)) b.uses
+  none_ranks b limit s h k d l o =
+      let x : limit * 2 ^ 32 ≤ key_of r (get_or b.uses k d) = h k d l o in
+      let y : (get_or b.uses k d).offset < 2 ^ 31 = low_place (end_of b) (get_or b.uses k d) (s.placed k d l) s.short in
+      omega arith
+
+-- ---- one use that is ready
+
+module _ {K : Type 0} (r : Kinds K) (law : IsLawful r) (p : Parts K) (index : ℕ) (ready : IsReady r p index) (u : Use K) (is : u ≡ get_or p.uses.items index u) where
+  open' : is_open r u ≡ true
+  open' = ap (is_open r) is ∙ (ready.next u).0
+
+  lowest : All (λ v. is_open r v ≡ true → rank_of (class r u) ≤ rank_of (class r v)) p.uses.items
+  lowest = subst (λ (w : Use K). All (λ v. is_open r v ≡ true → rank_of (class r w) ≤ rank_of (class r v)) p.uses.items) (sym is) (ready.next u).1
+
+  holds : (areas : List (ℕ × ℕ)) → HoldFrom areas (end_of (seen p)) → (place size : ℕ) → end_of (seen p) ≤ place → place + size ≤ end_of (seen p) + 28 → InArea areas place size
+  holds areas h place size le fits = h place size le (omega (arith, ready.may.short))
+
+  all_hold : HoldFrom everywhere (end_of (seen p))
+  all_hold place size le fits = record { index = 0; within = omega arith; begins = omega arith; ends = omega arith }
+
+  -- what is kept for the use
+  pub kept_weight : (w : Class → ℕ) → w (class r u) ≤ weight_of r w p.uses.items
+  kept_weight w =
+      let one : weigh r w (get_or p.uses.items index u) ≤ weight_of r w p.uses.items = get_or-le-sum_by (weigh r w) p.uses.items index u ready.within in
+      omega (arith, ap (weigh r w) is, ap (λ o. cond o (w (class r u)) 0) open')
+
+  pub jump_all : (b' : Buffer K) → (class r u ≡ Near) ⊎ (class r u ≡ Middle) → GivesJump r u (seen p) b' → GivesAll r (class r u) (seen p) b'
+  jump_all b' c a = record {
+    given = jump_given r law (seen p) b' everywhere ready.may.sound index u ready.within is open' ready.may.room lowest ready.may.short (holds everywhere all_hold) c a;
+    sound_in = λ areas s h. (jump_given r law (seen p) b' areas s index u ready.within is open' ready.may.room lowest ready.may.short (holds areas h) c a).sound;
+  }
+
+  pub far_all : (b' : Buffer K) → class r u ≡ Far → GivesFar r u (seen p) b' → GivesAll r (class r u) (seen p) b'
+  far_all b' c a = record {
+    given = far_given r law (seen p) b' everywhere ready.may.sound index u ready.within is open' ready.may.room lowest ready.may.short (holds everywhere all_hold) c a;
+    sound_in = λ areas s h. (far_given r law (seen p) b' areas s index u ready.within is open' ready.may.room lowest ready.may.short (holds areas h) c a).sound;
+  }
+
+  pub trap_all : (b' : Buffer K) (code : TrapCode) → u.target ≡ Trap code → GivesTrap r u code (seen p) b' → GivesAll r (class r u) (seen p) b'
+  trap_all b' code c a = record {
+    given = trap_given r law (seen p) b' everywhere ready.may.sound index u ready.within is open' ready.may.room lowest ready.may.short (holds everywhere all_hold) code c a;
+    sound_in = λ areas s h. (trap_given r law (seen p) b' areas s index u ready.within is open' ready.may.room lowest ready.may.short (holds areas h) code c a).sound;
+  }
+
+  pub copy_all : (b' : Buffer K) (constant : VCodeConstant) (content : List ℕ) → u.target ≡ Constant constant → get (seen p).constants constant.0 ≡ Some content → IsConstant content → GivesCopy r constant.0 content (seen p) b' → GivesAll r (class r u) (seen p) b'
+  copy_all b' constant content c known sized a = record {
+    given = copy_given r law (seen p) b' everywhere ready.may.sound index u ready.within is open' ready.may.room lowest ready.may.short (holds everywhere all_hold) constant content c known sized a;
+    sound_in = λ areas s h. (copy_given r law (seen p) b' areas s index u ready.within is open' ready.may.room lowest ready.may.short (holds areas h) constant content c known sized a).sound;
+  }
+
+  -- a constant that the use loads is known
+  known_content : (constant : VCodeConstant) → u.target ≡ Constant constant → IsSomeAnd (get (seen p).constants constant.0) IsConstant
+  known_content constant e = subst (IsKnown (seen p).constants) (ap (λ (v : Use K). v.target) (sym is) ∙ e) (ready.may.sound.known index u ready.within)
+
+  pub some_content : (constant : VCodeConstant) → u.target ≡ Constant constant → IsSome (get (seen p).constants constant.0)
+  some_content constant e = elim (get (seen p).constants constant.0) as (λ o. IsSomeAnd o IsConstant → IsSome o) [ None ↦ λ h. absurd h | Some c ↦ λ h. refl ] (known_content constant e)
+
+  pub copy_ready : (b' : Buffer K) (constant : VCodeConstant) → u.target ≡ Constant constant → IfSome (get (seen p).constants constant.0) (λ content. GivesCopy r constant.0 content (seen p) b') → GivesAll r (class r u) (seen p) b'
+  copy_ready b' constant e g = elim (get (seen p).constants constant.0) as (λ o. get (seen p).constants constant.0 ≡ o → IsSomeAnd o IsConstant → IfSome o (λ content. GivesCopy r constant.0 content (seen p) b') → GivesAll r (class r u) (seen p) b') [
+    | None ↦ λ q h g. absurd h
+    | Some content ↦ λ q h g. copy_all b' constant content e q h g
+  ] refl (known_content constant e) g
+
+  -- how much is kept for a use of a class
+  pub kept_owed : (c : Class) → class r u ≡ c → cost third c ≤ owed r (seen p)
+  kept_owed c e = omega (arith, ap (cost third) e, kept_weight (cost third))
+
+  pub kept_uses : (c : Class) → class r u ≡ c → veneer_uses c ≤ weight_of r veneer_uses p.uses.items
+  kept_uses c e = omega (arith, ap veneer_uses e, kept_weight veneer_uses)
+
+  pub kept_traps : (c : Class) → class r u ≡ c → trap_words c ≤ weight_of r trap_words p.uses.items
+  kept_traps c e = omega (arith, ap trap_words e, kept_weight trap_words)
+
+  -- a far use is of the last urgency, and may have a veneer
+  pub far_urgency : class r u ≡ Far → r.urgency u.kind ≡ 3
+  far_urgency e =
+      let k : IsKinded r u.target u.kind = subst (λ (w : Use K). IsKinded r w.target w.kind) (sym is) (ready.may.sound.kinded index u ready.within) in
+      let q : urgency_number (level_of (class r u)) ≡ r.urgency u.kind = wanting_urgency r law u.target u.kind k (open_wants r u open') in
+      sym q ∙ ap (λ c. urgency_number (level_of c)) e
+
+  pub far_veneers : class r u ≡ Far → r.veneers u.kind ≡ true
+  far_veneers e = wants_veneer r u.target u.kind (label_is r u.target u.kind (inr (inr e))).0 (label_is r u.target u.kind (inr (inr e))).1 (open_wants r u open')
+
+  -- a use of a label that is open is near, middle or far
+  pub label_not : (label : ℕ) → label_of u.target ≡ Some label → (class r u ≡ Load) ⊎ (class r u ≡ Trapping) ⊎ (class r u ≡ Direct) → ⊥
+  label_not label e h = go u.target e h (open_wants r u open')
+    where
+      classes : (n : ℕ) → (label_class true n ≡ Load) ⊎ (label_class true n ≡ Trapping) ⊎ (label_class true n ≡ Direct) → ⊥
+      classes n h = one (nat_eq n 1) (nat_eq n 2) h
+        where
+          one : (x y : Bool) → (cond x Near (cond y Middle Far) ≡ Load) ⊎ (cond x Near (cond y Middle Far) ≡ Trapping) ⊎ (cond x Near (cond y Middle Far) ≡ Direct) → ⊥
+          one true y h = elim h [ inl e ↦ (let z : Near ≡ Load = e in cc) | inr t ↦ elim t [ inl e ↦ (let z : Near ≡ Trapping = e in cc) | inr e ↦ (let z : Near ≡ Direct = e in cc) ] ]
+          one false true h = elim h [ inl e ↦ (let z : Middle ≡ Load = e in cc) | inr t ↦ elim t [ inl e ↦ (let z : Middle ≡ Trapping = e in cc) | inr e ↦ (let z : Middle ≡ Direct = e in cc) ] ]
+          one false false h = elim h [ inl e ↦ (let z : Far ≡ Load = e in cc) | inr t ↦ elim t [ inl e ↦ (let z : Far ≡ Trapping = e in cc) | inr e ↦ (let z : Far ≡ Direct = e in cc) ] ]
+
+      by_veneers : (v : Bool) (n : ℕ) → (label_class v n ≡ Load) ⊎ (label_class v n ≡ Trapping) ⊎ (label_class v n ≡ Direct) → wants (label_class v n) ≡ true → ⊥
+      by_veneers true n h w = classes n h
+      by_veneers false n h w = let z : false ≡ true = w in cc
+
+      go : (t : Target) → label_of t ≡ Some label → (class_of r t u.kind ≡ Load) ⊎ (class_of r t u.kind ≡ Trapping) ⊎ (class_of r t u.kind ≡ Direct) → wants (class_of r t u.kind) ≡ true → ⊥
+      go (Label l) e h w = by_veneers (r.veneers u.kind) (r.urgency u.kind) h w
+      go (Constant c) e h w = let z : None ≡ Some label = e in cc
+      go (Trap c) e h w = let z : None ≡ Some label = e in cc
+      go IslandEnd e h w = let z : None ≡ Some label = e in cc
+
+-- the memory that is left is enough for what is left
+pub space_after : {K : Type 0} (r : Kinds K) (p p' : Parts K) (c : Class) → HasSpace r p → SameRoom p p' → GivesAll r c (seen p) (seen p') → HasSpace r p'
+space_after r p p' c h s g = record {
+  words = omega (arith, h.words, s.words, g.given.part.owed);
+  uses = omega (arith, h.uses, s.uses, g.given.uses);
+  earlier = omega (arith, h.earlier, s.earlier, g.given.uses);
+  traps = omega (arith, h.traps, s.traps, g.given.traps);
+}
+
+pub less_owed : {K : Type 0} (r : Kinds K) (p p' : Parts K) (c : Class) → GivesAll r c (seen p) (seen p') → owed r (seen p') < owed r (seen p)
+less_owed r p p' c g = omega (arith, g.given.longer, g.given.part.owed)
+
+-- ---- the loop
+
+module _ {K : Type 0} (r : Kinds K) (limit : ℕ) (five : limit ≤ 5) (start p : Parts K) (may : MayWrite r (seen start)) (w : IsWriting r limit (seen start) (seen p)) (index : ℕ) (next : IsNextOpen r limit p.uses.items (Some index)) where
+  ranks : (d : Use K) → (rank_of (class r (get_or p.uses.items index d)) < limit) × All (λ v. is_open r v ≡ true → rank_of (class r (get_or p.uses.items index d)) ≤ rank_of (class r v)) p.uses.items
+  ranks d = next_ranks r (seen p) limit index (get_or p.uses.items index d) w.sound next.0 (get_or_default p.uses.items index d (get_or p.uses.items index d) next.0) (next.1 d).1 (next.1 d).2
+
+  -- the open use that comes first is ready
+  pub ready_next : HasSpace r p → IsChained (labels_of p.uses.items) p.earlier.items p.heads → IsReady r p index
+  ready_next space chained = record {
+    within = next.0;
+    next = λ d. ((next.1 d).0, (ranks d).1);
+    may = may_write_on r limit (seen start) (seen p) may w;
+    space = space;
+    chained = chained;
+  }
+
+  pub writing_next : (d : Use K) (p' : Parts K) → GivesAll r (class r (get_or p.uses.items index d)) (seen p) (seen p') → IsWriting r limit (seen start) (seen p')
+  writing_next d p' g = writing_step r limit (seen start) (seen p) (seen p') (class r (get_or p.uses.items index d)) five w g (ranks d).0 (λ fars. fars index d next.0 (next.1 d).0)
+
+pub writes_all : {K : Type 0} (r : Kinds K) (limit : ℕ) (start p : Parts K) → IsWriting r limit (seen start) (seen p) → IsNextOpen r limit p.uses.items None → Writes r limit (seen start) (seen p)
+writes_all r limit start p w none = record { writing = w; done = none_ranks r (seen p) limit w.sound none }
+
+pub same_room_none : {K : Type 0} (p : Parts K) → SameRoom p p
+same_room_none p = record { words = refl; uses = refl; earlier = refl; traps = refl; islands = refl }
+
+pub same_room_trans : {K : Type 0} (p q s : Parts K) → SameRoom p q → SameRoom q s → SameRoom p s
+same_room_trans p q s a c = record { words = c.words ∙ a.words; uses = c.uses ∙ a.uses; earlier = c.earlier ∙ a.earlier; traps = c.traps ∙ a.traps; islands = c.islands ∙ a.islands }

@@ -1,0 +1,93 @@
+//! Copies of constants in islands.
+
+ghost use Rattle.std.specs.Prelude.{◌≡◌, ◌+◌, ◌*◌, ◌/◌, ◌%◌, ◌^◌, ◌<◌, ◌≤◌, ◌++◌, [], IfSome, IsSome, length, map, replicate, vec_len, vec_capacity};
+ghost use Rattle.std.specs.FinMap as finmap;
+ghost use Rattle.a64_buffer.specs.Buffer.{end_of};
+ghost use Rattle.a64_buffer.specs.Steps as steps;
+ghost use Rattle.a64_buffer.specs.Steps.{stopped, GivesCopy};
+
+use crate::give::push_words;
+use crate::label_use::MachInstLabelUse;
+use crate::parts::Parts;
+use crate::site::{Target, Use};
+use a64_base::VCodeConstant;
+
+/// How many zero words bring a place to a multiple of a size.
+fn padding(place: u32, size: u32) -> u32
+    requires { 0 < size }
+    ensures { result ≡ steps.padding place size }
+{
+    (size - place % size) % size / 4
+}
+
+/// Adds zero words to words that have room for them.
+fn push_zeros(words: &mut Vec<u32>, count: u32)
+    requires { vec_len words.old + count ≤ vec_capacity words.old }
+    ensures items { words.new.items ≡ words.old.items ++ replicate count 0 }
+    ensures capacity { vec_capacity words.new ≡ vec_capacity words.old }
+{
+    for _i in 0..count {
+        words.push_reserved(0);
+    }
+}
+
+impl<K: MachInstLabelUse> Use<K> {
+    /// Whether it is an open load of a constant.
+    fn waits_for(&self, constant: u32) -> bool
+        ensures { result ≡ steps.waits_for constant self.now }
+    {
+        match self.target {
+            Target::Constant(of) => of.0 == constant && self.stop.is_none(),
+            _ => false,
+        }
+    }
+}
+
+/// Lets all open loads of a constant stop at a place.
+fn stop_loads<K: MachInstLabelUse>(uses: &mut [Use<K>], constant: u32, place: u32)
+    ensures { uses.new ≡ map (stopped (steps.waits_for constant) place) uses.old }
+{
+    for index in 0..uses.len() {
+        let site = uses[index];
+        if !site.waits_for(constant) {
+            continue;
+        }
+        uses[index].stop = Some(place);
+    }
+}
+
+impl<'c, K: MachInstLabelUse> Parts<'c, K> {
+    ghost use Rattle.a64_buffer.specs.Sound.{seen};
+    ghost use Rattle.a64_buffer.specs.Chain.{labels_of, IsChained};
+    ghost use Rattle.a64_buffer.specs.Space.{SameRoom};
+
+    /// Lets all open loads of a constant stop at a place.
+    fn stop_loads(&mut self, constant: u32, place: u32)
+        ensures uses { self.new.uses.items ≡ map (stopped (steps.waits_for constant) place) self.old.uses.items }
+        ensures capacity { vec_capacity self.new.uses ≡ vec_capacity self.old.uses }
+        ensures rest { self.new ≡ record self.old { uses = self.new.uses } }
+    {
+        stop_loads(&mut self.uses, constant, place);
+    }
+
+    /// Gives all open loads of a constant a copy of it at the end.
+    pub fn give_copy(&mut self, constant: VCodeConstant)
+        requires known { IsSome (finmap.get (seen self.old).constants constant.0) }
+        requires short { end_of (seen self.old) + 28 < 2 ^ 31 }
+        requires words { vec_len self.old.words + 7 ≤ vec_capacity self.old.words }
+        requires chained { IsChained (labels_of self.old.uses.items) self.old.earlier.items self.old.heads }
+        ensures gives { IfSome (finmap.get (seen self.old).constants constant.0) (λ content. GivesCopy K.kinds constant.0 content (seen self.old) (seen self.new)) }
+        ensures chained { IsChained (labels_of self.new.uses.items) self.new.earlier.items self.new.heads }
+        ensures room { SameRoom self.old self.new }
+    {
+        let constants = self.constants;
+        let Some(bytes) = constants.bytes_of(constant) else {
+            unreachable!()
+        };
+        let zeros = padding(self.end(), bytes.len() as u32);
+        push_zeros(&mut self.words, zeros);
+        let place = self.end();
+        push_words(&mut self.words, bytes);
+        self.stop_loads(constant.0, place);
+    }
+}

@@ -1,0 +1,165 @@
+//! What an island gives to an open use.
+
+ghost use Rattle.std.specs.Prelude.{◌≡◌, ◌+◌, ◌*◌, ◌/◌, ◌%◌, ◌^◌, ◌<◌, ◌≤◌, [], ◌∷◌, ◌++◌, IsTrue, IfSome, IsSome, None, Some, length, map, slice_index_or, slice_set, vec_len, vec_capacity};
+ghost use Rattle.std.specs.Option.{unwrap_or};
+ghost use Rattle.std.specs.FinMap as finmap;
+ghost use Rattle.a64_buffer.specs.Word.{words_of};
+ghost use Rattle.a64_buffer.specs.Buffer.{end_of, label_of};
+
+use crate::label_use::MachInstLabelUse;
+use crate::parts::{Parts, target_label};
+use crate::site::Use;
+use a64_base::TrapCode;
+
+/// Adds the words that bytes are to words that have room for them.
+pub fn push_words(words: &mut Vec<u32>, bytes: &[u8])
+    requires whole { length bytes.now % 4 ≡ 0 }
+    requires room { vec_len words.old + length bytes.now / 4 ≤ vec_capacity words.old }
+    ensures items { words.new.items ≡ words.old.items ++ words_of bytes.now }
+    ensures capacity { vec_capacity words.new ≡ vec_capacity words.old }
+{
+    for i in 0..bytes.len() / 4 {
+        let mut word = [0; 4];
+        word.copy_from_slice(&bytes[4 * i..4 * i + 4]);
+        words.push_reserved(u32::from_le_bytes(word));
+    }
+}
+
+/// Adds the words of a far veneer that stands at a place to words that have room for them, and
+/// answers the place and the kind of the use that its last word is.
+fn push_far_words<K: MachInstLabelUse>(words: &mut Vec<u32>, kind: K, place: u32) -> (u32, K)
+    requires veneers { IsTrue (K.kinds.veneers kind) }
+    requires urgency { K.kinds.urgency kind ≡ 3 }
+    requires low { place ≤ 2 ^ 31 }
+    requires room { vec_len words.old + length K.kinds.far_words + 1 ≤ vec_capacity words.old }
+    ensures items { words.new.items ≡ words.old.items ++ (K.kinds.far_words ++ 0 ∷ []) }
+    ensures capacity { vec_capacity words.new ≡ vec_capacity words.old }
+    ensures last { result ≡ (place + 4 * length K.kinds.far_words, K.kinds.far_use) }
+{
+    let mut bytes = [0; 20];
+    let veneer = &mut bytes[..kind.veneer_size() as usize];
+    let last = kind.generate_veneer(veneer, place);
+    push_words(words, veneer);
+    last
+}
+
+impl<'c, K: MachInstLabelUse> Parts<'c, K> {
+    ghost use Rattle.a64_buffer.specs.Sound.{seen, AreApart};
+    ghost use Rattle.a64_buffer.specs.Steps.{stopped, stands_at, GivesJump, GivesFar, GivesTrap};
+    ghost use Rattle.a64_buffer.specs.Chain.{labels_of, IsChained};
+    ghost use Rattle.a64_buffer.specs.Space.{SameRoom};
+
+    /// Lets the use at an index stop at a place.
+    pub fn stop_at(&mut self, index: usize, place: u32)
+        requires { index < length self.old.uses.items }
+        ensures uses { (d : _) → AreApart self.old.uses.items → self.new.uses.items ≡ map (stopped (stands_at (slice_index_or self.old.uses.items index d).offset) place) self.old.uses.items }
+        ensures labels { labels_of self.new.uses.items ≡ labels_of self.old.uses.items }
+        ensures capacity { vec_capacity self.new.uses ≡ vec_capacity self.old.uses }
+        ensures len { vec_len self.new.uses ≡ vec_len self.old.uses }
+        ensures rest { self.new ≡ record self.old { uses = self.new.uses } }
+    {
+        self.uses[index].stop = Some(place);
+    }
+
+    /// Adds a use, for which there is room, and whose label, if it has one, is that of an older use.
+    pub fn push_use(&mut self, site: Use<K>)
+        requires uses { vec_len self.old.uses < vec_capacity self.old.uses }
+        requires earlier { vec_len self.old.earlier < vec_capacity self.old.earlier }
+        requires chained { IsChained (labels_of self.old.uses.items) self.old.earlier.items self.old.heads }
+        requires known { IfSome (label_of site.target) (λ label. IsSome (finmap.get self.old.heads label)) }
+        ensures uses { self.new.uses.items ≡ self.old.uses.items ++ site ∷ [] }
+        ensures chained { IsChained (labels_of self.new.uses.items) self.new.earlier.items self.new.heads }
+        ensures uses_capacity { vec_capacity self.new.uses ≡ vec_capacity self.old.uses }
+        ensures earlier_capacity { vec_capacity self.new.earlier ≡ vec_capacity self.old.earlier }
+        ensures rest { self.new ≡ record self.old { uses = self.new.uses; earlier = self.new.earlier; heads = self.new.heads } }
+    {
+        let earlier = self.link(site);
+        self.earlier.push_reserved(earlier);
+        self.uses.push_reserved(site);
+    }
+
+    /// Makes the use that is added next the last of its label, and answers which was the last before.
+    fn link(&mut self, site: Use<K>) -> usize
+        requires len { vec_len self.old.uses < 2 ^ 63 }
+        requires known { IfSome (label_of site.target) (λ label. IsSome (finmap.get self.old.heads label)) }
+        ensures earlier { IfSome (label_of site.target) (λ label. result ≡ unwrap_or (finmap.get self.old.heads label) 0) }
+        ensures heads { self.new.heads ≡ (elim (label_of site.target) [ None ↦ self.old.heads | Some label ↦ finmap.insert self.old.heads label (length self.old.uses.items + 1) ]) }
+        ensures rest { self.new ≡ record self.old { heads = self.new.heads } }
+    {
+        let Some(label) = target_label(site.target) else {
+            return 0;
+        };
+        let earlier = self.heads.get(label.0).unwrap_or(0);
+        self.heads.replace(label.0, self.uses.len() + 1);
+        earlier
+    }
+
+    /// Gives an open use a jump word at the end.
+    pub fn give_jump(&mut self, index: usize)
+        requires within { index < length self.old.uses.items }
+        requires short { end_of (seen self.old) + 4 < 2 ^ 31 }
+        requires words { vec_len self.old.words < vec_capacity self.old.words }
+        requires uses { vec_len self.old.uses < vec_capacity self.old.uses }
+        requires earlier { vec_len self.old.earlier < vec_capacity self.old.earlier }
+        requires chained { IsChained (labels_of self.old.uses.items) self.old.earlier.items self.old.heads }
+        ensures gives { (d : _) → AreApart self.old.uses.items → GivesJump K.kinds (slice_index_or self.old.uses.items index d) (seen self.old) (seen self.new) }
+        ensures chained { IsChained (labels_of self.new.uses.items) self.new.earlier.items self.new.heads }
+        ensures room { SameRoom self.old self.new }
+    {
+        let place = self.end();
+        let target = self.uses[index].target;
+        let stop = self.stop_of(place, target, K::jump_use());
+        self.stop_at(index, place);
+        self.words.push_reserved(K::jump_word());
+        self.push_use(Use {
+            offset: place,
+            target,
+            kind: K::jump_use(),
+            stop,
+        });
+    }
+
+    /// Gives an open use a far veneer at the end.
+    pub fn give_far(&mut self, index: usize)
+        requires within { index < length self.old.uses.items }
+        requires veneers { (d : _) → IsTrue (K.kinds.veneers (slice_index_or self.old.uses.items index d).kind) }
+        requires urgency { (d : _) → K.kinds.urgency (slice_index_or self.old.uses.items index d).kind ≡ 3 }
+        requires short { end_of (seen self.old) + 20 < 2 ^ 31 }
+        requires words { vec_len self.old.words + length K.kinds.far_words + 1 ≤ vec_capacity self.old.words }
+        requires uses { vec_len self.old.uses < vec_capacity self.old.uses }
+        requires earlier { vec_len self.old.earlier < vec_capacity self.old.earlier }
+        requires chained { IsChained (labels_of self.old.uses.items) self.old.earlier.items self.old.heads }
+        ensures gives { (d : _) → AreApart self.old.uses.items → GivesFar K.kinds (slice_index_or self.old.uses.items index d) (seen self.old) (seen self.new) }
+        ensures chained { IsChained (labels_of self.new.uses.items) self.new.earlier.items self.new.heads }
+        ensures room { SameRoom self.old self.new }
+    {
+        let place = self.end();
+        let site = self.uses[index];
+        let (offset, kind) = push_far_words(&mut self.words, site.kind, place);
+        let stop = self.stop_of(offset, site.target, kind);
+        self.stop_at(index, place);
+        self.push_use(Use {
+            offset,
+            target: site.target,
+            kind,
+            stop,
+        });
+    }
+
+    /// Gives a use of a trap its trap word at the end.
+    pub fn give_trap(&mut self, index: usize, code: TrapCode)
+        requires within { index < length self.old.uses.items }
+        requires short { end_of (seen self.old) + 4 < 2 ^ 31 }
+        requires words { vec_len self.old.words < vec_capacity self.old.words }
+        requires traps { vec_len self.old.traps < vec_capacity self.old.traps }
+        requires chained { IsChained (labels_of self.old.uses.items) self.old.earlier.items self.old.heads }
+        ensures gives { (d : _) → AreApart self.old.uses.items → GivesTrap K.kinds (slice_index_or self.old.uses.items index d) code (seen self.old) (seen self.new) }
+        ensures chained { IsChained (labels_of self.new.uses.items) self.new.earlier.items self.new.heads }
+        ensures room { SameRoom self.old self.new }
+    {
+        let place = self.end();
+        self.stop_at(index, place);
+        self.words.push_reserved(K::trap_word());
+        self.traps.push_reserved((place, code));
+    }
+}

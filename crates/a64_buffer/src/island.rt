@@ -1,0 +1,194 @@
+//! Islands, and what gives open uses what they wait for.
+
+ghost use Rattle.std.specs.Prelude.{◌≡◌, ◌⊎◌, ◌+◌, ◌*◌, ◌^◌, ◌<◌, ◌≤◌, All, IsSome, MatchBool, OnOk, OnErr, length, slice_index_or, vec_len, vec_capacity};
+ghost use Rattle.a64_buffer.specs.Buffer.{end_of, label_of};
+ghost use Rattle.a64_buffer.specs.Classes.{class, owed, Fits};
+ghost use Rattle.a64_buffer.specs.declared.force.ForceVeneers.TheVariants.{No, Yes};
+
+use crate::class::Class;
+use crate::force::ForceVeneers;
+use crate::label_use::MachInstLabelUse;
+use crate::parts::Parts;
+use crate::room::sum_burdens;
+use crate::site::{Target, Use};
+use std::alloc::AllocError;
+
+impl<'c, K: MachInstLabelUse> Parts<'c, K> {
+    ghost use Rattle.a64_buffer.specs.Sound.{seen, AreApart, IsKinded, AreSound};
+    ghost use Rattle.a64_buffer.specs.Chain.{labels_of, IsChained};
+    ghost use Rattle.a64_buffer.specs.Space.{SameRoom, HasSpace, HasSpaceForMore};
+    ghost use Rattle.a64_buffer.specs.Steps.{IsNextOpen, IsReady, GivesAll, MayWrite, Writes, WritesFar, begun, ended};
+    ghost use Rattle.a64_buffer.specs.Islands.{HasIsland};
+
+    /// The open use that comes first in the order of islands, where its rank is below a limit.
+    fn next_open(&self, limit: u64) -> Option<usize>
+        requires { limit ≤ 5 }
+        ensures { IsNextOpen K.kinds limit self.now.uses.items result }
+    {
+        let mut next = None;
+        let mut least = limit << 32;
+        for index in 0..self.uses.len() {
+            let site = self.uses[index];
+            if !site.is_open() {
+                continue;
+            }
+            let key = site.key();
+            if key >= least {
+                continue;
+            }
+            next = Some(index);
+            least = key;
+        }
+        next
+    }
+
+    /// Gives an open use of a label its veneer.
+    fn give_veneer(&mut self, index: usize)
+        requires ready { IsReady K.kinds self.old index }
+        requires label { (d : _) → IsSome (label_of (slice_index_or self.old.uses.items index d).target) }
+        ensures gives { (d : _) → GivesAll K.kinds (class K.kinds (slice_index_or self.old.uses.items index d)) (seen self.old) (seen self.new) }
+        ensures chained { IsChained (labels_of self.new.uses.items) self.new.earlier.items self.new.heads }
+        ensures room { SameRoom self.old self.new }
+    {
+        let site = self.uses[index];
+        match site.class() {
+            Class::Near => self.give_jump(index),
+            Class::Middle => self.give_jump(index),
+            Class::Far => self.give_far(index),
+            Class::Load | Class::Trapping | Class::Direct => unreachable!(),
+        }
+    }
+
+    /// Gives the open use that comes first what it waits for.
+    fn give(&mut self, index: usize)
+        requires ready { IsReady K.kinds self.old index }
+        ensures gives { (d : _) → GivesAll K.kinds (class K.kinds (slice_index_or self.old.uses.items index d)) (seen self.old) (seen self.new) }
+        ensures chained { IsChained (labels_of self.new.uses.items) self.new.earlier.items self.new.heads }
+        ensures room { SameRoom self.old self.new }
+    {
+        let site = self.uses[index];
+        match site.target {
+            Target::Label(_) => self.give_veneer(index),
+            Target::Constant(constant) => self.give_copy(constant),
+            Target::Trap(code) => self.give_trap(index, code),
+            Target::IslandEnd => unreachable!(),
+        }
+    }
+
+    /// Gives all open uses whose rank is below a limit what they wait for, in the order of islands.
+    pub fn write_until(&mut self, limit: u64)
+        requires limit { limit ≤ 5 }
+        requires may { MayWrite K.kinds (seen self.old) }
+        requires space { HasSpace K.kinds self.old }
+        requires chained { IsChained (labels_of self.old.uses.items) self.old.earlier.items self.old.heads }
+        ensures writes { Writes K.kinds limit (seen self.old) (seen self.new) }
+        ensures space { HasSpace K.kinds self.new }
+        ensures chained { IsChained (labels_of self.new.uses.items) self.new.earlier.items self.new.heads }
+        ensures room { SameRoom self.old self.new }
+    {
+        while let Some(index) = self.next_open(limit) {
+            self.give(index);
+        }
+    }
+
+    /// Takes the memory for all that open uses may want, and for one use, word and island more.
+    pub fn reserve_all(&mut self) -> Result<(), AllocError>
+        requires owed { owed K.kinds (seen self.old) < 2 ^ 31 }
+        requires chained { IsChained (labels_of self.old.uses.items) self.old.earlier.items self.old.heads }
+        ensures ok { OnOk result (HasSpaceForMore K.kinds self.new) }
+        ensures rest { seen self.new ≡ seen self.old }
+        ensures earlier { self.new.earlier.items ≡ self.old.earlier.items }
+        ensures heads { self.new.heads ≡ self.old.heads }
+    {
+        let owed = sum_burdens(&self.uses).third as usize;
+        self.words.reserve(owed / 4 + 2)?;
+        self.uses.reserve(owed / 12 + 1)?;
+        self.earlier.reserve(owed / 12 + 1)?;
+        self.traps.reserve(owed / 4)?;
+        self.islands.reserve(1)?;
+        Ok(())
+    }
+
+    /// Begins an island with a jump, whose end is not known yet.
+    fn begin_island(&mut self)
+        requires short { end_of (seen self.old) + 4 < 2 ^ 31 }
+        requires words { vec_len self.old.words < vec_capacity self.old.words }
+        requires uses { vec_len self.old.uses < vec_capacity self.old.uses }
+        requires earlier { vec_len self.old.earlier < vec_capacity self.old.earlier }
+        requires chained { IsChained (labels_of self.old.uses.items) self.old.earlier.items self.old.heads }
+        ensures begun { seen self.new ≡ begun K.kinds (seen self.old) }
+        ensures chained { IsChained (labels_of self.new.uses.items) self.new.earlier.items self.new.heads }
+        ensures room { SameRoom self.old self.new }
+        ensures islands { self.new.islands ≡ self.old.islands }
+    {
+        let offset = self.end();
+        self.words.push_reserved(K::jump_word());
+        self.push_use(Use {
+            offset,
+            target: Target::IslandEnd,
+            kind: K::jump_use(),
+            stop: None,
+        });
+    }
+
+    /// Ends an island, and lets its jump, the use at an index, lead there.
+    fn end_island(&mut self, index: usize, start: u32)
+        requires within { index < length self.old.uses.items }
+        requires start { (d : _) → (slice_index_or self.old.uses.items index d).offset ≡ start }
+        requires short { end_of (seen self.old) < 2 ^ 31 }
+        requires islands { vec_len self.old.islands < vec_capacity self.old.islands }
+        requires chained { IsChained (labels_of self.old.uses.items) self.old.earlier.items self.old.heads }
+        ensures ended { AreApart self.old.uses.items → seen self.new ≡ ended start (seen self.old) }
+        ensures chained { IsChained (labels_of self.new.uses.items) self.new.earlier.items self.new.heads }
+    {
+        let end = self.end();
+        self.stop_at(index, end);
+        self.islands.push_reserved((start, end));
+    }
+
+    /// Whether the open uses of the longest range are given veneers: that is forced, or some would be
+    /// out of reach.
+    fn promotes(&self, distance: u32, force: ForceVeneers) -> bool
+        requires short { end_of (seen self.now) < 2 ^ 31 }
+        requires owed { owed K.kinds (seen self.now) < 2 ^ 32 }
+        requires kinded { All (λ u. IsKinded K.kinds u.target u.kind) self.now.uses.items }
+        ensures { MatchBool result ((force ≡ Yes) ⊎ (Fits K.kinds (seen self.now) distance → ⊥)) ((force ≡ No) × Fits K.kinds (seen self.now) distance) }
+    {
+        match force {
+            ForceVeneers::Yes => true,
+            ForceVeneers::No => !self.fits(distance),
+        }
+    }
+
+    /// Writes an island at the end, or nothing.
+    pub fn emit_island(&mut self, distance: u32, force: ForceVeneers) -> Result<(), AllocError>
+        requires sound { AreSound K.kinds self.old }
+        requires short { end_of (seen self.old) + owed K.kinds (seen self.old) + 4 < 2 ^ 31 }
+        ensures sound { AreSound K.kinds self.new }
+        ensures ok { OnOk result (HasIsland K.kinds distance force (seen self.old) (seen self.new)) }
+        ensures err { OnErr result (seen self.new ≡ seen self.old) }
+    {
+        self.reserve_all()?;
+        let start = self.end();
+        let index = self.uses.len();
+        self.begin_island();
+        self.write_until(4);
+        self.promote(distance, force);
+        self.end_island(index, start);
+        Ok(())
+    }
+
+    /// Gives the open uses of the longest range far veneers, or none of them.
+    fn promote(&mut self, distance: u32, force: ForceVeneers)
+        requires may { MayWrite K.kinds (seen self.old) }
+        requires space { HasSpace K.kinds self.old }
+        requires chained { IsChained (labels_of self.old.uses.items) self.old.earlier.items self.old.heads }
+        ensures promotes { WritesFar K.kinds distance force (seen self.old) (seen self.new) }
+        ensures chained { IsChained (labels_of self.new.uses.items) self.new.earlier.items self.new.heads }
+        ensures room { SameRoom self.old self.new }
+    {
+        if self.promotes(distance, force) {
+            self.write_until(5);
+        }
+    }
+}

@@ -1,0 +1,125 @@
+-- What uses may want of islands, by what the items with these uses may want.
+use Rattle.std.proofs.Common.{ℕ, ◌≡◌, ◌+◌, ◌*◌, ◌≤◌, Bool, true, false, cond, List, [], ◌∷◌, ◌++◌, length, Option, None, Some, refl, sym, subst, arith, nat_cmp}
+use Rattle.std.specs.Prelude.{All, ◌&&◌, is_none}
+use Rattle.std.specs.List.{cons_option}
+use Rattle.std.specs.FinMap.{FinMap}
+use Rattle.std.proofs.lemmas.List.Elements.{All-append, All-push, filter_map-append}
+use Rattle.a64_base.specs.declared.target.BranchTarget.TheVariants as branch_targets
+use Rattle.a64_inst.specs.declared.emission.EmitFlags.{EmitFlags}
+use Rattle.a64_inst.specs.declared.frame.FrameLayout.{FrameLayout}
+use Rattle.a64_inst.specs.declared.inst.Inst.{Inst}
+use Rattle.a64_inst.specs.declared.inst.Inst.TheVariants as insts
+use Rattle.a64_inst.specs.declared.item.Item.{Item}
+use Rattle.a64_inst.specs.declared.item.Item.TheVariants.{Bind, Emit}
+use Rattle.a64_buffer.specs.declared.site.Use.{Use}
+use Rattle.a64_buffer.specs.declared.site.Target.{Target}
+use Rattle.a64_buffer.specs.declared.site.Target.TheVariants.{Label, Constant, Trap, IslandEnd}
+use Rattle.a64_buffer.specs.Buffer.{label_of, made_use}
+use Rattle.a64_buffer.specs.Sound.{IsKinded}
+use Rattle.a64_buffer.specs.Classes.{third, cost, wants, class_of, is_open, weigh, burden}
+use Rattle.a64_buffer.proofs.Costs.{weight-cons}
+use Rattle.a64_emit.specs.declared.label_use.LabelUse.{LabelUse}
+use Rattle.a64_emit.specs.declared.label_use.LabelUse.TheVariants as uses
+use Rattle.a64_emit.specs.declared.site.Site.{Site}
+use Rattle.a64_emit.specs.LabelUses.{label_kinds, forward_range}
+use Rattle.a64_emit.specs.Cells.{Cell, inst_cells, cells_of, all_cells, sites_of}
+use Rattle.a64_emit.specs.Bounds.{veneer_range, ranges_in, charge_of}
+use Rattle.a64_emit.specs.Emission.{use_at, uses_from, site_of, IsOneOf}
+
+-- ---- what a use may want
+
+half_open : (o : Bool) (n : ℕ) → cond o n 0 ≤ n
+half_open true n = omega arith
+half_open false n = omega arith
+
+-- a use that is made wants 28 bytes at most, where it may want something
+one_burden : (labels : FinMap nat_cmp ℕ) (place : ℕ) (t : Target) (kind : LabelUse) (rest : List ℕ) → weigh label_kinds (cost third) (made_use label_kinds labels place t kind) + 28 * length rest ≤ 28 * length (cons_option (veneer_range (record { kind = kind; target = t })) rest)
+one_burden labels place (Label l) uses.Branch14 rest = let w = half_open (is_none (made_use label_kinds labels place (Label l) uses.Branch14).stop) 24 in omega (arith, w)
+one_burden labels place (Label l) uses.Branch19 rest = let w = half_open (is_none (made_use label_kinds labels place (Label l) uses.Branch19).stop) 24 in omega (arith, w)
+one_burden labels place (Label l) uses.Branch26 rest = let w = half_open (is_none (made_use label_kinds labels place (Label l) uses.Branch26).stop) 20 in omega (arith, w)
+one_burden labels place (Label l) uses.PCRel32 rest = omega arith
+one_burden labels place (Constant n) kind rest = let w = half_open (is_none (made_use label_kinds labels place (Constant n) kind).stop) 28 in omega (arith, w)
+one_burden labels place (Trap code) kind rest = let w = half_open (is_none (made_use label_kinds labels place (Trap code) kind).stop) 4 in omega (arith, w)
+one_burden labels place IslandEnd kind rest = omega arith
+
+-- the uses of cells want no more than the cells are charged for
+pub new_burden : (labels : FinMap nat_cmp ℕ) (place : ℕ) (cells : List Cell) → burden label_kinds third (uses_from labels place cells) ≤ 28 * length (ranges_in cells)
+new_burden labels place [] = omega arith
+new_burden labels place (c ∷ cs) = go (new_burden labels (place + 4) cs) c.site
+  where
+    go : burden label_kinds third (uses_from labels (place + 4) cs) ≤ 28 * length (ranges_in cs) → (o : Option Site) → burden label_kinds third (use_at labels place o ++ uses_from labels (place + 4) cs) ≤ 28 * length (ranges_in (record { body = c.body; site = o } ∷ cs))
+    go less None = less
+    go less (Some site) = omega (arith, weight-cons label_kinds (cost third) (made_use label_kinds labels place site.target site.kind) (uses_from labels (place + 4) cs), one_burden labels place site.target site.kind (ranges_in cs), less)
+
+pub charge_least : (cells : List Cell) → 28 * length (ranges_in cells) ≤ charge_of cells
+charge_least [] = omega arith
+charge_least (c ∷ cs) = omega arith
+
+pub charge_some : (cells : List Cell) → 1 ≤ length cells → 4 + 28 * length (ranges_in cells) ≤ charge_of cells
+charge_some [] some = absurd (omega arith)
+charge_some (c ∷ cs) some = omega arith
+
+-- the range of a use that wants something is among those that count
+pub open_range : (u : Use LabelUse) → is_open label_kinds u ≡ true → veneer_range (site_of u).1 ≡ Some (forward_range u.kind)
+open_range u = go u.target u.kind (is_none u.stop)
+  where
+    go : (t : Target) (kind : LabelUse) (o : Bool) → (wants (class_of label_kinds t kind) && o) ≡ true → veneer_range (record { kind = kind; target = t }) ≡ Some (forward_range kind)
+    go (Label l) uses.Branch14 o e = refl
+    go (Label l) uses.Branch19 o e = refl
+    go (Label l) uses.Branch26 o e = refl
+    go (Label l) uses.PCRel32 o e = absurd (let z : false ≡ true = e in cc)
+    go (Constant n) kind o e = refl
+    go (Trap code) kind o e = refl
+    go IslandEnd kind o e = absurd (let z : false ≡ true = e in cc)
+
+-- ---- the uses that exist are of labels
+
+-- a use of a label
+abbrev pub IsLabelSite : Site → Type 0
+IsLabelSite site = (label : ℕ) × (label_of site.target ≡ Some label)
+
+module _ (frame : FrameLayout) (flags : EmitFlags) where
+  -- each instruction has a word
+  pub some_cells : (inst : Inst) → 1 ≤ length (inst_cells frame flags inst)
+  some_cells insts.Nop4 = omega arith
+  some_cells (insts.AluRRR alu_op size rd rn rm) = omega arith
+  some_cells (insts.AluRRImm12 alu_op size rd rn imm12) = omega arith
+  some_cells (insts.AluRRImmLogic alu_op size rd rn imml) = omega arith
+  some_cells (insts.MovWide op rd imm size) = omega arith
+  some_cells (insts.MovK rd rn imm size) = omega arith
+  some_cells insts.Ret = omega arith
+  some_cells (insts.Jump dest) = omega arith
+
+  no_sites : All IsLabelSite []
+  no_sites k d w = absurd (omega arith)
+
+  inst_labels : (inst : Inst) → All IsLabelSite (sites_of (inst_cells frame flags inst))
+  inst_labels insts.Nop4 = no_sites
+  inst_labels (insts.AluRRR alu_op size rd rn rm) = no_sites
+  inst_labels (insts.AluRRImm12 alu_op size rd rn imm12) = no_sites
+  inst_labels (insts.AluRRImmLogic alu_op size rd rn imml) = no_sites
+  inst_labels (insts.MovWide op rd imm size) = no_sites
+  inst_labels (insts.MovK rd rn imm size) = no_sites
+  inst_labels insts.Ret = no_sites
+  inst_labels (insts.Jump (branch_targets.Label label)) = All-push IsLabelSite [] (record { kind = uses.Branch26; target = Label label }) no_sites (label.0, refl)
+  inst_labels (insts.Jump (branch_targets.ResolvedOffset offset)) = no_sites
+
+  item_labels : (item : Item) → All IsLabelSite (sites_of (cells_of frame flags item))
+  item_labels (Bind label) = no_sites
+  item_labels (Emit inst kept) = inst_labels inst
+
+  pub all_labels : (items : List Item) → All IsLabelSite (sites_of (all_cells frame flags items))
+  all_labels [] = no_sites
+  all_labels (x ∷ xs) = subst (All IsLabelSite) (sym (filter_map-append (λ cell. cell.site) (cells_of frame flags x) (all_cells frame flags xs)))
+      (All-append IsLabelSite (sites_of (cells_of frame flags x)) (sites_of (all_cells frame flags xs)) (item_labels x) (all_labels xs))
+
+  -- and so are those of a buffer
+  pub use_labelled : (items : List Item) (end : ℕ) (u : Use LabelUse) → IsOneOf end (sites_of (all_cells frame flags items)) u → (label : ℕ) × (label_of u.target ≡ Some label)
+  use_labelled items end u one = subst IsLabelSite (one.is (site_of u).1) (all_labels items one.index (site_of u).1 one.within)
+
+-- a use of a label may be of any kind
+pub label_kinded : (t : Target) (kind : LabelUse) → (label : ℕ) × (label_of t ≡ Some label) → IsKinded label_kinds t kind
+label_kinded (Label l) kind p = tt
+label_kinded (Constant n) kind p = absurd (let z : None ≡ Some p.0 = p.1 in cc)
+label_kinded (Trap code) kind p = absurd (let z : None ≡ Some p.0 = p.1 in cc)
+label_kinded IslandEnd kind p = absurd (let z : None ≡ Some p.0 = p.1 in cc)
