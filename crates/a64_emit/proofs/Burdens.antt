@@ -1,5 +1,5 @@
 -- What uses may want of islands, by what the items with these uses may want.
-use Rattle.std.proofs.Common.{ℕ, ◌≡◌, ◌+◌, ◌*◌, ◌≤◌, Bool, true, false, cond, List, [], ◌∷◌, ◌++◌, length, Option, None, Some, refl, sym, subst, arith, nat_cmp}
+use Rattle.std.proofs.Common.{ℕ, ◌≡◌, ◌+◌, ◌*◌, ◌≤◌, ◌⊎◌, inl, inr, Bool, true, false, cond, List, [], ◌∷◌, ◌++◌, length, Option, None, Some, refl, sym, subst, arith, nat_cmp}
 use Rattle.std.specs.Prelude.{All, ◌&&◌, is_none}
 use Rattle.std.specs.List.{cons_option}
 use Rattle.std.specs.FinMap.{FinMap}
@@ -59,6 +59,11 @@ pub charge_some : (cells : List Cell) → 1 ≤ length cells → 4 + 28 * length
 charge_some [] some = absurd (omega arith)
 charge_some (c ∷ cs) some = omega arith
 
+-- cells are none, or some
+pub none_or_some : (cells : List Cell) → (cells ≡ []) ⊎ (1 ≤ length cells)
+none_or_some [] = inl refl
+none_or_some (c ∷ cs) = inr (omega arith)
+
 -- the range of a use that wants something is among those that count
 pub open_range : (u : Use LabelUse) → is_open label_kinds u ≡ true → veneer_range (site_of u).1 ≡ Some (forward_range u.kind)
 open_range u = go u.target u.kind (is_none u.stop)
@@ -79,30 +84,13 @@ abbrev pub IsLabelSite : Site → Type 0
 IsLabelSite site = (label : ℕ) × (label_of site.target ≡ Some label)
 
 module _ (frame : FrameLayout) (flags : EmitFlags) where
-  -- each instruction has a word
-  pub some_cells : (inst : Inst) → 1 ≤ length (inst_cells frame flags inst)
-  some_cells insts.Nop4 = omega arith
-  some_cells (insts.AluRRR alu_op size rd rn rm) = omega arith
-  some_cells (insts.AluRRImm12 alu_op size rd rn imm12) = omega arith
-  some_cells (insts.AluRRImmLogic alu_op size rd rn imml) = omega arith
-  some_cells (insts.MovWide op rd imm size) = omega arith
-  some_cells (insts.MovK rd rn imm size) = omega arith
-  some_cells insts.Ret = omega arith
-  some_cells (insts.Jump dest) = omega arith
-
   no_sites : All IsLabelSite []
   no_sites k d w = absurd (omega arith)
 
   inst_labels : (inst : Inst) → All IsLabelSite (sites_of (inst_cells frame flags inst))
-  inst_labels insts.Nop4 = no_sites
-  inst_labels (insts.AluRRR alu_op size rd rn rm) = no_sites
-  inst_labels (insts.AluRRImm12 alu_op size rd rn imm12) = no_sites
-  inst_labels (insts.AluRRImmLogic alu_op size rd rn imml) = no_sites
-  inst_labels (insts.MovWide op rd imm size) = no_sites
-  inst_labels (insts.MovK rd rn imm size) = no_sites
-  inst_labels insts.Ret = no_sites
   inst_labels (insts.Jump (branch_targets.Label label)) = All-push IsLabelSite [] (record { kind = uses.Branch26; target = Label label }) no_sites (label.0, refl)
   inst_labels (insts.Jump (branch_targets.ResolvedOffset offset)) = no_sites
+  inst_labels _ = no_sites
 
   item_labels : (item : Item) → All IsLabelSite (sites_of (cells_of frame flags item))
   item_labels (Bind label) = no_sites

@@ -1,7 +1,7 @@
 -- What emission asks of the buffer, one item after another.
-use Rattle.std.proofs.Common.{ℕ, ◌≡◌, ◌+◌, ◌*◌, ◌<◌, ◌≤◌, true, List, [], ◌∷◌, ◌++◌, length, get_or, take, drop, Option, None, Some, refl, sym, ap, subst, ◌∙◌, arith}
+use Rattle.std.proofs.Common.{ℕ, ◌≡◌, ◌+◌, ◌*◌, ◌<◌, ◌≤◌, inl, inr, true, List, [], ◌∷◌, ◌++◌, length, get_or, take, drop, Option, None, Some, refl, sym, ap, subst, ◌∙◌, arith}
 use Rattle.std.specs.Prelude.{All}
-use Rattle.std.proofs.lemmas.List.{take_more, take-append-drop, get_or_append_left, length-append}
+use Rattle.std.proofs.lemmas.List.{take_more, take-append-drop, get_or_append_left, length-append, append-nil}
 use Rattle.std.proofs.lemmas.List.Concat.{flat_map-append}
 use Rattle.std.specs.FinMap.{get}
 use Rattle.std.proofs.lemmas.Bool.{false≢true}
@@ -10,7 +10,10 @@ use Rattle.a64_inst.specs.declared.emission.EmitFlags.{EmitFlags}
 use Rattle.a64_inst.specs.declared.frame.FrameLayout.{FrameLayout}
 use Rattle.a64_buffer.specs.declared.site.Use.{Use}
 use Rattle.a64_buffer.specs.Buffer.{Buffer, end_of}
-use Rattle.a64_buffer.specs.Classes.{third, cost, burden, is_open}
+use Rattle.a64_base.specs.declared.entity.UserStackMap.{UserStackMap}
+use Rattle.a64_inst.specs.declared.inst.Inst.{Inst}
+use Rattle.a64_buffer.specs.Classes as classes
+use Rattle.a64_buffer.specs.Classes.{third, cost, burden, is_open, Fits}
 use Rattle.a64_buffer.proofs.Costs.{weight-append}
 use Rattle.a64_buffer.proofs.Rooms.{wide_room}
 use Rattle.a64_emit.specs.declared.label_use.LabelUse.{LabelUse}
@@ -18,13 +21,13 @@ use Rattle.a64_inst.specs.declared.item.Item.{Item}
 use Rattle.a64_inst.specs.declared.item.Item.TheVariants.{Bind, Emit}
 use Rattle.a64_emit.specs.LabelUses.{label_kinds, forward_range}
 use Rattle.a64_emit.specs.LabelLaws.{label_kinds_lawful}
-use Rattle.a64_emit.specs.Cells.{inst_cells, cells_of, all_cells, sites_of}
-use Rattle.a64_emit.specs.Emission.{uses_from, appended, site_of, HasRoom, ItemFits, IsUnbound, IsOneOf, HasEmitted}
+use Rattle.a64_emit.specs.Cells.{Cell, inst_cells, cells_of, all_cells, sites_of}
+use Rattle.a64_emit.specs.Emission.{uses_from, appended, site_of, HasRoom, CellsFit, ItemFits, IsUnbound, IsOneOf, HasEmitted}
 use Rattle.a64_emit.specs.Bounds.{whole, veneer_range, ranges_in}
 use Rattle.a64_emit.specs.Faults.{second_binding, too_large}
 use Rattle.a64_emit.proofs.Sizes.{whole_more, ranges_in-append}
 use Rattle.a64_emit.proofs.Sites.{found_in}
-use Rattle.a64_emit.proofs.Burdens.{new_burden, charge_some, open_range, some_cells, use_labelled, label_kinded}
+use Rattle.a64_emit.proofs.Burdens.{new_burden, charge_some, none_or_some, open_range, use_labelled, label_kinded}
 use Rattle.a64_emit.proofs.Emitted.{uses_all, append_step, before_end}
 use Rattle.a64_emit.proofs.Checked.{addressable, within_ranges, first_in_whole, among_bindings, not_bound_before}
 
@@ -46,22 +49,29 @@ module _ (frame : FrameLayout) (flags : EmitFlags) (items : List Item) (i : ℕ)
         let shorter = within_ranges frame flags items small found.index (omega (arith, found.within, ap length all, length-append (ranges_in (all_cells frame flags (take (i + 1) items))) (ranges_in (all_cells frame flags (drop (i + 1) items))))) in
         omega (arith, shorter, same)
 
-    -- no island is needed before the next item
-    pub next_fits : ItemFits frame flags b (get_or items i d)
-    next_fits = go (get_or items i d) refl
+    -- no island is needed before the next item: what is open reaches over its words, or it has none and
+    -- whatever is open reaches what it would get at once
+    pub next_fits : Fits label_kinds b 0 → ItemFits frame flags b (get_or items i d)
+    next_fits here = go (get_or items i d) refl
       where
-        go : (x : Item) → get_or items i d ≡ x → ItemFits frame flags b x
-        go (Bind label) is = tt
-        go (Emit inst kept) is =
+        over : (inst : Inst) (kept : Option UserStackMap) → get_or items i d ≡ Emit inst kept → 1 ≤ length (inst_cells frame flags inst) → CellsFit b (inst_cells frame flags inst)
+        over inst kept is some =
             let next : take (i + 1) items ≡ take i items ++ Emit inst kept ∷ [] = take_more items i d within ∙ ap (λ (y : Item). take i items ++ y ∷ []) is in
             let ones : All (IsOneOf (end_of (appended b (inst_cells frame flags inst))) (sites_of (all_cells frame flags (take (i + 1) items)))) (b.uses ++ uses_from b.labels (end_of b) (inst_cells frame flags inst)) =
             subst (λ (t : List Item). All (IsOneOf (end_of (appended b (inst_cells frame flags inst))) (sites_of (all_cells frame flags t))) (b.uses ++ uses_from b.labels (end_of b) (inst_cells frame flags inst))) (sym next)
             (uses_all frame flags (take i items) places b h (Emit inst kept) (appended b (inst_cells frame flags inst)) (append_step b (inst_cells frame flags inst) (before_end frame flags (take i items) places b h))) in
             let long : end_of b + 4 * length (inst_cells frame flags inst) + 4 + burden label_kinds third (b.uses ++ uses_from b.labels (end_of b) (inst_cells frame flags inst)) ≤ whole frame flags items =
-            omega (arith, h.bounded, weight-append label_kinds (cost third) b.uses (uses_from b.labels (end_of b) (inst_cells frame flags inst)), new_burden b.labels (end_of b) (inst_cells frame flags inst), charge_some (inst_cells frame flags inst) (some_cells frame flags inst), whole_more frame flags items i d (Emit inst kept) within is, first_in_whole frame flags items (i + 1)) in
+            omega (arith, h.bounded, weight-append label_kinds (cost third) b.uses (uses_from b.labels (end_of b) (inst_cells frame flags inst)), new_burden b.labels (end_of b) (inst_cells frame flags inst), charge_some (inst_cells frame flags inst) some, whole_more frame flags items i d (Emit inst kept) within is, first_in_whole frame flags items (i + 1)) in
             wide_room label_kinds label_kinds_lawful (end_of b) (4 * length (inst_cells frame flags inst)) (b.uses ++ uses_from b.labels (end_of b) (inst_cells frame flags inst))
             (λ k e w. label_kinded (get_or (b.uses ++ uses_from b.labels (end_of b) (inst_cells frame flags inst)) k e).target (get_or (b.uses ++ uses_from b.labels (end_of b) (inst_cells frame flags inst)) k e).kind (use_labelled frame flags (take (i + 1) items) (end_of (appended b (inst_cells frame flags inst))) (get_or (b.uses ++ uses_from b.labels (end_of b) (inst_cells frame flags inst)) k e) (ones k e w)))
             (λ k e w o. let far = far_enough (get_or (b.uses ++ uses_from b.labels (end_of b) (inst_cells frame flags inst)) k e) (end_of (appended b (inst_cells frame flags inst))) (ones k e w) o in omega (arith, far, long))
+
+        go : (x : Item) → get_or items i d ≡ x → ItemFits frame flags b x
+        go (Bind label) is = tt
+        go (Emit inst kept) is = elim (none_or_some (inst_cells frame flags inst)) [
+          | inl none ↦ subst (λ (cells : List Cell). CellsFit b cells) (sym none) (subst (λ (us : List (Use LabelUse)). classes.HasRoom label_kinds (end_of b) us 0) (sym (append-nil b.uses)) here)
+          | inr some ↦ over inst kept is some
+        ]
 
   -- the label that the next item binds is not bound yet
   pub next_unbound : second_binding items ≡ None → IsUnbound b (get_or items i d)

@@ -36,7 +36,7 @@ pub emit_item-requires-clause-fits : goal.emit_item-requires-clause-fits
 emit_item-requires-clause-fits c =
     subst (λ (item : Item). ItemFits c.loop-item.state.frame c.args.info.now c.loop-item.buffer item) (sym c.item-item.is)
     (subst (λ frame. ItemFits frame c.args.info.now c.loop-item.buffer (get_or c.args.items.now c.loop-item.item-index c.item-item.result)) (sym c.loop-item.invariant.frame)
-    (next_fits c.args.state.now.frame c.args.info.now c.args.items.now c.loop-item.item-index c.item-item.result c.loop-item-test.true c.loop-item.places.items c.loop-item.buffer c.loop-item.invariant.emitted c.requires.short))
+    (next_fits c.args.state.now.frame c.args.info.now c.args.items.now c.loop-item.item-index c.item-item.result c.loop-item-test.true c.loop-item.places.items c.loop-item.buffer c.loop-item.invariant.emitted c.requires.short c.cur_offset.ensures.whole.fits))
 
 pub emit_item-requires-clause-unbound : goal.emit_item-requires-clause-unbound
 emit_item-requires-clause-unbound c =
