@@ -33,15 +33,31 @@ fn writes_a_jump_and_a_veneer(rt: HostRuntime) -> Result<(), AllocError> {
 }
 
 #[test]
-fn leads_forward(rt: HostRuntime) -> Result<(), AllocError> {
+fn leads_forward_and_backward(rt: HostRuntime) -> Result<(), AllocError> {
     let constants = Constants::new(rt.alloc());
     let mut buffer: MachBuffer<'_, TestUse> = MachBuffer::new(rt.alloc(), &constants);
+    buffer.bind_label(MachLabel(3))?;
+    buffer.put4(0x3600_0000)?;
     buffer.put4(0x3600_0001)?;
+    buffer.use_label_at_offset(4, MachLabel(3), TestUse::Near)?;
+    buffer.bind_label(MachLabel(9))?;
     buffer.use_label_at_offset(0, MachLabel(5), TestUse::Near)?;
+    assert!(rt; !buffer.island_needed(4));
+    buffer.put4(0x0000_0010)?;
+    buffer.use_label_at_offset(8, MachLabel(4), TestUse::Add32)?;
+    assert_eq!(rt; buffer.cur_offset(), 12);
+    assert_eq!(rt; buffer.first_unbound(), Some(MachLabel(4)));
     buffer.bind_label(MachLabel(5))?;
+    buffer.bind_label(MachLabel(4))?;
+    assert_eq!(rt; buffer.first_unbound(), None);
     let code = buffer.finish()?;
-    assert_eq!(rt; code.bytes.as_slice(), [0x21, 0x00, 0x00, 0x36].as_slice());
-    assert_eq!(rt; code.pool, 4);
+    let bytes = [
+        0x60, 0x00, 0x00, 0x36, // tbz w0, #0, 12
+        0xe1, 0xff, 0x07, 0x36, // tbz w1, #0, 0
+        0x14, 0x00, 0x00, 0x00, // 16, and 4 from here to the end
+    ];
+    assert_eq!(rt; code.bytes.as_slice(), bytes.as_slice());
+    assert_eq!(rt; code.pool, 12);
     Ok(())
 }
 
