@@ -34,7 +34,8 @@ operands_good frame flags constants virtuals inst e =
     let first = first_passed (has_operands frame flags virtuals inst && is_within_constant size inst) own.BadOperand ((has_mode inst, own.BadMode) ∷ (has_scratch frame inst, own.ScratchConflict) ∷ (has_constant size inst, own.UnknownConstant) ∷ []) e in
     (and_parts (has_operands frame flags virtuals inst) (is_within_constant size inst) first).0
 
-second : (a b : Bool) → (a && b) ≡ true → b ≡ true
+-- the second test passes too
+pub second : (a b : Bool) → (a && b) ≡ true → b ≡ true
 second true b e = e
 second false b e = absurd cc
 
@@ -43,7 +44,8 @@ pub shift_in : (size : OperandSize) (imm : MoveWideConst) → is_wide_in size im
 shift_in Size32 imm e = let le : imm.shift ≤ 1 = leb-true imm.shift 1 e in omega arith
 shift_in Size64 imm e = leb-true imm.shift 3 e
 
-within_26 : (offset : ℤ) → is_offset26 offset ≡ true → IsWithinField 26 (words_of offset)
+-- an offset that a branch of 26 bits can hold fits its field, in words
+pub within_26 : (offset : ℤ) → is_offset26 offset ≡ true → IsWithinField 26 (words_of offset)
 within_26 (pos n) e =
     let small : n < 2 ^ 27 = ltb-true n (2 ^ 27) (second (nat_eq (n % 4) 0) (nat_lt n (2 ^ 27)) e) in
     record { low = omega (arith, ints); high = omega (arith, ints) }

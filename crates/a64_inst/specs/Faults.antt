@@ -12,6 +12,8 @@ use Rattle.a64_inst.specs.declared.fault.OwnFault.TheVariants as own
 use Rattle.a64_inst.specs.Operands.{is_register_or_zero}
 use Rattle.a64_inst.specs.IntegerOperands as integer
 use Rattle.a64_inst.specs.ControlOperands as control
+use Rattle.a64_inst.specs.MemoryOperands as memory
+use Rattle.a64_inst.specs.Accesses.{access_of}
 
 -- the number of the constant that an instruction loads, where it loads one; none that exists does
 abbrev pub named_constant : Inst → Option ℕ
@@ -29,50 +31,68 @@ first_of ((false, fault) ∷ tests) = Some fault
 
 -- an instruction's operands are judged by the frame, the settings, and whether registers may be virtual
 module _ (frame : FrameLayout) (flags : EmitFlags) (virtuals : VirtualRegisters) where
+  -- the operands of an instruction that is no load or store of one register
+  abbrev pub has_other_operands : Inst → Bool
+  has_other_operands insts.Nop0 = true
+  has_other_operands insts.Nop4 = true
+  has_other_operands (insts.AluRRR alu_op size rd rn rm) = integer.are_alu_rrr_operands virtuals alu_op size rd rn rm
+  has_other_operands (insts.AluRRRR alu_op size rd rn rm ra) = integer.are_alu_rrrr_operands virtuals alu_op size rd rn rm ra
+  has_other_operands (insts.AluRRImm12 alu_op size rd rn imm12) = integer.are_alu_rr_imm12_operands virtuals alu_op rd rn imm12
+  has_other_operands (insts.AluRRImmLogic alu_op size rd rn imml) = integer.are_alu_rr_imm_logic_operands virtuals alu_op size rd rn imml
+  has_other_operands (insts.AluRRImmShift alu_op size rd rn immshift) = integer.are_alu_rr_imm_shift_operands virtuals alu_op size rd rn immshift
+  has_other_operands (insts.AluRRRShift alu_op size rd rn rm shiftop) = integer.are_alu_rrr_shift_operands virtuals alu_op size rd rn rm shiftop
+  has_other_operands (insts.AluRRRExtend alu_op size rd rn rm extendop) = integer.are_alu_rrr_extend_operands virtuals alu_op rd rn rm
+  has_other_operands (insts.BitRR op size rd rn) = integer.are_bit_rr_operands virtuals op size rd rn
+  has_other_operands (insts.Mov size rd rm) = integer.are_mov_operands virtuals size rd rm
+  has_other_operands (insts.MovFromPReg rd rm) = integer.are_mov_from_preg_operands virtuals rd rm
+  has_other_operands (insts.MovToPReg rd rm) = integer.are_mov_to_preg_operands virtuals rd rm
+  has_other_operands (insts.MovWide op rd imm size) = integer.are_mov_wide_operands virtuals rd imm size
+  has_other_operands (insts.MovK rd rn imm size) = integer.are_mov_k_operands virtuals rd rn imm size
+  has_other_operands (insts.CSel rd rn rm cond) = integer.are_select_operands virtuals rd rn rm
+  has_other_operands (insts.CSNeg rd rn rm cond) = integer.are_select_operands virtuals rd rn rm
+  has_other_operands (insts.CSet rd cond) = is_register_or_zero virtuals rd
+  has_other_operands (insts.CSetm rd cond) = is_register_or_zero virtuals rd
+  has_other_operands (insts.CCmp size rn rm nzcv cond) = integer.are_ccmp_operands virtuals rn rm
+  has_other_operands (insts.CCmpImm size rn imm nzcv cond) = is_register_or_zero virtuals rn
+  has_other_operands (insts.Extend rd rn signed from_bits to_bits) = integer.are_extend_operands virtuals rd rn signed from_bits to_bits
+  has_other_operands (insts.BitfieldMove size bfm_op rd rn immr imms) = integer.are_bitfield_move_operands virtuals size rd rn immr imms
+  has_other_operands (insts.BitfieldMoveMod size rd ri rn immr imms) = integer.are_bitfield_move_mod_operands virtuals size rd ri rn immr imms
+  has_other_operands (insts.MovToNZCV rn) = is_register_or_zero virtuals rn
+  has_other_operands (insts.MovFromNZCV rd) = is_register_or_zero virtuals rd
+  has_other_operands (insts.Adr rd off) = integer.are_adr_operands virtuals rd off
+  has_other_operands (insts.Adrp rd off) = integer.are_adr_operands virtuals rd off
+  has_other_operands insts.Ret = true
+  has_other_operands (insts.Jump dest) = control.are_jump_operands dest
+  has_other_operands (insts.LoadP64 rt rt2 mem flags) = memory.are_pair_operands virtuals rt rt2 mem
+  has_other_operands (insts.StoreP64 rt rt2 mem flags) = memory.are_pair_operands virtuals rt rt2 mem
+  has_other_operands (insts.LoadAddr rd mem) = memory.are_address_operands frame virtuals rd mem
+  has_other_operands _ = false
+
   -- its operands are in their sets
   abbrev pub has_operands : Inst → Bool
-  has_operands insts.Nop0 = true
-  has_operands insts.Nop4 = true
-  has_operands (insts.AluRRR alu_op size rd rn rm) = integer.are_alu_rrr_operands virtuals alu_op size rd rn rm
-  has_operands (insts.AluRRRR alu_op size rd rn rm ra) = integer.are_alu_rrrr_operands virtuals alu_op size rd rn rm ra
-  has_operands (insts.AluRRImm12 alu_op size rd rn imm12) = integer.are_alu_rr_imm12_operands virtuals alu_op rd rn imm12
-  has_operands (insts.AluRRImmLogic alu_op size rd rn imml) = integer.are_alu_rr_imm_logic_operands virtuals alu_op size rd rn imml
-  has_operands (insts.AluRRImmShift alu_op size rd rn immshift) = integer.are_alu_rr_imm_shift_operands virtuals alu_op size rd rn immshift
-  has_operands (insts.AluRRRShift alu_op size rd rn rm shiftop) = integer.are_alu_rrr_shift_operands virtuals alu_op size rd rn rm shiftop
-  has_operands (insts.AluRRRExtend alu_op size rd rn rm extendop) = integer.are_alu_rrr_extend_operands virtuals alu_op rd rn rm
-  has_operands (insts.BitRR op size rd rn) = integer.are_bit_rr_operands virtuals op size rd rn
-  has_operands (insts.Mov size rd rm) = integer.are_mov_operands virtuals size rd rm
-  has_operands (insts.MovFromPReg rd rm) = integer.are_mov_from_preg_operands virtuals rd rm
-  has_operands (insts.MovToPReg rd rm) = integer.are_mov_to_preg_operands virtuals rd rm
-  has_operands (insts.MovWide op rd imm size) = integer.are_mov_wide_operands virtuals rd imm size
-  has_operands (insts.MovK rd rn imm size) = integer.are_mov_k_operands virtuals rd rn imm size
-  has_operands (insts.CSel rd rn rm cond) = integer.are_select_operands virtuals rd rn rm
-  has_operands (insts.CSNeg rd rn rm cond) = integer.are_select_operands virtuals rd rn rm
-  has_operands (insts.CSet rd cond) = is_register_or_zero virtuals rd
-  has_operands (insts.CSetm rd cond) = is_register_or_zero virtuals rd
-  has_operands (insts.CCmp size rn rm nzcv cond) = integer.are_ccmp_operands virtuals rn rm
-  has_operands (insts.CCmpImm size rn imm nzcv cond) = is_register_or_zero virtuals rn
-  has_operands (insts.Extend rd rn signed from_bits to_bits) = integer.are_extend_operands virtuals rd rn signed from_bits to_bits
-  has_operands (insts.BitfieldMove size bfm_op rd rn immr imms) = integer.are_bitfield_move_operands virtuals size rd rn immr imms
-  has_operands (insts.BitfieldMoveMod size rd ri rn immr imms) = integer.are_bitfield_move_mod_operands virtuals size rd ri rn immr imms
-  has_operands (insts.MovToNZCV rn) = is_register_or_zero virtuals rn
-  has_operands (insts.MovFromNZCV rd) = is_register_or_zero virtuals rd
-  has_operands (insts.Adr rd off) = integer.are_adr_operands virtuals rd off
-  has_operands (insts.Adrp rd off) = integer.are_adr_operands virtuals rd off
-  has_operands insts.Ret = true
-  has_operands (insts.Jump dest) = control.are_jump_operands dest
+  has_operands inst = elim (access_of inst) [ None ↦ has_other_operands inst | Some access ↦ memory.are_access_operands frame virtuals access ]
 
 -- it loads no more than its constant, which has this size; none that exists loads one
 abbrev pub is_within_constant : Option ℕ → Inst → Bool
 is_within_constant size _ = true
 
--- its addressing mode exists; none that exists has one
-abbrev pub has_mode : Inst → Bool
-has_mode _ = true
+-- the addressing mode of an instruction that is no load or store of one register exists, where it has one
+abbrev pub has_other_mode : Inst → Bool
+has_other_mode (insts.LoadAddr rd mem) = memory.has_address_mode mem
+has_other_mode _ = true
 
--- the scratch registers that its words need are none of its own; none that exists needs one
+-- its addressing mode exists
+abbrev pub has_mode : Inst → Bool
+has_mode inst = elim (access_of inst) [ None ↦ has_other_mode inst | Some access ↦ memory.has_access_mode access.op access.mem ]
+
+-- the scratch registers that the words of such an instruction need are none of its own
+abbrev pub has_other_scratch : FrameLayout → Inst → Bool
+has_other_scratch frame (insts.LoadAddr rd mem) = memory.has_address_scratch frame rd mem
+has_other_scratch frame _ = true
+
+-- the scratch registers that its words need are none of its own
 abbrev pub has_scratch : FrameLayout → Inst → Bool
-has_scratch frame _ = true
+has_scratch frame inst = elim (access_of inst) [ None ↦ has_other_scratch frame inst | Some access ↦ memory.has_access_scratch frame access ]
 
 -- the constant that it loads, where it loads one, is there and has a size
 abbrev pub has_constant : Option ℕ → Inst → Bool

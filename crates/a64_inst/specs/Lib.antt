@@ -8,3 +8,5 @@ pub mod Faults
 pub mod Modes
 pub mod Addresses
 pub mod Accesses
+pub mod FinalModes
+pub mod MemoryOperands

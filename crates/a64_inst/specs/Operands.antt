@@ -1,5 +1,5 @@
 -- Which operands an instruction may have (Arm Architecture Reference Manual, C6 and C7).
-use Rattle.std.specs.Prelude.{ℕ, ℤ, pos, negsuc, ◌+◌, ◌%◌, ◌^◌, Bool, true, false, ◌&&◌, ◌||◌, nat_lt, nat_le, nat_eq}
+use Rattle.std.specs.Prelude.{ℕ, ℤ, pos, negsuc, ◌+◌, ◌%◌, ◌^◌, Bool, true, false, not, ◌&&◌, ◌||◌, nat_lt, nat_le, nat_eq}
 use Rattle.a64_base.specs.declared.reg.Reg.{Reg}
 use Rattle.a64_base.specs.declared.reg.Reg.TheVariants.{Real, Virtual}
 use Rattle.a64_base.specs.declared.reg.RegClass.{RegClass}
@@ -38,6 +38,11 @@ is_register_or_stack virtuals (Virtual index class) = are_allowed virtuals && is
 abbrev pub is_register : VirtualRegisters → Reg → Bool
 is_register virtuals (Real p) = is_int p.class && nat_lt p.number 31
 is_register virtuals (Virtual index class) = are_allowed virtuals && is_int class
+
+-- v0 to v31
+abbrev pub is_vector_register : VirtualRegisters → Reg → Bool
+is_vector_register virtuals (Real p) = not (is_int p.class) && nat_lt p.number 32
+is_vector_register virtuals (Virtual index class) = are_allowed virtuals && not (is_int class)
 
 -- the stack pointer
 abbrev pub is_stack_pointer : VirtualRegisters → Reg → Bool
@@ -82,6 +87,11 @@ is_logic_of size imm = is_same_size imm.size size && is_imm_logic imm
 abbrev pub is_offset26 : ℤ → Bool
 is_offset26 (pos n) = nat_eq (n % 4) 0 && nat_lt n (2 ^ 27)
 is_offset26 (negsuc n) = nat_eq (n % 4) 3 && nat_lt n (2 ^ 27)
+
+-- an offset that a branch or a load of 19 bits can hold: a multiple of 4, from -2^20 to 2^20 - 4
+abbrev pub is_offset19 : ℤ → Bool
+is_offset19 (pos n) = nat_eq (n % 4) 0 && nat_lt n (2 ^ 20)
+is_offset19 (negsuc n) = nat_eq (n % 4) 3 && nat_lt n (2 ^ 20)
 
 -- an offset to an address near the code, in its unit: above -2^20, and below 2^20
 abbrev pub is_near : ℤ → Bool

@@ -1,12 +1,225 @@
-//! Loads and stores of the types of values.
+//! Loads and stores of one register, and of the types of values.
 
-ghost use Rattle.std.specs.Prelude.{◌≡◌};
+ghost use Rattle.std.specs.Prelude.{◌≡◌, true, Some, option_map};
+ghost use Rattle.a64_inst.specs.Accesses.{type_has_load_form, inst_with, load_op, store_op};
 
 use crate::inst::Inst;
-use a64_base::IrType;
+use crate::mode::AMode;
+use a64_base::{IrType, MemFlagsData, Reg, Writable};
+use a64_ops::AccessOp;
+
+/// A load or a store of one register, as data.
+#[derive(Clone, Copy, Debug)]
+pub struct Access {
+    /// What it does.
+    pub op: AccessOp,
+    /// What is loaded or stored: x0 to x30 or the zero register, or a vector register, by `op`.
+    pub reg: Reg,
+    /// The address.
+    pub mem: AMode,
+    /// What is known of the access.
+    pub flags: MemFlagsData,
+}
+
+impl Access {
+    ghost use Rattle.a64_inst.specs.Accesses.{access_type};
+
+    /// The type of the value that is moved, from `I8` to `I64`, from `F16` to `F64`, or `I8X16`.
+    pub fn ty(&self) -> IrType
+        ensures { result ≡ access_type self.now.op }
+    {
+        match self.op {
+            AccessOp::ULoad8 | AccessOp::SLoad8 | AccessOp::Store8 => IrType::I8,
+            AccessOp::ULoad16 | AccessOp::SLoad16 | AccessOp::Store16 => IrType::I16,
+            AccessOp::ULoad32 | AccessOp::SLoad32 | AccessOp::Store32 => IrType::I32,
+            AccessOp::ULoad64 | AccessOp::Store64 => IrType::I64,
+            AccessOp::FpuLoad16 | AccessOp::FpuStore16 => IrType::F16,
+            AccessOp::FpuLoad32 | AccessOp::FpuStore32 => IrType::F32,
+            AccessOp::FpuLoad64 | AccessOp::FpuStore64 => IrType::F64,
+            AccessOp::FpuLoad128 | AccessOp::FpuStore128 => IrType::I8X16,
+        }
+    }
+}
+
+/// The load of a type's values.
+fn load_of(ty: IrType) -> AccessOp
+    requires { type_has_load_form ty ≡ true }
+    ensures { result ≡ load_op ty }
+{
+    match ty {
+        IrType::I8 => AccessOp::ULoad8,
+        IrType::I16 => AccessOp::ULoad16,
+        IrType::I32 => AccessOp::ULoad32,
+        IrType::I64 => AccessOp::ULoad64,
+        _ => match ty.bits() {
+            16 => AccessOp::FpuLoad16,
+            32 => AccessOp::FpuLoad32,
+            64 => AccessOp::FpuLoad64,
+            _ => AccessOp::FpuLoad128,
+        },
+    }
+}
+
+/// The store of a type's values.
+fn store_of(ty: IrType) -> AccessOp
+    requires { type_has_load_form ty ≡ true }
+    ensures { result ≡ store_op ty }
+{
+    match ty {
+        IrType::I8 => AccessOp::Store8,
+        IrType::I16 => AccessOp::Store16,
+        IrType::I32 => AccessOp::Store32,
+        IrType::I64 => AccessOp::Store64,
+        _ => match ty.bits() {
+            16 => AccessOp::FpuStore16,
+            32 => AccessOp::FpuStore32,
+            64 => AccessOp::FpuStore64,
+            _ => AccessOp::FpuStore128,
+        },
+    }
+}
 
 impl Inst {
-    ghost use Rattle.a64_inst.specs.Accesses.{type_has_load_form};
+    ghost use Rattle.a64_inst.specs.Accesses.{access_of, inst_of, access_type};
+
+    /// The load or store of one register that the instruction is, where it is one.
+    pub fn access(&self) -> Option<Access>
+        ensures { result ≡ access_of self.now }
+    {
+        let (op, reg, mem, flags) = match self {
+            Inst::ULoad8 { rd, mem, flags } => (AccessOp::ULoad8, rd.to_reg(), mem, flags),
+            Inst::SLoad8 { rd, mem, flags } => (AccessOp::SLoad8, rd.to_reg(), mem, flags),
+            Inst::ULoad16 { rd, mem, flags } => (AccessOp::ULoad16, rd.to_reg(), mem, flags),
+            Inst::SLoad16 { rd, mem, flags } => (AccessOp::SLoad16, rd.to_reg(), mem, flags),
+            Inst::ULoad32 { rd, mem, flags } => (AccessOp::ULoad32, rd.to_reg(), mem, flags),
+            Inst::SLoad32 { rd, mem, flags } => (AccessOp::SLoad32, rd.to_reg(), mem, flags),
+            Inst::ULoad64 { rd, mem, flags } => (AccessOp::ULoad64, rd.to_reg(), mem, flags),
+            Inst::FpuLoad16 { rd, mem, flags } => (AccessOp::FpuLoad16, rd.to_reg(), mem, flags),
+            Inst::FpuLoad32 { rd, mem, flags } => (AccessOp::FpuLoad32, rd.to_reg(), mem, flags),
+            Inst::FpuLoad64 { rd, mem, flags } => (AccessOp::FpuLoad64, rd.to_reg(), mem, flags),
+            Inst::FpuLoad128 { rd, mem, flags } => (AccessOp::FpuLoad128, rd.to_reg(), mem, flags),
+            Inst::Store8 { rd, mem, flags } => (AccessOp::Store8, *rd, mem, flags),
+            Inst::Store16 { rd, mem, flags } => (AccessOp::Store16, *rd, mem, flags),
+            Inst::Store32 { rd, mem, flags } => (AccessOp::Store32, *rd, mem, flags),
+            Inst::Store64 { rd, mem, flags } => (AccessOp::Store64, *rd, mem, flags),
+            Inst::FpuStore16 { rd, mem, flags } => (AccessOp::FpuStore16, *rd, mem, flags),
+            Inst::FpuStore32 { rd, mem, flags } => (AccessOp::FpuStore32, *rd, mem, flags),
+            Inst::FpuStore64 { rd, mem, flags } => (AccessOp::FpuStore64, *rd, mem, flags),
+            Inst::FpuStore128 { rd, mem, flags } => (AccessOp::FpuStore128, *rd, mem, flags),
+            _ => return None,
+        };
+        Some(Access {
+            op,
+            reg,
+            mem: *mem,
+            flags: *flags,
+        })
+    }
+
+    /// The instruction of a load or a store of one register.
+    pub fn from_access(access: Access) -> Inst
+        ensures inst { result ≡ inst_of access }
+        ensures access { access_of result ≡ Some access }
+    {
+        let (reg, mem, flags) = (access.reg, access.mem, access.flags);
+        match access.op {
+            AccessOp::ULoad8 => Inst::ULoad8 {
+                rd: Writable::from_reg(reg),
+                mem,
+                flags,
+            },
+            AccessOp::SLoad8 => Inst::SLoad8 {
+                rd: Writable::from_reg(reg),
+                mem,
+                flags,
+            },
+            AccessOp::ULoad16 => Inst::ULoad16 {
+                rd: Writable::from_reg(reg),
+                mem,
+                flags,
+            },
+            AccessOp::SLoad16 => Inst::SLoad16 {
+                rd: Writable::from_reg(reg),
+                mem,
+                flags,
+            },
+            AccessOp::ULoad32 => Inst::ULoad32 {
+                rd: Writable::from_reg(reg),
+                mem,
+                flags,
+            },
+            AccessOp::SLoad32 => Inst::SLoad32 {
+                rd: Writable::from_reg(reg),
+                mem,
+                flags,
+            },
+            AccessOp::ULoad64 => Inst::ULoad64 {
+                rd: Writable::from_reg(reg),
+                mem,
+                flags,
+            },
+            AccessOp::FpuLoad16 => Inst::FpuLoad16 {
+                rd: Writable::from_reg(reg),
+                mem,
+                flags,
+            },
+            AccessOp::FpuLoad32 => Inst::FpuLoad32 {
+                rd: Writable::from_reg(reg),
+                mem,
+                flags,
+            },
+            AccessOp::FpuLoad64 => Inst::FpuLoad64 {
+                rd: Writable::from_reg(reg),
+                mem,
+                flags,
+            },
+            AccessOp::FpuLoad128 => Inst::FpuLoad128 {
+                rd: Writable::from_reg(reg),
+                mem,
+                flags,
+            },
+            AccessOp::Store8 => Inst::Store8 {
+                rd: reg,
+                mem,
+                flags,
+            },
+            AccessOp::Store16 => Inst::Store16 {
+                rd: reg,
+                mem,
+                flags,
+            },
+            AccessOp::Store32 => Inst::Store32 {
+                rd: reg,
+                mem,
+                flags,
+            },
+            AccessOp::Store64 => Inst::Store64 {
+                rd: reg,
+                mem,
+                flags,
+            },
+            AccessOp::FpuStore16 => Inst::FpuStore16 {
+                rd: reg,
+                mem,
+                flags,
+            },
+            AccessOp::FpuStore32 => Inst::FpuStore32 {
+                rd: reg,
+                mem,
+                flags,
+            },
+            AccessOp::FpuStore64 => Inst::FpuStore64 {
+                rd: reg,
+                mem,
+                flags,
+            },
+            AccessOp::FpuStore128 => Inst::FpuStore128 {
+                rd: reg,
+                mem,
+                flags,
+            },
+        }
+    }
 
     /// Whether there are a load and a store of one value of this type: an integer of 8 to 64 bits,
     /// or a float or vector of 16 to 128 bits.
@@ -14,6 +227,44 @@ impl Inst {
         ensures { result ≡ type_has_load_form ty }
     {
         !matches!(ty, IrType::I128 | IrType::I8X32)
+    }
+
+    /// The type of the value that is moved, where the instruction is a load or a store of one
+    /// register (Cranelift's `mem_type`).
+    pub fn mem_type(&self) -> Option<IrType>
+        ensures { result ≡ option_map (λ access. access_type access.op) (access_of self.now) }
+    {
+        match self.access() {
+            Some(access) => Some(access.ty()),
+            None => None,
+        }
+    }
+
+    /// The load of a value of this type, which has a load form ([`Inst::has_load_form`]): with zeros
+    /// above an integer, and into a vector register of a float or a vector.
+    pub fn gen_load(into_reg: Writable<Reg>, mem: AMode, ty: IrType, flags: MemFlagsData) -> Inst
+        requires { type_has_load_form ty ≡ true }
+        ensures { result ≡ inst_with (load_op ty) into_reg mem flags }
+    {
+        Inst::from_access(Access {
+            op: load_of(ty),
+            reg: into_reg.to_reg(),
+            mem,
+            flags,
+        })
+    }
+
+    /// The store of a value of this type, which has a load form ([`Inst::has_load_form`]).
+    pub fn gen_store(mem: AMode, from_reg: Reg, ty: IrType, flags: MemFlagsData) -> Inst
+        requires { type_has_load_form ty ≡ true }
+        ensures { result ≡ inst_with (store_op ty) from_reg mem flags }
+    {
+        Inst::from_access(Access {
+            op: store_of(ty),
+            reg: from_reg,
+            mem,
+            flags,
+        })
     }
 }
 

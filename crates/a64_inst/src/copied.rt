@@ -1,7 +1,7 @@
 //! Copies of instructions.
 
 ghost use Rattle.std.specs.Prelude.{◌≡◌, IfOk};
-ghost use Rattle.a64_inst.specs.declared.group.Group.TheVariants.{Integer, Control};
+ghost use Rattle.a64_inst.specs.declared.group.Group.TheVariants as groups;
 ghost use Rattle.a64_inst.specs.Groups.{group_of};
 
 use crate::group::Group;
@@ -18,51 +18,75 @@ macro_rules! copied {
     };
 }
 
-/// An equal integer instruction.
-fn copied_integer(inst: &Inst) -> Result<Inst, AllocError>
-    requires { group_of inst.now ≡ Integer }
+/// An equal integer operation with an immediate.
+fn copied_immediate(inst: &Inst) -> Result<Inst, AllocError>
+    requires { group_of inst.now ≡ groups.Immediate }
     ensures { IfOk result (λ copy. copy ≡ inst.now) }
 {
     copied!(inst;
-        Nop0 {},
-        Nop4 {},
-        AluRRR { alu_op, size, rd, rn, rm },
-        AluRRRR { alu_op, size, rd, rn, rm, ra },
         AluRRImm12 { alu_op, size, rd, rn, imm12 },
         AluRRImmLogic { alu_op, size, rd, rn, imml },
         AluRRImmShift { alu_op, size, rd, rn, immshift },
+        MovWide { op, rd, imm, size },
+        MovK { rd, rn, imm, size },
+        Extend { rd, rn, signed, from_bits, to_bits },
+        BitfieldMove { size, bfm_op, rd, rn, immr, imms },
+        BitfieldMoveMod { size, rd, ri, rn, immr, imms },
+        Adr { rd, off },
+        Adrp { rd, off }
+    )
+}
+
+/// An equal integer operation on registers.
+fn copied_register(inst: &Inst) -> Result<Inst, AllocError>
+    requires { group_of inst.now ≡ groups.Register }
+    ensures { IfOk result (λ copy. copy ≡ inst.now) }
+{
+    copied!(inst;
+        AluRRR { alu_op, size, rd, rn, rm },
+        AluRRRR { alu_op, size, rd, rn, rm, ra },
         AluRRRShift { alu_op, size, rd, rn, rm, shiftop },
         AluRRRExtend { alu_op, size, rd, rn, rm, extendop },
         BitRR { op, size, rd, rn },
         Mov { size, rd, rm },
         MovFromPReg { rd, rm },
         MovToPReg { rd, rm },
-        MovWide { op, rd, imm, size },
-        MovK { rd, rn, imm, size },
         CSel { rd, rn, rm, cond },
         CSNeg { rd, rn, rm, cond },
         CSet { rd, cond },
         CSetm { rd, cond },
         CCmp { size, rn, rm, nzcv, cond },
-        CCmpImm { size, rn, imm, nzcv, cond },
-        Extend { rd, rn, signed, from_bits, to_bits },
-        BitfieldMove { size, bfm_op, rd, rn, immr, imms },
-        BitfieldMoveMod { size, rd, ri, rn, immr, imms },
-        MovToNZCV { rn },
-        MovFromNZCV { rd },
-        Adr { rd, off },
-        Adrp { rd, off }
+        CCmpImm { size, rn, imm, nzcv, cond }
     )
 }
 
-/// An equal branch.
+/// An equal branch, hint or access to a system register.
 fn copied_control(inst: &Inst) -> Result<Inst, AllocError>
-    requires { group_of inst.now ≡ Control }
+    requires { group_of inst.now ≡ groups.Control }
     ensures { IfOk result (λ copy. copy ≡ inst.now) }
 {
     copied!(inst;
+        Nop0 {},
+        Nop4 {},
+        MovToNZCV { rn },
+        MovFromNZCV { rd },
         Ret {},
         Jump { dest }
+    )
+}
+
+/// An equal load or store.
+fn copied_memory(inst: &Inst) -> Result<Inst, AllocError>
+    requires { group_of inst.now ≡ groups.Memory }
+    ensures { IfOk result (λ copy. copy ≡ inst.now) }
+{
+    if let Some(access) = inst.access() {
+        return Ok(Inst::from_access(access));
+    }
+    copied!(inst;
+        LoadP64 { rt, rt2, mem, flags },
+        StoreP64 { rt, rt2, mem, flags },
+        LoadAddr { rd, mem }
     )
 }
 
@@ -76,8 +100,10 @@ impl Inst {
         ensures { IfOk result (λ inst. inst ≡ self.now) }
     {
         match self.group() {
-            Group::Integer => copied_integer(self),
+            Group::Immediate => copied_immediate(self),
+            Group::Register => copied_register(self),
             Group::Control => copied_control(self),
+            Group::Memory => copied_memory(self),
         }
     }
 }

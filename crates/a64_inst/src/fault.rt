@@ -2,6 +2,7 @@
 
 pub mod control;
 pub mod integer;
+pub mod memory;
 
 /// What is wrong with an instruction by itself: the first of these that applies.
 #[derive(Clone, Copy, Debug, PartialEq, Eq)]

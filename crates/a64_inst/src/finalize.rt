@@ -10,13 +10,15 @@ ghost use Rattle.a64_base.specs.declared.shift.ExtendOp.TheVariants.{SXTX};
 ghost use Rattle.a64_inst.specs.declared.mode.AMode.TheVariants.{RegExtended};
 ghost use Rattle.a64_inst.specs.Constants.{step_into, HaveNoFault};
 ghost use Rattle.a64_inst.specs.Modes.{base_offset_of, frame_size, is_far, steps_to, FrameFits, IsAccessSize, StandsFor};
+ghost use Rattle.a64_inst.specs.FinalModes.{parts_of, placed_mode, final_mode, final_steps};
 ghost use Rattle.a64_inst.specs.Addresses.{Reaches};
 
 use crate::emission::EmitState;
 use crate::frame::FrameLayout;
 use crate::inst::Inst;
 use crate::mode::AMode;
-use a64_base::{ExtendOp, IrType, Reg, fp_reg, spilltmp_reg, stack_reg, writable_spilltmp_reg};
+use crate::place::place_of;
+use a64_base::{ExtendOp, IrType, Reg, spilltmp_reg, writable_spilltmp_reg};
 use a64_imms::{SImm9, UImm12Scaled};
 use smallvec::SmallVec;
 use std::alloc::{AllocError, Global};
@@ -28,34 +30,19 @@ struct BaseOffset {
     offset: i64,
 }
 
-/// All areas of a frame together, in bytes.
-fn frame_bytes(frame: &FrameLayout) -> u32
-    requires { frame_size frame.now < 2 ^ 32 }
-    ensures { result ≡ frame_size frame.now }
-{
-    frame.setup_area_size
-        + frame.tail_args_size
-        + frame.clobber_size
-        + frame.fixed_frame_storage_size
-        + frame.outgoing_args_size
-}
-
 /// The base and the offset of a mode that no instruction holds.
 fn base_offset(mem: &AMode, frame: &FrameLayout) -> Option<BaseOffset>
-    requires frame { FrameFits frame.now mem.now }
-    requires offset { IfSome (base_offset_of frame.now mem.now) (λ place. FitsSigned w64 place.offset) }
+    requires { IfSome (base_offset_of frame.now mem.now) (λ place. FitsSigned w64 place.offset) }
     ensures { MatchOption result (base_offset_of frame.now mem.now ≡ None)
         (λ place. base_offset_of frame.now mem.now ≡ Some (record { base = place.base; offset = place.offset })) }
 {
-    let (base, offset) = match *mem {
-        AMode::RegOffset { rn, off } => (rn, off),
-        AMode::SPOffset { off } => (stack_reg(), off),
-        AMode::FPOffset { off } => (fp_reg(), off),
-        AMode::IncomingArg { off } => (stack_reg(), i64::from(frame_bytes(frame)) - off),
-        AMode::SlotOffset { off } => (stack_reg(), off + i64::from(frame.outgoing_args_size)),
-        _ => return None,
-    };
-    Some(BaseOffset { base, offset })
+    match place_of(frame, mem) {
+        Some(place) => Some(BaseOffset {
+            base: place.base,
+            offset: place.offset as i64,
+        }),
+        None => None,
+    }
 }
 
 /// A signed number modulo 2^64.
@@ -71,7 +58,7 @@ fn wrapped(offset: i64) -> u64
 
 /// What stands for a base and an offset that no instruction holds: the offset's instructions, and
 /// the mode with x16 as an index.
-#[tactic(auto, using(crate::proofs::Addresses::reaches))]
+#[tactic(auto, using(crate::proofs::Addresses::reaches, crate::proofs::FinalModes::stands_parts))]
 fn finalized_far(
     alloc: Global,
     base: Reg,
@@ -84,6 +71,7 @@ fn finalized_far(
     ensures faultless { IfOk result (λ final. HaveNoFault final.0.items) }
     ensures mode { IfOk result (λ final. StandsFor access_ty (record { base = base; offset = offset }) final.1) }
     ensures address { IfOk result (λ final. Reaches access_ty (record { base = base; offset = offset }) (steps_to access_ty offset) final.1) }
+    ensures parts { IfOk result (λ final. parts_of final.1 ≡ placed_mode access_ty (record { base = base; offset = offset })) }
 {
     let insts = Inst::load_constant(alloc, writable_spilltmp_reg(), wrapped(offset))?;
     Ok((
@@ -97,7 +85,7 @@ fn finalized_far(
 }
 
 /// What stands for a base and an offset.
-#[tactic(auto, using(crate::proofs::Addresses::reaches))]
+#[tactic(auto, using(crate::proofs::Addresses::reaches, crate::proofs::FinalModes::stands_parts))]
 fn finalized(
     alloc: Global,
     base: Reg,
@@ -110,6 +98,7 @@ fn finalized(
     ensures faultless { IfOk result (λ final. HaveNoFault final.0.items) }
     ensures mode { IfOk result (λ final. StandsFor access_ty (record { base = base; offset = offset }) final.1) }
     ensures address { IfOk result (λ final. Reaches access_ty (record { base = base; offset = offset }) (steps_to access_ty offset) final.1) }
+    ensures parts { IfOk result (λ final. parts_of final.1 ≡ placed_mode access_ty (record { base = base; offset = offset })) }
 {
     if let Some(simm9) = SImm9::maybe_from_i64(offset) {
         return Ok((SmallVec::new(alloc), AMode::Unscaled { rn: base, simm9 }));
@@ -156,6 +145,10 @@ pub fn mem_finalize(
     ensures address { IfSome (base_offset_of state.now.frame mem.now)
         (λ place. IfOk result (λ final. Reaches access_ty place (steps_to access_ty place.offset) final.1)) }
     ensures faultless { IfOk result (λ final. HaveNoFault final.0.items) }
+    // Both at once, for any mode.
+    ensures steps { IfOk result
+        (λ final. final.0.items ≡ map (step_into (integer_register 16)) (final_steps state.now.frame access_ty mem.now)) }
+    ensures parts { IfOk result (λ final. parts_of final.1 ≡ final_mode state.now.frame access_ty mem.now) }
 {
     match base_offset(mem, state.frame_layout()) {
         Some(place) => finalized(alloc, place.base, place.offset, access_ty),

@@ -6,8 +6,12 @@
 /// the instructions of that group.
 #[derive(Clone, Copy, Debug)]
 pub enum Group {
-    /// Integer operations on registers and immediates.
-    Integer,
-    /// Branches and what stands beside them.
+    /// Integer operations with immediates, moves of bitfields, and addresses near the code.
+    Immediate,
+    /// Integer operations on registers, and moves of them.
+    Register,
+    /// Branches, hints, and accesses to system registers.
     Control,
+    /// Loads and stores.
+    Memory,
 }

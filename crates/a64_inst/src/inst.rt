@@ -4,7 +4,10 @@ ghost use Rattle.std.specs.Prelude.{◌≡◌};
 ghost use Rattle.a64_inst.specs.Groups.{group_of};
 
 use crate::group::Group;
-use a64_base::{BranchTarget, Cond, ExtendOp, OperandSize, PReg, Reg, ShiftOpAndAmt, Writable};
+use crate::mode::{AMode, PairAMode};
+use a64_base::{
+    BranchTarget, Cond, ExtendOp, MemFlagsData, OperandSize, PReg, Reg, ShiftOpAndAmt, Writable,
+};
 use a64_imms::{Imm12, ImmLogic, ImmShift, MoveWideConst, NZCV, UImm5, UImm6};
 use a64_ops::{ALUOp, ALUOp3, BfmOp, BitOp, MoveWideOp};
 
@@ -304,6 +307,206 @@ pub enum Inst {
         /// Where it goes.
         dest: BranchTarget,
     },
+    /// `ldp` of two 64-bit registers.
+    LoadP64 {
+        /// What is loaded from the address.
+        rt: Writable<Reg>,
+        /// What is loaded from 8 bytes behind it.
+        rt2: Writable<Reg>,
+        /// The address.
+        mem: PairAMode,
+        /// What is known of the access.
+        flags: MemFlagsData,
+    },
+    /// `stp` of two 64-bit registers.
+    StoreP64 {
+        /// What is stored at the address.
+        rt: Reg,
+        /// What is stored 8 bytes behind it.
+        rt2: Reg,
+        /// The address.
+        mem: PairAMode,
+        /// What is known of the access.
+        flags: MemFlagsData,
+    },
+    /// The address of an addressing mode, of which nothing is loaded.
+    LoadAddr {
+        /// The result, x0 to x30.
+        rd: Writable<Reg>,
+        /// The addressing mode.
+        mem: AMode,
+    },
+    /// Load of an unsigned byte, with zeros above it.
+    ULoad8 {
+        /// The result.
+        rd: Writable<Reg>,
+        /// The address.
+        mem: AMode,
+        /// What is known of the access.
+        flags: MemFlagsData,
+    },
+    /// Load of a signed byte, extended to 64 bits.
+    SLoad8 {
+        /// The result.
+        rd: Writable<Reg>,
+        /// The address.
+        mem: AMode,
+        /// What is known of the access.
+        flags: MemFlagsData,
+    },
+    /// Load of an unsigned halfword, with zeros above it.
+    ULoad16 {
+        /// The result.
+        rd: Writable<Reg>,
+        /// The address.
+        mem: AMode,
+        /// What is known of the access.
+        flags: MemFlagsData,
+    },
+    /// Load of a signed halfword, extended to 64 bits.
+    SLoad16 {
+        /// The result.
+        rd: Writable<Reg>,
+        /// The address.
+        mem: AMode,
+        /// What is known of the access.
+        flags: MemFlagsData,
+    },
+    /// Load of an unsigned word, with zeros above it.
+    ULoad32 {
+        /// The result.
+        rd: Writable<Reg>,
+        /// The address.
+        mem: AMode,
+        /// What is known of the access.
+        flags: MemFlagsData,
+    },
+    /// Load of a signed word, extended to 64 bits.
+    SLoad32 {
+        /// The result.
+        rd: Writable<Reg>,
+        /// The address.
+        mem: AMode,
+        /// What is known of the access.
+        flags: MemFlagsData,
+    },
+    /// Load of a doubleword.
+    ULoad64 {
+        /// The result.
+        rd: Writable<Reg>,
+        /// The address.
+        mem: AMode,
+        /// What is known of the access.
+        flags: MemFlagsData,
+    },
+    /// Load of 16 bits of a vector register, with zeros above them.
+    FpuLoad16 {
+        /// The result.
+        rd: Writable<Reg>,
+        /// The address.
+        mem: AMode,
+        /// What is known of the access.
+        flags: MemFlagsData,
+    },
+    /// Load of 32 bits of a vector register, with zeros above them.
+    FpuLoad32 {
+        /// The result.
+        rd: Writable<Reg>,
+        /// The address.
+        mem: AMode,
+        /// What is known of the access.
+        flags: MemFlagsData,
+    },
+    /// Load of 64 bits of a vector register, with zeros above them.
+    FpuLoad64 {
+        /// The result.
+        rd: Writable<Reg>,
+        /// The address.
+        mem: AMode,
+        /// What is known of the access.
+        flags: MemFlagsData,
+    },
+    /// Load of a whole vector register.
+    FpuLoad128 {
+        /// The result.
+        rd: Writable<Reg>,
+        /// The address.
+        mem: AMode,
+        /// What is known of the access.
+        flags: MemFlagsData,
+    },
+    /// Store of the lowest byte of a register.
+    Store8 {
+        /// What is stored.
+        rd: Reg,
+        /// The address.
+        mem: AMode,
+        /// What is known of the access.
+        flags: MemFlagsData,
+    },
+    /// Store of the lowest halfword of a register.
+    Store16 {
+        /// What is stored.
+        rd: Reg,
+        /// The address.
+        mem: AMode,
+        /// What is known of the access.
+        flags: MemFlagsData,
+    },
+    /// Store of the lowest word of a register.
+    Store32 {
+        /// What is stored.
+        rd: Reg,
+        /// The address.
+        mem: AMode,
+        /// What is known of the access.
+        flags: MemFlagsData,
+    },
+    /// Store of a whole register.
+    Store64 {
+        /// What is stored.
+        rd: Reg,
+        /// The address.
+        mem: AMode,
+        /// What is known of the access.
+        flags: MemFlagsData,
+    },
+    /// Store of the lowest 16 bits of a vector register.
+    FpuStore16 {
+        /// What is stored.
+        rd: Reg,
+        /// The address.
+        mem: AMode,
+        /// What is known of the access.
+        flags: MemFlagsData,
+    },
+    /// Store of the lowest 32 bits of a vector register.
+    FpuStore32 {
+        /// What is stored.
+        rd: Reg,
+        /// The address.
+        mem: AMode,
+        /// What is known of the access.
+        flags: MemFlagsData,
+    },
+    /// Store of the lowest 64 bits of a vector register.
+    FpuStore64 {
+        /// What is stored.
+        rd: Reg,
+        /// The address.
+        mem: AMode,
+        /// What is known of the access.
+        flags: MemFlagsData,
+    },
+    /// Store of a whole vector register.
+    FpuStore128 {
+        /// What is stored.
+        rd: Reg,
+        /// The address.
+        mem: AMode,
+        /// What is known of the access.
+        flags: MemFlagsData,
+    },
 }
 
 /// `nop`. Vectors that keep their first elements in the value ask for it.
@@ -324,35 +527,58 @@ impl Inst {
         ensures { result ≡ group_of self.now }
     {
         match self {
-            Inst::Nop0
-            | Inst::Nop4
-            | Inst::AluRRR { .. }
-            | Inst::AluRRRR { .. }
-            | Inst::AluRRImm12 { .. }
+            Inst::AluRRImm12 { .. }
             | Inst::AluRRImmLogic { .. }
             | Inst::AluRRImmShift { .. }
+            | Inst::MovWide { .. }
+            | Inst::MovK { .. }
+            | Inst::Extend { .. }
+            | Inst::BitfieldMove { .. }
+            | Inst::BitfieldMoveMod { .. }
+            | Inst::Adr { .. }
+            | Inst::Adrp { .. } => Group::Immediate,
+            Inst::AluRRR { .. }
+            | Inst::AluRRRR { .. }
             | Inst::AluRRRShift { .. }
             | Inst::AluRRRExtend { .. }
             | Inst::BitRR { .. }
             | Inst::Mov { .. }
             | Inst::MovFromPReg { .. }
             | Inst::MovToPReg { .. }
-            | Inst::MovWide { .. }
-            | Inst::MovK { .. }
             | Inst::CSel { .. }
             | Inst::CSNeg { .. }
             | Inst::CSet { .. }
             | Inst::CSetm { .. }
             | Inst::CCmp { .. }
-            | Inst::CCmpImm { .. }
-            | Inst::Extend { .. }
-            | Inst::BitfieldMove { .. }
-            | Inst::BitfieldMoveMod { .. }
+            | Inst::CCmpImm { .. } => Group::Register,
+            Inst::Nop0
+            | Inst::Nop4
             | Inst::MovToNZCV { .. }
             | Inst::MovFromNZCV { .. }
-            | Inst::Adr { .. }
-            | Inst::Adrp { .. } => Group::Integer,
-            Inst::Ret | Inst::Jump { .. } => Group::Control,
+            | Inst::Ret
+            | Inst::Jump { .. } => Group::Control,
+            Inst::LoadP64 { .. }
+            | Inst::StoreP64 { .. }
+            | Inst::LoadAddr { .. }
+            | Inst::ULoad8 { .. }
+            | Inst::SLoad8 { .. }
+            | Inst::ULoad16 { .. }
+            | Inst::SLoad16 { .. }
+            | Inst::ULoad32 { .. }
+            | Inst::SLoad32 { .. }
+            | Inst::ULoad64 { .. }
+            | Inst::FpuLoad16 { .. }
+            | Inst::FpuLoad32 { .. }
+            | Inst::FpuLoad64 { .. }
+            | Inst::FpuLoad128 { .. }
+            | Inst::Store8 { .. }
+            | Inst::Store16 { .. }
+            | Inst::Store32 { .. }
+            | Inst::Store64 { .. }
+            | Inst::FpuStore16 { .. }
+            | Inst::FpuStore32 { .. }
+            | Inst::FpuStore64 { .. }
+            | Inst::FpuStore128 { .. } => Group::Memory,
         }
     }
 }

@@ -14,11 +14,13 @@ mod item;
 mod mode;
 mod operand;
 mod own_fault;
+mod place;
 mod virtuals;
 
 pub use crate::item::Item;
-pub use a64_ops::{ALUOp, AtomicRMWOp, MoveWideOp};
+pub use a64_ops::{ALUOp, AccessOp, AtomicRMWOp, MoveWideOp};
 pub use a64_plan::{ConstStep, const_plan};
+pub use access::Access;
 pub use emission::{EmitFlags, EmitInfo, EmitState};
 pub use fault::OwnFault;
 pub use finalize::mem_finalize;

@@ -46,6 +46,19 @@ pub fn is_register(virtuals: VirtualRegisters, reg: &Reg) -> bool
     }
 }
 
+/// Whether a register is v0 to v31.
+pub fn is_vector_register(virtuals: VirtualRegisters, reg: Reg) -> bool
+    ensures { result ≡ operands.is_vector_register virtuals reg }
+{
+    match reg {
+        Reg::Real(p) => match p.class() {
+            RegClass::Int => false,
+            RegClass::Float => p.hw_enc() < 32,
+        },
+        Reg::Virtual { class, .. } => virtuals.are_allowed() && matches!(class, RegClass::Float),
+    }
+}
+
 /// Whether a register is the stack pointer.
 pub fn is_stack_pointer(virtuals: VirtualRegisters, reg: &Reg) -> bool
     ensures { result ≡ operands.is_stack_pointer virtuals reg.now }
@@ -108,6 +121,13 @@ pub fn is_offset26(offset: i32) -> bool
     ensures { result ≡ operands.is_offset26 offset }
 {
     offset % 4 == 0 && offset >= -(1 << 27) && offset < 1 << 27
+}
+
+/// Whether a branch or a load of 19 bits can hold an offset in bytes.
+pub fn is_offset19(offset: i32) -> bool
+    ensures { result ≡ operands.is_offset19 offset }
+{
+    offset % 4 == 0 && offset >= -(1 << 20) && offset < 1 << 20
 }
 
 /// Whether an address stands near the code, at an offset in its unit.

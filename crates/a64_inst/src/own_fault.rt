@@ -6,7 +6,8 @@ ghost use Rattle.a64_inst.specs.Faults.{fault_with, has_operands};
 use crate::emission::EmitInfo;
 use crate::fault::OwnFault;
 use crate::fault::control::has_control_operands;
-use crate::fault::integer::has_integer_operands;
+use crate::fault::integer::{has_immediate_operands, has_register_operands};
+use crate::fault::memory::{has_memory_operands, has_mode, has_scratch};
 use crate::frame::FrameLayout;
 use crate::group::Group;
 use crate::inst::Inst;
@@ -22,8 +23,10 @@ fn has_operands(
     ensures { result ≡ has_operands frame.now info.now virtuals inst.now }
 {
     match inst.group() {
-        Group::Integer => has_integer_operands(inst, frame, info, virtuals),
+        Group::Immediate => has_immediate_operands(inst, frame, info, virtuals),
+        Group::Register => has_register_operands(inst, frame, info, virtuals),
         Group::Control => has_control_operands(inst, frame, info, virtuals),
+        Group::Memory => has_memory_operands(inst, frame, info, virtuals),
     }
 }
 
@@ -41,10 +44,14 @@ impl Inst {
     ) -> Option<OwnFault>
         ensures { result ≡ fault_with frame.now info.now constant virtuals self.now }
     {
-        if has_operands(self, frame, info, virtuals) {
-            None
-        } else {
+        if !has_operands(self, frame, info, virtuals) {
             Some(OwnFault::BadOperand)
+        } else if !has_mode(self) {
+            Some(OwnFault::BadMode)
+        } else if !has_scratch(self, frame) {
+            Some(OwnFault::ScratchConflict)
+        } else {
+            None
         }
     }
 }

@@ -1,4 +1,4 @@
-//! Whether the operands of branches are in their sets.
+//! Whether the operands of branches, hints and accesses to system registers are in their sets.
 
 ghost use Rattle.std.specs.Prelude.{◌≡◌};
 ghost use Rattle.a64_inst.specs.declared.group.Group.TheVariants.{Control};
@@ -9,7 +9,7 @@ ghost use Rattle.a64_inst.specs.ControlOperands as sets;
 use crate::emission::EmitInfo;
 use crate::frame::FrameLayout;
 use crate::inst::Inst;
-use crate::operand::is_offset26;
+use crate::operand::{is_offset26, is_register_or_zero};
 use crate::virtuals::VirtualRegisters;
 use a64_base::BranchTarget;
 
@@ -24,7 +24,7 @@ fn jump(dest: BranchTarget) -> bool
     }
 }
 
-/// Whether the operands of a branch are in their sets.
+/// Whether the operands of a branch, a hint or an access to a system register are in their sets.
 pub fn has_control_operands(
     inst: &Inst,
     frame: &FrameLayout,
@@ -35,7 +35,9 @@ pub fn has_control_operands(
     ensures { result ≡ has_operands frame.now info.now virtuals inst.now }
 {
     match inst {
-        Inst::Ret => true,
+        Inst::Nop0 | Inst::Nop4 | Inst::Ret => true,
+        Inst::MovToNZCV { rn } => is_register_or_zero(virtuals, *rn),
+        Inst::MovFromNZCV { rd } => is_register_or_zero(virtuals, rd.to_reg()),
         Inst::Jump { dest } => jump(*dest),
         _ => unreachable!(),
     }

@@ -4,7 +4,7 @@ mod immediate;
 mod register;
 
 ghost use Rattle.std.specs.Prelude.{◌≡◌};
-ghost use Rattle.a64_inst.specs.declared.group.Group.TheVariants.{Integer};
+ghost use Rattle.a64_inst.specs.declared.group.Group.TheVariants.{Immediate, Register};
 ghost use Rattle.a64_inst.specs.Groups.{group_of};
 ghost use Rattle.a64_inst.specs.Faults.{has_operands};
 
@@ -14,33 +14,17 @@ use crate::inst::Inst;
 use crate::operand::is_register_or_zero;
 use crate::virtuals::VirtualRegisters;
 
-/// Whether the operands of an integer instruction are in their sets.
-pub fn has_integer_operands(
+/// Whether the operands of an integer operation with an immediate are in their sets.
+pub fn has_immediate_operands(
     inst: &Inst,
     frame: &FrameLayout,
     info: &EmitInfo,
     virtuals: VirtualRegisters,
 ) -> bool
-    requires { group_of inst.now ≡ Integer }
+    requires { group_of inst.now ≡ Immediate }
     ensures { result ≡ has_operands frame.now info.now virtuals inst.now }
 {
     match inst {
-        Inst::Nop0 | Inst::Nop4 => true,
-        Inst::AluRRR {
-            alu_op,
-            size,
-            rd,
-            rn,
-            rm,
-        } => register::alu_rrr(virtuals, *alu_op, *size, rd.to_reg(), *rn, *rm),
-        Inst::AluRRRR {
-            alu_op,
-            size,
-            rd,
-            rn,
-            rm,
-            ra,
-        } => register::alu_rrrr(virtuals, *alu_op, *size, rd.to_reg(), *rn, *rm, *ra),
         Inst::AluRRImm12 {
             alu_op,
             size: _,
@@ -62,6 +46,74 @@ pub fn has_integer_operands(
             rn,
             immshift,
         } => immediate::alu_rr_imm_shift(virtuals, *alu_op, *size, rd.to_reg(), *rn, *immshift),
+        Inst::MovWide {
+            op: _,
+            rd,
+            imm,
+            size,
+        } => immediate::mov_wide(virtuals, rd.to_reg(), *imm, *size),
+        Inst::MovK { rd, rn, imm, size } => immediate::mov_k(
+            virtuals,
+            rd.to_reg(),
+            *rn,
+            *imm,
+            *size,
+        ),
+        Inst::Extend {
+            rd,
+            rn,
+            signed,
+            from_bits,
+            to_bits,
+        } => immediate::extend(virtuals, rd.to_reg(), *rn, *signed, *from_bits, *to_bits),
+        Inst::BitfieldMove {
+            size,
+            bfm_op: _,
+            rd,
+            rn,
+            immr,
+            imms,
+        } => immediate::bitfield_move(virtuals, *size, rd.to_reg(), *rn, *immr, *imms),
+        Inst::BitfieldMoveMod {
+            size,
+            rd,
+            ri,
+            rn,
+            immr,
+            imms,
+        } => immediate::bitfield_move_mod(virtuals, *size, rd.to_reg(), *ri, *rn, *immr, *imms),
+        Inst::Adr { rd, off } => immediate::adr(virtuals, rd.to_reg(), *off),
+        Inst::Adrp { rd, off } => immediate::adr(virtuals, rd.to_reg(), *off),
+        _ => unreachable!(),
+    }
+}
+
+/// Whether the operands of an integer operation on registers are in their sets.
+pub fn has_register_operands(
+    inst: &Inst,
+    frame: &FrameLayout,
+    info: &EmitInfo,
+    virtuals: VirtualRegisters,
+) -> bool
+    requires { group_of inst.now ≡ Register }
+    ensures { result ≡ has_operands frame.now info.now virtuals inst.now }
+{
+    match inst {
+        Inst::AluRRR {
+            alu_op,
+            size,
+            rd,
+            rn,
+            rm,
+        } => register::alu_rrr(virtuals, *alu_op, *size, rd.to_reg(), *rn, *rm),
+        Inst::AluRRRR {
+            alu_op,
+            size,
+            rd,
+            rn,
+            rm,
+            ra,
+        } => register::alu_rrrr(virtuals, *alu_op, *size, rd.to_reg(), *rn, *rm, *ra),
         Inst::AluRRRShift {
             alu_op,
             size,
@@ -88,19 +140,6 @@ pub fn has_integer_operands(
         Inst::Mov { size, rd, rm } => register::mov(virtuals, *size, rd.to_reg(), *rm),
         Inst::MovFromPReg { rd, rm } => register::mov_from_preg(virtuals, rd.to_reg(), *rm),
         Inst::MovToPReg { rd, rm } => register::mov_to_preg(virtuals, *rd, *rm),
-        Inst::MovWide {
-            op: _,
-            rd,
-            imm,
-            size,
-        } => immediate::mov_wide(virtuals, rd.to_reg(), *imm, *size),
-        Inst::MovK { rd, rn, imm, size } => immediate::mov_k(
-            virtuals,
-            rd.to_reg(),
-            *rn,
-            *imm,
-            *size,
-        ),
         Inst::CSel {
             rd,
             rn,
@@ -129,33 +168,6 @@ pub fn has_integer_operands(
             nzcv: _,
             cond: _,
         } => is_register_or_zero(virtuals, *rn),
-        Inst::Extend {
-            rd,
-            rn,
-            signed,
-            from_bits,
-            to_bits,
-        } => immediate::extend(virtuals, rd.to_reg(), *rn, *signed, *from_bits, *to_bits),
-        Inst::BitfieldMove {
-            size,
-            bfm_op: _,
-            rd,
-            rn,
-            immr,
-            imms,
-        } => immediate::bitfield_move(virtuals, *size, rd.to_reg(), *rn, *immr, *imms),
-        Inst::BitfieldMoveMod {
-            size,
-            rd,
-            ri,
-            rn,
-            immr,
-            imms,
-        } => immediate::bitfield_move_mod(virtuals, *size, rd.to_reg(), *ri, *rn, *immr, *imms),
-        Inst::MovToNZCV { rn } => is_register_or_zero(virtuals, *rn),
-        Inst::MovFromNZCV { rd } => is_register_or_zero(virtuals, rd.to_reg()),
-        Inst::Adr { rd, off } => immediate::adr(virtuals, rd.to_reg(), *off),
-        Inst::Adrp { rd, off } => immediate::adr(virtuals, rd.to_reg(), *off),
         _ => unreachable!(),
     }
 }
