@@ -15,7 +15,7 @@ use Rattle.a64_buffer.specs.Buffer.{Buffer, end_of, label_of, goal_of, is_within
 use Rattle.a64_buffer.specs.Areas.{HasUse}
 use Rattle.a64_buffer.specs.declared.class.Class.{Class}
 use Rattle.a64_buffer.specs.Classes.{Level, third, level_of, wants, cost, class, range_of, is_open, weigh, burden, weigh_label}
-use Rattle.a64_buffer.specs.Later.{IsSameUse, IsLater}
+use Rattle.a64_buffer.specs.Later.{IsSameUse, IsLater, AreTraps}
 use Rattle.a64_buffer.specs.Sound.{IsPlaced, AreApart, IsKinded, IsKnown, IsStop, IsRightlyOpen, IsStoppedOrOpen, IsSound}
 use Rattle.a64_buffer.specs.Steps.{stopped, Adds, Within}
 use Rattle.a64_buffer.proofs.Growth.{Grows, stop_stays}
@@ -113,8 +113,8 @@ module _ {K : Type 0} (r : Kinds K) (law : IsLawful r) (b b' : Buffer K) (areas 
           new true t e f = let z : place ≡ t = cc f in omega arith
           new false t e f = absurd (let z : None ≡ Some t = sym e ∙ f in cc)
 
-      pub added_later : end_of b ≤ place → IsLater b b'
-      added_later far = record {
+      pub added_later : end_of b ≤ place → AreTraps (end_of b) (end_of b') traps → IsLater b b'
+      added_later far stand = record {
         end = omega (arith, added_end);
         words = kept_word;
         count = omega (arith, added_count);
@@ -122,6 +122,7 @@ module _ {K : Type 0} (r : Kinds K) (law : IsLawful r) (b b' : Buffer K) (areas 
         fresh = λ k d h w. let x : end_of b ≤ (get_or fresh (k - length b.uses) d).offset = behind (k - length b.uses) d (omega (arith, added_count)) in omega (arith, ap (λ u. u.offset) (new_use k d h));
         labels = λ label p e. ap (λ m. get m label) a.labels ∙ e;
         constants = a.constants;
+        traps = record { more = traps; are = a.traps_are; stand = stand };
       }
 
       old_stop : (u : Use K) → (test u ≡ true → (u.stop ≡ None) × IsStop r b' areas u.target u.kind u.offset place) → IsStoppedOrOpen r b areas u → IsStoppedOrOpen r b' areas (stopped test place u)

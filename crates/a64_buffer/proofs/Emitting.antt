@@ -1,6 +1,7 @@
 -- What an island that was written leaves.
 use Rattle.std.proofs.Common.{ℕ, ◌≡◌, ◌⊎◌, ◌+◌, ◌*◌, ◌/◌, ◌^◌, ◌<◌, ◌≤◌, Bool, true, false, cond, List, [], ◌∷◌, ◌++◌, All, map, length, get_or, Option, None, Some, refl, sym, ap, ◌∙◌, subst, arith, inl, inr}
-use Rattle.std.specs.Prelude.{IfSome, IsSome, MatchOption, ◌&&◌, is_none, sum_by}
+use Rattle.std.specs.Prelude.{IfSome, IsSome, IsSomeAnd, MatchOption, ◌&&◌, is_none, sum_by}
+use Rattle.std.specs.FinMap.{get}
 use Rattle.std.proofs.lemmas.Bool.{cases_lt, cases_eq, false≢true, eqb-true, eq-eqb}
 use Rattle.std.proofs.lemmas.List.{length_push, append-nil, get_or_push, get_or_append_left, get_or-map, length-map}
 use Rattle.std.proofs.lemmas.List.Elements.{All-map, All-push}
@@ -14,16 +15,22 @@ use Rattle.a64_buffer.specs.declared.force.ForceVeneers.{ForceVeneers}
 use Rattle.a64_buffer.specs.Kinds.{Kinds, IsLawful}
 use Rattle.a64_buffer.specs.Buffer.{Buffer, end_of, label_of, goal_of}
 use Rattle.a64_buffer.specs.Classes.{third, level_of, range_of, wants, rank_of, cost, class, is_open, weigh, weigh_label, burden, owed, owed_to, HasRoom, Fits}
-use Rattle.a64_buffer.specs.Later.{IsSameUse, IsLater}
-use Rattle.a64_buffer.specs.Sound.{IsStop, IsRightlyOpen, IsSound, IsWhole, IsIsland}
+use Rattle.a64_buffer.specs.Later.{IsSameUse, IsLater, HasStopBelow}
+use Rattle.a64_buffer.specs.Constants.{IsConstant}
+use Rattle.a64_buffer.specs.Sound.{IsTrap, HaveOwnTraps, IsKnown, IsCopy, IsStop, IsRightlyOpen, IsSound, IsWhole, IsIsland}
 use Rattle.a64_buffer.specs.Islands.{IsVeneerUse, IsNewUse, FarWaits, IsBeforePromotion, Promotes, LeavesFar, HasIsland}
-use Rattle.a64_buffer.specs.Steps.{stopped, stands_at, Adds, IsPart, HoldFrom, Writes, WritesFar, over_use, begun, ended}
+use Rattle.a64_buffer.specs.Steps.{stopped, stands_at, Adds, IsPart, HoldFrom, Writes, WritesFar, ended}
+use Rattle.a64_buffer.specs.Pieces.{over_use, begun, ComesBefore, Serves}
 use Rattle.a64_buffer.proofs.Pays.{label_is}
 use Rattle.a64_buffer.proofs.Growth.{Grows, use_inside}
 use Rattle.a64_buffer.proofs.Rooms.{open_wants, room_from, none_room, less_room}
 use Rattle.a64_buffer.proofs.Adding.{added_later, added_sound, old_use}
-use Rattle.a64_buffer.proofs.Writing.{same_use, later_trans, part_none}
-use Rattle.a64_buffer.proofs.Islands.{sound_islands, begun_end, begun_later, begun_sound_in, begun_weight, begun_within, open_areas, open_hold, close_areas, jump_reach, islands_more}
+use Rattle.a64_buffer.proofs.Laters.{same_use, later_trans}
+use Rattle.a64_buffer.proofs.Serving.{open_none, serves_none, served_behind, serves_join}
+use Rattle.a64_buffer.proofs.OwnTraps.{label_no_trap, own_later}
+use Rattle.a64_buffer.proofs.Writing.{part_none}
+use Rattle.a64_buffer.proofs.Traps.{same_traps, no_traps}
+use Rattle.a64_buffer.proofs.Islands.{sound_islands, begun_end, begun_later, begun_sound, begun_sound_in, begun_weight, begun_within, open_areas, open_hold, close_areas, jump_reach, islands_more}
 
 -- ---- where a use stops
 
@@ -54,6 +61,24 @@ module _ {K : Type 0} (r : Kinds K) (b : Buffer K) (areas : List (ℕ × ℕ)) (
       go : (o : Option ℕ) → MatchOption o (IsRightlyOpen r b areas (get_or b.uses k d).target (get_or b.uses k d).kind (get_or b.uses k d).offset) (IsStop r b areas (get_or b.uses k d).target (get_or b.uses k d).kind (get_or b.uses k d).offset) → (label : ℕ) → label_of (get_or b.uses k d).target ≡ Some label → IfSome o (λ stop. (stop < end_of b) ⊎ (goal_of b.labels (get_or b.uses k d).target ≡ Some stop))
       go None q label e = tt
       go (Some t) q label e = stop_settled d label (get_or b.uses k d).target (get_or b.uses k d).kind (get_or b.uses k d).offset t e q
+
+  -- whatever has a stop has it below the end, or at its label
+  pub stops_below : All (HasStopBelow (end_of b) b.labels) b.uses
+  stops_below k d h = go (get_or b.uses k d).target (get_or b.uses k d).kind (get_or b.uses k d).offset (get_or b.uses k d).stop (s.known k d h) (s.stops k d h)
+    where
+      sized : (content : List ℕ) → IsConstant content → 0 < length content
+      sized content c = elim c [ inl e ↦ omega arith | inr t ↦ elim t [ inl e ↦ omega arith | inr e ↦ omega arith ] ]
+
+      copied : (o : Option (List ℕ)) (stop : ℕ) → IsSomeAnd o IsConstant → IsSomeAnd o (λ content. IsCopy r b areas content stop) → stop < end_of b
+      copied None stop c q = absurd q
+      copied (Some content) stop c q = omega (arith, q.stands.inside, sized content c)
+
+      go : (target : Target) (kind : K) (offset : ℕ) (o : Option ℕ) → IsKnown b.constants target → MatchOption o (IsRightlyOpen r b areas target kind offset) (IsStop r b areas target kind offset) → IfSome o (λ stop. (stop < end_of b) ⊎ (goal_of b.labels target ≡ Some stop) ⊎ (target ≡ IslandEnd))
+      go target kind offset None c q = tt
+      go (Label l) kind offset (Some t) c q = elim (stop_settled d l.0 (Label l) kind offset t refl q) [ inl low ↦ inl low | inr e ↦ inr (inl e) ]
+      go (Constant n) kind offset (Some t) c q = inl (copied (get b.constants n.0) t c q.leads)
+      go (Trap code) kind offset (Some t) c q = inl (omega (arith, q.leads.stands.inside))
+      go IslandEnd kind offset (Some t) c q = inr (inr refl)
 
 -- ---- uses that stop weigh less
 
@@ -109,7 +134,7 @@ module _ {K : Type 0} (r : Kinds K) (test : Use K → Bool) (place : ℕ) where
       closed false n = refl
 
 later_islands : {K : Type 0} (b : Buffer K) (islands : List (ℕ × ℕ)) → IsLater b (record b { islands = islands })
-later_islands b islands = record { end = omega arith; words = λ i h. refl; count = omega arith; uses = λ k d h. same_use (end_of b) (get_or b.uses k d); fresh = λ k d h w. absurd (omega arith); labels = λ l p e. e; constants = refl }
+later_islands b islands = record { end = omega arith; words = λ i h. refl; count = omega arith; uses = λ k d h. same_use (end_of b) (get_or b.uses k d); fresh = λ k d h w. absurd (omega arith); labels = λ l p e. e; constants = refl; traps = same_traps (end_of b) (end_of b) b.traps }
 
 far_by_rank : (c : Class) → wants c ≡ true → 4 ≤ rank_of c → c ≡ Far
 far_by_rank Near w h = absurd (omega arith)
@@ -136,15 +161,33 @@ all_closed r us h k d l = closed (is_open r (get_or us k d)) refl
 
 -- the last part of an island, whether anything is given in it or not
 record LastPart {K : Type 0} (r : Kinds K) (w m : Buffer K) : Type 0 where
+  served : List (Use K)
+  serves : Serves r w.labels w.constants served w m
+  old : (k : ℕ) (d : Use K) (h : k < length served) → (serves.waited k d h).index < length w.uses
   part : IsPart r w m
   sound_in : (areas : List (ℕ × ℕ)) → IsSound r w areas → HoldFrom areas (end_of w) → IsSound r m areas
   given : (k : ℕ) (d : Use K) → length w.uses ≤ k → k < length m.uses → IsVeneerUse r w (get_or m.uses k d)
   direct : (k : ℕ) (d : Use K) → k < length w.uses → wants (class r (get_or w.uses k d)) ≡ false → get_or m.uses k d ≡ get_or w.uses k d
 
-last_part : {K : Type 0} (r : Kinds K) (distance : ℕ) (force : ForceVeneers) (w m : Buffer K) → WritesFar r distance force w m → LastPart r w m
-last_part r distance force w m far = elim far [
-  | inl none ↦ subst (LastPart r w) (sym none.0) (record { part = part_none r w; sound_in = λ areas s h. s; given = λ k d h l. absurd (omega arith); direct = λ k d h n. refl })
-  | inr all ↦ record { part = all.0.writing.part; sound_in = all.0.writing.sound_in; given = all.0.writing.given; direct = all.0.writing.direct }
+last_part : {K : Type 0} (r : Kinds K) (distance : ℕ) (force : ForceVeneers) (w m : Buffer K) → All (λ u. is_open r u ≡ true → class r u ≡ Far) w.uses → WritesFar r distance force w m → LastPart r w m
+last_part r distance force w m only_far far = elim far [
+  | inl none ↦ subst (LastPart r w) (sym none.0) (record { served = []; serves = serves_none r w.labels w.constants w w refl refl (λ k d h o s. open_none r (get_or w.uses k d) o s); old = λ k d h. absurd (omega arith); part = part_none r w; sound_in = λ areas s h. s; given = λ k d h l. absurd (omega arith); direct = λ k d h n. refl })
+  | inr all ↦ record {
+    served = all.0.writing.served;
+    serves = all.0.writing.serves;
+    old = λ k d h.
+        let q = all.0.writing.serves.waited k d h in
+        elim (cases_lt q.index (length w.uses)) [
+          | inl lt ↦ lt
+          | inr ge ↦
+              let n : wants (class r (get_or m.uses q.index d)) ≡ false = (all.0.writing.only_last only_far).1 q.index d ge q.within in
+              absurd (false≢true (sym n ∙ (ap (λ v. wants (class r v)) (q.is d) ∙ q.wants_one)))
+        ];
+    part = all.0.writing.part;
+    sound_in = all.0.writing.sound_in;
+    given = all.0.writing.given;
+    direct = all.0.writing.direct;
+  }
 ]
 
 -- ---- the whole island
@@ -156,8 +199,11 @@ module _ {K : Type 0} (r : Kinds K) (law : IsLawful r) (distance : ℕ) (force :
   abbrev over : Use K
   over = over_use r (end_of b)
 
+  only_far : All (λ u. is_open r u ≡ true → class r u ≡ Far) w.uses
+  only_far k d h o = far_by_rank (class r (get_or w.uses k d)) (open_wants r (get_or w.uses k d) o) (near.done k d h o)
+
   last : LastPart r w m
-  last = last_part r distance force w m far
+  last = last_part r distance force w m only_far far
 
   at_begun : (d : Use K) → get_or (begun r b).uses (length b.uses) d ≡ over
   at_begun d = get_or_push b.uses (over_use r (end_of b)) d (length b.uses) refl
@@ -214,7 +260,7 @@ module _ {K : Type 0} (r : Kinds K) (law : IsLawful r) (distance : ℕ) (force :
   )
 
   listed_later : IsLater m listed
-  listed_later = added_later r law m listed (open_areas r law b) (stands_at (end_of b)) (end_of m) [] [] [] sound_m adds (λ k d h. absurd (omega arith)) gives (omega arith)
+  listed_later = added_later r law m listed (open_areas r law b) (stands_at (end_of b)) (end_of m) [] [] [] sound_m adds (λ k d h. absurd (omega arith)) gives (omega arith) (no_traps (end_of m) (end_of m))
 
   listed_sound : IsSound r listed (open_areas r law b)
   listed_sound = added_sound r law m listed (open_areas r law b) (stands_at (end_of b)) (end_of m) [] [] [] sound_m adds (λ k d h. absurd (omega arith)) gives sound_m.short (λ k d h. absurd (omega arith)) (λ j k d lt h. absurd (omega arith)) (λ k d h. absurd (omega arith)) (λ k d h. absurd (omega arith)) (λ k d h. absurd (omega arith))
@@ -259,9 +305,6 @@ module _ {K : Type 0} (r : Kinds K) (law : IsLawful r) (distance : ℕ) (force :
   }
 
   -- ---- what it leaves
-
-  only_far : All (λ u. is_open r u ≡ true → class r u ≡ Far) w.uses
-  only_far k d h o = far_by_rank (class r (get_or w.uses k d)) (open_wants r (get_or w.uses k d) o) (near.done k d h o)
 
   fits_m : HasRoom r (end_of m) m.uses distance
   fits_m = elim far [
@@ -334,6 +377,58 @@ module _ {K : Type 0} (r : Kinds K) (law : IsLawful r) (distance : ℕ) (force :
     })
   ]
 
+  -- ---- what stands in it
+
+  last_serves : Serves r b.labels b.constants last.served w m
+  last_serves = subst (λ ls. Serves r ls b.constants last.served w m) near.writing.part.labels (subst (λ cs. Serves r w.labels cs last.served w m) near.writing.part.later.constants last.serves)
+
+  cross : (j k : ℕ) (d : Use K) → j < length near.writing.served → k < length last.served → ComesBefore r (get_or near.writing.served j d) (get_or last.served k d)
+  cross j k d hj hk =
+      let q = last.serves.waited k d hk in
+      let v : Use K = get_or last.served k d in
+      served_behind r b.labels b.constants (begun r b) w m near.writing.served last.served near.writing.serves last_serves near.writing.part.later last.part.later near.writing.ahead q.index (last.old k d hk) v (q.is v) (q.waited v (last.old k d hk)) j d hj
+
+  serves_m : Serves r b.labels b.constants (near.writing.served ++ last.served) (begun r b) m
+  serves_m = serves_join r b.labels b.constants (begun r b) w m near.writing.served last.served near.writing.serves last_serves near.writing.part.later last.part.later (λ k d h l. (last.given k d h l).labelled) cross
+
+  -- its end changes the jump alone, which waits for nothing
+  ended_none : (k : ℕ) (d : Use K) → k < length m.uses → is_open r (get_or m.uses k d) ≡ true → IsSome (get_or (ended (end_of b) m).uses k d).stop → ⊥
+  ended_none k d h o has = go (stands_at (end_of b) (get_or m.uses k d)) refl
+    where
+      go : (t : Bool) → stands_at (end_of b) (get_or m.uses k d) ≡ t → ⊥
+      go true e = false≢true (ap (is_open r) (sym (only_over k d h e)) ∙ o)
+      go false e =
+          let same : (get_or (ended (end_of b) m).uses k d).stop ≡ (get_or m.uses k d).stop = ap (λ v. v.stop) (get_or-map (stopped (stands_at (end_of b)) (end_of m)) m.uses k d d h) ∙ ap (λ t. cond t (Some (end_of m)) (get_or m.uses k d).stop) e in
+          open_none r (get_or m.uses k d) o (subst IsSome same has)
+
+  serves_now : Serves r b.labels b.constants ((near.writing.served ++ last.served) ++ []) (begun r b) b'
+  serves_now =
+      serves_join r b.labels b.constants (begun r b) m b' (near.writing.served ++ last.served) [] serves_m
+      (serves_none r b.labels b.constants m b' refl refl ended_none)
+      (later_trans (begun r b) w m near.writing.part.later last.part.later) m_later
+      (λ k d low high. absurd (omega (arith, low, high, length-map m.uses (stopped (stands_at (end_of b)) (end_of m)))))
+      (λ j k d hj hk. absurd (omega arith))
+
+  begun_own : HaveOwnTraps (begun r b).uses
+  begun_own j k stop d lt h tj tk sj sk = elim (cases_lt k (length b.uses)) [
+    | inl inside ↦
+        let at_j : get_or (begun r b).uses j d ≡ get_or b.uses j d = get_or_append_left b.uses (over_use r (end_of b) ∷ []) d j (omega arith) in
+        let at_k : get_or (begun r b).uses k d ≡ get_or b.uses k d = get_or_append_left b.uses (over_use r (end_of b) ∷ []) d k inside in
+        whole.own_traps j k stop d lt inside (subst (λ (u : Use K). IsTrap u.target) at_j tj) (subst (λ (u : Use K). IsTrap u.target) at_k tk) (ap (λ (u : Use K). u.stop) (sym at_j) ∙ sj) (ap (λ (u : Use K). u.stop) (sym at_k) ∙ sk)
+    | inr past ↦
+        let at : length b.uses ≡ k = omega (arith, past, h, begun_count) in
+        subst (λ (u : Use K). IsTrap u.target) (ap (λ i. get_or (begun r b).uses i d) (sym at) ∙ at_begun d) tk
+  ]
+
+  own_now : HaveOwnTraps (ended (end_of b) m).uses
+  own_now =
+      own_later r b.constants b.labels ((near.writing.served ++ last.served) ++ []) (begun r b) b' serves_now (later_trans (begun r b) w b' near.writing.part.later w_later) sound_end.apart begun_own
+      (stops_below r (begun r b) b.islands (begun_sound r law b b.islands whole.sound (omega (arith, short))))
+      (λ k d low high trap. elim (given_now k d (omega (arith, low, begun_count)) high) [
+        | inl jump ↦ subst IsTrap jump.0 trap
+        | inr veneer ↦ label_no_trap (get_or (ended (end_of b) m).uses k d).target veneer.labelled trap
+      ])
+
   pub island_made : HasIsland r distance force b (ended (end_of b) m)
   island_made = record {
     long = omega (arith, starts, last.part.later.end);
@@ -341,10 +436,12 @@ module _ {K : Type 0} (r : Kinds K) (law : IsLawful r) (distance : ℕ) (force :
     labels = last.part.labels ∙ near.writing.part.labels;
     later = b_later;
     given = given_now;
-    whole = record { sound = sound_end; islands = islands_more r b b' (end_of m) b_later islands_now whole.islands new_island; fits = less_room r law (end_of m) (ended (end_of b) m).uses distance 0 (omega arith) fits_now };
+    whole = record { sound = sound_end; islands = islands_more r b b' (end_of m) b_later islands_now whole.islands new_island; fits = less_room r law (end_of m) (ended (end_of b) m).uses distance 0 (omega arith) fits_now; own_traps = own_now };
     fits = fits_now;
     rooms = rooms_now;
     owed = omega (arith, ends, stopped_owed r (stands_at (end_of b)) (end_of m) m.uses);
     owed_to = λ t. omega (arith, stopped_owed_to r (stands_at (end_of b)) (end_of m) t m.uses, last.part.owed_to t, near.writing.part.owed_to t, begun_owed_to t);
     promotion = record { before = w; is = before; then' = w_later; outcome = outcome };
+    served = (near.writing.served ++ last.served) ++ [];
+    serves = serves_now;
   }

@@ -21,8 +21,9 @@ use Rattle.a64_buffer.specs.Steps.{Writes, MayWrite, everywhere}
 use Rattle.a64_buffer.specs.Leads.{FarAt, Arrives, JumpAt, LabelLeads, TargetLeads}
 use Rattle.a64_buffer.specs.Settled.{IsCodeOf, Reaches, MayLead, IsLed, AreSettled, Lists, IsCode}
 use Rattle.a64_buffer.specs.Finished.{JumpsOver, IsSettled, IsFinished}
+use Rattle.a64_buffer.proofs.OwnTraps.{label_no_trap, own_later}
 use Rattle.a64_buffer.proofs.Islands.{sound_islands, in_everywhere, open_areas, open_hold, more_areas, close_areas, later_keeps, island_stays}
-use Rattle.a64_buffer.proofs.Emitting.{all_closed}
+use Rattle.a64_buffer.proofs.Emitting.{all_closed, stops_below}
 
 one_place : (o : Option ℕ) (g h : ℕ) → o ≡ Some g → o ≡ Some h → g ≡ h
 one_place o g h p q = cc
@@ -334,6 +335,9 @@ module _ {K : Type 0} (r : Kinds K) (law : IsLawful r) (b m : Buffer K) (whole :
       leads = subst (λ ts. All (λ u. MatchOption u.stop (u.target ≡ IslandEnd) (TargetLeads r code.bytes.items areas b.labels b.constants ts u.kind u.target)) m.uses) (sym traps)
           (subst (λ bs. All (λ u. MatchOption u.stop (u.target ≡ IslandEnd) (TargetLeads r bs areas b.labels b.constants m.traps u.kind u.target)) m.uses) (sym bytes_are) all_targets);
       given = w.writing.given;
+      served = w.writing.served;
+      serves = w.writing.serves;
+      own_traps = own_later r b.constants b.labels w.writing.served b m w.writing.serves later sound.apart whole.own_traps (stops_below r b b.islands whole.sound) (λ k d low high trap. label_no_trap (get_or m.uses k d).target (w.writing.given k d low high).labelled trap);
       jumps = subst (λ bs. All (JumpsOver r bs) b.islands) (sym bytes_are) jumps_over;
       labels = labels;
       islands = islands;

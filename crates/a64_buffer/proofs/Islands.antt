@@ -12,12 +12,14 @@ use Rattle.a64_buffer.specs.Areas.{InArea}
 use Rattle.a64_buffer.specs.Classes.{third, level_of, cost, class, range_of, is_open, weight_of, burden, owed, HasRoom}
 use Rattle.a64_buffer.specs.Later.{IsSameUse, IsLater}
 use Rattle.a64_buffer.specs.Sound.{IsPlaced, IsKinded, IsKnown, IsStop, IsRightlyOpen, IsStoppedOrOpen, IsSound, IsWhole, IsIsland, AreIslands}
-use Rattle.a64_buffer.specs.Steps.{stopped, Adds, Within, everywhere, HoldFrom, MayWrite, over_use, begun}
+use Rattle.a64_buffer.specs.Steps.{stopped, Adds, Within, everywhere, HoldFrom, MayWrite}
+use Rattle.a64_buffer.specs.Pieces.{over_use, begun}
 use Rattle.a64_buffer.proofs.Growth.{Grows, stop_stays}
 use Rattle.a64_buffer.proofs.Costs.{weight-append}
 use Rattle.a64_buffer.proofs.Pays.{weight_none}
 use Rattle.a64_buffer.proofs.Rooms.{within_from, next_within}
 use Rattle.a64_buffer.proofs.Adding.{added_later, added_sound}
+use Rattle.a64_buffer.proofs.Traps.{no_traps}
 
 pub in_everywhere : (end p size : ℕ) → end < 2 ^ 31 → p + size ≤ end → InArea everywhere p size
 in_everywhere end p size short h = record { index = 0; within = omega arith; begins = omega arith; ends = omega arith }
@@ -62,7 +64,7 @@ module _ {K : Type 0} where
       behind = All-cons (λ (u : Use K). end_of b ≤ u.offset) (over_use r (end_of b)) [] (omega arith) (λ k d h. absurd (omega arith))
 
       pub begun_later : IsLater b (begun r b)
-      begun_later = added_later r law b (begun r b) areas (λ v. false) (end_of b) (r.jump_word ∷ []) (over_use r (end_of b) ∷ []) [] s adds_begun behind (λ k d h e. absurd (false≢true e)) (omega arith)
+      begun_later = added_later r law b (begun r b) areas (λ v. false) (end_of b) (r.jump_word ∷ []) (over_use r (end_of b) ∷ []) [] s adds_begun behind (λ k d h e. absurd (false≢true e)) (omega arith) (no_traps (end_of b) (end_of (begun r b)))
 
       pub begun_sound : end_of b + 4 < 2 ^ 31 → IsSound r (begun r b) areas
       begun_sound short =

@@ -12,6 +12,11 @@ pub mod Writing
 pub mod Nexts
 pub mod Islands
 pub mod Memory
+pub mod Traps
+pub mod Laters
+pub mod Serving
+pub mod Pieces
+pub mod OwnTraps
 pub mod Emitting
 pub mod Walks
 pub mod Bytes
@@ -20,6 +25,7 @@ pub mod Uses
 pub mod Sounds
 pub mod Chains
 pub mod Stops
+pub mod Queued
 pub mod Loads
 pub mod Unbound
 pub mod Listed

@@ -6,7 +6,8 @@ use Rattle.std.proofs.lemmas.List.Elements.{All-more, All-weaker}
 use Rattle.a64_buffer.specs.declared.site.Use.{Use}
 use Rattle.a64_buffer.specs.Kinds.{Kinds}
 use Rattle.a64_buffer.specs.Classes.{is_open}
-use Rattle.a64_buffer.specs.Steps.{key_of, IsNextOpen}
+use Rattle.a64_buffer.specs.Pieces.{key_of}
+use Rattle.a64_buffer.specs.Steps.{IsNextOpen}
 
 module _ {K : Type 0} (r : Kinds K) (limit : ℕ) where
   -- the open use of the least key among the first so many, below the limit

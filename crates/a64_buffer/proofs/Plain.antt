@@ -1,8 +1,10 @@
 -- Finished code of a buffer without islands in which each label is in reach: nothing is added to it.
-use Rattle.std.proofs.Common.{ℕ, ◌≡◌, ◌+◌, ◌*◌, ◌/◌, ◌<◌, ◌&&◌, Bool, true, false, nat_le, List, [], ◌∷◌, length, get_or, Option, None, Some, IfSome, All, refl, sym, ◌∙◌, ap, subst, arith, inl, inr, nat_cmp}
+use Rattle.std.proofs.Common.{ℕ, ◌≡◌, ◌+◌, ◌*◌, ◌/◌, ◌<◌, ◌&&◌, Bool, true, false, nat_le, List, [], ◌∷◌, ◌++◌, length, get_or, Option, None, Some, IfSome, All, refl, sym, ◌∙◌, ap, subst, arith, inl, inr, nat_cmp}
 use Rattle.std.specs.Prelude.{is_none, MatchOption, IsSomeAnd}
 use Rattle.std.specs.FinMap.{FinMap, get}
 use Rattle.std.proofs.lemmas.Bool.{le-leb, false≢true, cases_lt}
+use Rattle.std.proofs.lemmas.List.{append-nil, length-append}
+use Rattle.a64_base.specs.declared.entity.TrapCode.{TrapCode}
 use Rattle.a64_buffer.specs.Word.{outside, word_at}
 use Rattle.a64_buffer.specs.declared.site.Use.{Use}
 use Rattle.a64_buffer.specs.declared.site.Target.{Target}
@@ -33,7 +35,7 @@ module _ {K : Type 0} (r : Kinds K) where
     pub islands : code.islands.items ≡ []
     pub pool : code.pool ≡ end_of b
     pub relocs : code.relocs.items ≡ []
-    pub traps : code.traps.items ≡ []
+    pub traps : code.traps.items ≡ b.traps
     pub calls : code.calls.items ≡ []
     pub patchable : code.patchable.items ≡ []
     pub maps : code.maps.items ≡ []
@@ -42,7 +44,7 @@ module _ {K : Type 0} (r : Kinds K) where
   abbrev pub OfLabel : Use K → Type 0
   OfLabel u = (label : ℕ) × (label_of u.target ≡ Some label)
 
-  module _ (b : Buffer K) (code : Finished) (f : IsFinished r b code) (no_islands : b.islands ≡ []) (no_traps : b.traps ≡ []) (labelled : All OfLabel b.uses) (reached : All (IsReached r b.labels) b.uses) where
+  module _ (b : Buffer K) (code : Finished) (f : IsFinished r b code) (no_islands : b.islands ≡ []) (labelled : All OfLabel b.uses) (reached : All (IsReached r b.labels) b.uses) where
     -- a use stops at its label
     at_goal : (k : ℕ) (d : Use K) → k < length b.uses → (g : ℕ) × ((get_or b.uses k d).stop ≡ Some g) × (goal_of b.labels (get_or b.uses k d).target ≡ Some g)
     at_goal k d h = go (get_or b.uses k d).target refl
@@ -123,12 +125,12 @@ module _ {K : Type 0} (r : Kinds K) where
       islands = f.islands ∙ no_islands;
       pool = f.pool;
       relocs = f.relocs;
-      traps = f.traps ∙ none (f.final.traps) (omega (arith, f.few_traps, none_open r trap_words b.uses none_is_open, ap length no_traps));
+      traps = f.traps ∙ kept f.later.traps.more f.later.traps.are;
       calls = f.calls;
       patchable = f.patchable;
       maps = f.maps;
     }
       where
-        none : {X : Type 0} (xs : List X) → length xs ≡ 0 → xs ≡ []
-        none [] e = refl
-        none (x ∷ xs) e = absurd (omega (arith, e))
+        kept : (more : List (ℕ × TrapCode)) → f.final.traps ≡ b.traps ++ more → f.final.traps ≡ b.traps
+        kept [] e = e ∙ append-nil b.traps
+        kept (t ∷ more) e = absurd (omega (arith, f.few_traps, none_open r trap_words b.uses none_is_open, ap length e, length-append b.traps (t ∷ more)))

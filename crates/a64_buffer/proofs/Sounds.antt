@@ -1,12 +1,13 @@
 -- What each call leaves whole.
-use Rattle.std.proofs.Common.{ℕ, ◌≡◌, ◌≢◌, ◌⊎◌, ◌+◌, ◌%◌, ◌^◌, ◌<◌, ◌≤◌, ◌&&◌, Bool, true, false, cond, nat_le, List, [], ◌∷◌, ◌++◌, length, get_or, map, Option, None, Some, IfSome, is_none, refl, sym, ◌∙◌, ap, subst, arith, inl, inr, nat_cmp}
+use Rattle.std.proofs.Common.{ℕ, ◌≡◌, ◌≢◌, ◌⊎◌, ◌+◌, ◌*◌, ◌%◌, ◌^◌, ◌<◌, ◌≤◌, ◌&&◌, Bool, true, false, cond, nat_le, List, [], ◌∷◌, ◌++◌, length, get_or, map, Option, None, Some, IfSome, is_none, refl, sym, ◌∙◌, ap, subst, arith, inl, inr, nat_cmp}
 use Rattle.std.specs.Prelude.{MatchOption}
 use Rattle.std.specs.Option.{option_and_then}
 use Rattle.std.specs.FinMap.{FinMap, get, insert, get-empty}
-use Rattle.std.proofs.lemmas.Bool.{cases_eq, false≢true, leb-true}
-use Rattle.std.proofs.lemmas.List.{length_push, length-map, append-nil, get_or_append_left, get_or-map}
+use Rattle.std.proofs.lemmas.Bool.{cases_eq, cases_lt, false≢true, leb-true}
+use Rattle.std.proofs.lemmas.List.{length_push, length-append, length-map, append-nil, get_or_append_left, get_or_push, get_or-map}
 use Rattle.std.proofs.lemmas.List.Elements.{All-push, All-map}
 use Rattle.std.proofs.lemmas.List.Sums.{sum_by-cons}
+use Rattle.a64_base.specs.declared.entity.TrapCode.{TrapCode}
 use Rattle.a64_buffer.specs.declared.site.Use.{Use}
 use Rattle.a64_buffer.specs.declared.site.Target.{Target}
 use Rattle.a64_buffer.specs.declared.site.Target.TheVariants.{Label, Constant, Trap, IslandEnd}
@@ -14,15 +15,17 @@ use Rattle.a64_buffer.specs.declared.class.Class.{Class}
 use Rattle.a64_buffer.specs.Kinds.{Kinds, IsLawful}
 use Rattle.a64_buffer.specs.Buffer.{Buffer, end_of, new_buffer, label_of, leads_to, goal_of, is_within, reached, made_use, closed_at, IsFree, IsOutside}
 use Rattle.a64_buffer.specs.Classes.{level_of, wants, cost, class, is_open, weigh, weight_of, burden, range_of, HasRoom, Fits}
-use Rattle.a64_buffer.specs.Later.{IsSameUse, IsLater}
-use Rattle.a64_buffer.specs.Sound.{IsPlaced, IsKinded, IsKnown, IsStop, IsRightlyOpen, IsStoppedOrOpen, IsWhole}
+use Rattle.a64_buffer.specs.Later.{IsSameUse, IsLaterFrom, IsLater}
+use Rattle.a64_buffer.specs.Sound.{IsPlaced, IsTrap, HaveOwnTraps, IsKinded, IsKnown, IsStop, IsRightlyOpen, IsStoppedOrOpen, IsWhole}
 use Rattle.a64_buffer.specs.Steps.{stopped, Adds}
 use Rattle.a64_buffer.proofs.Labels.{get_here, get_other}
 use Rattle.a64_buffer.proofs.Uses.{apart_push, apart_map, leads_same, leads_other}
 use Rattle.a64_buffer.proofs.Growth.{Grows, stop_stays}
 use Rattle.a64_buffer.proofs.Adding.{added_later, added_sound}
 use Rattle.a64_buffer.proofs.Giving.{made_stop}
-use Rattle.a64_buffer.proofs.Writing.{same_use}
+use Rattle.a64_buffer.proofs.Laters.{same_use}
+use Rattle.a64_buffer.proofs.Traps.{no_traps, one_trap, same_traps}
+use Rattle.a64_buffer.proofs.OwnTraps.{trap_made, trap_closed}
 use Rattle.a64_buffer.proofs.Islands.{map_none, Keeps, later_keeps, islands_stay}
 
 module _ {K : Type 0} (r : Kinds K) where
@@ -58,26 +61,51 @@ module _ {K : Type 0} (r : Kinds K) where
     };
     islands = record { each = λ k d h. absurd (omega arith); in_order = λ j k h i. absurd (omega arith) };
     fits = record { rooms = λ k d h. absurd (omega arith) };
+    own_traps = λ j k stop d lt h. absurd (omega arith);
   }
 
   module _ (law : IsLawful r) (b : Buffer K) (whole : IsWhole r b) where
-    -- ---- one more word
+    -- ---- more words
 
-    module _ (word : ℕ) where
+    module _ (added : List ℕ) where
       abbrev put : Buffer K
-      put = record b { words = b.words ++ word ∷ [] }
+      put = record b { words = b.words ++ added }
 
-      adds : Adds (λ (v : Use K). false) (end_of b) (word ∷ []) [] [] b put
+      put_end : end_of put ≡ end_of b + 4 * length added
+      put_end = omega (arith, length-append b.words added)
+
+      adds : Adds (λ (v : Use K). false) (end_of b) added [] [] b put
       adds = record { words = refl; uses = sym (append-nil (map (stopped (λ (v : Use K). false) (end_of b)) b.uses) ∙ map_none (end_of b) b.uses); labels = refl; islands = refl; traps_are = sym (append-nil b.traps); constants = refl }
 
-      put_later : IsLater b put
-      put_later = added_later r law b put b.islands (λ v. false) (end_of b) (word ∷ []) [] [] whole.sound adds (λ k d h. absurd (omega arith)) (λ k d h e. absurd (false≢true e)) (omega arith)
+      pub put_later : IsLater b (record b { words = b.words ++ added })
+      put_later = added_later r law b put b.islands (λ v. false) (end_of b) added [] [] whole.sound adds (λ k d h. absurd (omega arith)) (λ k d h e. absurd (false≢true e)) (omega arith) (no_traps (end_of b) (end_of put))
 
-      pub whole_put : end_of b + 4 < 2 ^ 31 → Fits r b 4 → IsWhole r (record b { words = b.words ++ word ∷ [] })
+      pub whole_put : end_of b + 4 * length added < 2 ^ 31 → Fits r b (4 * length added) → IsWhole r (record b { words = b.words ++ added })
       whole_put short fits = record {
-        sound = added_sound r law b put b.islands (λ v. false) (end_of b) (word ∷ []) [] [] whole.sound adds (λ k d h. absurd (omega arith)) (λ k d h e. absurd (false≢true e)) (omega (arith, length_push b.words word)) (λ k d h. absurd (omega arith)) (λ j k d lt h. absurd (omega arith)) (λ k d h. absurd (omega arith)) (λ k d h. absurd (omega arith)) (λ k d h. absurd (omega arith));
+        sound = added_sound r law b put b.islands (λ v. false) (end_of b) added [] [] whole.sound adds (λ k d h. absurd (omega arith)) (λ k d h e. absurd (false≢true e)) (omega (arith, put_end)) (λ k d h. absurd (omega arith)) (λ j k d lt h. absurd (omega arith)) (λ k d h. absurd (omega arith)) (λ k d h. absurd (omega arith)) (λ k d h. absurd (omega arith));
         islands = islands_stay r b put (later_keeps b put put_later) refl whole.islands;
-        fits = record { rooms = λ k d w o. let x = fits.rooms k d w o in omega (arith, length_push b.words word) };
+        fits = record { rooms = λ k d w o. let x = fits.rooms k d w o in omega (arith, put_end) };
+        own_traps = whole.own_traps;
+      }
+
+    -- ---- one more trap
+
+    module _ (code : TrapCode) where
+      abbrev trapped : Buffer K
+      trapped = record b { traps = b.traps ++ (end_of b, code) ∷ [] }
+
+      adds_trap : Adds (λ (v : Use K). false) (end_of b) [] [] ((end_of b, code) ∷ []) b trapped
+      adds_trap = record { words = sym (append-nil b.words); uses = sym (append-nil (map (stopped (λ (v : Use K). false) (end_of b)) b.uses) ∙ map_none (end_of b) b.uses); labels = refl; islands = refl; traps_are = refl; constants = refl }
+
+      pub trap_later : IsLater b (record b { traps = b.traps ++ (end_of b, code) ∷ [] })
+      trap_later = added_later r law b trapped b.islands (λ v. false) (end_of b) [] [] ((end_of b, code) ∷ []) whole.sound adds_trap (λ k d h. absurd (omega arith)) (λ k d h e. absurd (false≢true e)) (omega arith) (one_trap (end_of b) (end_of b) (end_of b, code) (omega arith) (omega arith))
+
+      pub whole_trap : IsWhole r (record b { traps = b.traps ++ (end_of b, code) ∷ [] })
+      whole_trap = record {
+        sound = added_sound r law b trapped b.islands (λ v. false) (end_of b) [] [] ((end_of b, code) ∷ []) whole.sound adds_trap (λ k d h. absurd (omega arith)) (λ k d h e. absurd (false≢true e)) whole.sound.short (λ k d h. absurd (omega arith)) (λ j k d lt h. absurd (omega arith)) (λ k d h. absurd (omega arith)) (λ k d h. absurd (omega arith)) (λ k d h. absurd (omega arith));
+        islands = islands_stay r b trapped (later_keeps b trapped trap_later) refl whole.islands;
+        fits = record { rooms = λ k d w o. whole.fits.rooms k d w o };
+        own_traps = whole.own_traps;
       }
 
     -- ---- one more use
@@ -113,6 +141,34 @@ module _ {K : Type 0} (r : Kinds K) where
         moves = λ p size h i. i;
       }
 
+      pub used_later : IsLaterFrom offset b (record b { uses = b.uses ++ made_use r b.labels offset target kind ∷ [] })
+      used_later = record {
+        end = omega arith;
+        words = λ i h. refl;
+        count = used_keeps.count;
+        uses = used_keeps.uses;
+        fresh = λ k d low high.
+            let at : length b.uses ≡ k = omega (arith, low, high, length_push b.uses made) in
+            omega (arith, ap (λ (v : Use K). v.offset) (get_or_push b.uses made d k at));
+        labels = λ l p e. e;
+        constants = refl;
+        traps = same_traps (end_of b) (end_of b) b.traps;
+      }
+
+      used_own : HaveOwnTraps (b.uses ++ made_use r b.labels offset target kind ∷ [])
+      used_own j k stop d lt h tj tk sj sk = elim (cases_lt k (length b.uses)) [
+        | inl inside ↦
+            let at_j = kept_use j d (omega arith) in
+            let at_k = kept_use k d inside in
+            whole.own_traps j k stop d lt inside (subst (λ (u : Use K). IsTrap u.target) at_j tj) (subst (λ (u : Use K). IsTrap u.target) at_k tk) (ap (λ (u : Use K). u.stop) (sym at_j) ∙ sj) (ap (λ (u : Use K). u.stop) (sym at_k) ∙ sk)
+        | inr past ↦
+            let at : length b.uses ≡ k = omega (arith, past, h, length_push b.uses made) in
+            let is : get_or (b.uses ++ made_use r b.labels offset target kind ∷ []) k d ≡ made = get_or_push b.uses made d k at in
+            let none : made.stop ≡ None = trap_made r b.labels offset target kind (subst (λ (u : Use K). IsTrap u.target) is tk) in
+            let z : None ≡ Some stop = sym none ∙ (ap (λ (u : Use K). u.stop) (sym is) ∙ sk) in
+            cc
+      ]
+
       pub whole_use : offset % 4 ≡ 0 → offset < end_of b → IsFree b.uses offset → IsOutside b.islands offset → IsKinded r target kind → IsKnown b.constants target → Fits r (record b { uses = b.uses ++ made_use r b.labels offset target kind ∷ [] }) 0 → IsWhole r (record b { uses = b.uses ++ made_use r b.labels offset target kind ∷ [] })
       whole_use aligned inside free outside kinded known fits = record {
         sound = record {
@@ -126,6 +182,7 @@ module _ {K : Type 0} (r : Kinds K) where
         };
         islands = islands_stay r b used used_keeps refl whole.islands;
         fits = fits;
+        own_traps = used_own;
       }
         where
           old : (u : Use K) (o : Option ℕ) → MatchOption o (IsRightlyOpen r b b.islands u.target u.kind u.offset) (IsStop r b b.islands u.target u.kind u.offset) → MatchOption o (IsRightlyOpen r used b.islands u.target u.kind u.offset) (IsStop r used b.islands u.target u.kind u.offset)
@@ -194,6 +251,18 @@ module _ {K : Type 0} (r : Kinds K) where
 
       bind_keeps : Keeps b bound'
       bind_keeps = record { end = omega arith; words = λ i h. refl; count = omega (arith, length-map b.uses (closed_at r label (end_of b))); uses = λ k d h. subst (IsSameUse (end_of b) (get_or b.uses k d)) (sym (closed_use k d h)) (closed_same (get_or b.uses k d)) }
+
+      pub bind_later : IsLater b (record b { uses = map (closed_at r label (end_of b)) b.uses; labels = insert b.labels label (end_of b) })
+      bind_later = record {
+        end = omega arith;
+        words = λ i h. refl;
+        count = bind_keeps.count;
+        uses = bind_keeps.uses;
+        fresh = λ k d low high. absurd (omega (arith, low, high, length-map b.uses (closed_at r label (end_of b))));
+        labels = still;
+        constants = refl;
+        traps = same_traps (end_of b) (end_of b) b.traps;
+      }
 
       -- where a use stops once the label is bound
       both : (x y : Bool) → (x && y) ≡ true → (x ≡ true) × (y ≡ true)
@@ -264,6 +333,17 @@ module _ {K : Type 0} (r : Kinds K) where
             (λ k d w o. let x = h.rooms k d w (closed_open (get_or b.uses k d) o) in omega (arith, bind_weight label (end_of b) (cost (level_of (class r (get_or b.uses k d)))) b.uses));
       }
 
+      bound_own : HaveOwnTraps (map (closed_at r label (end_of b)) b.uses)
+      bound_own j k stop d lt h tj tk sj sk =
+          let inside : k < length b.uses = omega (arith, h, length-map b.uses (closed_at r label (end_of b))) in
+          let at_j = closed_use j d (omega arith) in
+          let at_k = closed_use k d inside in
+          let trap_j : IsTrap (get_or b.uses j d).target = subst (λ (u : Use K). IsTrap u.target) at_j tj in
+          let trap_k : IsTrap (get_or b.uses k d).target = subst (λ (u : Use K). IsTrap u.target) at_k tk in
+          whole.own_traps j k stop d lt inside trap_j trap_k
+          (sym (trap_closed r label (end_of b) (get_or b.uses j d) trap_j) ∙ (ap (λ (u : Use K). u.stop) (sym at_j) ∙ sj))
+          (sym (trap_closed r label (end_of b) (get_or b.uses k d) trap_k) ∙ (ap (λ (u : Use K). u.stop) (sym at_k) ∙ sk))
+
       pub whole_bind : IsWhole r (record b { uses = map (closed_at r label (end_of b)) b.uses; labels = insert b.labels label (end_of b) })
       whole_bind = record {
         sound = record {
@@ -280,4 +360,5 @@ module _ {K : Type 0} (r : Kinds K) where
         };
         islands = islands_stay r b bound' bind_keeps refl whole.islands;
         fits = bind_room 0 whole.fits;
+        own_traps = bound_own;
       }

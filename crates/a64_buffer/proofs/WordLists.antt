@@ -2,7 +2,7 @@
 use Rattle.std.proofs.Common.{ℕ, zero, suc, ◌≡◌, ◌+◌, ◌*◌, ◌%◌, ◌≤◌, cond, List, [], ◌∷◌, ◌++◌, length, take, drop, replicate, refl, sym, ap, ◌∙◌, subst, arith}
 use Rattle.std.specs.Prelude.{MatchBool}
 use Rattle.std.proofs.lemmas.Bool.{eq-eqb}
-use Rattle.std.proofs.lemmas.List.{length-drop, length-take-le}
+use Rattle.std.proofs.lemmas.List.{length-drop, length-take-le, append_assoc}
 use Rattle.a64_buffer.specs.Word.{words_of, word_at, StandAt}
 use Rattle.a64_buffer.specs.Kinds.{Kinds, IsVeneer, IsFarVeneer, IsJumpVeneer, veneer_bytes}
 
@@ -77,3 +77,7 @@ far_size r kind e = ap (λ t. cond t (4 * length r.far_words + 4) 4) (eq-eqb (r.
 
 pub zeros_length : (size : ℕ) → size ≤ 20 → length (take size (replicate {A = ℕ} 20 0)) ≡ size
 zeros_length size h = length-take-le size (replicate {A = ℕ} 20 0) h
+
+-- two words, one after the other
+pub two_more : (xs rs ys zs : List ℕ) (a b : ℕ) → rs ≡ xs → ys ≡ rs ++ a ∷ [] → zs ≡ ys ++ b ∷ [] → zs ≡ xs ++ a ∷ b ∷ []
+two_more xs rs ys zs a b p q s = s ∙ (ap (λ ws. ws ++ b ∷ []) (q ∙ ap (λ ws. ws ++ a ∷ []) p) ∙ append_assoc xs (a ∷ []) (b ∷ []))

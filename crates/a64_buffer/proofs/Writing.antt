@@ -1,9 +1,10 @@
 -- Open uses are given what they wait for, one after another.
-use Rattle.std.proofs.Common.{ℕ, ◌≡◌, ◌⊎◌, ◌+◌, ◌*◌, ◌^◌, ◌<◌, ◌≤◌, Bool, true, false, cond, List, All, length, get_or, Option, None, Some, refl, sym, ap, ◌∙◌, subst, arith, inl, inr, nat_cmp}
-use Rattle.std.specs.Prelude.{IfSome, IsSome, IsSomeAnd, nat_eq, ◌&&◌, is_none}
+use Rattle.std.proofs.Common.{ℕ, ◌≡◌, ◌⊎◌, ◌+◌, ◌*◌, ◌^◌, ◌<◌, ◌≤◌, Bool, true, false, cond, List, [], ◌∷◌, ◌++◌, All, length, get_or, Option, None, Some, refl, sym, ap, ◌∙◌, subst, arith, inl, inr, nat_cmp}
+use Rattle.std.specs.Prelude.{IfSome, IsSome, IsSomeAnd, nat_eq}
 use Rattle.std.specs.FinMap.{FinMap, get}
-use Rattle.std.proofs.lemmas.Bool.{cases_lt}
+use Rattle.std.proofs.lemmas.Bool.{cases_lt, cases_eq, false≢true}
 use Rattle.std.proofs.lemmas.List.{get_or_default}
+use Rattle.std.proofs.lemmas.List.Elements.{All-append, All-cons}
 use Rattle.std.proofs.lemmas.List.Sums.{get_or-le-sum_by}
 use Rattle.a64_base.specs.declared.entity.TrapCode.{TrapCode}
 use Rattle.a64_base.specs.declared.entity.VCodeConstant.{VCodeConstant}
@@ -23,53 +24,14 @@ use Rattle.a64_buffer.specs.Later.{IsSameUse, IsLater}
 use Rattle.a64_buffer.specs.Sound.{seen, IsPlaced, IsKinded, IsKnown, IsSound}
 use Rattle.a64_buffer.specs.Islands.{IsVeneerUse}
 use Rattle.a64_buffer.specs.Space.{SameRoom, HasSpace}
-use Rattle.a64_buffer.specs.Steps.{AtGoal, key_of, GivesJump, GivesFar, GivesTrap, GivesCopy, IsPart, everywhere, HoldFrom, GivesAll, MayWrite, IsWriting, Writes, IsNextOpen, IsReady}
-use Rattle.a64_buffer.proofs.Rooms.{open_wants, open_stop, wanting_urgency}
+use Rattle.a64_buffer.specs.Pieces.{key_of, ComesBefore, Serves}
+use Rattle.a64_buffer.specs.Steps.{AtGoal, GivesJump, GivesFar, GivesTrap, GivesCopy, IsPart, everywhere, HoldFrom, ServesNext, GivesAll, MayWrite, IsWriting, Writes, IsNextOpen, IsReady}
+use Rattle.a64_buffer.proofs.Rooms.{open_wants, wanting_urgency}
 use Rattle.a64_buffer.proofs.Pays.{label_is}
+use Rattle.a64_buffer.proofs.Laters.{later_none, later_trans, was_open}
+use Rattle.a64_buffer.proofs.Serving.{same_class, same_key, serves_none, served_behind, serves_join, open_none}
+use Rattle.a64_buffer.proofs.Pieces.{jump_next, far_next, trap_next, copy_next}
 use Rattle.a64_buffer.proofs.Given.{wants_veneer, jump_given, far_given, trap_given, copy_given}
-
--- ---- buffers later on
-
-pub same_use : {K : Type 0} (end : ℕ) (u : Use K) → IsSameUse end u u
-same_use end u = record { offset = refl; target = refl; kind = refl; kept = λ t e. e; later = λ t e f. absurd (let z : None ≡ Some t = sym e ∙ f in cc) }
-
-same_use_trans : {K : Type 0} (a b : ℕ) (u v w : Use K) → a ≤ b → IsSameUse a u v → IsSameUse b v w → IsSameUse a u w
-same_use_trans a b u v w le p q = record {
-  offset = q.offset ∙ p.offset;
-  target = q.target ∙ p.target;
-  kind = q.kind ∙ p.kind;
-  kept = λ t e. q.kept t (p.kept t e);
-  later = λ t e f. elim v.stop as (λ o. v.stop ≡ o → a ≤ t) [
-    | None ↦ λ z. let x : b ≤ t = q.later t z f in omega arith
-    | Some s ↦ λ z. let x : a ≤ s = p.later s e z in let h : s ≡ t = cc (sym (q.kept s z) ∙ f) in omega arith
-  ] refl;
-}
-
-pub later_none : {K : Type 0} (b : Buffer K) → IsLater b b
-later_none b = record { end = omega arith; words = λ i h. refl; count = omega arith; uses = λ k d h. same_use (end_of b) (get_or b.uses k d); fresh = λ k d h w. absurd (omega arith); labels = λ l p e. e; constants = refl }
-
-pub later_trans : {K : Type 0} (a b c : Buffer K) → IsLater a b → IsLater b c → IsLater a c
-later_trans a b c p q = record {
-  end = omega (arith, p.end, q.end);
-  words = λ i h. q.words i (omega (arith, p.end)) ∙ p.words i h;
-  count = omega (arith, p.count, q.count);
-  uses = λ k d h. same_use_trans (end_of a) (end_of b) _ _ _ p.end (p.uses k d h) (q.uses k d (omega (arith, p.count)));
-  fresh = λ k d h w. elim (cases_lt k (length b.uses)) [
-    | inl lt ↦ let x : end_of a ≤ (get_or b.uses k d).offset = p.fresh k d h lt in let y : (get_or c.uses k d).offset ≡ (get_or b.uses k d).offset = (q.uses k d lt).offset in omega arith
-    | inr ge ↦ let x : end_of b ≤ (get_or c.uses k d).offset = q.fresh k d ge w in omega (arith, p.end)
-  ];
-  labels = λ l g e. q.labels l g (p.labels l g e);
-  constants = q.constants ∙ p.constants;
-}
-
--- what is open was open before
-pub was_open : {K : Type 0} (r : Kinds K) (end : ℕ) (u v : Use K) → IsSameUse end u v → is_open r v ≡ true → is_open r u ≡ true
-was_open r end u v same o = elim u.stop as (λ s. u.stop ≡ s → is_open r u ≡ true) [
-  | None ↦ λ e.
-      let w : wants (class r u) ≡ true = ap wants (ap (class_of r u.target) (sym same.kind) ∙ ap (λ t. class_of r t v.kind) (sym same.target)) ∙ open_wants r v o in
-      ap (λ s. wants (class r u) && is_none s) e ∙ ap (λ w. w && true) w
-  | Some t ↦ λ e. absurd (let z : None ≡ Some t = sym (open_stop r v o) ∙ same.kept t e in cc)
-] refl
 
 module _ {K : Type 0} (r : Kinds K) where
   pub part_none : (b : Buffer K) → IsPart r b b
@@ -89,6 +51,9 @@ module _ {K : Type 0} (r : Kinds K) where
 
   pub writing_none : (limit : ℕ) (b : Buffer K) → MayWrite r b → IsWriting r limit b b
   writing_none limit b m = record {
+    served = [];
+    serves = serves_none r b.labels b.constants b b refl refl (λ k d h o s. open_none r (get_or b.uses k d) o s);
+    ahead = λ k d h. absurd (omega arith);
     part = part_none b;
     sound = m.sound;
     sound_in = λ areas s h. s;
@@ -113,10 +78,24 @@ module _ {K : Type 0} (r : Kinds K) where
   wanting Far h = refl
   wanting Direct h = absurd (omega arith)
 
+  far_or_less : (c : Class) → wants c ≡ true → (c ≡ Far) ⊎ (rank_of c < 4)
+  far_or_less Near w = inr (omega arith)
+  far_or_less Middle w = inr (omega arith)
+  far_or_less Load w = inr (omega arith)
+  far_or_less Trapping w = inr (omega arith)
+  far_or_less Far w = inl refl
+  far_or_less Direct w = absurd (false≢true w)
+
   pub writing_step : (limit : ℕ) (b m b' : Buffer K) (c : Class) → limit ≤ 5 → IsWriting r limit b m → GivesAll r c m b' → rank_of c < limit → (All (λ u. is_open r u ≡ true → class r u ≡ Far) m.uses → c ≡ Far) → IsWriting r limit b b'
   writing_step limit b m b' c five w g lt last_far =
       let later : IsLater m b' = g.given.part.later in
       record {
+        served = w.served ++ g.next.served ∷ [];
+        serves = serves_join r b.labels b.constants b m b' w.served (g.next.served ∷ []) w.serves next_serves w.part.later later (λ k d h l. (g.given.given k d h l).labelled)
+            (λ j k d hj hk. let z : k ≡ 0 = omega arith in subst (λ n. ComesBefore r (get_or w.served j d) (get_or (g.next.served ∷ []) n d)) (sym z) (behind j d hj));
+        ahead = All-append (λ (u : Use K). All (λ v. is_open r v ≡ true → key_of r u < key_of r v) b'.uses) w.served (g.next.served ∷ [])
+            (λ j d hj k e hk o. omega (arith, (behind j d hj).0, key_next k e hk o))
+            (All-cons (λ (u : Use K). All (λ v. is_open r v ≡ true → key_of r u < key_of r v) b'.uses) g.next.served [] key_next (λ k d h. absurd (omega arith)));
         part = part_trans b m b' w.part g.given.part;
         sound = g.given.sound;
         sound_in = λ areas s h. g.sound_in areas (w.sound_in areas s h) (λ p size le fits. h p size (omega (arith, w.part.later.end)) fits);
@@ -127,7 +106,7 @@ module _ {K : Type 0} (r : Kinds K) where
         ];
         far_waits = λ four end h k d l. elim (cases_lt k (length m.uses)) [
           | inl below ↦ λ is_far.
-              let was_far : class r (get_or m.uses k d) ≡ Far = sym (same_class k d below) ∙ is_far in
+              let was_far : class r (get_or m.uses k d) ≡ Far = sym (same_at k d below) ∙ is_far in
               let same : get_or b'.uses k d ≡ get_or m.uses k d = g.given.spared k d below (λ e. not_far c (omega arith) (sym e ∙ was_far)) in
               subst (λ (v : Use K). IfSome v.stop (λ stop. (stop < end) ⊎ (goal_of b.labels v.target ≡ Some stop))) (sym same) (w.far_waits four end h k d below was_far)
           | inr past ↦ λ far. subst (λ (ls : FinMap nat_cmp ℕ). IfSome (get_or b'.uses k d).stop (λ stop. (stop < end) ⊎ (goal_of ls (get_or b'.uses k d).target ≡ Some stop))) w.part.labels (at_goal end (get_or b'.uses k d) (g.given.waits k d past l))
@@ -139,19 +118,68 @@ module _ {K : Type 0} (r : Kinds K) where
             | inr past ↦ λ q. absurd (let n : wants (class r (get_or b'.uses k d)) ≡ false = g.given.last (last_far o.0) k d past l in open_not (get_or b'.uses k d) q n)
           ],
           λ k d low l. elim (cases_lt k (length m.uses)) [
-            | inl below ↦ ap (λ c. wants c) (same_class k d below) ∙ o.1 k d low below
+            | inl below ↦ ap (λ c. wants c) (same_at k d below) ∙ o.1 k d low below
             | inr past ↦ g.given.last (last_far o.0) k d past l
           ],
         );
       }
     where
+      n : ServesNext r c m b'
+      n = g.next
+
+      next_serves : Serves r b.labels b.constants (g.next.served ∷ []) m b'
+      next_serves = subst (λ ls. Serves r ls b.constants (g.next.served ∷ []) m b') w.part.labels (subst (λ cs. Serves r m.labels cs (g.next.served ∷ []) m b') w.part.later.constants g.next.serves)
+
+      behind : (j : ℕ) (d : Use K) → j < length w.served → ComesBefore r (get_or w.served j d) g.next.served
+      behind j d hj = served_behind r b.labels b.constants b m b' w.served (g.next.served ∷ []) w.serves next_serves w.part.later g.given.part.later w.ahead n.index n.within n.served (n.here n.served) (n.waited n.served) j d hj
+
+      has_stop : IsSome g.next.served.stop
+      has_stop = (g.next.serves.waited 0 g.next.served (omega arith)).stops
+
+      same_next : (d : Use K) → IsSameUse (end_of m) (get_or m.uses n.index d) (get_or b'.uses n.index d)
+      same_next d = g.given.part.later.uses n.index d n.within
+
+      served_offset : (d : Use K) → g.next.served.offset ≡ (get_or m.uses n.index d).offset
+      served_offset d = ap (λ (v : Use K). v.offset) (sym (n.here d)) ∙ (same_next d).offset
+
       open_not : (u : Use K) → is_open r u ≡ true → wants (class r u) ≡ false → ⊥
       open_not u o n = let z : false ≡ true = sym n ∙ open_wants r u o in cc
 
-      same_class : (k : ℕ) (d : Use K) → k < length m.uses → class r (get_or b'.uses k d) ≡ class r (get_or m.uses k d)
-      same_class k d below =
-          let same : IsSameUse (end_of m) (get_or m.uses k d) (get_or b'.uses k d) = g.given.part.later.uses k d below in
-          ap (λ t. class_of r t (get_or b'.uses k d).kind) same.target ∙ ap (class_of r (get_or m.uses k d).target) same.kind
+      -- what is open still comes behind the use that was served
+      key_next : (k : ℕ) (d : Use K) → k < length b'.uses → is_open r (get_or b'.uses k d) ≡ true → key_of r g.next.served < key_of r (get_or b'.uses k d)
+      key_next k d hk o = elim (cases_lt k (length m.uses)) [
+        | inl lt ↦
+            let same : IsSameUse (end_of m) (get_or m.uses k d) (get_or b'.uses k d) = g.given.part.later.uses k d lt in
+            let least : key_of r g.next.served ≤ key_of r (get_or m.uses k d) = n.least k d lt (was_open r (end_of m) (get_or m.uses k d) (get_or b'.uses k d) same o) in
+            let key : key_of r (get_or b'.uses k d) ≡ key_of r (get_or m.uses k d) = same_key r (end_of m) (get_or m.uses k d) (get_or b'.uses k d) same in
+            let low : (get_or m.uses k d).offset < 2 ^ 31 = short_place k d lt in
+            let low' : (get_or m.uses n.index d).offset < 2 ^ 31 = short_place n.index d n.within in
+            elim (cases_lt (key_of r g.next.served) (key_of r (get_or m.uses k d))) [
+              | inl less ↦ omega (arith, less, key)
+              | inr ge ↦
+                  let equal : (get_or m.uses n.index d).offset ≡ (get_or m.uses k d).offset = omega (arith, ge, least, low, low', served_offset d) in
+                  absurd (elim (cases_eq k n.index) [
+                    | inl e ↦ open_none r g.next.served (ap (is_open r) (sym (n.here d)) ∙ (ap (λ i. is_open r (get_or b'.uses i d)) (sym e) ∙ o)) has_stop
+                    | inr ne ↦ elim (cases_lt k n.index) [
+                      | inl before ↦ w.sound.apart k n.index d before n.within (sym equal)
+                      | inr after ↦ w.sound.apart n.index k d (omega arith) lt equal
+                    ]
+                  ])
+            ]
+        | inr ge ↦
+            let low' : (get_or m.uses n.index d).offset < 2 ^ 31 = short_place n.index d n.within in
+            let far : class r (get_or b'.uses k d) ≡ Far = g.given.fars k d ge hk o in
+            elim (far_or_less c (ap wants (sym g.next.class_is) ∙ (g.next.serves.waited 0 g.next.served (omega arith)).wants_one)) [
+              | inl e ↦ absurd (open_not (get_or b'.uses k d) o (g.given.last e k d ge hk))
+              | inr less ↦ omega (arith, less, ap rank_of g.next.class_is, ap rank_of far, low', served_offset d)
+            ]
+      ]
+        where
+          short_place : (k : ℕ) (d : Use K) → k < length m.uses → (get_or m.uses k d).offset < 2 ^ 31
+          short_place k d h = let p : IsPlaced (end_of m) (get_or m.uses k d) = w.sound.placed k d h in omega (arith, p.inside, w.sound.short)
+
+      same_at : (k : ℕ) (d : Use K) → k < length m.uses → class r (get_or b'.uses k d) ≡ class r (get_or m.uses k d)
+      same_at k d below = same_class r (end_of m) (get_or m.uses k d) (get_or b'.uses k d) (g.given.part.later.uses k d below)
 
       stays : (k : ℕ) (d : Use K) → k < length m.uses → IsVeneerUse r b (get_or m.uses k d) → IsVeneerUse r b (get_or b'.uses k d)
       stays k d below v =
@@ -176,7 +204,7 @@ module _ {K : Type 0} (r : Kinds K) where
       old_far : (k : ℕ) (d : Use K) → k < length m.uses → (is_open r (get_or m.uses k d) ≡ true → class r (get_or m.uses k d) ≡ Far) → is_open r (get_or b'.uses k d) ≡ true → class r (get_or b'.uses k d) ≡ Far
       old_far k d below f o =
           let same : IsSameUse (end_of m) (get_or m.uses k d) (get_or b'.uses k d) = g.given.part.later.uses k d below in
-          same_class k d below ∙ f (was_open r (end_of m) (get_or m.uses k d) (get_or b'.uses k d) same o)
+          same_at k d below ∙ f (was_open r (end_of m) (get_or m.uses k d) (get_or b'.uses k d) same o)
 
   -- ---- the next open use
 
@@ -207,6 +235,9 @@ module _ {K : Type 0} (r : Kinds K) (law : IsLawful r) (p : Parts K) (index : �
   lowest : All (λ v. is_open r v ≡ true → rank_of (class r u) ≤ rank_of (class r v)) p.uses.items
   lowest = subst (λ (w : Use K). All (λ v. is_open r v ≡ true → rank_of (class r w) ≤ rank_of (class r v)) p.uses.items) (sym is) (ready.next u).1
 
+  least : All (λ v. is_open r v ≡ true → key_of r u ≤ key_of r v) p.uses.items
+  least = subst (λ (w : Use K). All (λ v. is_open r v ≡ true → key_of r w ≤ key_of r v) p.uses.items) (sym is) (ready.least u)
+
   holds : (areas : List (ℕ × ℕ)) → HoldFrom areas (end_of (seen p)) → (place size : ℕ) → end_of (seen p) ≤ place → place + size ≤ end_of (seen p) + 28 → InArea areas place size
   holds areas h place size le fits = h place size le (omega (arith, ready.may.short))
 
@@ -223,24 +254,28 @@ module _ {K : Type 0} (r : Kinds K) (law : IsLawful r) (p : Parts K) (index : �
   jump_all b' c a = record {
     given = jump_given r law (seen p) b' everywhere ready.may.sound index u ready.within is open' ready.may.room lowest ready.may.short (holds everywhere all_hold) c a;
     sound_in = λ areas s h. (jump_given r law (seen p) b' areas s index u ready.within is open' ready.may.room lowest ready.may.short (holds areas h) c a).sound;
+    next = jump_next r law (seen p) b' everywhere ready.may.sound index u ready.within is open' least ready.may.room lowest c a;
   }
 
   pub far_all : (b' : Buffer K) → class r u ≡ Far → GivesFar r u (seen p) b' → GivesAll r (class r u) (seen p) b'
   far_all b' c a = record {
     given = far_given r law (seen p) b' everywhere ready.may.sound index u ready.within is open' ready.may.room lowest ready.may.short (holds everywhere all_hold) c a;
     sound_in = λ areas s h. (far_given r law (seen p) b' areas s index u ready.within is open' ready.may.room lowest ready.may.short (holds areas h) c a).sound;
+    next = far_next r law (seen p) b' everywhere ready.may.sound index u ready.within is open' least ready.may.room lowest c a;
   }
 
   pub trap_all : (b' : Buffer K) (code : TrapCode) → u.target ≡ Trap code → GivesTrap r u code (seen p) b' → GivesAll r (class r u) (seen p) b'
   trap_all b' code c a = record {
     given = trap_given r law (seen p) b' everywhere ready.may.sound index u ready.within is open' ready.may.room lowest ready.may.short (holds everywhere all_hold) code c a;
     sound_in = λ areas s h. (trap_given r law (seen p) b' areas s index u ready.within is open' ready.may.room lowest ready.may.short (holds areas h) code c a).sound;
+    next = trap_next r law (seen p) b' everywhere ready.may.sound index u ready.within is open' least ready.may.room lowest code c a;
   }
 
   pub copy_all : (b' : Buffer K) (constant : VCodeConstant) (content : List ℕ) → u.target ≡ Constant constant → get (seen p).constants constant.0 ≡ Some content → IsConstant content → GivesCopy r constant.0 content (seen p) b' → GivesAll r (class r u) (seen p) b'
   copy_all b' constant content c known sized a = record {
     given = copy_given r law (seen p) b' everywhere ready.may.sound index u ready.within is open' ready.may.room lowest ready.may.short (holds everywhere all_hold) constant content c known sized a;
     sound_in = λ areas s h. (copy_given r law (seen p) b' areas s index u ready.within is open' ready.may.room lowest ready.may.short (holds areas h) constant content c known sized a).sound;
+    next = copy_next r law (seen p) b' everywhere ready.may.sound index u ready.within is open' least constant content c known a;
   }
 
   -- a constant that the use loads is known
@@ -320,6 +355,7 @@ module _ {K : Type 0} (r : Kinds K) (limit : ℕ) (five : limit ≤ 5) (start p 
   pub ready_next : HasSpace r p → IsChained (labels_of p.uses.items) p.earlier.items p.heads → IsReady r p index
   ready_next space chained = record {
     within = next.0;
+    least = λ d. (next.1 d).2;
     next = λ d. ((next.1 d).0, (ranks d).1);
     may = may_write_on r limit (seen start) (seen p) may w;
     space = space;
@@ -333,7 +369,7 @@ pub writes_all : {K : Type 0} (r : Kinds K) (limit : ℕ) (start p : Parts K) �
 writes_all r limit start p w none = record { writing = w; done = none_ranks r (seen p) limit w.sound none }
 
 pub same_room_none : {K : Type 0} (p : Parts K) → SameRoom p p
-same_room_none p = record { words = refl; uses = refl; earlier = refl; traps = refl; islands = refl }
+same_room_none p = record { words = refl; uses = refl; earlier = refl; traps = refl; islands = refl; queues = refl }
 
 pub same_room_trans : {K : Type 0} (p q s : Parts K) → SameRoom p q → SameRoom q s → SameRoom p s
-same_room_trans p q s a c = record { words = c.words ∙ a.words; uses = c.uses ∙ a.uses; earlier = c.earlier ∙ a.earlier; traps = c.traps ∙ a.traps; islands = c.islands ∙ a.islands }
+same_room_trans p q s a c = record { words = c.words ∙ a.words; uses = c.uses ∙ a.uses; earlier = c.earlier ∙ a.earlier; traps = c.traps ∙ a.traps; islands = c.islands ∙ a.islands; queues = c.queues ∙ a.queues }

@@ -12,7 +12,8 @@ use Rattle.a64_buffer.specs.Kinds.{Kinds, IsWithin}
 
 -- the words as they were put, those of islands included; the uses in the order in which they were
 -- made, veneers included; the places of the bound labels by their numbers; the islands, where each
--- begins and ends; the trap words of islands, with their codes; and the bytes of the constants by their numbers
+-- begins and ends; the traps with their codes, those recorded and the trap words of islands, in the order in
+-- which they came; and the bytes of the constants by their numbers
 pub record Buffer (K : Type 0) : Type 0 where
   pub words : List ℕ
   pub uses : List (Use K)

@@ -8,7 +8,8 @@ use Rattle.a64_buffer.specs.Kinds.{Kinds, GoesTo}
 use Rattle.a64_buffer.specs.Buffer.{Buffer, end_of, IsFree}
 use Rattle.a64_buffer.specs.Classes.{trap_words, weight_of, owed}
 use Rattle.a64_buffer.specs.Later.{IsLater}
-use Rattle.a64_buffer.specs.Sound.{IsSound}
+use Rattle.a64_buffer.specs.Sound.{HaveOwnTraps, IsSound}
+use Rattle.a64_buffer.specs.Pieces.{Serves}
 use Rattle.a64_buffer.specs.Islands.{IsVeneerUse}
 use Rattle.a64_buffer.specs.Leads.{TargetLeads}
 use Rattle.a64_buffer.specs.Settled.{Lists}
@@ -38,6 +39,9 @@ module _ {K : Type 0} (r : Kinds K) where
     pub settled : All (λ u. IsSettled (slice_index final.words (u.offset / 4)) u (word_at code.bytes.items u.offset)) final.uses
     pub leads : All (λ u. MatchOption u.stop (u.target ≡ IslandEnd) (TargetLeads r code.bytes.items (b.islands ++ (end_of b, end_of final) ∷ []) b.labels b.constants code.traps.items u.kind u.target)) final.uses
     pub given : (k : ℕ) (d : Use K) → length b.uses ≤ k → k < length final.uses → IsVeneerUse r b (slice_index_or final.uses k d)
+    pub served : List (Use K)
+    pub serves : Serves r b.labels b.constants served b final
+    pub own_traps : HaveOwnTraps final.uses
     pub jumps : All (JumpsOver code.bytes.items) b.islands
     pub labels : Lists b.labels code.labels.items
     pub islands : code.islands.items ≡ b.islands

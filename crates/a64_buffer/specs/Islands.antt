@@ -1,5 +1,5 @@
 -- What an island leaves.
-use Rattle.std.specs.Prelude.{ℕ, ◌≡◌, ◌⊎◌, ◌+◌, ◌≤◌, ◌<◌, Bool, true, false, [], ◌∷◌, ◌++◌, All, length, slice_index_or, Some, IfSome, IsSome}
+use Rattle.std.specs.Prelude.{ℕ, ◌≡◌, ◌⊎◌, ◌+◌, ◌≤◌, ◌<◌, Bool, true, false, List, [], ◌∷◌, ◌++◌, All, length, slice_index_or, Some, IfSome, IsSome}
 use Rattle.std.specs.Ordering.{nat_cmp}
 use Rattle.std.specs.FinMap.{FinMap}
 use Rattle.a64_buffer.specs.declared.site.Use.{Use}
@@ -12,6 +12,7 @@ use Rattle.a64_buffer.specs.declared.class.Class.TheVariants.{Far}
 use Rattle.a64_buffer.specs.Classes.{class, is_open, wants, owed, owed_to, Fits}
 use Rattle.a64_buffer.specs.Later.{IsLater}
 use Rattle.a64_buffer.specs.Sound.{IsWhole}
+use Rattle.a64_buffer.specs.Pieces.{begun, Serves}
 
 module _ {K : Type 0} (r : Kinds K) where
   -- a use that a veneer is, with the target of an older use
@@ -73,3 +74,5 @@ module _ {K : Type 0} (r : Kinds K) where
     pub owed : end_of b' + owed r b' ≤ end_of b + owed r b + 4
     pub owed_to : (test : ℕ → Bool) → owed_to r test b' ≤ owed_to r test b
     pub promotion : IsPromotion distance force b b'
+    pub served : List (Use K)
+    pub serves : Serves r b.labels b.constants served (begun r b) b'

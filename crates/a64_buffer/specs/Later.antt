@@ -1,8 +1,12 @@
 -- What stays true of a buffer as islands are added to it.
-use Rattle.std.specs.Prelude.{ℕ, ◌≡◌, ◌<◌, ◌≤◌, length, slice_index, slice_index_or, Some, None}
-use Rattle.std.specs.FinMap.{get}
+use Rattle.std.specs.Prelude.{ℕ, ◌≡◌, ◌⊎◌, ◌<◌, ◌≤◌, List, ◌++◌, All, length, slice_index, slice_index_or, Some, None, IfSome}
+use Rattle.std.specs.List.{AllPairs}
+use Rattle.std.specs.Ordering.{nat_cmp}
+use Rattle.std.specs.FinMap.{FinMap, get}
+use Rattle.a64_base.specs.declared.entity.TrapCode.{TrapCode}
 use Rattle.a64_buffer.specs.declared.site.Use.{Use}
-use Rattle.a64_buffer.specs.Buffer.{Buffer, end_of}
+use Rattle.a64_buffer.specs.declared.site.Target.TheVariants.{IslandEnd}
+use Rattle.a64_buffer.specs.Buffer.{Buffer, end_of, goal_of}
 
 -- a use later on: the same use; a stop that it has stays, and one that it gets is at the end from which
 -- it waited, or behind it
@@ -13,12 +17,35 @@ pub record IsSameUse {K : Type 0} (end : ℕ) (u v : Use K) : Type 0 where
   pub kept : (stop : ℕ) → u.stop ≡ Some stop → v.stop ≡ Some stop
   pub later : (stop : ℕ) → u.stop ≡ None → v.stop ≡ Some stop → end ≤ stop
 
--- a buffer later on: its words, uses and labels stay, and new uses stand at its old end or behind it
-pub record IsLater {K : Type 0} (b b' : Buffer K) : Type 0 where
+-- traps recorded from one place up to another, by place
+pub record AreTraps (from to : ℕ) (traps : List (ℕ × TrapCode)) : Type 0 where
+  pub behind : All (λ t. from ≤ t.0) traps
+  pub ahead : All (λ t. t.0 ≤ to) traps
+  pub in_order : AllPairs (λ t u. t.0 ≤ u.0) traps
+
+-- traps later on: those of before, and behind them such as stand between the two ends
+pub record HasMoreTraps (from to : ℕ) (traps traps' : List (ℕ × TrapCode)) : Type 0 where
+  pub more : List (ℕ × TrapCode)
+  pub are : traps' ≡ traps ++ more
+  pub stand : AreTraps from to more
+
+-- a buffer later on: its words, uses, labels and traps stay, new uses stand at a place or behind it, and
+-- new traps at its old end or behind it
+pub record IsLaterFrom {K : Type 0} (from : ℕ) (b b' : Buffer K) : Type 0 where
   pub end : end_of b ≤ end_of b'
   pub words : (i : ℕ) → i < length b.words → slice_index b'.words i ≡ slice_index b.words i
   pub count : length b.uses ≤ length b'.uses
   pub uses : (k : ℕ) (d : Use K) → k < length b.uses → IsSameUse (end_of b) (slice_index_or b.uses k d) (slice_index_or b'.uses k d)
-  pub fresh : (k : ℕ) (d : Use K) → length b.uses ≤ k → k < length b'.uses → end_of b ≤ (slice_index_or b'.uses k d).offset
+  pub fresh : (k : ℕ) (d : Use K) → length b.uses ≤ k → k < length b'.uses → from ≤ (slice_index_or b'.uses k d).offset
   pub labels : (label place : ℕ) → get b.labels label ≡ Some place → get b'.labels label ≡ Some place
   pub constants : b'.constants ≡ b.constants
+  pub traps : HasMoreTraps (end_of b) (end_of b') b.traps b'.traps
+
+-- a buffer later on, all of whose new uses stand at its old end or behind it
+abbrev pub IsLater : {K : Type 0} → Buffer K → Buffer K → Type 0
+IsLater b b' = IsLaterFrom (end_of b) b b'
+
+-- a use that has a stop leads below an end, to its label's place, or, where it is the jump over an island,
+-- to the end of that
+abbrev pub HasStopBelow : {K : Type 0} → ℕ → FinMap nat_cmp ℕ → Use K → Type 0
+HasStopBelow end labels u = IfSome u.stop (λ stop. (stop < end) ⊎ (goal_of labels u.target ≡ Some stop) ⊎ (u.target ≡ IslandEnd))

@@ -5,9 +5,11 @@ pub mod Buffer
 pub mod Areas
 pub mod Classes
 pub mod Chain
+pub mod Queues
 pub mod Sound
 pub mod Later
 pub mod Space
+pub mod Pieces
 pub mod Steps
 pub mod Settled
 pub mod Leads

@@ -14,6 +14,7 @@ use Rattle.a64_buffer.specs.Buffer.{Buffer, end_of, goal_of, is_within}
 use Rattle.a64_buffer.specs.Areas.{InArea, HasUse, Stands}
 use Rattle.a64_buffer.specs.Classes.{Fits}
 use Rattle.a64_buffer.specs.Chain.{labels_of, IsChained}
+use Rattle.a64_buffer.specs.Queues.{AreWaiting}
 
 -- what the parts of a buffer are to its callers
 abbrev pub seen : {K : Type 0} → Parts K → Buffer K
@@ -27,6 +28,20 @@ pub record IsPlaced {K : Type 0} (end : ℕ) (u : Use K) : Type 0 where
 -- no two uses stand on one word
 abbrev pub AreApart : {K : Type 0} → List (Use K) → Type 0
 AreApart {K} uses = (j k : ℕ) (d : Use K) → j < k → k < length uses → (slice_index_or uses j d).offset ≢ (slice_index_or uses k d).offset
+
+-- a target is a trap
+abbrev pub IsTrap : Target → Type 0
+IsTrap (Label label) = ⊥
+IsTrap (Constant constant) = ⊥
+IsTrap (Trap code) = Unit {0}
+IsTrap IslandEnd = ⊥
+
+-- no two uses of traps stop at one trap word
+abbrev pub HaveOwnTraps : {K : Type 0} → List (Use K) → Type 0
+HaveOwnTraps {K} uses =
+    (j k stop : ℕ) (d : Use K) → j < k → k < length uses
+    → IsTrap (slice_index_or uses j d).target → IsTrap (slice_index_or uses k d).target
+    → (slice_index_or uses j d).stop ≡ Some stop → (slice_index_or uses k d).stop ≢ Some stop
 
 -- a constant that a use loads is there
 abbrev pub IsKnown : FinMap nat_cmp (List ℕ) → Target → Type 0
@@ -122,8 +137,10 @@ module _ {K : Type 0} (r : Kinds K) where
     pub sound : IsSound b b.islands
     pub islands : AreIslands b
     pub fits : Fits r b 0
+    pub own_traps : HaveOwnTraps b.uses
 
-  -- the parts of such a buffer, with its chains of uses
+  -- the parts of such a buffer, with its chains of uses, and what is kept of the open ones
   pub record AreSound (p : Parts K) : Type 0 where
     pub whole : IsWhole (seen p)
     pub chained : IsChained (labels_of p.uses.items) p.earlier.items p.heads
+    pub waiting : AreWaiting r p.uses.items p.queues p.burdens

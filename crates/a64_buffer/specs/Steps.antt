@@ -1,5 +1,5 @@
 -- What gives open uses what they wait for, one after another.
-use Rattle.std.specs.Prelude.{ℕ, ◌≡◌, ◌⊎◌, ◌+◌, ◌*◌, ◌-◌, ◌/◌, ◌%◌, ◌^◌, ◌<◌, ◌≤◌, Bool, true, false, ◌&&◌, nat_eq, if◌then◌else◌, List, [], ◌∷◌, ◌++◌, All, map, length, slice_index_or, replicate, Option, None, Some, is_none, IfSome, MatchOption}
+use Rattle.std.specs.Prelude.{ℕ, ◌≡◌, ◌⊎◌, ◌+◌, ◌*◌, ◌^◌, ◌<◌, ◌≤◌, Bool, true, false, ◌&&◌, nat_eq, if◌then◌else◌, List, [], ◌∷◌, ◌++◌, All, map, length, slice_index_or, replicate, Option, Some, is_none, IfSome, MatchOption}
 use Rattle.std.specs.Ordering.{nat_cmp}
 use Rattle.std.specs.FinMap.{FinMap, get}
 use Rattle.a64_base.specs.declared.entity.TrapCode.{TrapCode}
@@ -20,6 +20,7 @@ use Rattle.a64_buffer.specs.declared.force.ForceVeneers.TheVariants.{No, Yes}
 use Rattle.a64_buffer.specs.Later.{IsLater}
 use Rattle.a64_buffer.specs.Space.{HasSpace}
 use Rattle.a64_buffer.specs.Sound.{seen, IsSound}
+use Rattle.a64_buffer.specs.Pieces.{padding, key_of, Serves}
 use Rattle.a64_buffer.specs.Islands.{IsVeneerUse, FarWaits}
 
 -- a use that stops at a place, where it passes a test
@@ -53,10 +54,6 @@ pub record Adds {K : Type 0} (test : Use K → Bool) (place : ℕ) (added : List
   pub traps_are : b'.traps ≡ b.traps ++ traps
   pub constants : b'.constants ≡ b.constants
 
--- how many zero words bring a place to a multiple of a size of 4, 8 or 16 bytes
-abbrev pub padding : ℕ → ℕ → ℕ
-padding place size = (size - place % size) % size / 4
-
 -- an island from a place on is ended
 abbrev pub ended : {K : Type 0} → ℕ → Buffer K → Buffer K
 ended start b = record b { uses = map (stopped (stands_at start) (end_of b)) b.uses; islands = b.islands ++ (start, end_of b) ∷ [] }
@@ -70,18 +67,6 @@ abbrev pub HoldFrom : List (ℕ × ℕ) → ℕ → Type 0
 HoldFrom areas from = (place size : ℕ) → from ≤ place → place + size ≤ 2 ^ 32 → InArea areas place size
 
 module _ {K : Type 0} (r : Kinds K) where
-  -- uses in the order of islands: by rank, then by place
-  abbrev pub key_of : Use K → ℕ
-  key_of u = rank_of (class r u) * 2 ^ 32 + u.offset
-
-  -- the jump at the start of an island, whose end is not known yet
-  abbrev pub over_use : ℕ → Use K
-  over_use place = record { offset = place; target = IslandEnd; kind = r.jump; stop = None }
-
-  -- an island is begun, and ended
-  abbrev pub begun : Buffer K → Buffer K
-  begun b = record b { words = b.words ++ r.jump_word ∷ []; uses = b.uses ++ over_use (end_of b) ∷ [] }
-
   -- a branch to a label gets a jump word at the end
   abbrev pub GivesJump : Use K → Buffer K → Buffer K → Type 0
   GivesJump u b b' = Adds (stands_at u.offset) (end_of b) (r.jump_word ∷ []) (made_use r b.labels (end_of b) u.target r.jump ∷ []) [] b b'
@@ -137,12 +122,25 @@ module _ {K : Type 0} (r : Kinds K) where
     pub spared : (k : ℕ) (d : Use K) → k < length b.uses → (class r (slice_index_or b.uses k d) ≡ given_class → ⊥) → slice_index_or b'.uses k d ≡ slice_index_or b.uses k d
     pub given : (k : ℕ) (d : Use K) → length b.uses ≤ k → k < length b'.uses → IsVeneerUse r b (slice_index_or b'.uses k d)
     pub waits : (k : ℕ) (d : Use K) → length b.uses ≤ k → k < length b'.uses → AtGoal b.labels (slice_index_or b'.uses k d)
+    pub fars : (k : ℕ) (d : Use K) → length b.uses ≤ k → k < length b'.uses → is_open r (slice_index_or b'.uses k d) ≡ true → class r (slice_index_or b'.uses k d) ≡ Far
     pub last : given_class ≡ Far → (k : ℕ) (d : Use K) → length b.uses ≤ k → k < length b'.uses → wants (class r (slice_index_or b'.uses k d)) ≡ false
+
+  -- the open use that comes first, which is of a class, got its piece
+  pub record ServesNext (given_class : Class) (b b' : Buffer K) : Type 0 where
+    pub served : Use K
+    pub class_is : class r served ≡ given_class
+    pub index : ℕ
+    pub within : index < length b.uses
+    pub here : (d : Use K) → slice_index_or b'.uses index d ≡ served
+    pub waited : (d : Use K) → is_open r (slice_index_or b.uses index d) ≡ true
+    pub least : All (λ v. is_open r v ≡ true → key_of r served ≤ key_of r v) b.uses
+    pub serves : Serves r b.labels b.constants (served ∷ []) b b'
 
   -- and so in all areas that hold what is added
   pub record GivesAll (given_class : Class) (b b' : Buffer K) : Type 0 where
     pub given : HasGiven everywhere given_class b b'
     pub sound_in : (areas : List (ℕ × ℕ)) → IsSound r b areas → HoldFrom areas (end_of b) → IsSound r b' areas
+    pub next : ServesNext given_class b b'
 
   -- a buffer in which open uses may be given what they wait for
   pub record MayWrite (b : Buffer K) : Type 0 where
@@ -150,8 +148,12 @@ module _ {K : Type 0} (r : Kinds K) where
     pub room : Within (end_of b) b.uses 0
     pub short : end_of b + owed r b < 2 ^ 31
 
-  -- open uses were given what they waited for, one after another
+  -- open uses were given what they waited for, one after another; what is open still comes behind them
+  -- in the order of islands
   pub record IsWriting (limit : ℕ) (b b' : Buffer K) : Type 0 where
+    pub served : List (Use K)
+    pub serves : Serves r b.labels b.constants served b b'
+    pub ahead : All (λ u. All (λ v. is_open r v ≡ true → key_of r u < key_of r v) b'.uses) served
     pub part : IsPart b b'
     pub sound : IsSound r b' everywhere
     pub sound_in : (areas : List (ℕ × ℕ)) → IsSound r b areas → HoldFrom areas (end_of b) → IsSound r b' areas
@@ -176,9 +178,9 @@ module _ {K : Type 0} (r : Kinds K) where
   abbrev pub IsNextOpen : ℕ → List (Use K) → Option ℕ → Type 0
   IsNextOpen limit uses result =
       MatchOption result
-      (All (λ u. is_open r u ≡ true → limit * 2 ^ 32 ≤ key_of u) uses)
-      (λ i. (i < length uses) × ((d : Use K) → (is_open r (slice_index_or uses i d) ≡ true) × (key_of (slice_index_or uses i d) < limit * 2 ^ 32)
-      × All (λ u. is_open r u ≡ true → key_of (slice_index_or uses i d) ≤ key_of u) uses))
+      (All (λ u. is_open r u ≡ true → limit * 2 ^ 32 ≤ key_of r u) uses)
+      (λ i. (i < length uses) × ((d : Use K) → (is_open r (slice_index_or uses i d) ≡ true) × (key_of r (slice_index_or uses i d) < limit * 2 ^ 32)
+      × All (λ u. is_open r u ≡ true → key_of r (slice_index_or uses i d) ≤ key_of r u) uses))
 
   -- an open use reaches so many bytes and what comes before what it gets
   abbrev pub UseHasRoom : ℕ → ℕ → ℕ → ℕ → Use K → Type 0
@@ -187,6 +189,7 @@ module _ {K : Type 0} (r : Kinds K) where
 -- what is needed to give an open use what it waits for
 pub record IsReady {K : Type 0} (r : Kinds K) (p : Parts K) (index : ℕ) : Type 0 where
   pub within : index < length p.uses.items
+  pub least : (d : Use K) → All (λ u. is_open r u ≡ true → key_of r (slice_index_or p.uses.items index d) ≤ key_of r u) p.uses.items
   pub next : (d : Use K) → (is_open r (slice_index_or p.uses.items index d) ≡ true) × All (λ u. is_open r u ≡ true → rank_of (class r (slice_index_or p.uses.items index d)) ≤ rank_of (class r u)) p.uses.items
   pub may : MayWrite r (seen p)
   pub space : HasSpace r p

@@ -1,8 +1,9 @@
 //! A buffer of code.
 
-ghost use Rattle.std.specs.Prelude.{◌≡◌, ◌+◌, ◌%◌, ◌^◌, ◌<◌, All, IfOk, OnOk, OnErr, [], ◌∷◌, ◌++◌, None, IsSomeAnd, MatchBool, false, map};
+ghost use Rattle.std.specs.Prelude.{◌≡◌, ◌+◌, ◌/◌, ◌%◌, ◌^◌, ◌<◌, All, IfOk, OnOk, OnErr, [], ◌∷◌, ◌++◌, None, IsSomeAnd, MatchBool, false, length, map};
 ghost use Rattle.std.specs.FinMap as finmap;
 ghost use Rattle.a64_buffer.specs.declared.site.Target.TheVariants.{Label, Constant, Trap};
+ghost use Rattle.a64_buffer.specs.Word.{words_of};
 ghost use Rattle.a64_buffer.specs.Constants.{IsConstant};
 ghost use Rattle.a64_buffer.specs.Classes.{owed, Fits};
 
@@ -44,6 +45,7 @@ impl<'c, K: MachInstLabelUse> MachBuffer<'c, K> {
     ghost use Rattle.a64_buffer.specs.Buffer.{new_buffer, end_of, IsFree, IsOutside, IsBound, IsFirstUnbound, made_use, closed_at, IsReached};
     ghost use Rattle.a64_buffer.specs.Sound.{IsWhole};
     ghost use Rattle.a64_buffer.specs.Islands.{HasIsland};
+    ghost use Rattle.a64_buffer.specs.Later.{IsLaterFrom, IsLater, HasStopBelow};
     ghost use Rattle.a64_buffer.specs.Finished.{IsFinished};
 
     /// A buffer without code, over the constants that the code may load. It takes no memory.
@@ -56,11 +58,13 @@ impl<'c, K: MachInstLabelUse> MachBuffer<'c, K> {
     }
 
     /// Where the next word will stand, in bytes from the start of the code. What is true of every buffer
-    /// is told here: uses stand before the end, islands end at it at most, and each open use still
-    /// reaches what it gets in an island at the end.
+    /// is told here: uses stand before the end, islands end at it at most, each open use still reaches
+    /// what it gets in an island at the end, and a use that has a stop has it before the end, or at its
+    /// label.
     pub fn cur_offset(&self) -> u32
         ensures value { result ≡ end_of self.now }
         ensures whole { IsWhole K.kinds self.now }
+        ensures stops { All (HasStopBelow (end_of self.now) self.now.labels) self.now.uses }
     {
         self.parts.end()
     }
@@ -75,8 +79,53 @@ impl<'c, K: MachInstLabelUse> MachBuffer<'c, K> {
         requires fits { Fits K.kinds self.old 4 }
         ensures ok { OnOk result (self.new ≡ record self.old { words = self.old.words ++ word ∷ [] }) }
         ensures err { OnErr result (self.new ≡ self.old) }
+        ensures later { OnOk result (IsLater self.old self.new) }
     {
         self.parts.put(word)
+    }
+
+    /// Adds the eight bytes of a number at the end, the least byte first: two words, the low half first.
+    ///
+    /// # Errors
+    ///
+    /// Want of memory, and then nothing has changed.
+    pub fn put8(&mut self, value: u64) -> Result<(), AllocError>
+        requires short { end_of self.old + 8 < 2 ^ 31 }
+        requires fits { Fits K.kinds self.old 8 }
+        ensures ok { OnOk result (self.new ≡ record self.old { words = self.old.words ++ value % 2 ^ 32 ∷ value / 2 ^ 32 ∷ [] }) }
+        ensures err { OnErr result (self.new ≡ self.old) }
+        ensures later { OnOk result (IsLater self.old self.new) }
+    {
+        self.parts.put_two(value)
+    }
+
+    /// Adds bytes at the end, a multiple of four of them.
+    ///
+    /// # Errors
+    ///
+    /// Want of memory, and then nothing has changed.
+    pub fn put_data(&mut self, bytes: &[u8]) -> Result<(), AllocError>
+        requires whole { length bytes.now % 4 ≡ 0 }
+        requires short { end_of self.old + length bytes.now < 2 ^ 31 }
+        requires fits { Fits K.kinds self.old (length bytes.now) }
+        ensures ok { OnOk result (self.new ≡ record self.old { words = self.old.words ++ words_of bytes.now }) }
+        ensures err { OnErr result (self.new ≡ self.old) }
+        ensures later { OnOk result (IsLater self.old self.new) }
+    {
+        self.parts.put_data(bytes)
+    }
+
+    /// Records a trap at the end: the word that comes next may trap, for the reason of the code.
+    ///
+    /// # Errors
+    ///
+    /// Want of memory, and then nothing has changed.
+    pub fn add_trap(&mut self, code: TrapCode) -> Result<(), AllocError>
+        ensures ok { OnOk result (self.new ≡ record self.old { traps = self.old.traps ++ (end_of self.old, code) ∷ [] }) }
+        ensures err { OnErr result (self.new ≡ self.old) }
+        ensures later { OnOk result (IsLater self.old self.new) }
+    {
+        self.parts.add_trap(code)
     }
 
     /// Makes a word that was put, and that has no use yet, a use of a label. With it all open uses still
@@ -102,6 +151,7 @@ impl<'c, K: MachInstLabelUse> MachBuffer<'c, K> {
           uses = self.old.uses ++ made_use K.kinds self.old.labels offset (Label label) kind ∷ [];
         }) }
         ensures err { OnErr result (self.new ≡ self.old) }
+        ensures later { OnOk result (IsLaterFrom offset self.old self.new) }
     {
         self.parts.add_use(offset, Target::Label(label), kind)
     }
@@ -131,6 +181,7 @@ impl<'c, K: MachInstLabelUse> MachBuffer<'c, K> {
           uses = self.old.uses ++ made_use K.kinds self.old.labels offset (Constant constant) kind ∷ [];
         }) }
         ensures err { OnErr result (self.new ≡ self.old) }
+        ensures later { OnOk result (IsLaterFrom offset self.old self.new) }
     {
         self.parts.add_use(offset, Target::Constant(constant), kind)
     }
@@ -154,6 +205,7 @@ impl<'c, K: MachInstLabelUse> MachBuffer<'c, K> {
           uses = self.old.uses ++ made_use K.kinds self.old.labels offset (Trap code) kind ∷ [];
         }) }
         ensures err { OnErr result (self.new ≡ self.old) }
+        ensures later { OnOk result (IsLaterFrom offset self.old self.new) }
     {
         self.parts.add_use(offset, Target::Trap(code), kind)
     }
@@ -170,6 +222,7 @@ impl<'c, K: MachInstLabelUse> MachBuffer<'c, K> {
           labels = finmap.insert self.old.labels label.0 (end_of self.old);
         }) }
         ensures err { OnErr result (self.new ≡ self.old) }
+        ensures later { OnOk result (IsLater self.old self.new) }
     {
         self.parts.bind(label)
     }

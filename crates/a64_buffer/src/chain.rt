@@ -2,9 +2,11 @@
 
 ghost use Rattle.std.specs.Prelude.{◌≡◌, ◌<◌, length, map, slice_set, slice_index_or};
 ghost use Rattle.a64_buffer.specs.Buffer.{reached, closed_at};
+ghost use Rattle.a64_buffer.specs.Queues.{AreBurdens};
 ghost use Rattle.a64_buffer.specs.Chain.{with_stop, labels_of, IsChained, IsLast};
 
 use crate::label_use::MachInstLabelUse;
+use crate::room::Burdens;
 use crate::site::Use;
 use a64_label_map::LabelMap;
 
@@ -26,14 +28,26 @@ fn last_use(heads: &LabelMap<usize>, label: u32) -> usize
 }
 
 /// Lets a use that has no stop stop at a place, where it reaches that.
-fn close_use<K: MachInstLabelUse>(uses: &mut [Use<K>], index: usize, place: u32)
-    requires { index < length uses.old }
-    ensures { (d : _) → uses.new ≡ slice_set uses.old index (with_stop K.kinds place (slice_index_or uses.old index d)) }
+fn close_use<K: MachInstLabelUse>(
+    uses: &mut [Use<K>],
+    burdens: &mut Burdens,
+    index: usize,
+    place: u32,
+)
+    requires index { index < length uses.old }
+    requires burdens { AreBurdens K.kinds uses.old burdens.old }
+    ensures uses { (d : _) → uses.new ≡ slice_set uses.old index (with_stop K.kinds place (slice_index_or uses.old index d)) }
+    ensures burdens { AreBurdens K.kinds uses.new burdens.new }
 {
     let site = uses[index];
-    if site.stop.is_none() {
-        uses[index].stop = reached(site.kind, site.offset, place);
+    let stop = reached(site.kind, site.offset, place);
+    if site.stop.is_some() || stop.is_none() {
+        return;
     }
+    if site.is_open() {
+        burdens.lose(site.class());
+    }
+    uses[index].stop = stop;
 }
 
 /// Lets each use of a label that has no stop stop at the label's place, where it reaches that.
@@ -41,16 +55,19 @@ pub fn close_label<K: MachInstLabelUse>(
     uses: &mut [Use<K>],
     earlier: &[usize],
     heads: &LabelMap<usize>,
+    burdens: &mut Burdens,
     label: u32,
     place: u32,
 )
-    requires { IsChained (labels_of uses.old) earlier.now heads.now }
-    ensures { uses.new ≡ map (closed_at K.kinds label place) uses.old }
+    requires chained { IsChained (labels_of uses.old) earlier.now heads.now }
+    requires burdens { AreBurdens K.kinds uses.old burdens.old }
+    ensures uses { uses.new ≡ map (closed_at K.kinds label place) uses.old }
+    ensures burdens { AreBurdens K.kinds uses.new burdens.new }
 {
     let mut at = last_use(heads, label);
     while at != 0 {
         let index = at - 1;
-        close_use(uses, index, place);
+        close_use(uses, burdens, index, place);
         at = earlier[index];
     }
 }

@@ -25,7 +25,7 @@ pub enum Class {
 }
 
 impl<K: MachInstLabelUse> Use<K> {
-    ghost use Rattle.a64_buffer.specs.Steps.{key_of};
+    ghost use Rattle.a64_buffer.specs.Pieces.{key_of};
 
     /// What the use may want.
     pub fn class(&self) -> Class

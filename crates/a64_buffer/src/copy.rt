@@ -3,6 +3,7 @@
 ghost use Rattle.std.specs.Prelude.{◌≡◌, ◌+◌, ◌*◌, ◌/◌, ◌%◌, ◌^◌, ◌<◌, ◌≤◌, ◌++◌, [], IfSome, IsSome, length, map, replicate, vec_len, vec_capacity};
 ghost use Rattle.std.specs.FinMap as finmap;
 ghost use Rattle.a64_buffer.specs.Buffer.{end_of};
+ghost use Rattle.a64_buffer.specs.Pieces as pieces;
 ghost use Rattle.a64_buffer.specs.Steps as steps;
 ghost use Rattle.a64_buffer.specs.Steps.{stopped, GivesCopy};
 
@@ -15,7 +16,7 @@ use a64_base::VCodeConstant;
 /// How many zero words bring a place to a multiple of a size.
 fn padding(place: u32, size: u32) -> u32
     requires { 0 < size }
-    ensures { result ≡ steps.padding place size }
+    ensures { result ≡ pieces.padding place size }
 {
     (size - place % size) % size / 4
 }

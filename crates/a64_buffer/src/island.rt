@@ -17,7 +17,8 @@ impl<'c, K: MachInstLabelUse> Parts<'c, K> {
     ghost use Rattle.a64_buffer.specs.Sound.{seen, AreApart, IsKinded, AreSound};
     ghost use Rattle.a64_buffer.specs.Chain.{labels_of, IsChained};
     ghost use Rattle.a64_buffer.specs.Space.{SameRoom, HasSpace, HasSpaceForMore};
-    ghost use Rattle.a64_buffer.specs.Steps.{IsNextOpen, IsReady, GivesAll, MayWrite, Writes, WritesFar, begun, ended};
+    ghost use Rattle.a64_buffer.specs.Steps.{IsNextOpen, IsReady, GivesAll, MayWrite, Writes, WritesFar, ended};
+    ghost use Rattle.a64_buffer.specs.Pieces.{begun};
     ghost use Rattle.a64_buffer.specs.Islands.{HasIsland};
 
     /// The open use that comes first in the order of islands, where its rank is below a limit.
@@ -99,6 +100,8 @@ impl<'c, K: MachInstLabelUse> Parts<'c, K> {
         ensures rest { seen self.new ≡ seen self.old }
         ensures earlier { self.new.earlier.items ≡ self.old.earlier.items }
         ensures heads { self.new.heads ≡ self.old.heads }
+        ensures queues { self.new.queues ≡ self.old.queues }
+        ensures burdens { self.new.burdens ≡ self.old.burdens }
     {
         let owed = sum_burdens(&self.uses).third as usize;
         self.words.reserve(owed / 4 + 2)?;
@@ -140,6 +143,8 @@ impl<'c, K: MachInstLabelUse> Parts<'c, K> {
         requires chained { IsChained (labels_of self.old.uses.items) self.old.earlier.items self.old.heads }
         ensures ended { AreApart self.old.uses.items → seen self.new ≡ ended start (seen self.old) }
         ensures chained { IsChained (labels_of self.new.uses.items) self.new.earlier.items self.new.heads }
+        ensures queues { self.new.queues ≡ self.old.queues }
+        ensures capacity { vec_capacity self.new.uses ≡ vec_capacity self.old.uses }
     {
         let end = self.end();
         self.stop_at(index, end);
@@ -169,12 +174,14 @@ impl<'c, K: MachInstLabelUse> Parts<'c, K> {
         ensures err { OnErr result (seen self.new ≡ seen self.old) }
     {
         self.reserve_all()?;
+        self.reserve_queues()?;
         let start = self.end();
         let index = self.uses.len();
         self.begin_island();
         self.write_until(4);
         self.promote(distance, force);
         self.end_island(index, start);
+        self.await_island(index);
         Ok(())
     }
 

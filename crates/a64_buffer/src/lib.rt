@@ -14,6 +14,10 @@ mod give;
 mod island;
 mod label_use;
 mod parts;
+mod queue;
+mod queues;
+#[cfg(test)]
+mod refusal_tests;
 mod room;
 mod settle;
 mod site;
@@ -21,6 +25,7 @@ mod site;
 mod test_use;
 #[cfg(test)]
 mod tests;
+mod waiting;
 
 pub use buffer::MachBuffer;
 pub use constants::Constants;

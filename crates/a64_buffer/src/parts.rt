@@ -1,15 +1,20 @@
 //! The parts of a buffer of code, and what changes them.
 
-ghost use Rattle.std.specs.Prelude.{◌≡◌, ◌+◌, ◌%◌, ◌^◌, ◌<◌, ◌≤◌, All, IfOk, OnOk, OnErr, [], ◌∷◌, ◌++◌, None, Some, MatchOption, MatchBool, IfSome, false, option_map, length, map, min, vec_len, vec_capacity};
+ghost use Rattle.std.specs.Prelude.{◌≡◌, ◌+◌, ◌/◌, ◌%◌, ◌^◌, ◌<◌, ◌≤◌, All, IfOk, OnOk, OnErr, [], ◌∷◌, ◌++◌, None, Some, MatchOption, MatchBool, IfSome, false, option_map, length, map, min, vec_len, vec_capacity};
 ghost use Rattle.std.specs.Option.{unwrap_or};
 ghost use Rattle.std.specs.FinMap as finmap;
 ghost use Rattle.a64_base.specs.declared.entity.MachLabel.{MachLabel};
+ghost use Rattle.a64_buffer.specs.Word.{words_of};
 ghost use Rattle.a64_buffer.specs.Buffer.{label_of};
 
 use crate::chain::{close_label, reached};
 use crate::constants::Constants;
 use crate::finish::Finished;
+use crate::give::push_words;
 use crate::label_use::MachInstLabelUse;
+use crate::queue::Queue;
+use crate::queues::{no_queues, reserve_queue};
+use crate::room::Burdens;
 use crate::settle::{bytes_of, labels_in_order, settle};
 use crate::site::{Target, Use};
 use a64_base::{MachLabel, TrapCode};
@@ -29,9 +34,13 @@ pub struct Parts<'c, K> {
     pub earlier: Vec<usize>,
     /// For each label that is used, one more than the index of its last use.
     pub heads: LabelMap<usize>,
+    /// The open uses by rank.
+    pub queues: [Queue; 5],
+    /// How many bytes the open uses may put before what uses of each urgency get.
+    pub burdens: Burdens,
     /// Where each island begins and ends, in order.
     pub islands: Vec<(u32, u32)>,
-    /// The trap words of islands, with their codes, in order.
+    /// The places of traps, with their codes, in order: those recorded, and the trap words of islands.
     pub traps: Vec<(u32, TrapCode)>,
     /// The constants that the code may load.
     pub constants: &'c Constants,
@@ -64,6 +73,7 @@ impl<'c, K: MachInstLabelUse> Parts<'c, K> {
     ghost use Rattle.a64_buffer.specs.Classes.{owed, Fits};
     ghost use Rattle.a64_buffer.specs.Settled.{MayLead, IsCode};
     ghost use Rattle.a64_buffer.specs.Sound.{seen, IsPlaced, AreApart, IsKinded, IsKnown, AreSound};
+    ghost use Rattle.a64_buffer.specs.Later.{IsLaterFrom, IsLater};
     ghost use Rattle.a64_buffer.specs.Finished.{IsFinished};
 
     /// The parts of a buffer without code.
@@ -77,6 +87,12 @@ impl<'c, K: MachInstLabelUse> Parts<'c, K> {
             labels: LabelMap::new(alloc),
             earlier: Vec::new(alloc),
             heads: LabelMap::new(alloc),
+            queues: no_queues(alloc),
+            burdens: Burdens {
+                first: 0,
+                second: 0,
+                third: 0,
+            },
             islands: Vec::new(alloc),
             traps: Vec::new(alloc),
             constants,
@@ -100,8 +116,54 @@ impl<'c, K: MachInstLabelUse> Parts<'c, K> {
         ensures sound { AreSound K.kinds self.new }
         ensures ok { OnOk result (seen self.new ≡ record (seen self.old) { words = self.old.words.items ++ word ∷ [] }) }
         ensures err { OnErr result (seen self.new ≡ seen self.old) }
+        ensures later { OnOk result (IsLater (seen self.old) (seen self.new)) }
     {
         self.words.push(word)?;
+        Ok(())
+    }
+
+    /// Adds two words, the low half of a number first.
+    pub fn put_two(&mut self, value: u64) -> Result<(), AllocError>
+        requires sound { AreSound K.kinds self.old }
+        requires short { end_of (seen self.old) + 8 < 2 ^ 31 }
+        requires fits { Fits K.kinds (seen self.old) 8 }
+        ensures sound { AreSound K.kinds self.new }
+        ensures ok { OnOk result (seen self.new ≡ record (seen self.old) { words = self.old.words.items ++ value % 2 ^ 32 ∷ value / 2 ^ 32 ∷ [] }) }
+        ensures err { OnErr result (seen self.new ≡ seen self.old) }
+        ensures later { OnOk result (IsLater (seen self.old) (seen self.new)) }
+    {
+        self.words.reserve(2)?;
+        self.words.push_reserved((value & 0xffff_ffff) as u32);
+        self.words.push_reserved((value >> 32) as u32);
+        Ok(())
+    }
+
+    /// Adds the words that bytes are.
+    pub fn put_data(&mut self, bytes: &[u8]) -> Result<(), AllocError>
+        requires sound { AreSound K.kinds self.old }
+        requires whole { length bytes.now % 4 ≡ 0 }
+        requires short { end_of (seen self.old) + length bytes.now < 2 ^ 31 }
+        requires fits { Fits K.kinds (seen self.old) (length bytes.now) }
+        ensures sound { AreSound K.kinds self.new }
+        ensures ok { OnOk result (seen self.new ≡ record (seen self.old) { words = self.old.words.items ++ words_of bytes.now }) }
+        ensures err { OnErr result (seen self.new ≡ seen self.old) }
+        ensures later { OnOk result (IsLater (seen self.old) (seen self.new)) }
+    {
+        self.words.reserve(bytes.len() / 4)?;
+        push_words(&mut self.words, bytes);
+        Ok(())
+    }
+
+    /// Records a trap at the end.
+    pub fn add_trap(&mut self, code: TrapCode) -> Result<(), AllocError>
+        requires sound { AreSound K.kinds self.old }
+        ensures sound { AreSound K.kinds self.new }
+        ensures ok { OnOk result (seen self.new ≡ record (seen self.old) { traps = self.old.traps.items ++ (end_of (seen self.old), code) ∷ [] }) }
+        ensures err { OnErr result (seen self.new ≡ seen self.old) }
+        ensures later { OnOk result (IsLater (seen self.old) (seen self.new)) }
+    {
+        let place = self.end();
+        self.traps.push((place, code))?;
         Ok(())
     }
 
@@ -145,18 +207,23 @@ impl<'c, K: MachInstLabelUse> Parts<'c, K> {
           uses = self.old.uses.items ++ made_use K.kinds (seen self.old).labels offset target kind ∷ [];
         }) }
         ensures err { OnErr result (seen self.new ≡ seen self.old) }
+        ensures later { OnOk result (IsLaterFrom offset (seen self.old) (seen self.new)) }
     {
-        self.uses.reserve(1)?;
-        self.earlier.reserve(1)?;
-        let earlier = self.link_new(target)?;
-        self.earlier.push_reserved(earlier);
         let stop = self.stop_of(offset, target, kind);
-        self.uses.push_reserved(Use {
+        let site = Use {
             offset,
             target,
             kind,
             stop,
-        });
+        };
+        self.uses.reserve(1)?;
+        self.earlier.reserve(1)?;
+        reserve_queue(&mut self.queues, &site)?;
+        let earlier = self.link_new(target)?;
+        self.earlier.push_reserved(earlier);
+        self.await_use(&site);
+        self.uses.push_reserved(site);
+        self.drop_closed();
         Ok(())
     }
 
@@ -170,10 +237,19 @@ impl<'c, K: MachInstLabelUse> Parts<'c, K> {
           labels = finmap.insert (seen self.old).labels label.0 (end_of (seen self.old));
         }) }
         ensures err { OnErr result (seen self.new ≡ seen self.old) }
+        ensures later { OnOk result (IsLater (seen self.old) (seen self.new)) }
     {
         let place = self.end();
         self.labels.insert(label.0, place)?;
-        close_label(&mut self.uses, &self.earlier, &self.heads, label.0, place);
+        close_label(
+            &mut self.uses,
+            &self.earlier,
+            &self.heads,
+            &mut self.burdens,
+            label.0,
+            place,
+        );
+        self.drop_closed();
         Ok(())
     }
 
@@ -208,7 +284,7 @@ impl<'c, K: MachInstLabelUse> Parts<'c, K> {
         requires { AreSound K.kinds self.now }
         ensures { MatchBool result (Fits K.kinds (seen self.now) distance → ⊥) (Fits K.kinds (seen self.now) distance) }
     {
-        !self.fits(distance)
+        !self.has_room(distance)
     }
 
     /// The finished code: the pool is written, and each use leads to its target.

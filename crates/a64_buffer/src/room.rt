@@ -21,6 +21,38 @@ pub struct Burdens {
     pub third: u64,
 }
 
+impl Burdens {
+    ghost use Rattle.a64_buffer.specs.Classes.{cost};
+
+    /// An open use of a class came to be.
+    pub fn gain(&mut self, class: Class)
+        requires first { self.old.first < 2 ^ 40 }
+        requires second { self.old.second < 2 ^ 40 }
+        requires third { self.old.third < 2 ^ 40 }
+        ensures first { self.new.first ≡ self.old.first + cost first class }
+        ensures second { self.new.second ≡ self.old.second + cost second class }
+        ensures third { self.new.third ≡ self.old.third + cost third class }
+    {
+        self.first += class.first_cost();
+        self.second += class.second_cost();
+        self.third += class.third_cost();
+    }
+
+    /// An open use of a class was closed.
+    pub fn lose(&mut self, class: Class)
+        requires first { cost first class ≤ self.old.first }
+        requires second { cost second class ≤ self.old.second }
+        requires third { cost third class ≤ self.old.third }
+        ensures first { self.new.first + cost first class ≡ self.old.first }
+        ensures second { self.new.second + cost second class ≡ self.old.second }
+        ensures third { self.new.third + cost third class ≡ self.old.third }
+    {
+        self.first -= class.first_cost();
+        self.second -= class.second_cost();
+        self.third -= class.third_cost();
+    }
+}
+
 /// How many bytes the open uses may put before what uses of each urgency get.
 pub fn sum_burdens<K: MachInstLabelUse>(uses: &[Use<K>]) -> Burdens
     requires { burden K.kinds third uses.now < 2 ^ 32 }
@@ -49,7 +81,7 @@ pub fn sum_burdens<K: MachInstLabelUse>(uses: &[Use<K>]) -> Burdens
 
 impl<K: MachInstLabelUse> Use<K> {
     /// Whether it is not open, or reaches a place and the burden of its urgency behind it.
-    fn has_room(&self, from: u64, burdens: Burdens) -> bool
+    pub fn has_room(&self, from: u64, burdens: Burdens) -> bool
         requires from { from < 2 ^ 40 }
         requires first { burdens.first < 2 ^ 40 }
         requires second { burdens.second < 2 ^ 40 }

@@ -40,24 +40,32 @@ fn leads_forward_and_backward(rt: HostRuntime) -> Result<(), AllocError> {
     buffer.put4(0x3600_0000)?;
     buffer.put4(0x3600_0001)?;
     buffer.use_label_at_offset(4, MachLabel(3), TestUse::Near)?;
-    buffer.bind_label(MachLabel(9))?;
     buffer.use_label_at_offset(0, MachLabel(5), TestUse::Near)?;
-    assert!(rt; !buffer.island_needed(4));
-    buffer.put4(0x0000_0010)?;
-    buffer.use_label_at_offset(8, MachLabel(4), TestUse::Add32)?;
-    assert_eq!(rt; buffer.cur_offset(), 12);
-    assert_eq!(rt; buffer.first_unbound(), Some(MachLabel(4)));
     buffer.bind_label(MachLabel(5))?;
+    let code = buffer.finish()?;
+    let bytes = [
+        0x40, 0x00, 0x00, 0x36, // tbz w0, #0, 8
+        0xe1, 0xff, 0x07, 0x36, // tbz w1, #0, 0
+    ];
+    assert_eq!(rt; code.bytes.as_slice(), bytes.as_slice());
+    assert_eq!(rt; code.pool, 8);
+    Ok(())
+}
+
+#[test]
+fn adds_a_distance_to_its_word(rt: HostRuntime) -> Result<(), AllocError> {
+    let constants = Constants::new(rt.alloc());
+    let mut buffer: MachBuffer<'_, TestUse> = MachBuffer::new(rt.alloc(), &constants);
+    buffer.put4(0x0000_0010)?;
+    buffer.use_label_at_offset(0, MachLabel(4), TestUse::Add32)?;
+    assert_eq!(rt; buffer.cur_offset(), 4);
+    buffer.bind_label(MachLabel(9))?;
+    assert_eq!(rt; buffer.first_unbound(), Some(MachLabel(4)));
     buffer.bind_label(MachLabel(4))?;
     assert_eq!(rt; buffer.first_unbound(), None);
     let code = buffer.finish()?;
-    let bytes = [
-        0x60, 0x00, 0x00, 0x36, // tbz w0, #0, 12
-        0xe1, 0xff, 0x07, 0x36, // tbz w1, #0, 0
-        0x14, 0x00, 0x00, 0x00, // 16, and 4 from here to the end
-    ];
-    assert_eq!(rt; code.bytes.as_slice(), bytes.as_slice());
-    assert_eq!(rt; code.pool, 12);
+    // 16, and 4 from here to the end
+    assert_eq!(rt; code.bytes.as_slice(), [0x14, 0x00, 0x00, 0x00].as_slice());
     Ok(())
 }
 
@@ -90,5 +98,28 @@ fn defers_a_trap(rt: HostRuntime) -> Result<(), AllocError> {
     assert_eq!(rt; code.bytes.as_slice(), bytes.as_slice());
     assert_eq!(rt; code.pool, 4);
     assert_eq!(rt; code.traps.len(), 1);
+    Ok(())
+}
+
+#[test]
+fn records_traps_and_data(rt: HostRuntime) -> Result<(), AllocError> {
+    let constants = Constants::new(rt.alloc());
+    let mut buffer: MachBuffer<'_, TestUse> = MachBuffer::new(rt.alloc(), &constants);
+    buffer.add_trap(TrapCode(1))?;
+    buffer.put4(0x0000_c11f)?;
+    buffer.put8(0x8877_6655_4433_2211)?;
+    buffer.put_data(&[1, 2, 3, 4, 5, 6, 7, 8])?;
+    buffer.add_trap(TrapCode(2))?;
+    let code = buffer.finish()?;
+    let bytes = [
+        0x1f, 0xc1, 0, 0, // the first word, which traps
+        0x11, 0x22, 0x33, 0x44, 0x55, 0x66, 0x77, 0x88, // eight bytes of a number
+        1, 2, 3, 4, 5, 6, 7, 8,
+    ];
+    assert_eq!(rt; code.bytes.as_slice(), bytes.as_slice());
+    assert_eq!(rt;
+        code.traps.as_slice(),
+        [(0, TrapCode(1)), (20, TrapCode(2))].as_slice()
+    );
     Ok(())
 }

@@ -1,8 +1,17 @@
 use Rattle.std.proofs.Common.{None}
 use Rattle.a64_buffer.specs.declared.site.Target.TheVariants.{IslandEnd}
 use Rattle.a64_buffer.specs.declared.site.Use.{Use}
-use Rattle.a64_buffer.proofs.Writing.{ready_next, writing_next, space_after, less_owed, same_room_trans}
+use Rattle.a64_buffer.specs.Sound.{seen}
+use Rattle.a64_buffer.proofs.Writing.{writing_none, ready_next, writing_next, space_after, less_owed, same_room_none, same_room_trans}
 use Rattle.a64_buffer.proofs.parts.Parts.write_until.Goals as goal
+
+pub loop-index-init : goal.loop-index-init
+loop-index-init g c = record {
+  writing = writing_none g.K.MachInstLabelUse.kinds c.args.limit (seen c.args.self.now) c.requires.may;
+  space = c.requires.space;
+  chained = c.requires.chained;
+  room = same_room_none c.args.self.now;
+}
 
 pub give-requires : goal.give-requires
 give-requires g c = record {

@@ -1,0 +1,16 @@
+use Rattle.std.proofs.Common.{arith}
+use Rattle.a64_buffer.specs.Classes.{first, second}
+use Rattle.a64_buffer.proofs.Costs.{burden_third}
+use Rattle.a64_buffer.proofs.parts.Parts.await_use.Goals as goal
+
+pub gain-requires-clause-first : goal.gain-requires-clause-first
+gain-requires-clause-first g c = omega (arith, c.requires.waiting.burdens.first_is, burden_third g.K.MachInstLabelUse.kinds first c.args.self.now.uses.items, c.requires.few)
+
+pub gain-requires-clause-second : goal.gain-requires-clause-second
+gain-requires-clause-second g c = omega (arith, c.requires.waiting.burdens.second_is, burden_third g.K.MachInstLabelUse.kinds second c.args.self.now.uses.items, c.requires.few)
+
+pub returns-then-is_open-clause-hold : goal.returns-then-is_open-clause-hold
+returns-then-is_open-clause-hold g c = c.queue_use.ensures.hold c.args.self.now.uses.items (omega (arith, c.len-index.ensures, c.args.self.now.uses.ok.0)) c.requires.waiting.hold
+
+pub returns-else-is_open-clause-hold : goal.returns-else-is_open-clause-hold
+returns-else-is_open-clause-hold g c = c.queue_use.ensures.hold c.args.self.now.uses.items (omega (arith, c.len-index.ensures, c.args.self.now.uses.ok.0)) c.requires.waiting.hold

@@ -1,0 +1,118 @@
+//! A run in which a call that finds no memory is made again, so that it ends as it does with enough
+//! memory, whichever one of its allocations is refused (bench/refused_memory_in_a_buffer.sh).
+
+ghost use Rattle.std.specs.Prelude.{◌≡◌, ◌+◌, ◌%◌, ◌^◌, ◌<◌, OnOk, [], ◌∷◌, ◌++◌, IsSomeAnd};
+ghost use Rattle.std.specs.FinMap as finmap;
+ghost use Rattle.a64_buffer.specs.declared.site.Target.TheVariants.{Constant, Trap};
+ghost use Rattle.a64_buffer.specs.Constants.{IsConstant, inserted};
+ghost use Rattle.a64_buffer.specs.Classes.{owed, Fits};
+ghost use Rattle.a64_buffer.specs.Buffer.{end_of, IsFree, IsOutside, made_use};
+
+use crate::test_use::TestUse;
+use crate::{Constants, ForceVeneers, MachBuffer, MachInstLabelUse};
+use a64_base::{TrapCode, VCodeConstant};
+use std::alloc::AllocError;
+
+/// Adds a constant, at the second try if need be.
+fn add(constants: &mut Constants, constant: VCodeConstant, bytes: &[u8]) -> Result<(), AllocError>
+    requires { IsConstant bytes.now }
+    ensures { OnOk result (constants.new ≡ inserted constants.old constant.0 bytes.now) }
+{
+    if constants.insert(constant, bytes).is_ok() {
+        return Ok(());
+    }
+    constants.insert(constant, bytes)?;
+    Ok(())
+}
+
+/// Puts a word, at the second try if need be.
+fn put<K: MachInstLabelUse>(buffer: &mut MachBuffer<'_, K>, word: u32) -> Result<(), AllocError>
+    requires short { end_of buffer.old + 4 < 2 ^ 31 }
+    requires fits { Fits K.kinds buffer.old 4 }
+    ensures { OnOk result (buffer.new ≡ record buffer.old { words = buffer.old.words ++ word ∷ [] }) }
+{
+    if buffer.put4(word).is_ok() {
+        return Ok(());
+    }
+    buffer.put4(word)
+}
+
+/// Makes a load of a constant, at the second try if need be.
+fn load<K: MachInstLabelUse>(
+    buffer: &mut MachBuffer<'_, K>,
+    offset: u32,
+    constant: VCodeConstant,
+    kind: K,
+) -> Result<(), AllocError>
+    requires aligned { offset % 4 ≡ 0 }
+    requires inside { offset < end_of buffer.old }
+    requires free { IsFree buffer.old.uses offset }
+    requires outside { IsOutside buffer.old.islands offset }
+    requires urgency { K.kinds.urgency kind ≡ 2 }
+    requires known { IsSomeAnd (finmap.get buffer.old.constants constant.0) IsConstant }
+    requires fits { Fits K.kinds (record buffer.old {
+      uses = buffer.old.uses ++ made_use K.kinds buffer.old.labels offset (Constant constant) kind ∷ [];
+    }) 0 }
+    ensures { OnOk result (buffer.new ≡ record buffer.old {
+      uses = buffer.old.uses ++ made_use K.kinds buffer.old.labels offset (Constant constant) kind ∷ [];
+    }) }
+{
+    if buffer.use_constant(offset, constant, kind).is_ok() {
+        return Ok(());
+    }
+    buffer.use_constant(offset, constant, kind)
+}
+
+/// Makes a branch to a trap, at the second try if need be.
+fn trap<K: MachInstLabelUse>(
+    buffer: &mut MachBuffer<'_, K>,
+    offset: u32,
+    code: TrapCode,
+    kind: K,
+) -> Result<(), AllocError>
+    requires aligned { offset % 4 ≡ 0 }
+    requires inside { offset < end_of buffer.old }
+    requires free { IsFree buffer.old.uses offset }
+    requires outside { IsOutside buffer.old.islands offset }
+    requires urgency { K.kinds.urgency kind ≡ 2 }
+    requires fits { Fits K.kinds (record buffer.old {
+      uses = buffer.old.uses ++ made_use K.kinds buffer.old.labels offset (Trap code) kind ∷ [];
+    }) 0 }
+    ensures { OnOk result (buffer.new ≡ record buffer.old {
+      uses = buffer.old.uses ++ made_use K.kinds buffer.old.labels offset (Trap code) kind ∷ [];
+    }) }
+{
+    if buffer.defer_trap(offset, code, kind).is_ok() {
+        return Ok(());
+    }
+    buffer.defer_trap(offset, code, kind)
+}
+
+/// Writes an island, at the second try if need be.
+fn island<K: MachInstLabelUse>(buffer: &mut MachBuffer<'_, K>) -> Result<(), AllocError>
+    requires { end_of buffer.old + owed K.kinds buffer.old + 4 < 2 ^ 31 }
+{
+    let before = buffer.cur_offset();
+    if buffer.emit_island(0, ForceVeneers::Yes).is_ok() {
+        return Ok(());
+    }
+    if buffer.cur_offset() != before {
+        return Err(AllocError);
+    }
+    buffer.emit_island(0, ForceVeneers::Yes)
+}
+
+#[test]
+fn ends_as_with_enough_memory(rt: HostRuntime) -> Result<(), AllocError> {
+    let mut constants = Constants::new(rt.alloc());
+    add(&mut constants, VCodeConstant(7), &[1, 2, 3, 4, 5, 6, 7, 8])?;
+    let mut buffer: MachBuffer<'_, TestUse> = MachBuffer::new(rt.alloc(), &constants);
+    put(&mut buffer, 0x5800_0001)?;
+    put(&mut buffer, 0x5400_0001)?;
+    load(&mut buffer, 0, VCodeConstant(7), TestUse::Middle)?;
+    trap(&mut buffer, 4, TrapCode(3), TestUse::Middle)?;
+    island(&mut buffer)?;
+    // two words, the jump over the island, a zero word, the constant and a trap word
+    assert_eq!(rt; buffer.cur_offset(), 8 + 4 + 4 + 8 + 4);
+    Ok(())
+}
