@@ -1,5 +1,5 @@
 -- What uses may want of islands, by what the items with these uses may want.
-use Rattle.std.proofs.Common.{ℕ, ◌≡◌, ◌+◌, ◌*◌, ◌≤◌, ◌⊎◌, inl, inr, Bool, true, false, cond, List, [], ◌∷◌, ◌++◌, length, Option, None, Some, refl, sym, subst, arith, nat_cmp}
+use Rattle.std.proofs.Common.{ℕ, ◌≡◌, ◌+◌, ◌*◌, ◌^◌, ◌≤◌, ◌⊎◌, inl, inr, Bool, true, false, cond, List, [], ◌∷◌, ◌++◌, length, Option, None, Some, refl, sym, subst, arith, nat_cmp}
 use Rattle.std.specs.Prelude.{All, ◌&&◌, is_none}
 use Rattle.std.specs.List.{cons_option}
 use Rattle.std.specs.FinMap.{FinMap}
@@ -7,6 +7,10 @@ use Rattle.std.proofs.lemmas.List.Elements.{All-append, All-push, filter_map-app
 use Rattle.a64_base.specs.declared.target.BranchTarget.TheVariants as branch_targets
 use Rattle.a64_inst.specs.declared.emission.EmitFlags.{EmitFlags}
 use Rattle.a64_inst.specs.declared.frame.FrameLayout.{FrameLayout}
+use Rattle.a64_base.specs.declared.ir_type.IrType.TheVariants.{I8}
+use Rattle.a64_inst.specs.declared.access.Access.{Access}
+use Rattle.a64_inst.specs.Accesses.{access_of}
+use Rattle.a64_inst.specs.FinalModes.{final_mode, final_steps}
 use Rattle.a64_inst.specs.declared.inst.Inst.{Inst}
 use Rattle.a64_inst.specs.declared.inst.Inst.TheVariants as insts
 use Rattle.a64_inst.specs.declared.item.Item.{Item}
@@ -21,9 +25,11 @@ use Rattle.a64_buffer.proofs.Costs.{weight-cons}
 use Rattle.a64_emit.specs.declared.label_use.LabelUse.{LabelUse}
 use Rattle.a64_emit.specs.declared.label_use.LabelUse.TheVariants as uses
 use Rattle.a64_emit.specs.declared.site.Site.{Site}
-use Rattle.a64_emit.specs.LabelUses.{label_kinds, forward_range}
-use Rattle.a64_emit.specs.Cells.{Cell, inst_cells, cells_of, all_cells, sites_of}
+use Rattle.a64_emit.specs.LabelUses.{label_kinds, forward_range, has_veneer}
+use Rattle.a64_emit.specs.MemoryForms.{step_forms, offset_register, access_steps, access_form}
+use Rattle.a64_emit.specs.Cells.{Cell, shape_cells, access_shape, other_shape, inst_cells, cells_of, all_cells, sites_of}
 use Rattle.a64_emit.specs.Bounds.{veneer_range, ranges_in, charge_of}
+use Rattle.a64_emit.proofs.Several.{several_sites, address_sites}
 use Rattle.a64_emit.specs.Emission.{use_at, uses_from, site_of, IsOneOf}
 
 -- ---- what a use may want
@@ -37,6 +43,8 @@ one_burden : (labels : FinMap nat_cmp ℕ) (place : ℕ) (t : Target) (kind : La
 one_burden labels place (Label l) uses.Branch14 rest = let w = half_open (is_none (made_use label_kinds labels place (Label l) uses.Branch14).stop) 24 in omega (arith, w)
 one_burden labels place (Label l) uses.Branch19 rest = let w = half_open (is_none (made_use label_kinds labels place (Label l) uses.Branch19).stop) 24 in omega (arith, w)
 one_burden labels place (Label l) uses.Branch26 rest = let w = half_open (is_none (made_use label_kinds labels place (Label l) uses.Branch26).stop) 20 in omega (arith, w)
+one_burden labels place (Label l) uses.Ldr19 rest = omega arith
+one_burden labels place (Label l) uses.Adr21 rest = omega arith
 one_burden labels place (Label l) uses.PCRel32 rest = omega arith
 one_burden labels place (Constant n) kind rest = let w = half_open (is_none (made_use label_kinds labels place (Constant n) kind).stop) 28 in omega (arith, w)
 one_burden labels place (Trap code) kind rest = let w = half_open (is_none (made_use label_kinds labels place (Trap code) kind).stop) 4 in omega (arith, w)
@@ -47,7 +55,7 @@ pub new_burden : (labels : FinMap nat_cmp ℕ) (place : ℕ) (cells : List Cell)
 new_burden labels place [] = omega arith
 new_burden labels place (c ∷ cs) = go (new_burden labels (place + 4) cs) c.site
   where
-    go : burden label_kinds third (uses_from labels (place + 4) cs) ≤ 28 * length (ranges_in cs) → (o : Option Site) → burden label_kinds third (use_at labels place o ++ uses_from labels (place + 4) cs) ≤ 28 * length (ranges_in (record { body = c.body; site = o } ∷ cs))
+    go : burden label_kinds third (uses_from labels (place + 4) cs) ≤ 28 * length (ranges_in cs) → (o : Option Site) → burden label_kinds third (use_at labels place o ++ uses_from labels (place + 4) cs) ≤ 28 * length (ranges_in (record { body = c.body; site = o; marks = c.marks } ∷ cs))
     go less None = less
     go less (Some site) = omega (arith, weight-cons label_kinds (cost third) (made_use label_kinds labels place site.target site.kind) (uses_from labels (place + 4) cs), one_burden labels place site.target site.kind (ranges_in cs), less)
 
@@ -72,6 +80,8 @@ open_range u = go u.target u.kind (is_none u.stop)
     go (Label l) uses.Branch14 o e = refl
     go (Label l) uses.Branch19 o e = refl
     go (Label l) uses.Branch26 o e = refl
+    go (Label l) uses.Ldr19 o e = absurd (let z : false ≡ true = e in cc)
+    go (Label l) uses.Adr21 o e = absurd (let z : false ≡ true = e in cc)
     go (Label l) uses.PCRel32 o e = absurd (let z : false ≡ true = e in cc)
     go (Constant n) kind o e = refl
     go (Trap code) kind o e = refl
@@ -79,18 +89,32 @@ open_range u = go u.target u.kind (is_none u.stop)
 
 -- ---- the uses that exist are of labels
 
--- a use of a label
+-- a kind whose uses may want veneers, or reach as far as code can be addressed
+abbrev pub IsFarKind : LabelUse → Type 0
+IsFarKind kind = (has_veneer kind ≡ true) ⊎ (forward_range kind + 1 ≡ 2 ^ 31)
+
+-- a use of a label, of such a kind
 abbrev pub IsLabelSite : Site → Type 0
-IsLabelSite site = (label : ℕ) × (label_of site.target ≡ Some label)
+IsLabelSite site = (label : ℕ) × (label_of site.target ≡ Some label) × IsFarKind site.kind
 
 module _ (frame : FrameLayout) (flags : EmitFlags) where
   no_sites : All IsLabelSite []
   no_sites k d w = absurd (omega arith)
 
+  other_labels : (inst : Inst) → All IsLabelSite (sites_of (shape_cells (other_shape frame flags inst)))
+  other_labels (insts.Jump (branch_targets.Label label)) = All-push IsLabelSite [] (record { kind = uses.Branch26; target = Label label }) no_sites (label.0, refl, inl refl)
+  other_labels (insts.Jump (branch_targets.ResolvedOffset offset)) = no_sites
+  other_labels (insts.LoadAddr rd mem) = subst (All IsLabelSite) (sym (address_sites rd (step_forms offset_register (final_steps frame I8 mem)) (final_mode frame I8 mem))) no_sites
+  other_labels _ = no_sites
+
   inst_labels : (inst : Inst) → All IsLabelSite (sites_of (inst_cells frame flags inst))
-  inst_labels (insts.Jump (branch_targets.Label label)) = All-push IsLabelSite [] (record { kind = uses.Branch26; target = Label label }) no_sites (label.0, refl)
-  inst_labels (insts.Jump (branch_targets.ResolvedOffset offset)) = no_sites
-  inst_labels _ = no_sites
+  inst_labels inst = go (access_of inst) refl
+    where
+      go : (o : Option Access) → access_of inst ≡ o → All IsLabelSite (sites_of (inst_cells frame flags inst))
+      go None e = subst (λ o. All IsLabelSite (sites_of (shape_cells (elim o [ None ↦ other_shape frame flags inst | Some access ↦ access_shape frame access ])))) (sym e) (other_labels inst)
+      go (Some access) e =
+          subst (λ o. All IsLabelSite (sites_of (shape_cells (elim o [ None ↦ other_shape frame flags inst | Some a ↦ access_shape frame a ])))) (sym e)
+          (subst (All IsLabelSite) (sym (several_sites (access_steps frame access) (access_form frame access) access.flags)) no_sites)
 
   item_labels : (item : Item) → All IsLabelSite (sites_of (cells_of frame flags item))
   item_labels (Bind label) = no_sites
@@ -102,8 +126,14 @@ module _ (frame : FrameLayout) (flags : EmitFlags) where
       (All-append IsLabelSite (sites_of (cells_of frame flags x)) (sites_of (all_cells frame flags xs)) (item_labels x) (all_labels xs))
 
   -- and so are those of a buffer
+  buffer_label : (items : List Item) (end : ℕ) (u : Use LabelUse) → IsOneOf end (sites_of (all_cells frame flags items)) u → IsLabelSite (site_of u).1
+  buffer_label items end u one = subst IsLabelSite (one.is (site_of u).1) (all_labels items one.index (site_of u).1 one.within)
+
   pub use_labelled : (items : List Item) (end : ℕ) (u : Use LabelUse) → IsOneOf end (sites_of (all_cells frame flags items)) u → (label : ℕ) × (label_of u.target ≡ Some label)
-  use_labelled items end u one = subst IsLabelSite (one.is (site_of u).1) (all_labels items one.index (site_of u).1 one.within)
+  use_labelled items end u one = let is = buffer_label items end u one in (is.0, is.1)
+
+  pub use_far : (items : List Item) (end : ℕ) (u : Use LabelUse) → IsOneOf end (sites_of (all_cells frame flags items)) u → IsFarKind u.kind
+  use_far items end u one = let is = buffer_label items end u one in is.2
 
 -- a use of a label may be of any kind
 pub label_kinded : (t : Target) (kind : LabelUse) → (label : ℕ) × (label_of t ≡ Some label) → IsKinded label_kinds t kind

@@ -1,5 +1,5 @@
 -- From a finished buffer to code in which items are laid, and their uses lead.
-use Rattle.std.proofs.Common.{ℕ, ◌≡◌, ◌+◌, ◌*◌, ◌/◌, ◌<◌, ◌≤◌, ◌^◌, ◌⊎◌, List, [], ◌∷◌, ◌++◌, length, get_or, map, Option, None, Some, refl, sym, ap, ◌∙◌, subst, arith, inl, inr}
+use Rattle.std.proofs.Common.{ℕ, ◌≡◌, ◌+◌, ◌*◌, ◌/◌, ◌<◌, ◌≤◌, ◌^◌, ◌⊎◌, if◌then◌else◌, List, [], ◌∷◌, ◌++◌, length, get_or, map, Option, None, Some, refl, sym, ap, ◌∙◌, subst, arith, inl, inr}
 use Rattle.std.specs.Prelude.{All, Contains, IfSome, IsSome, IsSomeAnd, MatchOption, ◌↔◌}
 use Rattle.std.specs.List.Sorted.{IsStrictlyIncreasing}
 use Rattle.std.specs.Ordering.{nat_cmp}
@@ -31,14 +31,14 @@ use Rattle.a64_emit.specs.declared.code.Code.{Code}
 use Rattle.a64_emit.specs.LabelUses.{label_kinds, mask_for, forward_range, backward_range}
 use Rattle.a64_emit.specs.Cells.{Cell, cell_word, cells_of, all_cells, sites_of}
 use Rattle.a64_emit.specs.Emission.{site_of, HasUse, IsPut, IsOneOf, HasEmitted}
-use Rattle.a64_emit.specs.Layout.{standing, site_mask, Stands, IsBoundAt, Laid, Leads, SiteLeads, IsFollowed}
-use Rattle.a64_emit.specs.Records.{reloc_from, number_from, map_from, relocs_of, calls_of, patchable_of, maps_of}
-use Rattle.a64_emit.proofs.Recorded.{all_from-nothing}
+use Rattle.a64_emit.specs.Layout.{standing, traps_in, site_mask, Stands, IsBoundAt, Laid, Leads, SiteLeads, IsFollowed}
+use Rattle.a64_emit.specs.Records.{reloc_from, number_from, map_from, relocs_of, calls_of, patchable_of, maps_of, IsTrapOf}
+use Rattle.a64_emit.proofs.Recorded.{all_from-nothing, traps_exact}
 use Rattle.a64_emit.specs.Bounds.{veneer_range}
 use Rattle.a64_emit.specs.Faults.{own_fault, used_label, unbound_use, second_binding, too_large}
 use Rattle.a64_emit.specs.Assembled.{IsAssembled}
 use Rattle.a64_emit.specs.LabelLaws.{label_kinds_lawful}
-use Rattle.a64_emit.proofs.Burdens.{use_labelled}
+use Rattle.a64_emit.proofs.Burdens.{IsFarKind, use_labelled, use_far}
 use Rattle.a64_emit.proofs.Checked.{uses_bound, addressable, within_ranges, faultless}
 use Rattle.a64_emit.proofs.Sites.{found_in}
 
@@ -48,11 +48,9 @@ abbrev no_use : Use LabelUse
 no_use = record { offset = 0; target = Label (record { 0 = 0 }); kind = uses.Branch26; stop = None }
 
 -- a kind supports veneers, and its range is the forward range, or that range is longer than all code
-range_of : (kind : LabelUse) (label : MachLabel) → (veneer_range (record { kind = kind; target = Label label }) ≡ Some (forward_range kind)) ⊎ (forward_range kind + 1 ≡ 2 ^ 31)
-range_of uses.Branch14 label = inl refl
-range_of uses.Branch19 label = inl refl
-range_of uses.Branch26 label = inl refl
-range_of uses.PCRel32 label = inr (omega arith)
+range_of : (kind : LabelUse) (label : MachLabel) → IsFarKind kind → (veneer_range (record { kind = kind; target = Label label }) ≡ Some (forward_range kind)) ⊎ (forward_range kind + 1 ≡ 2 ^ 31)
+range_of kind label (inl veneer) = inl (ap (λ t. if t then Some (forward_range kind) else None) veneer)
+range_of kind label (inr far) = inr far
 
 -- what is of no label is not of one
 no_label : {o : Option ℕ} → None ≡ o → (label : ℕ) × (o ≡ Some label) → ⊥
@@ -85,8 +83,8 @@ module _ (frame : FrameLayout) (flags : EmitFlags) (items : List Item) (places :
         (get_or places binding.index 0, ap (get b.labels) (sym number) ∙ h.bound binding.index binding.label binding.binds ∙ slice_get-get_or places binding.index 0 inside)
 
     -- such a use reaches as far as the code goes
-    long_range : (j : ℕ) (d : Site) (kind : LabelUse) (label : MachLabel) → j < length (sites_of (all_cells frame flags items)) → get_or (sites_of (all_cells frame flags items)) j d ≡ record { kind = kind; target = Label label } → end_of b ≤ forward_range kind
-    long_range j d kind label within site = elim (range_of kind label) [
+    long_range : (j : ℕ) (d : Site) (kind : LabelUse) (label : MachLabel) → j < length (sites_of (all_cells frame flags items)) → get_or (sites_of (all_cells frame flags items)) j d ≡ record { kind = kind; target = Label label } → IsFarKind kind → end_of b ≤ forward_range kind
+    long_range j d kind label within site kind_is_far = elim (range_of kind label kind_is_far) [
       | inl counts ↦
           let range = found_in veneer_range (sites_of (all_cells frame flags items)) j d (forward_range kind) within (ap veneer_range site ∙ counts) in
           omega (arith, h.bounded, within_ranges frame flags items short range.index range.within, range.is 0)
@@ -100,7 +98,7 @@ module _ (frame : FrameLayout) (flags : EmitFlags) (items : List Item) (places :
         go (Label label) e =
             let site : get_or (sites_of (all_cells frame flags items)) one.index (site_of u).1 ≡ record { kind = u.kind; target = Label label } = one.is (site_of u).1 ∙ ap (λ (t : Target). record { kind = u.kind; target = t }) e in
             let found = label_place one.index (site_of u).1 u.kind label one.within site in
-            let long = long_range one.index (site_of u).1 u.kind label one.within site in
+            let long = long_range one.index (site_of u).1 u.kind label one.within site (use_far frame flags items (end_of b) u one) in
             let before = bound_place label.0 found.0 found.1 in
             let inside = one.inside in
             let wider = label_kinds_lawful.backward_more u.kind in
@@ -131,7 +129,7 @@ module _ (frame : FrameLayout) (flags : EmitFlags) (items : List Item) (places :
 
     -- ---- the finished code
     pub plain_code : (code : Finished) → IsFinished label_kinds b code → IsPlain label_kinds b code
-    plain_code code finished = is_plain label_kinds b code finished h.islands h.traps (λ k d within. use_labelled frame flags items (end_of b) (get_or b.uses k d) (h.uses k d within)) all_reached
+    plain_code code finished = is_plain label_kinds b code finished h.islands (λ k d within. use_labelled frame flags items (end_of b) (get_or b.uses k d) (h.uses k d within)) all_reached
 
     module _ (code : Finished) (f : IsPlain label_kinds b code) where
       -- the use of a cell, as the buffer has it and as it is finished
@@ -253,18 +251,15 @@ module _ (frame : FrameLayout) (flags : EmitFlags) (items : List Item) (places :
         -- the code of items without a fault
         pub is_assembled : (constants : FinMap nat_cmp (List ℕ)) (force : ForceVeneers) → own_fault frame flags constants items ≡ None → second_binding items ≡ None → out.relocs.items ≡ code.relocs.items → out.traps.items ≡ code.traps.items → out.calls.items ≡ code.calls.items → out.patchable.items ≡ code.patchable.items → out.maps.items ≡ code.maps.items → IsAssembled frame flags constants force items out
         is_assembled constants force own once relocs traps calls patchable maps =
-            let no_traps : out.traps.items ≡ [] = traps ∙ f.traps in
+            let traps_are : out.traps.items ≡ traps_in (standing (map (cells_of frame flags) items) out.places.items) = traps ∙ f.traps ∙ h.traps ∙ ap (λ ps. traps_in (standing (map (cells_of frame flags) items) ps)) (sym places_are) in
             record {
               no_fault = faultless frame flags constants force items own once all_bound short;
               laid = is_laid;
               leads = all_lead;
               records = record {
                 relocs = relocs ∙ f.relocs ∙ sym (all_from-nothing reloc_from (relocs_of frame flags) (λ item. refl) out.places.items items);
-                traps_ordered = λ k within. absurd (omega (arith, ap (λ ts. length (map (λ (t : ℕ × TrapCode). t.0) ts)) no_traps));
-                traps = λ place trap. (
-                  λ listed. absurd (omega (arith, listed.1, ap length no_traps)),
-                  λ trap_of. absurd (let in_none : trap_of.listed.0 < 0 = trap_of.listed.1 in omega arith),
-                );
+                traps_ordered = subst (λ (ts : List (ℕ × TrapCode)). IsStrictlyIncreasing (map (λ t. t.0) ts)) (sym (traps ∙ f.traps)) h.traps_ordered;
+                traps = λ place trap. subst (λ (ts : List (ℕ × TrapCode)). Contains ts (place, trap) ↔ IsTrapOf frame flags items out.places.items place trap) (sym traps_are) (traps_exact frame flags out.places.items items place trap);
                 calls = calls ∙ f.calls ∙ sym (all_from-nothing ◌+◌ (calls_of frame flags) (λ item. refl) out.places.items items);
                 patchable = patchable ∙ f.patchable ∙ sym (all_from-nothing number_from (patchable_of frame flags) (λ item. refl) out.places.items items);
                 maps = maps ∙ f.maps ∙ sym (all_from-nothing map_from (maps_of frame flags) (λ item. refl) out.places.items items);

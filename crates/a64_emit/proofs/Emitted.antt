@@ -4,6 +4,7 @@ use Rattle.std.specs.Prelude.{All}
 use Rattle.std.specs.Cmp.{nat_cmp_total, unsigned_tied}
 use Rattle.std.specs.FinMap.{get, insert, empty, get-insert, get-empty}
 use Rattle.std.specs.List.{slice_get}
+use Rattle.std.specs.List.Sorted.{IsStrictlyIncreasing}
 use Rattle.std.proofs.lemmas.Bool.{ne_eqb, eq-eqb, cases_eq, cases_lt}
 use Rattle.std.proofs.lemmas.List.{take_more, append-nil, length-append, length-map, map-append, get_or_append_left, get_or-append_right, get_or_push}
 use Rattle.std.proofs.lemmas.List.Concat.{flat_map-append}
@@ -11,6 +12,7 @@ use Rattle.std.proofs.lemmas.List.Elements.{All-append, filter_map-append}
 use Rattle.std.proofs.lemmas.List.Sums.{sum_by-append}
 use Rattle.std.proofs.lemmas.Option.{slice_get_within, slice_get-get_or}
 use Rattle.a64_base.specs.declared.entity.MachLabel.{MachLabel}
+use Rattle.a64_base.specs.declared.entity.TrapCode.{TrapCode}
 use Rattle.a64_base.specs.declared.entity.UserStackMap.{UserStackMap}
 use Rattle.a64_inst.specs.declared.emission.EmitFlags.{EmitFlags}
 use Rattle.a64_inst.specs.declared.frame.FrameLayout.{FrameLayout}
@@ -25,17 +27,18 @@ use Rattle.a64_buffer.proofs.Sounds.{bind_weight}
 use Rattle.a64_emit.specs.declared.label_use.LabelUse.{LabelUse}
 use Rattle.a64_emit.specs.declared.site.Site.{Site}
 use Rattle.a64_emit.specs.LabelUses.{label_kinds}
-use Rattle.a64_emit.specs.Cells.{Cell, Data, cells_of, all_cells, inst_cells, sites_of}
+use Rattle.a64_emit.specs.Cells.{Cell, Data, no_marks, cells_of, all_cells, inst_cells, sites_of}
 use Rattle.a64_emit.specs.Bounds.{growth_of, ranges_in}
 use Rattle.a64_emit.specs.Emission.{uses_from, appended, site_of, IsPut, IsOneOf, HasEmitted, IsUnbound, Binds, Steps}
-use Rattle.a64_emit.specs.Layout.{placed, standing}
+use Rattle.a64_emit.specs.Layout.{placed, standing, trap_at, traps_in}
 use Rattle.a64_emit.proofs.Burdens.{new_burden, charge_least}
 use Rattle.a64_emit.proofs.Lists.{slice_get-append_left, slice_get-push, slice_get_pushed}
 use Rattle.a64_emit.proofs.Sites.{standing-push, found_in}
+use Rattle.a64_emit.proofs.Marked.{ordered_more, below_more}
 use Rattle.a64_emit.proofs.Later.{IsLater, put_later, new_from, append_later, longer, all_put, bind_later}
 
 abbrev no_cell : Cell
-no_cell = record { body = Data 0; site = None }
+no_cell = record { body = Data 0; site = None; marks = no_marks }
 
 -- what one more item does to the words and the uses of a buffer, and where its cells stand
 pub record IsStep (cells : List Cell) (b b' : Buffer LabelUse) : Type 0 where
@@ -43,7 +46,7 @@ pub record IsStep (cells : List Cell) (b b' : Buffer LabelUse) : Type 0 where
   pub long : end_of b' ≡ end_of b + 4 * length cells
   pub owes : owed label_kinds b' ≤ owed label_kinds b + 28 * length (ranges_in cells)
   pub islands_are : b'.islands ≡ b.islands
-  pub traps_are : b'.traps ≡ b.traps
+  pub traps_are : b'.traps ≡ b.traps ++ traps_in (placed (end_of b) cells)
   pub put : All (IsPut b') (placed (end_of b) cells)
   pub new : (k : ℕ) (d : Use LabelUse) → length b.uses ≤ k → k < length b'.uses → IsOneOf (end_of b') (sites_of cells) (get_or b'.uses k d)
 
@@ -72,7 +75,7 @@ bind_step label b b' e =
       long = omega (arith, same);
       owes = omega (arith, ap (λ (c : Buffer LabelUse). burden label_kinds third c.uses) e, bind_weight label_kinds label.0 (end_of b) (cost third) b.uses);
       islands_are = ap (λ (c : Buffer LabelUse). c.islands) e;
-      traps_are = ap (λ (c : Buffer LabelUse). c.traps) e;
+      traps_are = ap (λ (c : Buffer LabelUse). c.traps) e ∙ sym (append-nil b.traps);
       put = λ k d within. absurd (omega arith);
       new = λ k d ge within. absurd (omega (arith, ge, within, ap (λ (c : Buffer LabelUse). length c.uses) e, length-map b.uses (closed_at label_kinds label.0 (end_of b))));
     }
@@ -162,6 +165,8 @@ module _ (frame : FrameLayout) (flags : EmitFlags) where
     bounded = omega (arith, ap length w, ap (burden label_kinds third) u);
     islands = no_islands;
     traps = no_traps;
+    traps_ordered = λ k lt. absurd (omega (arith, ap (λ (ts : List (ℕ × TrapCode)). length (map (λ (t : ℕ × TrapCode). t.0) ts)) no_traps));
+    traps_below = λ k d lt. absurd (omega (arith, ap length no_traps));
     cells = λ k d lt. absurd (omega arith);
     uses = λ k d lt. absurd (omega (arith, ap length u));
     bound = λ i label e. absurd cc;
@@ -249,7 +254,12 @@ module _ (frame : FrameLayout) (flags : EmitFlags) where
       below = λ i lt. below_all i (omega (arith, lt, length-append items (x ∷ [])));
       bounded = omega (arith, h.bounded, s.long, s.owes, charge_least (cells_of frame flags x), sum_by-append (growth_of frame flags) items (x ∷ []));
       islands = s.islands_are ∙ h.islands;
-      traps = s.traps_are ∙ h.traps;
+      traps =
+          s.traps_are ∙ ap (λ ts. ts ++ traps_in (placed (end_of b) (cells_of frame flags x))) h.traps
+          ∙ sym (ap traps_in (ap (λ css. standing css (places ++ end_of b ∷ [])) lists_push ∙ standing-push (map (cells_of frame flags) items) (cells_of frame flags x) places (end_of b) (h.count ∙ sym (length-map items (cells_of frame flags))))
+          ∙ filter_map-append trap_at (standing (map (cells_of frame flags) items) places) (placed (end_of b) (cells_of frame flags x)));
+      traps_ordered = subst (λ (ts : List (ℕ × TrapCode)). IsStrictlyIncreasing (map (λ t. t.0) ts)) (sym s.traps_are) (ordered_more b.traps (end_of b) (cells_of frame flags x) h.traps_ordered h.traps_below);
+      traps_below = subst (All (λ t. t.0 < end_of b')) (sym s.traps_are) (below_more b.traps (end_of b) (cells_of frame flags x) (end_of b') h.traps_below s.long);
       cells = cells_all;
       uses = uses_all;
       bound = labels.bound;

@@ -34,8 +34,11 @@ nothing_appended b b' cells e = record {
   count = 0;
   used = 0;
   last = inl refl;
+  marked = 0;
+  next = inl refl;
   words = ap (λ (c : Buffer LabelUse). c.words) e ∙ sym (append-nil b.words);
   uses = ap (λ (c : Buffer LabelUse). c.uses) e ∙ sym (append-nil b.uses);
+  traps = ap (λ (c : Buffer LabelUse). c.traps) e ∙ sym (append-nil b.traps);
   labels = ap (λ (c : Buffer LabelUse). c.labels) e;
   constants = ap (λ (c : Buffer LabelUse). c.constants) e;
 }
@@ -45,8 +48,11 @@ word_appended b b' word form kind dest e f = record {
   count = 1;
   used = 0;
   last = inr refl;
+  marked = 1;
+  next = inl refl;
   words = ap (λ (c : Buffer LabelUse). c.words) e ∙ ap (λ n. b.words ++ n ∷ []) f;
   uses = ap (λ (c : Buffer LabelUse). c.uses) e ∙ sym (append-nil b.uses);
+  traps = ap (λ (c : Buffer LabelUse). c.traps) e ∙ sym (append-nil b.traps);
   labels = ap (λ (c : Buffer LabelUse). c.labels) e;
   constants = ap (λ (c : Buffer LabelUse). c.constants) e;
 }

@@ -10,9 +10,15 @@ pub mod Later
 pub mod UseLists
 pub mod Composed
 pub mod Recorded
+pub mod Marked
+pub mod MemoryWords
+pub mod Several
+pub mod Accesses
 pub mod Steps
 pub mod Owns
 pub mod Operands
 pub mod OneWord
 pub mod Shapes
 pub mod WrongAnswers
+pub mod FarJumps
+pub mod TwoFields

@@ -1,5 +1,18 @@
 -- The words that items are made of.
-use Rattle.std.specs.Prelude.{ℕ, ◌+◌, List, [], ◌∷◌, ◌++◌, Option, None, Some}
+use Rattle.std.specs.Prelude.{ℕ, ℤ, pos, ◌+◌, List, [], ◌∷◌, ◌++◌, map, if◌then◌else◌, Option, None, Some}
+use Rattle.std.specs.Ordering.{int_eq}
+use Rattle.std.specs.Int.RustNames.{unsigned_abs}
+use Rattle.a64_base.specs.declared.entity.TrapCode.{TrapCode}
+use Rattle.a64_base.specs.declared.reg.Reg.{Reg}
+use Rattle.a64_base.specs.declared.ir_type.IrType.TheVariants.{I8}
+use Rattle.a64_ops.specs.declared.operator.ALUOp.TheVariants as alu
+use Rattle.a64_plan.specs.Plans.{plan_of}
+use Rattle.a64_inst.specs.declared.access.Access.{Access}
+use Rattle.a64_inst.specs.declared.mode.AMode.TheVariants as modes
+use Rattle.a64_inst.specs.Accesses.{access_of}
+use Rattle.a64_inst.specs.FinalModes.{FinalMode, SignedOffset, ScaledOffset, Other, final_mode, final_steps}
+use Rattle.a64_inst.specs.MemoryOperands.{is_addend}
+use Rattle.a64_inst.specs.Operands.{is_same_register}
 use Rattle.std.specs.List.{flat_map, filter_map}
 use Rattle.a64_base.specs.declared.reg.Reg.TheVariants.{Real}
 use Rattle.a64_base.specs.declared.size.OperandSize.TheVariants.{Size64}
@@ -19,25 +32,42 @@ use Rattle.a64_inst.specs.declared.item.Item.TheVariants.{Bind, Emit}
 use Rattle.a64_rows.specs.Forms.{Form, form_word}
 use Rattle.a64_emit.specs.IntegerForms as integer
 use Rattle.a64_emit.specs.ControlForms as control
+use Rattle.a64_emit.specs.MemoryForms as memory
 
 -- what a word is: a form of a row, or data
 pub data Body : Type 0 where
   FormOf : Form → Body
   Data : ℕ → Body
 
--- one word of an item, with at most one use. The field of a use is zero; a use that adds its
--- distance has its addend there.
+-- what is recorded at the place of a word
+pub record Marks : Type 0 where
+  pub trap : Option TrapCode
+
+abbrev pub no_marks : Marks
+no_marks = record { trap = None }
+
+-- one word of an item, with at most one use, and what is recorded at it. The field of a use is zero; a
+-- use that adds its distance has its addend there.
 pub record Cell : Type 0 where
   pub body : Body
   pub site : Option Site
+  pub marks : Marks
 
 -- the word of a cell, before its use is resolved
 abbrev pub cell_word : Cell → ℕ
 cell_word cell = elim cell.body [ FormOf form ↦ form_word form | Data word ↦ word ]
 
--- a word without a use
+-- a word without a use, at which nothing is recorded
 abbrev pub plain : Form → Cell
-plain form = record { body = FormOf form; site = None }
+plain form = record { body = FormOf form; site = None; marks = no_marks }
+
+-- a word without a use, which may trap
+abbrev pub trapping : Form → Option TrapCode → Cell
+trapping form trap = record { body = FormOf form; site = None; marks = record { trap = trap } }
+
+-- words without uses, of which the last may trap
+abbrev pub several : List Form → Form → Option TrapCode → List Cell
+several forms form trap = map plain forms ++ trapping form trap ∷ []
 
 -- a branch, whose field is a use of the label, or has the offset already
 abbrev pub branch_site : LabelUse → BranchTarget → Option Site
@@ -45,57 +75,87 @@ branch_site kind (branch_targets.Label label) = Some (record { kind = kind; targ
 branch_site kind (branch_targets.ResolvedOffset offset) = None
 
 abbrev pub branch : Form → LabelUse → BranchTarget → Cell
-branch form kind dest = record { body = FormOf form; site = branch_site kind dest }
+branch form kind dest = record { body = FormOf form; site = branch_site kind dest; marks = no_marks }
 
--- an instruction is one word without a use, or these words
+-- an instruction is one word without a use, or several of which the last may trap, or other words
 pub data Shape : Type 0 where
   OneWord : Form → Shape
+  Several : List Form → Form → Option TrapCode → Shape
   Words : List Cell → Shape
 
+-- the address of a base and an offset: nothing where they are the result already, one addition where it
+-- holds the offset, and else one of x17, which gets the offset before
+abbrev pub sum_shape : Reg → Reg → ℤ → Shape
+sum_shape rd rn offset =
+    if int_eq offset (pos 0) then (if is_same_register rd rn then Words [] else Several [] (integer.mov_form Size64 rd rn) None)
+    else if is_addend (unsigned_abs offset) then Several [] (memory.addend_form rd rn offset) None
+    else Several (memory.step_forms memory.addend_register (plan_of (unsigned_abs offset))) (memory.sum_form rd rn offset) None
+
+-- the address of a mode, with the steps before it; other modes have none
+abbrev pub address_shape : Reg → List Form → FinalMode → Shape
+address_shape rd before (SignedOffset rn offset) = sum_shape rd rn offset
+address_shape rd before (ScaledOffset rn offset ty) = sum_shape rd rn (pos offset)
+address_shape rd before (Other (modes.RegExtended rn rm extendop)) = Several before (integer.alu_rrr_extend_form alu.Add Size64 rd rn rm extendop) None
+address_shape rd before (Other _) = Words []
+
+abbrev pub access_shape : FrameLayout → Access → Shape
+access_shape frame access = Several (memory.access_steps frame access) (memory.access_form frame access) access.flags
+
+-- an instruction that is no load or store of one register
+abbrev pub other_shape : FrameLayout → EmitFlags → Inst → Shape
+other_shape frame flags insts.Nop0 = Words []
+other_shape frame flags insts.Nop4 = OneWord integer.nop4_form
+other_shape frame flags (insts.AluRRR alu_op size rd rn rm) = OneWord (integer.alu_rrr_form alu_op size rd rn rm)
+other_shape frame flags (insts.AluRRRR alu_op size rd rn rm ra) = OneWord (integer.alu_rrrr_form alu_op size rd rn rm ra)
+other_shape frame flags (insts.AluRRImm12 alu_op size rd rn imm12) = OneWord (integer.alu_rr_imm12_form alu_op size rd rn imm12)
+other_shape frame flags (insts.AluRRImmLogic alu_op size rd rn imml) = OneWord (integer.alu_rr_imm_logic_form alu_op size rd rn imml)
+other_shape frame flags (insts.AluRRImmShift alu_op size rd rn immshift) = OneWord (integer.alu_rr_imm_shift_form alu_op size rd rn immshift)
+other_shape frame flags (insts.AluRRRShift alu_op size rd rn rm shiftop) = OneWord (integer.alu_rrr_shift_form alu_op size rd rn rm shiftop)
+other_shape frame flags (insts.AluRRRExtend alu_op size rd rn rm extendop) = OneWord (integer.alu_rrr_extend_form alu_op size rd rn rm extendop)
+other_shape frame flags (insts.BitRR op size rd rn) = OneWord (integer.bit_rr_form op size rd rn)
+other_shape frame flags (insts.Mov size rd rm) = OneWord (integer.mov_form size rd rm)
+other_shape frame flags (insts.MovFromPReg rd rm) = OneWord (integer.mov_form Size64 rd (Real rm))
+other_shape frame flags (insts.MovToPReg rd rm) = OneWord (integer.mov_form Size64 (Real rd) rm)
+other_shape frame flags (insts.MovWide op rd imm size) = OneWord (integer.mov_wide_form op rd imm size)
+other_shape frame flags (insts.MovK rd rn imm size) = OneWord (integer.mov_k_form rd imm size)
+other_shape frame flags (insts.CSel rd rn rm cond) = OneWord (integer.csel_form rd rn rm cond)
+other_shape frame flags (insts.CSNeg rd rn rm cond) = OneWord (integer.csneg_form rd rn rm cond)
+other_shape frame flags (insts.CSet rd cond) = OneWord (integer.cset_form rd cond)
+other_shape frame flags (insts.CSetm rd cond) = OneWord (integer.csetm_form rd cond)
+other_shape frame flags (insts.CCmp size rn rm nzcv cond) = OneWord (integer.ccmp_form size rn rm nzcv cond)
+other_shape frame flags (insts.CCmpImm size rn imm nzcv cond) = OneWord (integer.ccmp_imm_form size rn imm nzcv cond)
+other_shape frame flags (insts.Extend rd rn signed from_bits to_bits) = OneWord (integer.extend_form rd rn signed from_bits to_bits)
+other_shape frame flags (insts.BitfieldMove size bfm_op rd rn immr imms) = OneWord (integer.bitfield_move_form size bfm_op rd rn immr imms)
+other_shape frame flags (insts.BitfieldMoveMod size rd ri rn immr imms) = OneWord (integer.bitfield_move_mod_form size rd rn immr imms)
+other_shape frame flags (insts.MovToNZCV rn) = OneWord (integer.mov_to_nzcv_form rn)
+other_shape frame flags (insts.MovFromNZCV rd) = OneWord (integer.mov_from_nzcv_form rd)
+other_shape frame flags (insts.Adr rd off) = OneWord (integer.adr_form rd off)
+other_shape frame flags (insts.Adrp rd off) = OneWord (integer.adrp_form rd off)
+other_shape frame flags insts.Ret = OneWord control.ret_form
+other_shape frame flags (insts.Jump dest) = Words (branch (control.jump_form dest) uses.Branch26 dest ∷ [])
+other_shape frame flags (insts.LoadP64 rt rt2 mem trap) = Several [] (memory.pair_form 1 rt rt2 mem) trap
+other_shape frame flags (insts.StoreP64 rt rt2 mem trap) = Several [] (memory.pair_form 0 rt rt2 mem) trap
+other_shape frame flags (insts.LoadAddr rd mem) = address_shape rd (memory.step_forms memory.offset_register (final_steps frame I8 mem)) (final_mode frame I8 mem)
+other_shape frame flags _ = Words []
+
 abbrev pub shape_of : FrameLayout → EmitFlags → Inst → Shape
-shape_of frame flags insts.Nop0 = Words []
-shape_of frame flags insts.Nop4 = OneWord integer.nop4_form
-shape_of frame flags (insts.AluRRR alu_op size rd rn rm) = OneWord (integer.alu_rrr_form alu_op size rd rn rm)
-shape_of frame flags (insts.AluRRRR alu_op size rd rn rm ra) = OneWord (integer.alu_rrrr_form alu_op size rd rn rm ra)
-shape_of frame flags (insts.AluRRImm12 alu_op size rd rn imm12) = OneWord (integer.alu_rr_imm12_form alu_op size rd rn imm12)
-shape_of frame flags (insts.AluRRImmLogic alu_op size rd rn imml) = OneWord (integer.alu_rr_imm_logic_form alu_op size rd rn imml)
-shape_of frame flags (insts.AluRRImmShift alu_op size rd rn immshift) = OneWord (integer.alu_rr_imm_shift_form alu_op size rd rn immshift)
-shape_of frame flags (insts.AluRRRShift alu_op size rd rn rm shiftop) = OneWord (integer.alu_rrr_shift_form alu_op size rd rn rm shiftop)
-shape_of frame flags (insts.AluRRRExtend alu_op size rd rn rm extendop) = OneWord (integer.alu_rrr_extend_form alu_op size rd rn rm extendop)
-shape_of frame flags (insts.BitRR op size rd rn) = OneWord (integer.bit_rr_form op size rd rn)
-shape_of frame flags (insts.Mov size rd rm) = OneWord (integer.mov_form size rd rm)
-shape_of frame flags (insts.MovFromPReg rd rm) = OneWord (integer.mov_form Size64 rd (Real rm))
-shape_of frame flags (insts.MovToPReg rd rm) = OneWord (integer.mov_form Size64 (Real rd) rm)
-shape_of frame flags (insts.MovWide op rd imm size) = OneWord (integer.mov_wide_form op rd imm size)
-shape_of frame flags (insts.MovK rd rn imm size) = OneWord (integer.mov_k_form rd imm size)
-shape_of frame flags (insts.CSel rd rn rm cond) = OneWord (integer.csel_form rd rn rm cond)
-shape_of frame flags (insts.CSNeg rd rn rm cond) = OneWord (integer.csneg_form rd rn rm cond)
-shape_of frame flags (insts.CSet rd cond) = OneWord (integer.cset_form rd cond)
-shape_of frame flags (insts.CSetm rd cond) = OneWord (integer.csetm_form rd cond)
-shape_of frame flags (insts.CCmp size rn rm nzcv cond) = OneWord (integer.ccmp_form size rn rm nzcv cond)
-shape_of frame flags (insts.CCmpImm size rn imm nzcv cond) = OneWord (integer.ccmp_imm_form size rn imm nzcv cond)
-shape_of frame flags (insts.Extend rd rn signed from_bits to_bits) = OneWord (integer.extend_form rd rn signed from_bits to_bits)
-shape_of frame flags (insts.BitfieldMove size bfm_op rd rn immr imms) = OneWord (integer.bitfield_move_form size bfm_op rd rn immr imms)
-shape_of frame flags (insts.BitfieldMoveMod size rd ri rn immr imms) = OneWord (integer.bitfield_move_mod_form size rd rn immr imms)
-shape_of frame flags (insts.MovToNZCV rn) = OneWord (integer.mov_to_nzcv_form rn)
-shape_of frame flags (insts.MovFromNZCV rd) = OneWord (integer.mov_from_nzcv_form rd)
-shape_of frame flags (insts.Adr rd off) = OneWord (integer.adr_form rd off)
-shape_of frame flags (insts.Adrp rd off) = OneWord (integer.adrp_form rd off)
-shape_of frame flags insts.Ret = OneWord control.ret_form
-shape_of frame flags (insts.Jump dest) = Words (branch (control.jump_form dest) uses.Branch26 dest ∷ [])
+shape_of frame flags inst = elim (access_of inst) [ None ↦ other_shape frame flags inst | Some access ↦ access_shape frame access ]
 
 abbrev pub shape_cells : Shape → List Cell
 shape_cells (OneWord form) = plain form ∷ []
+shape_cells (Several forms form trap) = several forms form trap
 shape_cells (Words cells) = cells
 
 -- the word of an instruction that is one word without a use
 abbrev pub only_word : Shape → Option ℕ
 only_word (OneWord form) = Some (form_word form)
+only_word (Several forms form trap) = None
 only_word (Words cells) = None
 
 -- the words of another instruction
 abbrev pub other_cells : Shape → List Cell
 other_cells (OneWord form) = []
+other_cells (Several forms form trap) = several forms form trap
 other_cells (Words cells) = cells
 
 -- the words of an instruction

@@ -1,8 +1,10 @@
 -- What emission does to a buffer.
 use Rattle.std.specs.Prelude.{ℕ, ◌≡◌, ◌⊎◌, ◌+◌, ◌*◌, ◌/◌, ◌%◌, ◌^◌, ◌<◌, ◌≤◌, List, [], ◌∷◌, ◌++◌, All, map, take, length, slice_get, slice_index, slice_index_or, Option, None, Some, MatchOption}
+use Rattle.std.specs.List.Sorted.{IsStrictlyIncreasing}
 use Rattle.std.specs.Ordering.{nat_cmp}
 use Rattle.std.specs.FinMap.{FinMap, get, insert}
 use Rattle.a64_base.specs.declared.entity.MachLabel.{MachLabel}
+use Rattle.a64_base.specs.declared.entity.TrapCode.{TrapCode}
 use Rattle.a64_inst.specs.declared.emission.EmitFlags.{EmitFlags}
 use Rattle.a64_inst.specs.declared.frame.FrameLayout.{FrameLayout}
 use Rattle.a64_inst.specs.declared.inst.Inst.{Inst}
@@ -19,7 +21,7 @@ use Rattle.a64_emit.specs.declared.site.Site.{Site}
 use Rattle.a64_emit.specs.LabelUses.{label_kinds}
 use Rattle.a64_emit.specs.Cells.{Cell, cell_word, inst_cells, cells_of, all_cells, sites_of}
 use Rattle.a64_emit.specs.Bounds.{whole}
-use Rattle.a64_emit.specs.Layout.{standing}
+use Rattle.a64_emit.specs.Layout.{placed, standing, traps_in}
 
 -- ---- what emitting an instruction does
 
@@ -38,16 +40,31 @@ abbrev pub appended : Buffer LabelUse → List Cell → Buffer LabelUse
 appended b cells = record b {
   words = b.words ++ map cell_word cells;
   uses = b.uses ++ uses_from b.labels (end_of b) cells;
+  traps = b.traps ++ traps_in (placed (end_of b) cells);
 }
 
+-- a buffer with a trap recorded at a place, where there is one
+abbrev pub trapped : Option TrapCode → Buffer LabelUse → ℕ → Buffer LabelUse
+trapped None b place = b
+trapped (Some code) b place = record b { traps = b.traps ++ (place, code) ∷ [] }
+
+-- a buffer that has got the first so many of some words
+pub record PutsInPart (b b' : Buffer LabelUse) (words : List ℕ) : Type 0 where
+  pub count : ℕ
+  pub few : count ≤ length words
+  pub is : b' ≡ record b { words = b.words ++ take count words }
+
 -- a buffer that has got a first part of some cells: the words of the first so many, and their uses,
--- but maybe not that of the last of these words
+-- but maybe not that of the last of these words; and what is recorded at them, and maybe at the next word
 pub record IsAppendedInPart (b b' : Buffer LabelUse) (cells : List Cell) : Type 0 where
   pub count : ℕ
   pub used : ℕ
   pub last : (used ≡ count) ⊎ (used + 1 ≡ count)
+  pub marked : ℕ
+  pub next : (marked ≡ count) ⊎ (marked ≡ count + 1)
   pub words : b'.words ≡ b.words ++ map cell_word (take count cells)
   pub uses : b'.uses ≡ b.uses ++ uses_from b.labels (end_of b) (take used cells)
+  pub traps : b'.traps ≡ b.traps ++ traps_in (placed (end_of b) (take marked cells))
   pub labels : b'.labels ≡ b.labels
   pub constants : b'.constants ≡ b.constants
 
@@ -132,7 +149,9 @@ pub record HasEmitted (frame : FrameLayout) (flags : EmitFlags) (items : List It
   pub below : (i : ℕ) → i < length items → slice_index places i ≤ end_of b
   pub bounded : end_of b + classes.owed label_kinds b ≤ whole frame flags items
   pub islands : b.islands ≡ []
-  pub traps : b.traps ≡ []
+  pub traps : b.traps ≡ traps_in (standing (map (cells_of frame flags) items) places)
+  pub traps_ordered : IsStrictlyIncreasing (map (λ t. t.0) b.traps)
+  pub traps_below : All (λ t. t.0 < end_of b) b.traps
   pub cells : All (IsPut b) (standing (map (cells_of frame flags) items) places)
   pub uses : All (IsOneOf (end_of b) (sites_of (all_cells frame flags items))) b.uses
   pub bound : (i : ℕ) (label : MachLabel) → slice_get items i ≡ Some (Bind label) → get b.labels label.0 ≡ slice_get places i

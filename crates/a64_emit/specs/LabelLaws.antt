@@ -34,40 +34,54 @@ label_kinds_lawful = record {
     mask uses.Branch14 adds = absurd cc
     mask uses.Branch19 adds = absurd cc
     mask uses.Branch26 adds = absurd cc
+    mask uses.Ldr19 adds = absurd cc
+    mask uses.Adr21 adds = absurd cc
     mask uses.PCRel32 adds = refl
 
     field : (kind : LabelUse) → IsTrue (adds_distance kind) → (word : ℕ) → word < 2 ^ 32 → distance_in kind word ≡ signed 32 word
     field uses.Branch14 adds word fits = absurd cc
     field uses.Branch19 adds word fits = absurd cc
     field uses.Branch26 adds word fits = absurd cc
+    field uses.Ldr19 adds word fits = absurd cc
+    field uses.Adr21 adds word fits = absurd cc
     field uses.PCRel32 adds word fits = refl
 
     most : (kind : LabelUse) → urgency_of kind ≤ 3
     most uses.Branch14 = omega arith
     most uses.Branch19 = omega arith
     most uses.Branch26 = omega arith
+    most uses.Ldr19 = omega arith
+    most uses.Adr21 = omega arith
     most uses.PCRel32 = omega arith
 
     some : (kind : LabelUse) → IsTrue (has_veneer kind) → 1 ≤ urgency_of kind
     some uses.Branch14 veneer = omega arith
     some uses.Branch19 veneer = omega arith
     some uses.Branch26 veneer = omega arith
+    some uses.Ldr19 veneer = absurd cc
+    some uses.Adr21 veneer = absurd cc
     some uses.PCRel32 veneer = absurd cc
 
     replaces : (kind : LabelUse) → 1 ≤ urgency_of kind → IsTrue (adds_distance kind) → ⊥
     replaces uses.Branch14 urgent adds = cc
     replaces uses.Branch19 urgent adds = cc
     replaces uses.Branch26 urgent adds = cc
+    replaces uses.Ldr19 urgent adds = cc
+    replaces uses.Adr21 urgent adds = omega (arith, urgent)
     replaces uses.PCRel32 urgent adds = omega (arith, urgent)
 
     range : (kind : LabelUse) → 1 ≤ urgency_of kind → forward_range kind ≡ urgency_range (urgency_of kind)
     range uses.Branch14 urgent = refl
     range uses.Branch19 urgent = refl
     range uses.Branch26 urgent = refl
+    range uses.Ldr19 urgent = refl
+    range uses.Adr21 urgent = absurd (omega (arith, urgent))
     range uses.PCRel32 urgent = absurd (omega (arith, urgent))
 
     behind : (kind : LabelUse) → forward_range kind ≤ backward_range kind
     behind uses.Branch14 = omega arith
     behind uses.Branch19 = omega arith
     behind uses.Branch26 = omega arith
+    behind uses.Ldr19 = omega arith
+    behind uses.Adr21 = omega arith
     behind uses.PCRel32 = omega arith

@@ -1,5 +1,5 @@
 -- What the kinds of label uses of A64 code mean.
-use Rattle.std.specs.Prelude.{ℕ, ℤ, pos, ◌*ℤ◌, ◌-◌, ◌^◌, Bool, true, false, nat_eq, if◌then◌else◌, [], ◌∷◌, Option, None, Some}
+use Rattle.std.specs.Prelude.{ℕ, ℤ, pos, ◌*ℤ◌, ◌+◌, ◌*◌, ◌-◌, ◌^◌, Bool, true, false, nat_eq, if◌then◌else◌, [], ◌∷◌, Option, None, Some}
 use Rattle.std.specs.Ordering.{int_eq}
 use Rattle.a64_base.specs.declared.entity.Reloc.{Reloc}
 use Rattle.a64_base.specs.declared.entity.Reloc.TheVariants as relocs
@@ -13,6 +13,8 @@ abbrev pub mask_for : LabelUse → ℕ
 mask_for uses.Branch14 = mask_of 5 14
 mask_for uses.Branch19 = mask_of 5 19
 mask_for uses.Branch26 = mask_of 0 26
+mask_for uses.Ldr19 = mask_of 5 19
+mask_for uses.Adr21 = mask_of 5 19 + mask_of 29 2
 mask_for uses.PCRel32 = 2 ^ 32 - 1
 
 -- the signed distance in bytes that a word says
@@ -20,6 +22,8 @@ abbrev pub distance_in : LabelUse → ℕ → ℤ
 distance_in uses.Branch14 word = signed 14 (field_bits 5 14 word) *ℤ pos 4
 distance_in uses.Branch19 word = signed 19 (field_bits 5 19 word) *ℤ pos 4
 distance_in uses.Branch26 word = signed 26 (field_bits 0 26 word) *ℤ pos 4
+distance_in uses.Ldr19 word = signed 19 (field_bits 5 19 word) *ℤ pos 4
+distance_in uses.Adr21 word = signed 21 (field_bits 5 19 word * 4 + field_bits 29 2 word)
 distance_in uses.PCRel32 word = signed 32 word
 
 -- how far ahead a label may be
@@ -27,6 +31,8 @@ abbrev pub forward_range : LabelUse → ℕ
 forward_range uses.Branch14 = 2 ^ 15 - 1
 forward_range uses.Branch19 = 2 ^ 20 - 1
 forward_range uses.Branch26 = 2 ^ 27 - 1
+forward_range uses.Ldr19 = 2 ^ 20 - 1
+forward_range uses.Adr21 = 2 ^ 20 - 1
 forward_range uses.PCRel32 = 2 ^ 31 - 1
 
 -- how far behind a label may be
@@ -34,6 +40,8 @@ abbrev pub backward_range : LabelUse → ℕ
 backward_range uses.Branch14 = 2 ^ 15
 backward_range uses.Branch19 = 2 ^ 20
 backward_range uses.Branch26 = 2 ^ 27
+backward_range uses.Ldr19 = 2 ^ 20
+backward_range uses.Adr21 = 2 ^ 20
 backward_range uses.PCRel32 = 2 ^ 31
 
 -- whether the distance is added to the word
@@ -41,6 +49,8 @@ abbrev pub adds_distance : LabelUse → Bool
 adds_distance uses.Branch14 = false
 adds_distance uses.Branch19 = false
 adds_distance uses.Branch26 = false
+adds_distance uses.Ldr19 = false
+adds_distance uses.Adr21 = false
 adds_distance uses.PCRel32 = true
 
 -- whether the distance counts words
@@ -48,6 +58,8 @@ abbrev pub counts_in_words : LabelUse → Bool
 counts_in_words uses.Branch14 = true
 counts_in_words uses.Branch19 = true
 counts_in_words uses.Branch26 = true
+counts_in_words uses.Ldr19 = true
+counts_in_words uses.Adr21 = false
 counts_in_words uses.PCRel32 = false
 
 -- whether a veneer can lead a use on to a label that is too far
@@ -55,6 +67,8 @@ abbrev pub has_veneer : LabelUse → Bool
 has_veneer uses.Branch14 = true
 has_veneer uses.Branch19 = true
 has_veneer uses.Branch26 = true
+has_veneer uses.Ldr19 = false
+has_veneer uses.Adr21 = false
 has_veneer uses.PCRel32 = false
 
 -- how soon a use wants its veneer
@@ -62,6 +76,8 @@ abbrev pub urgency_of : LabelUse → ℕ
 urgency_of uses.Branch14 = 1
 urgency_of uses.Branch19 = 2
 urgency_of uses.Branch26 = 3
+urgency_of uses.Ldr19 = 2
+urgency_of uses.Adr21 = 0
 urgency_of uses.PCRel32 = 0
 
 -- the ranges by urgency

@@ -1,6 +1,8 @@
 -- Where the items of finished code stand, and where their uses lead.
-use Rattle.std.specs.Prelude.{ℕ, pos, ◌+ℤ◌, ◌≡◌, ◌≢◌, ◌⊎◌, ◌↔◌, ◌+◌, ◌*◌, ◌%◌, ◌<◌, ◌≤◌, List, [], ◌∷◌, ◌++◌, All, Contains, map, length, slice_index, slice_index_or, slice_get, Option, None, Some, IfSome}
+use Rattle.std.specs.Prelude.{ℕ, pos, ◌+ℤ◌, ◌≡◌, ◌≢◌, ◌⊎◌, ◌↔◌, ◌+◌, ◌*◌, ◌%◌, ◌<◌, ◌≤◌, List, [], ◌∷◌, ◌++◌, All, Contains, map, length, slice_index, slice_index_or, slice_get, Option, None, Some, IfSome, option_map}
+use Rattle.std.specs.List.{filter_map}
 use Rattle.std.specs.List.Sorted.{IsStrictlyIncreasing}
+use Rattle.a64_base.specs.declared.entity.TrapCode.{TrapCode}
 use Rattle.a64_base.specs.declared.entity.MachLabel.{MachLabel}
 use Rattle.a64_inst.specs.declared.emission.EmitFlags.{EmitFlags}
 use Rattle.a64_inst.specs.declared.frame.FrameLayout.{FrameLayout}
@@ -25,6 +27,14 @@ placed place (c ∷ cs) = (place, c) ∷ placed (place + 4) cs
 abbrev pub standing : List (List Cell) → List ℕ → List (ℕ × Cell)
 standing (cs ∷ css) (place ∷ places) = placed place cs ++ standing css places
 standing _ _ = []
+
+-- the trap that is recorded at a cell's place, where there is one
+abbrev pub trap_at : ℕ × Cell → Option (ℕ × TrapCode)
+trap_at s = option_map (λ code. (s.0, code)) s.1.marks.trap
+
+-- the traps of cells at their places
+abbrev pub traps_in : List (ℕ × Cell) → List (ℕ × TrapCode)
+traps_in cells = filter_map trap_at cells
 
 -- the bits of a cell's word that its use may change
 abbrev pub site_mask : Option Site → ℕ

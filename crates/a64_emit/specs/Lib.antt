@@ -1,8 +1,11 @@
 pub mod LabelUses
+pub mod FarJumps
 pub mod LabelLaws
 pub mod IntegerForms
 pub mod ControlForms
+pub mod MemoryForms
 pub mod Cells
+pub mod Words
 pub mod Bounds
 pub mod Layout
 pub mod Emission

@@ -9,14 +9,16 @@ use Rattle.a64_inst.specs.declared.emission.EmitFlags.{EmitFlags}
 use Rattle.a64_inst.specs.declared.frame.FrameLayout.{FrameLayout}
 use Rattle.a64_inst.specs.declared.item.Item.{Item}
 use Rattle.a64_emit.specs.declared.code.Code.{Code}
+use Rattle.a64_emit.specs.Cells.{cells_of}
+use Rattle.a64_emit.specs.Layout.{placed, traps_in}
 
--- the records of an item, by their offsets from the item's place; none that exists makes any
+-- the records of an item, by their offsets from the item's place; none that exists makes any but traps
 module _ (frame : FrameLayout) (flags : EmitFlags) where
   abbrev pub relocs_of : Item → List (ℕ × Reloc × ExternalName × ℤ)
   relocs_of item = []
 
   abbrev pub traps_of : Item → List (ℕ × TrapCode)
-  traps_of item = []
+  traps_of item = traps_in (placed 0 (cells_of frame flags item))
 
   abbrev pub calls_of : Item → List ℕ
   calls_of item = []

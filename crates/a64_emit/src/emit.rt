@@ -1,22 +1,26 @@
 //! Emission of single instructions.
 
-ghost use Rattle.std.specs.Prelude.{◌≡◌, ◌+◌, ◌^◌, ◌<◌, [], ◌∷◌, OnOk, OnErr, true, None};
+ghost use Rattle.std.specs.Prelude.{◌≡◌, ◌⊎◌, ◌+◌, ◌*◌, ◌^◌, ◌<◌, [], ◌∷◌, ◌++◌, length, OnOk, OnErr, true, None};
+ghost use Rattle.a64_inst.specs.declared.group.Group.TheVariants.{Control, Memory};
 ghost use Rattle.a64_inst.specs.declared.emission.EmitFlags.{EmitFlags};
 ghost use Rattle.a64_inst.specs.declared.virtuals.VirtualRegisters.TheVariants.{Refused};
-ghost use Rattle.a64_inst.specs.Faults.{has_operands};
+ghost use Rattle.a64_inst.specs.Faults.{has_operands, has_mode};
+ghost use Rattle.a64_inst.specs.Groups.{group_of};
 ghost use Rattle.a64_inst.specs.State.{State};
 ghost use Rattle.a64_buffer.specs.Buffer.{Buffer, end_of};
 ghost use Rattle.a64_buffer.specs.Classes.{Fits};
 ghost use Rattle.a64_emit.specs.declared.label_use.LabelUse.{LabelUse};
 ghost use Rattle.a64_rows.specs.Forms.{Form, form_word};
-ghost use Rattle.a64_emit.specs.Cells.{plain, branch, shape_of, only_word, other_cells};
+ghost use Rattle.a64_emit.specs.Cells.{Shape, plain, branch, shape_of, only_word, other_cells};
+ghost use Rattle.a64_emit.specs.Words.{AreSeveral};
 ghost use Rattle.a64_emit.specs.LabelUses.{label_kinds};
-ghost use Rattle.a64_emit.specs.Emission.{appended, Emits, EmitsInPart, IsAppendedInPart, HasRoom, CellsFit, IsReady};
+ghost use Rattle.a64_emit.specs.Emission.{trapped, PutsInPart, appended, Emits, EmitsInPart, IsAppendedInPart, HasRoom, CellsFit, IsReady};
 
 use crate::label_use::LabelUse;
 use crate::word::control::{jump_word, only_control_word};
-use crate::word::integer::only_integer_word;
-use a64_base::BranchTarget;
+use crate::word::integer::{only_immediate_word, only_register_word};
+use crate::word::memory::{SeveralWords, memory_words};
+use a64_base::{BranchTarget, TrapCode};
 use a64_buffer::MachBuffer;
 use a64_inst::{EmitInfo, EmitState, FrameLayout, Group, Inst};
 use std::alloc::AllocError;
@@ -55,8 +59,10 @@ fn only_word(inst: &Inst, frame: &FrameLayout, info: &EmitInfo) -> Option<u32>
     ensures { result ≡ only_word (shape_of frame.now info.now inst.now) }
 {
     match inst.group() {
-        Group::Integer => only_integer_word(inst, frame, info),
+        Group::Immediate => only_immediate_word(inst, frame, info),
+        Group::Register => only_register_word(inst, frame, info),
         Group::Control => only_control_word(inst, frame, info),
+        Group::Memory => None,
     }
 }
 
@@ -90,6 +96,92 @@ fn emit_branch(
     }
 }
 
+/// Words without uses, one behind the other.
+fn put_words(sink: &mut MachBuffer<'_, LabelUse>, words: &[u32]) -> Result<(), AllocError>
+    requires short { end_of sink.old + 4 * length words.now < 2 ^ 31 }
+    requires fits { Fits label_kinds sink.old (4 * length words.now) }
+    ensures ok { OnOk result (sink.new ≡ record sink.old { words = sink.old.words ++ words.now }) }
+    ensures err { OnErr result (PutsInPart sink.old sink.new words.now) }
+{
+    for word in words {
+        sink.put4(*word)?;
+    }
+    Ok(())
+}
+
+/// One word without a use, at which a trap is recorded where it may trap.
+fn put_trapping(
+    sink: &mut MachBuffer<'_, LabelUse>,
+    word: u32,
+    trap: Option<TrapCode>,
+) -> Result<(), AllocError>
+    requires short { end_of sink.old + 4 < 2 ^ 31 }
+    requires fits { Fits label_kinds sink.old 4 }
+    ensures ok { OnOk result (sink.new ≡ trapped trap (record sink.old { words = sink.old.words ++ word ∷ [] }) (end_of sink.old)) }
+    ensures err { OnErr result ((sink.new ≡ sink.old) ⊎ (sink.new ≡ trapped trap sink.old (end_of sink.old))) }
+{
+    if let Some(code) = trap {
+        sink.add_trap(code)?;
+    }
+    sink.put4(word)
+}
+
+/// Words without uses, of which the last may trap.
+fn emit_several(sink: &mut MachBuffer<'_, LabelUse>, words: &SeveralWords) -> Result<(), AllocError>
+    requires short { end_of sink.old + 4 * length words.now.first.items + 4 < 2 ^ 31 }
+    requires fits { Fits label_kinds sink.old (4 * length words.now.first.items + 4) }
+    ensures ok { OnOk result ((shape : Shape) → AreSeveral words.now.first.items words.now.last words.now.trap shape
+        → sink.new ≡ appended sink.old (other_cells shape)) }
+    ensures err { OnErr result ((shape : Shape) → AreSeveral words.now.first.items words.now.last words.now.trap shape
+        → IsAppendedInPart sink.old sink.new (other_cells shape)) }
+{
+    put_words(sink, words.first.as_slice())?;
+    put_trapping(sink, words.last, words.trap)
+}
+
+/// A load or a store, or an address.
+fn emit_memory(
+    inst: &Inst,
+    sink: &mut MachBuffer<'_, LabelUse>,
+    info: &EmitInfo,
+    state: &mut EmitState,
+) -> Result<(), AllocError>
+    requires group { group_of inst.now ≡ Memory }
+    requires room { HasRoom sink.old (other_cells (shape_of state.old.frame info.now inst.now)) }
+    requires fits { CellsFit sink.old (other_cells (shape_of state.old.frame info.now inst.now)) }
+    requires good { has_operands state.old.frame info.now Refused inst.now ≡ true }
+    requires mode { has_mode inst.now ≡ true }
+    ensures ok { OnOk result (sink.new ≡ appended sink.old (other_cells (shape_of state.old.frame info.now inst.now))) }
+    ensures state { OnOk result (state.new ≡ state.old) }
+    ensures err { OnErr result (IsAppendedInPart sink.old sink.new (other_cells (shape_of state.old.frame info.now inst.now))) }
+{
+    match memory_words(inst, state.frame_layout(), info) {
+        Some(words) => emit_several(sink, &words),
+        None => Ok(()),
+    }
+}
+
+/// A branch with a use.
+fn emit_control(
+    inst: &Inst,
+    sink: &mut MachBuffer<'_, LabelUse>,
+    _info: &EmitInfo,
+    state: &mut EmitState,
+) -> Result<(), AllocError>
+    requires group { group_of inst.now ≡ Control }
+    requires room { HasRoom sink.old (other_cells (shape_of state.old.frame _info.now inst.now)) }
+    requires fits { CellsFit sink.old (other_cells (shape_of state.old.frame _info.now inst.now)) }
+    requires good { has_operands state.old.frame _info.now Refused inst.now ≡ true }
+    ensures ok { OnOk result (sink.new ≡ appended sink.old (other_cells (shape_of state.old.frame _info.now inst.now))) }
+    ensures state { OnOk result (state.new ≡ state.old) }
+    ensures err { OnErr result (IsAppendedInPart sink.old sink.new (other_cells (shape_of state.old.frame _info.now inst.now))) }
+{
+    match inst {
+        Inst::Jump { dest } => { emit_branch(sink, jump_word(*dest), LabelUse::Branch26, *dest) }
+        _ => Ok(()),
+    }
+}
+
 /// An instruction with uses, or of more words.
 fn emit_other(
     inst: &Inst,
@@ -100,13 +192,15 @@ fn emit_other(
     requires room { HasRoom sink.old (other_cells (shape_of state.old.frame info.now inst.now)) }
     requires fits { CellsFit sink.old (other_cells (shape_of state.old.frame info.now inst.now)) }
     requires good { has_operands state.old.frame info.now Refused inst.now ≡ true }
+    requires mode { has_mode inst.now ≡ true }
     ensures ok { OnOk result (sink.new ≡ appended sink.old (other_cells (shape_of state.old.frame info.now inst.now))) }
     ensures state { OnOk result (state.new ≡ state.old) }
     ensures err { OnErr result (IsAppendedInPart sink.old sink.new (other_cells (shape_of state.old.frame info.now inst.now))) }
 {
-    match inst {
-        Inst::Jump { dest } => { emit_branch(sink, jump_word(*dest), LabelUse::Branch26, *dest) }
-        _ => Ok(()),
+    match inst.group() {
+        Group::Memory => emit_memory(inst, sink, info, state),
+        Group::Control => emit_control(inst, sink, info, state),
+        Group::Immediate | Group::Register => Ok(()),
     }
 }
 

@@ -1,14 +1,17 @@
 //! How much an item adds to code.
 
-ghost use Rattle.std.specs.Prelude.{◌≡◌, length};
+ghost use Rattle.std.specs.Prelude.{◌≡◌, ◌≢◌, length};
+ghost use Rattle.a64_inst.specs.declared.group.Group.TheVariants.{Memory};
+ghost use Rattle.a64_inst.specs.Groups.{group_of};
 ghost use Rattle.a64_emit.specs.Bounds as bounds;
 ghost use Rattle.a64_emit.specs.Bounds.{IsExtent, ranges_in, least, saturated, charge_of};
 ghost use Rattle.a64_emit.specs.Cells.{inst_cells};
 
 use crate::site::Site;
 use crate::uses::nth_use;
+use crate::word::memory::memory_count;
 use a64_buffer::{MachInstLabelUse, Target};
-use a64_inst::{EmitInfo, FrameLayout, Inst, Item};
+use a64_inst::{EmitInfo, FrameLayout, Group, Inst, Item};
 
 /// How much an item may add to code, in bytes. Numbers past those of 64 bits stand at the greatest.
 #[derive(Clone, Copy)]
@@ -74,13 +77,24 @@ fn wanting_in(inst: &Inst, frame: &FrameLayout, info: &EmitInfo) -> Wanting
     }
 }
 
-/// How many words an instruction has.
-fn cell_count(inst: &Inst, frame: &FrameLayout, info: &EmitInfo) -> u64
-    ensures { result ≡ length (inst_cells frame.now info.now inst.now) }
+/// How many words an instruction has that is no load or store: one at most.
+fn few_count(inst: &Inst, _frame: &FrameLayout, _info: &EmitInfo) -> u64
+    requires { group_of inst.now ≢ Memory }
+    ensures { result ≡ length (inst_cells _frame.now _info.now inst.now) }
 {
     match inst {
         Inst::Nop0 => 0,
         _ => 1,
+    }
+}
+
+/// How many words an instruction has.
+fn cell_count(inst: &Inst, frame: &FrameLayout, info: &EmitInfo) -> u64
+    ensures { result ≡ length (inst_cells frame.now info.now inst.now) }
+{
+    match inst.group() {
+        Group::Immediate | Group::Register | Group::Control => few_count(inst, frame, info),
+        Group::Memory => memory_count(inst, frame, info),
     }
 }
 

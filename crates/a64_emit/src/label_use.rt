@@ -1,7 +1,12 @@
 //! The kinds of label uses of A64 code.
 
-ghost use Rattle.std.specs.Prelude.{◌≡◌, ◌<◌, ◌*◌, ◌-◌, ◌^◌, ◌*ℤ◌, pos, negsuc, suc, nat_lt, if◌then◌else◌, length, [], ◌∷◌};
-ghost use Rattle.a64_buffer.specs.Word.{word_at, StandAt};
+ghost use Rattle.std.specs.Prelude.{◌≡◌, ◌<◌, ◌≤◌, IsTrue, ◌+◌, ◌*◌, ◌/◌, ◌%◌, ◌-◌, ◌^◌, ◌*ℤ◌, pos, negsuc, suc, nat_lt, if◌then◌else◌, length, [], ◌∷◌};
+ghost use Rattle.std.specs.Int.{w32, from_le_bytes};
+ghost use Rattle.a64_buffer.specs.Word.{word_at, StandAt, outside, field_bits};
+ghost use Rattle.a64_buffer.specs.Kinds.{IsWithin, GoesTo, SaysDistance, IsVeneer, veneer_bytes};
+ghost use Rattle.a64_emit.specs.declared.label_use.LabelUse.TheVariants.{Adr21, PCRel32};
+ghost use Rattle.a64_emit.specs.LabelUses.{label_kinds, mask_for, distance_in};
+ghost use Rattle.a64_emit.specs.FarJumps.{JumpFar, LeadFar, first_words};
 
 use a64_base::Reloc;
 use a64_buffer::{MachInstLabelUse, patch_field};
@@ -15,6 +20,10 @@ pub enum LabelUse {
     Branch19,
     /// The 26-bit field of `b` and `bl`, bits 25 to 0, in words.
     Branch26,
+    /// The 19-bit field of loads of literals, bits 23 to 5, in words.
+    Ldr19,
+    /// The 21-bit distance of `adr` in bytes: its low two bits in bits 30 and 29, the others in bits 23 to 5.
+    Adr21,
     /// A word to which the distance in bytes is added.
     PCRel32,
 }
@@ -47,8 +56,40 @@ fn scaled(count: u32, half: u32) -> i64
     }
 }
 
+/// Adds a distance to the word that four bytes are, modulo 2^32.
+fn add_distance(buffer: &mut [u8], distance: u32)
+    requires word { length buffer.old ≡ 4 }
+    ensures { from_le_bytes w32 buffer.new ≡ (from_le_bytes w32 buffer.old + distance) % 2 ^ 32 }
+{
+    let word = u32::from_le_bytes([buffer[0], buffer[1], buffer[2], buffer[3]]);
+    buffer.copy_from_slice(&word.wrapping_add(distance).to_le_bytes());
+}
+
+/// Puts a distance in bytes into the two fields of `adr`, and keeps the rest.
+fn patch_address(buffer: &mut [u8], distance: u32)
+    requires word { length buffer.old ≡ 4 }
+    ensures rest { outside (mask_for Adr21) (from_le_bytes w32 buffer.new)
+        ≡ outside (mask_for Adr21) (from_le_bytes w32 buffer.old) }
+    ensures high { field_bits 5 19 (from_le_bytes w32 buffer.new) ≡ distance / 4 % 2 ^ 19 }
+    ensures low { field_bits 29 2 (from_le_bytes w32 buffer.new) ≡ distance % 4 }
+{
+    patch_field(buffer, 5, 19, distance >> 2);
+    patch_field(buffer, 29, 2, distance);
+}
+
+/// The distance in bytes that the two fields of `adr` say.
+fn address_distance(word: u32) -> i64
+    ensures { result ≡ distance_in Adr21 word }
+{
+    let distance = i64::from(((word >> 5) & 0x7_ffff) << 2 | ((word >> 29) & 3));
+    if distance < 1 << 20 {
+        distance
+    } else {
+        distance - (1 << 21)
+    }
+}
+
 impl MachInstLabelUse for LabelUse {
-    ghost use Rattle.a64_emit.specs.LabelUses.{label_kinds};
     ghost use Rattle.a64_emit.specs.LabelLaws.{label_kinds_lawful};
 
     ghost kinds = { label_kinds };
@@ -60,6 +101,7 @@ impl MachInstLabelUse for LabelUse {
             LabelUse::Branch14 => (1 << 15) - 1,
             LabelUse::Branch19 => (1 << 20) - 1,
             LabelUse::Branch26 => (1 << 27) - 1,
+            LabelUse::Ldr19 | LabelUse::Adr21 => (1 << 20) - 1,
             LabelUse::PCRel32 => (1 << 31) - 1,
         }
     }
@@ -70,8 +112,8 @@ impl MachInstLabelUse for LabelUse {
 
     fn supports_veneer(self) -> bool {
         match self {
-            LabelUse::PCRel32 => false,
-            _ => true,
+            LabelUse::Ldr19 | LabelUse::Adr21 | LabelUse::PCRel32 => false,
+            LabelUse::Branch14 | LabelUse::Branch19 | LabelUse::Branch26 => true,
         }
     }
 
@@ -79,23 +121,34 @@ impl MachInstLabelUse for LabelUse {
         4
     }
 
-    fn patch(self, buffer: &mut [u8], use_offset: u32, label_offset: u32) {
+    fn patch(self, buffer: &mut [u8], use_offset: u32, label_offset: u32)
+        requires word { length buffer.old ≡ 4 }
+        requires aligned { IsTrue (label_kinds.counts_words self) → label_offset % 4 ≡ use_offset % 4 }
+        requires within { IsWithin (label_kinds.forward self) (label_kinds.backward self) use_offset label_offset }
+        ensures rest { outside (label_kinds.mask self) (from_le_bytes w32 buffer.new)
+            ≡ outside (label_kinds.mask self) (from_le_bytes w32 buffer.old) }
+        ensures leads { GoesTo label_kinds self (from_le_bytes w32 buffer.old) (from_le_bytes w32 buffer.new)
+            use_offset label_offset }
+        ensures says { SaysDistance label_kinds self (from_le_bytes w32 buffer.old) (from_le_bytes w32 buffer.new)
+            use_offset label_offset }
+        ensures far { self ≡ PCRel32 → from_le_bytes w32 buffer.old ≡ 0
+            → LeadFar use_offset (from_le_bytes w32 buffer.new) label_offset }
+    {
         let distance = label_offset.wrapping_sub(use_offset);
         match self {
             LabelUse::Branch14 => patch_field(buffer, 5, 14, distance >> 2),
             LabelUse::Branch19 => patch_field(buffer, 5, 19, distance >> 2),
             LabelUse::Branch26 => patch_field(buffer, 0, 26, distance >> 2),
-            LabelUse::PCRel32 => {
-                let word = u32::from_le_bytes([buffer[0], buffer[1], buffer[2], buffer[3]]);
-                buffer.copy_from_slice(&word.wrapping_add(distance).to_le_bytes());
-            }
+            LabelUse::Ldr19 => patch_field(buffer, 5, 19, distance >> 2),
+            LabelUse::Adr21 => patch_address(buffer, distance),
+            LabelUse::PCRel32 => add_distance(buffer, distance),
         }
     }
 
     fn read(self, word: u32) -> i64 {
         match self {
             LabelUse::Branch14 => scaled((word >> 5) & 0x3fff, 1 << 13),
-            LabelUse::Branch19 => scaled((word >> 5) & 0x7_ffff, 1 << 18),
+            LabelUse::Branch19 | LabelUse::Ldr19 => scaled((word >> 5) & 0x7_ffff, 1 << 18),
             LabelUse::Branch26 => {
                 let count = word & 0x3ff_ffff;
                 if count < 1 << 25 {
@@ -104,6 +157,7 @@ impl MachInstLabelUse for LabelUse {
                     (i64::from(count) - (1 << 26)) * 4
                 }
             }
+            LabelUse::Adr21 => address_distance(word),
             LabelUse::PCRel32 => {
                 if word < 1 << 31 {
                     i64::from(word)
@@ -117,9 +171,9 @@ impl MachInstLabelUse for LabelUse {
     fn urgency(self) -> u8 {
         match self {
             LabelUse::Branch14 => 1,
-            LabelUse::Branch19 => 2,
+            LabelUse::Branch19 | LabelUse::Ldr19 => 2,
             LabelUse::Branch26 => 3,
-            LabelUse::PCRel32 => 0,
+            LabelUse::Adr21 | LabelUse::PCRel32 => 0,
         }
     }
 
@@ -134,7 +188,13 @@ impl MachInstLabelUse for LabelUse {
         20
     }
 
-    fn generate_veneer(self, buffer: &mut [u8], veneer_offset: u32) -> (u32, Self) {
+    fn generate_veneer(self, buffer: &mut [u8], veneer_offset: u32) -> (u32, Self)
+        requires veneers { IsTrue (label_kinds.veneers self) }
+        requires size { length buffer.old ≡ veneer_bytes label_kinds self }
+        requires low { veneer_offset ≤ 2 ^ 31 }
+        ensures veneer { IsVeneer label_kinds self veneer_offset buffer.old buffer.new result }
+        ensures far { label_kinds.urgency self ≡ 3 → JumpFar (first_words buffer.new) }
+    {
         match self {
             LabelUse::Branch26 => {
                 write_far(buffer);

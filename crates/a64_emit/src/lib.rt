@@ -8,6 +8,9 @@ mod emit;
 mod error;
 mod extent;
 mod label_use;
+#[cfg(test)]
+mod memory_tests;
+mod mode;
 mod site;
 mod state;
 #[cfg(test)]

@@ -1,4 +1,5 @@
-//! The words of instructions that are one word each.
+//! The words of instructions.
 
 pub mod control;
 pub mod integer;
+pub mod memory;

@@ -10,17 +10,22 @@ ghost use Rattle.a64_rows.specs.Forms.{form_word};
 ghost use Rattle.a64_emit.specs.Cells.{shape_of, only_word};
 ghost use Rattle.a64_emit.specs.ControlForms.{ret_form, jump_form};
 
+use crate::word::integer::system::{mov_from_nzcv_word, mov_to_nzcv_word, nop4_word};
 use a64_base::BranchTarget;
 use a64_enc_int::enc_jump26;
 use a64_inst::{EmitInfo, FrameLayout, Inst};
 
-/// The word of a branch that is one word without a use.
+/// The word of a branch, a hint or an access to a system register, where it is one word without a use.
 pub fn only_control_word(inst: &Inst, frame: &FrameLayout, info: &EmitInfo) -> Option<u32>
     requires group { group_of inst.now ≡ Control }
     requires good { has_operands frame.now info.now Refused inst.now ≡ true }
     ensures { result ≡ only_word (shape_of frame.now info.now inst.now) }
 {
     match inst {
+        Inst::Nop0 => None,
+        Inst::Nop4 => Some(nop4_word()),
+        Inst::MovToNZCV { rn } => Some(mov_to_nzcv_word(*rn)),
+        Inst::MovFromNZCV { rd } => Some(mov_from_nzcv_word(*rd)),
         Inst::Ret => Some(ret_word()),
         Inst::Jump { .. } => None,
         _ => unreachable!(),

@@ -7,6 +7,7 @@ use Rattle.a64_inst.specs.State.{State}
 use Rattle.a64_inst.proofs.Good.{operands_good}
 use Rattle.a64_emit.specs.Cells.{plain, shape_of, only_word, other_cells}
 use Rattle.a64_emit.specs.Emission.{appended, IsAppendedInPart, HasRoom, CellsFit}
+use Rattle.a64_emit.proofs.Accesses.{mode_good}
 use Rattle.a64_emit.proofs.Fitting.{before_word}
 use Rattle.a64_emit.proofs.Shapes.{some_word, no_word}
 use Rattle.a64_emit.proofs.emit.InstMachInstEmit.emit.Goals as goal
@@ -27,6 +28,7 @@ emit_other-requires c =
       good =
           subst (λ (f : FrameLayout). has_operands f c.args.info.now Refused c.args.self.now ≡ true) (sym (ap (λ (s : State). s.frame) c.take_stack_map-map.ensures.rest))
           (operands_good c.args.state.now.frame c.args.info.now c.args.sink.now.constants Refused c.args.self.now c.requires.good);
+      mode = mode_good c.args.state.now.frame c.args.info.now c.args.sink.now.constants c.args.self.now c.requires.good;
     }
 
 pub emit_plain-requires : goal.emit_plain-requires

@@ -1,0 +1,136 @@
+//! The addressing modes that stand in instructions, and the steps before them.
+
+ghost use Rattle.std.specs.Prelude.{◌≡◌, ◌<◌, ◌≤◌, ◌^◌, ◌⊎◌, [], length, None, Some, MatchOption};
+ghost use Rattle.a64_base.specs.declared.shift.ExtendOp.TheVariants.{SXTX};
+ghost use Rattle.a64_base.specs.Registers.{integer_register};
+ghost use Rattle.a64_imms.specs.Offsets.{residue};
+ghost use Rattle.a64_imms.specs.Scales.{type_bytes};
+ghost use Rattle.a64_plan.specs.Shapes.{IsShape};
+ghost use Rattle.a64_inst.specs.declared.mode.AMode.TheVariants.{RegExtended};
+ghost use Rattle.a64_inst.specs.Modes as modes;
+ghost use Rattle.a64_inst.specs.Modes.{base_offset_of, frame_size, IsAccessSize};
+ghost use Rattle.a64_inst.specs.FinalModes as finals;
+ghost use Rattle.a64_inst.specs.FinalModes.{parts_of};
+
+use a64_base::{ExtendOp, IrType, Reg, fp_reg, spilltmp_reg, stack_reg};
+use a64_imms::{SImm9, UImm12Scaled};
+use a64_inst::{AMode, ConstStep, FrameLayout, const_plan};
+use arrayvec::ArrayVec;
+
+/// A base, and an offset in bytes.
+#[derive(Clone, Copy, Debug)]
+struct Place {
+    base: Reg,
+    offset: i128,
+}
+
+/// A size of a frame, with room for a sum of some.
+fn wide(bytes: u32) -> u64
+    ensures value { result ≡ bytes }
+    ensures below { result < 2 ^ 32 }
+{
+    u64::from(bytes)
+}
+
+/// All areas of a frame together, in bytes.
+fn frame_bytes(frame: &FrameLayout) -> u64
+    ensures { result ≡ frame_size frame.now }
+{
+    wide(frame.setup_area_size)
+        + wide(frame.tail_args_size)
+        + wide(frame.clobber_size)
+        + wide(frame.fixed_frame_storage_size)
+        + wide(frame.outgoing_args_size)
+}
+
+/// The base and the offset of a mode that no instruction holds.
+fn place_of(frame: &FrameLayout, mem: &AMode) -> Option<Place>
+    ensures { MatchOption result (base_offset_of frame.now mem.now ≡ None)
+        (λ place. base_offset_of frame.now mem.now ≡ Some (record { base = place.base; offset = place.offset })) }
+{
+    let (base, offset) = match *mem {
+        AMode::RegOffset { rn, off } => (rn, i128::from(off)),
+        AMode::SPOffset { off } => (stack_reg(), i128::from(off)),
+        AMode::FPOffset { off } => (fp_reg(), i128::from(off)),
+        AMode::IncomingArg { off } => (
+            stack_reg(),
+            i128::from(frame_bytes(frame)) - i128::from(off),
+        ),
+        AMode::SlotOffset { off } => (
+            stack_reg(),
+            i128::from(off) + i128::from(frame.outgoing_args_size),
+        ),
+        _ => return None,
+    };
+    Some(Place { base, offset })
+}
+
+/// Whether no instruction holds an offset of an access.
+fn is_far(ty: IrType, offset: i128) -> bool
+    requires { IsAccessSize (type_bytes ty) }
+    ensures { result ≡ modes.is_far ty offset }
+{
+    let bytes = i128::from(ty.bytes());
+    let near = offset >= -256 && offset <= 255;
+    !near && !(offset >= 0 && offset <= 4095 * bytes && offset % bytes == 0)
+}
+
+/// An offset modulo 2^64.
+fn wrapped(offset: i128) -> u64
+    ensures { result ≡ residue (2 ^ 64) offset }
+{
+    offset.rem_euclid(1 << 64) as u64
+}
+
+/// The mode with the offset in x16.
+fn far_mode(base: Reg) -> AMode
+    ensures { result ≡ RegExtended base (integer_register 16) SXTX }
+{
+    AMode::RegExtended {
+        rn: base,
+        rm: spilltmp_reg(),
+        extendop: ExtendOp::SXTX,
+    }
+}
+
+/// The mode that stands for a base and an offset.
+fn placed_mode(ty: IrType, base: Reg, offset: i64) -> AMode
+    requires { IsAccessSize (type_bytes ty) }
+    ensures { parts_of result ≡ finals.placed_mode ty (record { base = base; offset = offset }) }
+{
+    if let Some(simm9) = SImm9::maybe_from_i64(offset) {
+        return AMode::Unscaled { rn: base, simm9 };
+    }
+    match UImm12Scaled::maybe_from_i64(offset, ty) {
+        Some(uimm12) => AMode::UnsignedOffset { rn: base, uimm12 },
+        None => far_mode(base),
+    }
+}
+
+/// The mode that stands in the instruction of an access.
+pub fn final_mode(frame: &FrameLayout, ty: IrType, mem: &AMode) -> AMode
+    requires { IsAccessSize (type_bytes ty) }
+    ensures { parts_of result ≡ finals.final_mode frame.now ty mem.now }
+{
+    let Some(place) = place_of(frame, mem) else {
+        return *mem;
+    };
+    if place.offset < -(1 << 63) || place.offset >= 1 << 63 {
+        far_mode(place.base)
+    } else {
+        placed_mode(ty, place.base, place.offset as i64)
+    }
+}
+
+/// The steps before an access, which leave in x16 an offset that no instruction holds.
+pub fn final_steps(frame: &FrameLayout, ty: IrType, mem: &AMode) -> ArrayVec<ConstStep, 4>
+    requires { IsAccessSize (type_bytes ty) }
+    ensures steps { result.items ≡ finals.final_steps frame.now ty mem.now }
+    ensures shape { (result.items ≡ []) ⊎ IsShape result.items }
+    ensures few { length result.items ≤ 4 }
+{
+    match place_of(frame, mem) {
+        Some(place) if is_far(ty, place.offset) => const_plan(wrapped(place.offset)),
+        _ => ArrayVec::new(),
+    }
+}

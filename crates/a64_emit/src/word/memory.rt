@@ -1,0 +1,98 @@
+//! The words of loads and stores, and of addresses.
+
+mod access;
+mod address;
+mod step;
+
+ghost use Rattle.std.specs.Prelude.{◌≡◌, [], length, true, MatchOption};
+ghost use Rattle.a64_inst.specs.declared.group.Group.TheVariants.{Memory};
+ghost use Rattle.a64_inst.specs.declared.virtuals.VirtualRegisters.TheVariants.{Refused};
+ghost use Rattle.a64_inst.specs.Groups.{group_of};
+ghost use Rattle.a64_inst.specs.Faults.{has_operands, has_mode};
+ghost use Rattle.a64_inst.specs.MemoryOperands as memory;
+ghost use Rattle.a64_emit.specs.Cells.{Words, shape_of, access_shape, inst_cells};
+ghost use Rattle.a64_emit.specs.Words.{AreSeveral};
+
+use crate::mode::{final_mode, final_steps};
+use crate::word::memory::access::{held_word, pair_word};
+use crate::word::memory::address::{address_count, address_words};
+use crate::word::memory::step::step_words;
+use a64_base::{TrapCode, writable_spilltmp_reg};
+use a64_inst::{Access, EmitInfo, FrameLayout, Inst};
+use arrayvec::ArrayVec;
+
+/// Words without uses, of which the last may trap.
+#[derive(Drop)]
+pub struct SeveralWords {
+    /// The words before the last.
+    pub first: ArrayVec<u32, 4>,
+    /// The last word.
+    pub last: u32,
+    /// The code of the trap that is recorded at the last word.
+    pub trap: Option<TrapCode>,
+}
+
+/// The words of a load or a store of one register.
+#[tactic(auto, unfolding(a64_inst::specs::MemoryOperands::are_access_operands))]
+fn access_words(access: &Access, frame: &FrameLayout) -> SeveralWords
+    requires operands { memory.are_access_operands frame.now Refused access.now ≡ true }
+    requires mode { memory.has_access_mode access.now.op access.now.mem ≡ true }
+    ensures { AreSeveral result.first.items result.last result.trap (access_shape frame.now access.now) }
+{
+    let ty = access.ty();
+    let steps = final_steps(frame, ty, &access.mem);
+    let mode = final_mode(frame, ty, &access.mem);
+    SeveralWords {
+        first: step_words(writable_spilltmp_reg(), steps.as_slice()),
+        last: held_word(access.op, access.reg, &mode),
+        trap: access.flags.trap_code(),
+    }
+}
+
+/// The words of a load or a store, or of an address, where there are any.
+pub fn memory_words(inst: &Inst, frame: &FrameLayout, info: &EmitInfo) -> Option<SeveralWords>
+    requires group { group_of inst.now ≡ Memory }
+    requires good { has_operands frame.now info.now Refused inst.now ≡ true }
+    requires mode { has_mode inst.now ≡ true }
+    ensures { MatchOption result (shape_of frame.now info.now inst.now ≡ Words [])
+        (λ words. AreSeveral words.first.items words.last words.trap (shape_of frame.now info.now inst.now)) }
+{
+    if let Some(access) = inst.access() {
+        return Some(access_words(&access, frame));
+    }
+    let (last, flags) = match inst {
+        Inst::LoadP64 {
+            rt,
+            rt2,
+            mem,
+            flags,
+        } => (pair_word(1, rt.to_reg(), rt2.to_reg(), mem), flags),
+        Inst::StoreP64 {
+            rt,
+            rt2,
+            mem,
+            flags,
+        } => (pair_word(0, *rt, *rt2, mem), flags),
+        Inst::LoadAddr { rd, mem } => return address_words(*rd, frame, mem),
+        _ => unreachable!(),
+    };
+    Some(SeveralWords {
+        first: ArrayVec::new(),
+        last,
+        trap: flags.trap_code(),
+    })
+}
+
+/// How many words a load or a store, or an address, has.
+pub fn memory_count(inst: &Inst, frame: &FrameLayout, info: &EmitInfo) -> u64
+    requires { group_of inst.now ≡ Memory }
+    ensures { result ≡ length (inst_cells frame.now info.now inst.now) }
+{
+    if let Some(access) = inst.access() {
+        return final_steps(frame, access.ty(), &access.mem).len() as u64 + 1;
+    }
+    match inst {
+        Inst::LoadAddr { rd, mem } => address_count(&rd.to_reg(), frame, mem),
+        _ => 1,
+    }
+}

@@ -1,0 +1,154 @@
+//! The words of loads and stores.
+
+ghost use Rattle.std.specs.Prelude.{◌≡◌, ◌≢◌, ◌<◌, ◌+◌, ◌*◌, ◌/◌, ◌%◌, ◌^◌, true};
+ghost use Rattle.a64_imms.specs.Offsets.{residue, IsOffset9};
+ghost use Rattle.a64_imms.specs.ScaledOffsets.{uimm12_value, uimm12_scale};
+ghost use Rattle.a64_imms.specs.Scales.{type_bytes};
+ghost use Rattle.a64_base.specs.declared.ir_type.IrType.TheVariants.{I64};
+ghost use Rattle.a64_inst.specs.declared.virtuals.VirtualRegisters.TheVariants.{Refused};
+ghost use Rattle.a64_inst.specs.FinalModes.{parts_of};
+ghost use Rattle.a64_inst.specs.MemoryOperands.{is_data_register, are_pair_operands, is_simm7_of};
+ghost use Rattle.a64_inst.specs.Operands.{is_offset19, is_register_or_zero};
+ghost use Rattle.a64_ops.specs.Accesses.{size_of, vector_of, opc_of, literal_of};
+ghost use Rattle.a64_rows.specs.Forms.{form_word};
+ghost use Rattle.a64_enc_int.specs.Operators.{bit_of, index_option, IsIndexExtend};
+ghost use Rattle.a64_enc_int.specs.Registers.{IsGeneral};
+ghost use Rattle.a64_emit.specs.MemoryForms as forms;
+ghost use Rattle.a64_emit.specs.Words.{are_held_parts};
+
+use crate::word::integer::system::nop4_word;
+use a64_base::{ExtendOp, Reg, stack_reg};
+use a64_enc_int::{enc_ldst_imm19, enc_ldst_pair, enc_ldst_reg, enc_ldst_simm9, enc_ldst_uimm12};
+use a64_imms::{SImm7Scaled, SImm9, UImm12Scaled};
+use a64_inst::{AMode, AccessOp, MemLabel, PairAMode};
+
+/// The bits 31 to 22 of the word of a load or a store of one register, but for those that an
+/// unsigned offset and an index set.
+#[tactic(auto, using(crate::proofs::MemoryWords::fields_below))]
+fn access_bits(op: AccessOp) -> u32
+    ensures { result ≡ size_of op * 2 ^ 8 + 224 + vector_of op * 2 ^ 4 + opc_of op }
+{
+    (op.size_field() << 8) + 0b111_00000 + (op.vector_field() << 4) + op.opc_field()
+}
+
+/// The word of an access with an offset of 9 bits.
+fn imm9_word(op: AccessOp, rt: Reg, mode: u32, rn: Reg, simm9: SImm9) -> u32
+    requires rt { is_data_register Refused op rt ≡ true }
+    requires mode { mode < 4 }
+    requires not_2 { mode ≢ 2 }
+    requires rn { IsGeneral rn }
+    requires simm9 { IsOffset9 simm9.value }
+    ensures { result ≡ form_word (forms.imm9_form op rt mode rn simm9.value) }
+{
+    enc_ldst_simm9(access_bits(op), simm9, mode, rn, rt)
+}
+
+/// The word of an access with an unsigned offset.
+fn unsigned_word(op: AccessOp, rt: Reg, rn: Reg, uimm12: UImm12Scaled) -> u32
+    requires rt { is_data_register Refused op rt ≡ true }
+    requires rn { IsGeneral rn }
+    ensures { result ≡ form_word (forms.unsigned_form op rt rn (uimm12_value uimm12 / type_bytes (uimm12_scale uimm12))) }
+{
+    enc_ldst_uimm12(access_bits(op), uimm12, rn, rt)
+}
+
+/// The word of an access with an index.
+fn indexed_word(
+    op: AccessOp,
+    rt: Reg,
+    rn: Reg,
+    rm: Reg,
+    extendop: Option<ExtendOp>,
+    scaled: bool,
+) -> u32
+    requires rt { is_data_register Refused op rt ≡ true }
+    requires rn { IsGeneral rn }
+    requires rm { IsGeneral rm }
+    requires extendop { IsIndexExtend extendop }
+    ensures { result ≡ form_word (forms.indexed_form op rt rn rm (index_option extendop) (bit_of scaled)) }
+{
+    enc_ldst_reg(access_bits(op), rn, rm, scaled, extendop, rt)
+}
+
+/// How many words a literal is ahead, modulo 2^19.
+fn literal_words(label: MemLabel) -> u32
+    ensures is { result ≡ forms.literal_words label }
+    ensures fits { result < 2 ^ 19 }
+{
+    match label {
+        MemLabel::PCRel(offset) => offset.rem_euclid(1 << 21) as u32 / 4,
+    }
+}
+
+/// The bits 31 to 24 of the word of the load of a literal.
+fn literal_bits(op: AccessOp) -> u32
+    ensures { result ≡ forms.option_or_zero (literal_of op) * 2 ^ 6 + 24 + vector_of op * 2 ^ 2 }
+{
+    (op.literal_field().unwrap_or(0) << 6) + 0b011_000 + (op.vector_field() << 2)
+}
+
+/// The word of the load of a literal.
+fn literal_word(op: AccessOp, rt: Reg, words: u32) -> u32
+    requires rt { is_data_register Refused op rt ≡ true }
+    requires words { words < 2 ^ 19 }
+    ensures { result ≡ form_word (forms.literal_form op rt words) }
+{
+    enc_ldst_imm19(literal_bits(op), words, rt)
+}
+
+/// The word of a load or a store of one register in a mode that stands in an instruction.
+pub fn held_word(op: AccessOp, rt: Reg, mode: &AMode) -> u32
+    requires rt { is_data_register Refused op rt ≡ true }
+    requires mode { are_held_parts op (parts_of mode.now) ≡ true }
+    ensures { result ≡ form_word (forms.held_form op rt (parts_of mode.now)) }
+{
+    match *mode {
+        AMode::Unscaled { rn, simm9 } => imm9_word(op, rt, 0, rn, simm9),
+        AMode::UnsignedOffset { rn, uimm12 } => unsigned_word(op, rt, rn, uimm12),
+        AMode::RegReg { rn, rm } => indexed_word(op, rt, rn, rm, None, false),
+        AMode::RegScaled { rn, rm } => indexed_word(op, rt, rn, rm, None, true),
+        AMode::RegExtended { rn, rm, extendop } => {
+            indexed_word(op, rt, rn, rm, Some(extendop), false)
+        }
+        AMode::RegScaledExtended { rn, rm, extendop } => {
+            indexed_word(op, rt, rn, rm, Some(extendop), true)
+        }
+        AMode::Label { label } => literal_word(op, rt, literal_words(label)),
+        AMode::SPPreIndexed { simm9 } => imm9_word(op, rt, 3, stack_reg(), simm9),
+        AMode::SPPostIndexed { simm9 } => imm9_word(op, rt, 1, stack_reg(), simm9),
+        // No mode that stands in an instruction.
+        _ => nop4_word(),
+    }
+}
+
+/// The word of a load (1) or a store (0) of two registers, by the index of its mode.
+fn indexed_pair_word(load: u32, index: u32, rn: Reg, simm7: SImm7Scaled, rt: Reg, rt2: Reg) -> u32
+    requires load { load < 2 }
+    requires index { index < 4 }
+    requires some { index ≢ 0 }
+    requires rn { IsGeneral rn }
+    requires simm7 { is_simm7_of I64 simm7 ≡ true }
+    requires rt { is_register_or_zero Refused rt ≡ true }
+    requires rt2 { is_register_or_zero Refused rt2 ≡ true }
+    ensures { result ≡ form_word (forms.pair_word_form load index rn simm7 rt rt2) }
+{
+    enc_ldst_pair(0b10_10100_00_0 + (index << 1) + load, simm7, rn, rt, rt2)
+}
+
+/// The word of a load (1) or a store (0) of two registers.
+#[tactic(auto, using(crate::proofs::Operands::stack_general), unfolding(a64_inst::specs::MemoryOperands::are_pair_operands))]
+pub fn pair_word(load: u32, rt: Reg, rt2: Reg, mem: &PairAMode) -> u32
+    requires load { load < 2 }
+    requires good { are_pair_operands Refused rt rt2 mem.now ≡ true }
+    ensures { result ≡ form_word (forms.pair_form load rt rt2 mem.now) }
+{
+    match *mem {
+        PairAMode::SignedOffset { reg, simm7 } => indexed_pair_word(load, 2, reg, simm7, rt, rt2),
+        PairAMode::SPPreIndexed { simm7 } => {
+            indexed_pair_word(load, 3, stack_reg(), simm7, rt, rt2)
+        }
+        PairAMode::SPPostIndexed { simm7 } => {
+            indexed_pair_word(load, 1, stack_reg(), simm7, rt, rt2)
+        }
+    }
+}
