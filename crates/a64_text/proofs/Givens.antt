@@ -10,8 +10,11 @@ use Rattle.std.specs.List.{Contains}
 use Rattle.std.proofs.lemmas.Bool.{false≢true}
 use Rattle.a64_text.specs.declared.entry.Entry.{Entry}
 use Rattle.a64_text.specs.declared.entry.OnceName.{OnceName}
-use Rattle.a64_text.specs.declared.entry.OnceName.TheVariants.{Constant}
+use Rattle.a64_text.specs.declared.entry.OnceName.TheVariants.{Constant, Frame}
 use Rattle.a64_text.specs.contracts.entry.OnceNameOrd.TheImpl.Laws.{total-law}
+use Rattle.a64_text.specs.declared.frame_field.FrameField.{FrameField}
+use Rattle.a64_text.specs.declared.frame_field.FrameField.TheVariants as frame_fields
+use Rattle.a64_text.specs.contracts.frame_field.FrameFieldOrd.TheImpl as field_order
 use Rattle.a64_text.specs.declared.state.ReaderState.{ReaderState}
 use Rattle.a64_text.specs.Reads.{Reads}
 use Rattle.a64_text.specs.Tokens.{line_of, IsEntry}
@@ -20,8 +23,19 @@ use Rattle.a64_text.specs.AddsLine.{once_cmp, HasNames, AddsName, AddsNothing, A
 
 -- ---- names tie where they are equal: a line for each
 
+field_ties : (a b : FrameField) → is_at ((field_order.ghosts).cmp a) b ≡ true → a ≡ b
+field_ties frame_fields.SetupAreaSize frame_fields.SetupAreaSize e = refl
+field_ties frame_fields.TailArgsSize frame_fields.TailArgsSize e = refl
+field_ties frame_fields.ClobberSize frame_fields.ClobberSize e = refl
+field_ties frame_fields.FixedFrameStorageSize frame_fields.FixedFrameStorageSize e = refl
+field_ties frame_fields.OutgoingArgsSize frame_fields.OutgoingArgsSize e = refl
+field_ties _ _ e = absurd (false≢true e)
+
 ties : (a b : OnceName) → is_at (once_cmp a) b ≡ true → a ≡ b
 ties (Constant a) (Constant b) e = ap Constant (nat_cmp-IsAntisymmetric a b ((Equal-is (nat_cmp a b)).0 e))
+ties (Frame a) (Frame b) e = ap Frame (field_ties a b e)
+ties (Constant a) (Frame b) e = absurd (false≢true e)
+ties (Frame a) (Constant b) e = absurd (false≢true e)
 
 ties_itself : (a : OnceName) → is_at (once_cmp a) a ≡ true
 ties_itself a = ap is_eq (tied_itself total-law a)

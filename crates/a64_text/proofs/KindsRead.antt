@@ -40,6 +40,15 @@ only_of (values.U64 x) token r h = h.only x
 only_of (values.I32 x) token r h = h.only x
 only_of (values.Target x) token r h = h.only x
 only_of (values.Label x) token r h = h.only x
+only_of (values.FrameField x) token r h = h.only x
+only_of (values.I64 x) token r h = h.only x
+only_of (values.Offset9 x) token r h = h.only x
+only_of (values.PairOffset x) token r h = h.only x
+only_of (values.Type x) token r h = h.only x
+only_of (values.MemLabelName x) token r h = h.only x
+only_of (values.Mode x) token r h = h.only x
+only_of (values.PairMode x) token r h = h.only x
+only_of (values.Flags x) token r h = h.only x
 
 pub kind_read : (kind : Kind) (token : List ℕ) (r : Option Value) → ReadsKind kind token r → Reads (IsOf kind) value_text token r
 kind_read kind token r h = record {

@@ -1,15 +1,12 @@
 -- No field's text has a space.
-use Rattle.std.specs.Prelude.{ℕ, ℤ, pos, negsuc, suc, ◌<◌, ◌==◌, ◌*◌, ◌^◌, ◌++◌, if◌then◌else◌, Bool, true, false, codes, List, [], ◌∷◌, refl}
-use Rattle.std.proofs.Common.{arith, lit<}
+use Rattle.std.specs.Prelude.{ℕ, ℤ, pos, negsuc, suc, ◌<◌, ◌==◌, ◌*◌, ◌^◌, ◌++◌, if◌then◌else◌, Bool, true, false, codes, List, [], ◌∷◌, Option, Some, None, refl}
+use Rattle.std.proofs.Common.{arith, lit<, inl}
 use Rattle.std.proofs.lemmas.Int.{ints}
 use Rattle.std.specs.Fmt.{decimal, signed_decimal}
-use Rattle.std.specs.Str.Parse.{AllDigits}
-use Rattle.std.proofs.lemmas.Fmt.{decimal_is_IsNumeral}
-use Rattle.std.proofs.lemmas.Str.Parse.{digit_from_value}
-use Rattle.std.proofs.lemmas.Bool.{ne_eqb}
-use Rattle.std.proofs.lemmas.List.Folds.{list_any-append}
+use Rattle.std.specs.List.{AllByRecursion, join_with_byte}
 use Rattle.a64_base.specs.RegisterNumbers.{RealRegister, IsRegisterNumber}
 use Rattle.a64_base.specs.declared.entity.MachLabel.{MachLabel}
+use Rattle.a64_base.specs.declared.entity.TrapCode.{TrapCode}
 use Rattle.a64_base.specs.declared.reg.Reg.{Reg}
 use Rattle.a64_base.specs.declared.reg.Reg.TheVariants.{Real, Virtual}
 use Rattle.a64_base.specs.declared.reg.RegClass.{RegClass}
@@ -41,29 +38,25 @@ use Rattle.a64_base.specs.ShiftParts.{Shift}
 use Rattle.a64_imms.specs.declared.flags.NZCV.{NZCV}
 use Rattle.a64_imms.specs.declared.unsigned.UImm5.{UImm5}
 use Rattle.a64_imms.specs.Flags.{flags_of, nzcv_bits}
+use Rattle.a64_text.specs.declared.frame_field.FrameField.{FrameField}
+use Rattle.a64_text.specs.declared.frame_field.FrameField.TheVariants.{SetupAreaSize}
+use Rattle.a64_text.specs.declared.mode_name.ModeName.{ModeName}
+use Rattle.a64_text.specs.declared.mode_name.ModeName.TheVariants as mode_names
+use Rattle.a64_text.specs.declared.mode_name.PairModeName.{PairModeName}
+use Rattle.a64_text.specs.declared.mode_name.PairModeName.TheVariants as pair_names
 use Rattle.a64_text.specs.declared.value.Value.{Value}
 use Rattle.a64_text.specs.declared.value.Value.TheVariants as values
-use Rattle.a64_text.specs.Items.{IsNumber}
 use Rattle.a64_text.specs.Values.{value_text, IsValue}
 use Rattle.a64_text.specs.Reads.{IsU8, IsU32, IsU64, IsI32, Always}
-use Rattle.a64_text.specs.Operators.{alu_op_text, alu_op3_text, bit_op_text, bfm_op_text, move_wide_op_text, shift_op_text, extend_text, cond_text, bool_text}
-use Rattle.a64_text.specs.Fields.{HasNo, label_text, IsLabel, target_text, IsTarget, size_text, integer_text, real_text, virtual_text, reg_text, IsReg, imm12_text, IsImm12, IsPReg, preg_text, wide_text, IsWide, shift_text, IsShift, nzcv_text, uimm5_text}
-
-digits_apart : (byte : ℕ) (digits : List ℕ) → byte < 48 → AllDigits 10 digits → HasNo byte digits
-digits_apart byte [] lt h = refl
-digits_apart byte (d ∷ digits) lt h =
-    let value = digit_from_value d h.0 in
-    rw (ne_eqb d byte (λ e. omega arith), digits_apart byte digits lt h.1) refl
-
--- a byte before the digits stands in no decimal
-pub decimal_apart : (byte n : ℕ) → byte < 48 → IsU64 n → HasNo byte (decimal n)
-decimal_apart byte n lt fits = digits_apart byte (decimal n) lt (decimal_is_IsNumeral n (omega arith)).0.1
+use Rattle.a64_text.specs.Operators.{alu_op_text, alu_op3_text, bit_op_text, bfm_op_text, move_wide_op_text, shift_op_text, extend_text, cond_text, bool_text, frame_field_text}
+use Rattle.a64_text.specs.Modes.{mode_name_text, mode_name_of, mode_fields, pair_name_text, pair_name_of, pair_fields}
+use Rattle.a64_text.specs.Parts.{part_texts, IsPart}
+use Rattle.a64_text.proofs.Between.{append_apart, join_plain, parts_apart, part_apart, real_apart}
+use Rattle.a64_text.proofs.Digits.{decimal_apart}
+use Rattle.a64_text.specs.Fields.{HasNo, call_text, flags_text, IsFlags, label_text, IsLabel, target_text, IsTarget, size_text, integer_text, real_text, virtual_text, reg_text, IsReg, imm12_text, IsImm12, IsPReg, preg_text, wide_text, IsWide, shift_text, IsShift, nzcv_text, uimm5_text}
 
 pub decimal_plain : (n : ℕ) → IsU64 n → HasNo 32 (decimal n)
 decimal_plain n fits = decimal_apart 32 n (lit< tt) fits
-
-pub u32_apart : (n : ℕ) → IsU32 n → HasNo 44 (decimal n)
-u32_apart n fits = decimal_apart 44 n (lit< tt) (omega arith)
 
 pub u8_plain : (n : ℕ) → IsU8 n → HasNo 32 (decimal n)
 u8_plain n fits = decimal_plain n (omega arith)
@@ -86,36 +79,8 @@ pub size_plain : (size : OperandSize) → Always size → HasNo 32 (size_text si
 size_plain Size32 fits = refl
 size_plain Size64 fits = refl
 
--- the numbers of registers are small
-pub number_fits : (class : RegClass) (n : ℕ) → IsRegisterNumber class n → n < 64
-number_fits Int n fits = grind (arith, fits)
-number_fits Float n fits = grind (arith, fits)
-
-integer_plain : (n : ℕ) → IsRegisterNumber Int n → HasNo 32 (integer_text n)
-integer_plain n fits = go (n == 31) (n == 63)
-  where
-    go : (zero sp : Bool) → HasNo 32 (if zero then codes "xzr" else if sp then codes "sp" else (codes "x" ++ decimal n))
-    go true sp = refl
-    go false true = refl
-    go false false = decimal_plain n (omega (arith, number_fits Int n fits))
-
-real_plain : (class : RegClass) (n : ℕ) → IsRegisterNumber class n → HasNo 32 (real_text class n)
-real_plain Int n fits = integer_plain n fits
-real_plain Float n fits = decimal_plain n (omega (arith, number_fits Float n fits))
-
-virtual_plain : (class : RegClass) (n : ℕ) → IsU32 n → HasNo 32 (virtual_text class n)
-virtual_plain Int n fits = u32_plain n fits
-virtual_plain Float n fits = u32_plain n fits
-
 preg_plain : (p : RealRegister) → IsPReg p → HasNo 32 (preg_text p)
-preg_plain p fits = real_plain p.class p.number fits
-
-pub reg_plain : (reg : Reg) → IsReg reg → HasNo 32 (reg_text reg)
-reg_plain (Real p) fits = real_plain p.class p.number fits
-reg_plain (Virtual index class) fits = virtual_plain class index fits
-
-append_plain : (xs ys : List ℕ) → HasNo 32 xs → HasNo 32 ys → HasNo 32 (xs ++ ys)
-append_plain xs ys hx hy = rw (list_any-append (λ b. b == 32) xs ys, hx) hy
+preg_plain p fits = real_apart 32 (inl refl) p.class p.number fits
 
 value_fits : (bits : ℕ) (shift : Bool) → bits < 4096 → bits * (if shift then 4096 else 1) < 2 ^ 64
 value_fits bits true low = omega arith
@@ -128,7 +93,7 @@ pub imm12_plain : (imm : Imm12) → IsImm12 imm → HasNo 32 (imm12_text imm)
 imm12_plain imm fits = decimal_plain (imm12_value imm) (imm12_fits imm fits)
 
 pub wide_plain : (imm : MoveWideConst) → IsWide imm → HasNo 32 (wide_text imm)
-wide_plain imm fits = append_plain (decimal imm.bits) (44 ∷ decimal (16 * imm.shift)) (decimal_plain imm.bits (omega (arith, fits.0))) (decimal_plain (16 * imm.shift) (omega (arith, fits.1)))
+wide_plain imm fits = append_apart 32 (decimal imm.bits) (44 ∷ decimal (16 * imm.shift)) (decimal_plain imm.bits (omega (arith, fits.0))) (decimal_plain (16 * imm.shift) (omega (arith, fits.1)))
 
 -- ---- names
 
@@ -156,10 +121,6 @@ shift_op_plain : (x : ShiftOp) → HasNo 32 (shift_op_text x)
 shift_op_plain LSL = refl
 shift_op_plain _ = refl
 
-extend_plain : (x : ExtendOp) → HasNo 32 (extend_text x)
-extend_plain UXTB = refl
-extend_plain _ = refl
-
 cond_plain : (x : Cond) → HasNo 32 (cond_text x)
 cond_plain Eq = refl
 cond_plain _ = refl
@@ -168,12 +129,16 @@ bool_plain : (x : Bool) → HasNo 32 (bool_text x)
 bool_plain true = refl
 bool_plain false = refl
 
+frame_field_plain : (x : FrameField) → HasNo 32 (frame_field_text x)
+frame_field_plain SetupAreaSize = refl
+frame_field_plain _ = refl
+
 -- ---- fields
 
 shift_plain : (x : Shift) → IsShift x → HasNo 32 (shift_text x)
 shift_plain x fits =
-    append_plain (shift_op_text x.op) (40 ∷ (decimal x.amount ++ 41 ∷ [])) (shift_op_plain x.op)
-    (append_plain (decimal x.amount) (41 ∷ []) (decimal_plain x.amount (omega (arith, fits))) refl)
+    append_apart 32 (shift_op_text x.op) (40 ∷ (decimal x.amount ++ 41 ∷ [])) (shift_op_plain x.op)
+    (append_apart 32 (decimal x.amount) (41 ∷ []) (decimal_plain x.amount (omega (arith, fits))) refl)
 
 -- the name of a shift has no parenthesis
 pub shift_op_apart : (x : ShiftOp) → HasNo 40 (shift_op_text x)
@@ -186,7 +151,25 @@ nzcv_plain x = decimal_plain (nzcv_bits (flags_of x)) (grind arith)
 uimm5_plain : (x : UImm5) → HasNo 32 (uimm5_text x)
 uimm5_plain x = decimal_plain x.value (omega (arith, x.below))
 
--- a line for each kind
+flags_plain : (x : Option TrapCode) → IsFlags x → HasNo 32 (flags_text x)
+flags_plain None fits = refl
+flags_plain (Some code) fits = u8_plain code.0 fits
+
+-- a name, and fields in parentheses
+call_plain : (name : List ℕ) (vs : List Value) → HasNo 32 name → AllByRecursion IsPart vs → HasNo 32 (call_text (name, join_with_byte 44 (part_texts vs)))
+call_plain name vs plain are =
+    append_apart 32 name (40 ∷ (join_with_byte 44 (part_texts vs) ++ 41 ∷ [])) plain
+    (append_apart 32 (join_with_byte 44 (part_texts vs)) (41 ∷ []) (join_plain (part_texts vs) (parts_apart 32 (inl refl) vs are)) refl)
+
+mode_name_plain : (name : ModeName) → HasNo 32 (mode_name_text name)
+mode_name_plain mode_names.RegReg = refl
+mode_name_plain _ = refl
+
+pair_name_plain : (name : PairModeName) → HasNo 32 (pair_name_text name)
+pair_name_plain pair_names.SignedOffset = refl
+pair_name_plain _ = refl
+
+-- a line for each kind, and one for those that may stand with commas between
 pub value_plain : (v : Value) → IsValue v → HasNo 32 (value_text v)
 value_plain (values.AluOp x) fits = alu_op_plain x
 value_plain (values.AluOp3 x) fits = alu_op3_plain x
@@ -194,7 +177,6 @@ value_plain (values.BitOp x) fits = bit_op_plain x
 value_plain (values.BfmOp x) fits = bfm_op_plain x
 value_plain (values.MoveWideOp x) fits = move_wide_op_plain x
 value_plain (values.Size x) fits = size_plain x fits
-value_plain (values.Reg x) fits = reg_plain x fits
 value_plain (values.PReg x) fits = preg_plain x fits
 value_plain (values.Imm12 x) fits = imm12_plain x fits
 value_plain (values.Wide x) fits = wide_plain x fits
@@ -202,18 +184,16 @@ value_plain (values.ImmShift x) fits = decimal_plain x.imm (omega (arith, fits))
 value_plain (values.UImm5 x) fits = uimm5_plain x
 value_plain (values.UImm6 x) fits = decimal_plain x.imm (omega (arith, fits))
 value_plain (values.Shift x) fits = shift_plain x fits
-value_plain (values.Extend x) fits = extend_plain x
 value_plain (values.Cond x) fits = cond_plain x
 value_plain (values.Nzcv x) fits = nzcv_plain x
 value_plain (values.Bool x) fits = bool_plain x
 value_plain (values.U8 x) fits = u8_plain x fits
-value_plain (values.U32 x) fits = u32_plain x fits
 value_plain (values.U64 x) fits = decimal_plain x fits
 value_plain (values.I32 x) fits = signed_plain x fits
 value_plain (values.Target x) fits = target_plain x fits
 value_plain (values.Label x) fits = label_plain x fits
-
--- no number has a comma
-pub number_apart : (v : Value) → IsNumber v → HasNo 44 (value_text v)
-number_apart (values.U32 n) fits = u32_apart n fits
-number_apart _ fits = absurd fits
+value_plain (values.FrameField x) fits = frame_field_plain x
+value_plain (values.Mode x) fits = call_plain (mode_name_text (mode_name_of x)) (mode_fields x) (mode_name_plain (mode_name_of x)) fits.0
+value_plain (values.PairMode x) fits = call_plain (pair_name_text (pair_name_of x)) (pair_fields x) (pair_name_plain (pair_name_of x)) fits.0
+value_plain (values.Flags x) fits = flags_plain x fits
+value_plain part fits = part_apart 32 (inl refl) part fits

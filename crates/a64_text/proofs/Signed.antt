@@ -5,14 +5,14 @@ use Rattle.std.specs.Fmt.{decimal, signed_decimal}
 use Rattle.std.proofs.lemmas.Int.{ints}
 use Rattle.a64_base.specs.declared.target.BranchTarget.{BranchTarget}
 use Rattle.a64_base.specs.declared.target.BranchTarget.TheVariants.{Label, ResolvedOffset}
-use Rattle.a64_text.specs.Reads.{Reads, IsU32, IsU64, IsI32, IsBelowZero, IsFromZero}
+use Rattle.a64_text.specs.Reads.{Reads, IsU32, IsU64, IsI32, IsI64, IsBelowZero, IsFromZero}
 use Rattle.a64_text.specs.Fields.{target_text, IsTarget}
 use Rattle.a64_text.proofs.Decimals.{decimal_first}
 
 no_minus : (digits : List ℕ) (n : ℕ) → IsU64 n → 45 ∷ digits ≡ decimal n → ⊥
 no_minus digits n fits e = omega (arith, decimal_first (45 ∷ digits) n fits e)
 
-minus_only : (token digits : List ℕ) (n : ℕ) (r : Option ℤ) (z : ℤ) → token ≡ 45 ∷ digits → Reads IsU64 decimal digits (Some n) → IsBelowZero n r → IsI32 z → token ≡ signed_decimal z → r ≡ Some z
+minus_only : (token digits : List ℕ) (n : ℕ) (r : Option ℤ) (z : ℤ) → token ≡ 45 ∷ digits → Reads IsU64 decimal digits (Some n) → IsBelowZero n r → IsI64 z → token ≡ signed_decimal z → r ≡ Some z
 minus_only token digits n r (pos m) w h l fits e = absurd (no_minus digits m (omega (arith, ints, fits)) (sym w ∙ e))
 minus_only token digits n None (negsuc m) w h l fits e =
     let both : 45 ∷ digits ≡ 45 ∷ decimal (suc m) = sym w ∙ e in
@@ -28,14 +28,14 @@ minus_only token digits n (Some y) (negsuc m) w h l fits e =
     let same : l.0 ≡ m = omega (arith, k, l.1) in
     rw (l.3, same) refl
 
-minus_some : (token digits : List ℕ) (n : ℕ) (r : Option ℤ) → token ≡ 45 ∷ digits → digits ≡ decimal n → IsBelowZero n r → IfSome r (λ z. IsI32 z × (token ≡ signed_decimal z))
+minus_some : (token digits : List ℕ) (n : ℕ) (r : Option ℤ) → token ≡ 45 ∷ digits → digits ≡ decimal n → IsBelowZero n r → IfSome r (λ z. IsI64 z × (token ≡ signed_decimal z))
 minus_some token digits n None w d l = tt
 minus_some token digits n (Some y) w d l = rw l.3 (omega (arith, ints, l.2), w ∙ ap (λ (t : List ℕ). 45 ∷ t) (d ∙ ap decimal l.1))
 
-pub minus_read : (token digits : List ℕ) (n : ℕ) (r : Option ℤ) → token ≡ 45 ∷ digits → Reads IsU64 decimal digits (Some n) → IsBelowZero n r → Reads IsI32 signed_decimal token r
+pub minus_read : (token digits : List ℕ) (n : ℕ) (r : Option ℤ) → token ≡ 45 ∷ digits → Reads IsU64 decimal digits (Some n) → IsBelowZero n r → Reads IsI64 signed_decimal token r
 minus_read token digits n r w h l = record { some = minus_some token digits n r w h.some.1 l; only = λ z fits e. minus_only token digits n r z w h l fits e }
 
-minus_none_only : (token digits : List ℕ) (z : ℤ) → token ≡ 45 ∷ digits → Reads IsU64 decimal digits None → IsI32 z → token ≡ signed_decimal z → ⊥
+minus_none_only : (token digits : List ℕ) (z : ℤ) → token ≡ 45 ∷ digits → Reads IsU64 decimal digits None → IsI64 z → token ≡ signed_decimal z → ⊥
 minus_none_only token digits (pos m) w h fits e = no_minus digits m (omega (arith, ints, fits)) (sym w ∙ e)
 minus_none_only token digits (negsuc m) w h fits e =
     let both : 45 ∷ digits ≡ 45 ∷ decimal (suc m) = sym w ∙ e in
@@ -43,11 +43,11 @@ minus_none_only token digits (negsuc m) w h fits e =
     let s : None ≡ Some (suc m) = h.only (suc m) (omega (arith, ints, fits)) t in
     absurd cc
 
-pub minus_none : (token digits : List ℕ) → token ≡ 45 ∷ digits → Reads IsU64 decimal digits None → Reads IsI32 signed_decimal token None
+pub minus_none : (token digits : List ℕ) → token ≡ 45 ∷ digits → Reads IsU64 decimal digits None → Reads IsI64 signed_decimal token None
 minus_none token digits w h = record { some = tt; only = λ z fits e. absurd (minus_none_only token digits z w h fits e) }
 
 -- without a minus at the front
-plain_only : (token : List ℕ) (q : Option ℕ) (r : Option ℤ) (z : ℤ) → ((rest : List ℕ) → token ≢ 45 ∷ rest) → Reads IsU64 decimal token q → ((n : ℕ) → q ≡ Some n → IsFromZero n r) → IsI32 z → token ≡ signed_decimal z → r ≡ Some z
+plain_only : (token : List ℕ) (q : Option ℕ) (r : Option ℤ) (z : ℤ) → ((rest : List ℕ) → token ≢ 45 ∷ rest) → Reads IsU64 decimal token q → ((n : ℕ) → q ≡ Some n → IsFromZero n r) → IsI64 z → token ≡ signed_decimal z → r ≡ Some z
 plain_only token q r (negsuc m) w h k fits e = absurd (w (decimal (suc m)) e)
 plain_only token q r (pos m) w h k fits e = go r (k m (h.only m (omega (arith, ints, fits)) e))
   where
@@ -55,17 +55,17 @@ plain_only token q r (pos m) w h k fits e = go r (k m (h.only m (omega (arith, i
     go None l = absurd (l (omega (arith, ints, fits)))
     go (Some y) l = rw l.1 refl
 
-plain_some : (token : List ℕ) (n : ℕ) (r : Option ℤ) → token ≡ decimal n → IsFromZero n r → IfSome r (λ z. IsI32 z × (token ≡ signed_decimal z))
+plain_some : (token : List ℕ) (n : ℕ) (r : Option ℤ) → token ≡ decimal n → IsFromZero n r → IfSome r (λ z. IsI64 z × (token ≡ signed_decimal z))
 plain_some token n None d l = tt
 plain_some token n (Some y) d l = rw l.1 (omega (arith, ints, l.0), d)
 
-pub plain_read : (token : List ℕ) (n : ℕ) (r : Option ℤ) → ((rest : List ℕ) → token ≢ 45 ∷ rest) → Reads IsU64 decimal token (Some n) → IsFromZero n r → Reads IsI32 signed_decimal token r
+pub plain_read : (token : List ℕ) (n : ℕ) (r : Option ℤ) → ((rest : List ℕ) → token ≢ 45 ∷ rest) → Reads IsU64 decimal token (Some n) → IsFromZero n r → Reads IsI64 signed_decimal token r
 plain_read token n r w h l = record {
   some = plain_some token n r h.some.1 l;
   only = λ z fits e. plain_only token (Some n) r z w h (λ m is. let k : n ≡ m = cc in subst (λ (i : ℕ). IsFromZero i r) k l) fits e;
 }
 
-pub plain_none : (token : List ℕ) → ((rest : List ℕ) → token ≢ 45 ∷ rest) → Reads IsU64 decimal token None → Reads IsI32 signed_decimal token None
+pub plain_none : (token : List ℕ) → ((rest : List ℕ) → token ≢ 45 ∷ rest) → Reads IsU64 decimal token None → Reads IsI64 signed_decimal token None
 plain_none token w h = record {
   some = tt;
   only = λ z fits e. plain_only token None None z w h (λ m is. absurd cc) fits e;

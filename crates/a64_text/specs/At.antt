@@ -1,5 +1,5 @@
 -- The fields of an entry, each at its place.
-use Rattle.std.specs.Prelude.{ℕ, ℤ, pos, List, Option, Some, slice_get, Bool, false}
+use Rattle.std.specs.Prelude.{ℕ, ℤ, pos, List, Option, Some, None, slice_get, Bool, false}
 use Rattle.std.proofs.Common.{lit<}
 use Rattle.a64_ops.specs.declared.operator.ALUOp.{ALUOp}
 use Rattle.a64_ops.specs.declared.operator.ALUOp3.{ALUOp3}
@@ -32,6 +32,19 @@ use Rattle.a64_base.specs.declared.shift.ExtendOp.TheVariants as extends
 use Rattle.a64_base.specs.declared.shift.ShiftOp.TheVariants.{LSL}
 use Rattle.a64_base.specs.declared.size.OperandSize.TheVariants.{Size32}
 use Rattle.a64_base.specs.declared.target.BranchTarget.TheVariants as targets
+use Rattle.a64_base.specs.declared.entity.TrapCode.{TrapCode}
+use Rattle.a64_base.specs.declared.ir_type.IrType.{IrType}
+use Rattle.a64_base.specs.declared.ir_type.IrType.TheVariants.{I64}
+use Rattle.a64_imms.specs.declared.offset.SImm9.{SImm9}
+use Rattle.a64_imms.specs.declared.offset.SImm7Scaled.{SImm7Scaled}
+use Rattle.a64_inst.specs.declared.mode.AMode.{AMode}
+use Rattle.a64_inst.specs.declared.mode.AMode.TheVariants as modes
+use Rattle.a64_inst.specs.declared.mode.PairAMode.{PairAMode}
+use Rattle.a64_inst.specs.declared.mode.PairAMode.TheVariants as pair_modes
+use Rattle.a64_text.specs.declared.mode_name.MemLabelName.{MemLabelName}
+use Rattle.a64_text.specs.declared.mode_name.MemLabelName.TheVariants as label_names
+use Rattle.a64_text.specs.declared.frame_field.FrameField.{FrameField}
+use Rattle.a64_text.specs.declared.frame_field.FrameField.TheVariants as frame_fields
 use Rattle.a64_text.specs.declared.value.Value.{Value}
 use Rattle.a64_text.specs.declared.value.Value.TheVariants as values
 
@@ -202,3 +215,66 @@ label_of _ = record { 0 = 0 }
 
 abbrev pub label_at : List Value → ℕ → MachLabel
 label_at values i = label_of (slice_get values i)
+
+abbrev pub frame_field_of : Option Value → FrameField
+frame_field_of (Some (values.FrameField x)) = x
+frame_field_of _ = frame_fields.SetupAreaSize
+
+abbrev pub frame_field_at : List Value → ℕ → FrameField
+frame_field_at values i = frame_field_of (slice_get values i)
+
+abbrev pub i64_of : Option Value → ℤ
+i64_of (Some (values.I64 x)) = x
+i64_of _ = pos 0
+
+abbrev pub i64_at : List Value → ℕ → ℤ
+i64_at values i = i64_of (slice_get values i)
+
+abbrev pub offset9_of : Option Value → SImm9
+offset9_of (Some (values.Offset9 x)) = x
+offset9_of _ = record { value = pos 0 }
+
+abbrev pub offset9_at : List Value → ℕ → SImm9
+offset9_at values i = offset9_of (slice_get values i)
+
+abbrev pub pair_offset_of : Option Value → SImm7Scaled
+pair_offset_of (Some (values.PairOffset x)) = x
+pair_offset_of _ = record { value = pos 0; scale_ty = I64 }
+
+abbrev pub pair_offset_at : List Value → ℕ → SImm7Scaled
+pair_offset_at values i = pair_offset_of (slice_get values i)
+
+abbrev pub type_of : Option Value → IrType
+type_of (Some (values.Type x)) = x
+type_of _ = I64
+
+abbrev pub type_at : List Value → ℕ → IrType
+type_at values i = type_of (slice_get values i)
+
+abbrev pub mem_label_name_of : Option Value → MemLabelName
+mem_label_name_of (Some (values.MemLabelName x)) = x
+mem_label_name_of _ = label_names.PCRel
+
+abbrev pub mem_label_name_at : List Value → ℕ → MemLabelName
+mem_label_name_at values i = mem_label_name_of (slice_get values i)
+
+abbrev pub mode_of : Option Value → AMode
+mode_of (Some (values.Mode x)) = x
+mode_of _ = modes.SPOffset (pos 0)
+
+abbrev pub mode_at : List Value → ℕ → AMode
+mode_at values i = mode_of (slice_get values i)
+
+abbrev pub pair_mode_of : Option Value → PairAMode
+pair_mode_of (Some (values.PairMode x)) = x
+pair_mode_of _ = pair_modes.SPPreIndexed (record { value = pos 0; scale_ty = I64 })
+
+abbrev pub pair_mode_at : List Value → ℕ → PairAMode
+pair_mode_at values i = pair_mode_of (slice_get values i)
+
+abbrev pub flags_of : Option Value → Option TrapCode
+flags_of (Some (values.Flags x)) = x
+flags_of _ = None
+
+abbrev pub flags_at : List Value → ℕ → Option TrapCode
+flags_at values i = flags_of (slice_get values i)

@@ -1,9 +1,14 @@
 -- The texts of the fields of a line.
-use Rattle.std.specs.Prelude.{ℕ, ◌≡◌, ◌==◌, ◌≤◌, ◌<◌, ◌*◌, ◌^◌, ◌++◌, if◌then◌else◌, codes, false, List, [], ◌∷◌}
+use Rattle.std.specs.Prelude.{ℕ, ◌≡◌, ◌==◌, ◌≤◌, ◌<◌, ◌*◌, ◌^◌, ◌++◌, if◌then◌else◌, codes, false, List, [], ◌∷◌, Option, Some, None}
 use Rattle.std.specs.List.{list_any, join_with_byte}
 use Rattle.std.specs.Fmt.{decimal, signed_decimal}
 use Rattle.a64_base.specs.RegisterNumbers.{RealRegister, IsRegisterNumber}
 use Rattle.a64_base.specs.declared.entity.MachLabel.{MachLabel}
+use Rattle.a64_base.specs.declared.entity.TrapCode.{TrapCode}
+use Rattle.a64_base.specs.declared.ir_type.IrType.TheVariants.{I64}
+use Rattle.a64_imms.specs.declared.offset.SImm9.{SImm9}
+use Rattle.a64_imms.specs.declared.offset.SImm7Scaled.{SImm7Scaled}
+use Rattle.a64_imms.specs.Offsets.{IsOffset9, IsPairOffset}
 use Rattle.a64_base.specs.declared.reg.Reg.{Reg}
 use Rattle.a64_base.specs.declared.reg.Reg.TheVariants.{Real, Virtual}
 use Rattle.a64_base.specs.declared.reg.RegClass.{RegClass}
@@ -25,7 +30,7 @@ use Rattle.a64_imms.specs.Unsigned.{uimm5_value}
 use Rattle.a64_text.specs.Operators.{shift_op_text}
 use Rattle.a64_imms.specs.Imm12s.{imm12_value, HasImm12}
 use Rattle.a64_imms.specs.Logic.{logic_value, IsLogicOf}
-use Rattle.a64_text.specs.Reads.{IsU32, IsU64, IsI32}
+use Rattle.a64_text.specs.Reads.{IsU8, IsU32, IsU64, IsI32}
 
 -- the byte stands nowhere in the text
 abbrev pub HasNo : ℕ → List ℕ → Type 0
@@ -121,6 +126,29 @@ IsUImm6 imm = imm.imm < 64
 -- flags are their four bits, as a number
 abbrev pub nzcv_text : NZCV → List ℕ
 nzcv_text flags = decimal (nzcv_bits (flags_of flags))
+
+-- a signed offset is its value, for which the constructor gives it
+abbrev pub offset9_text : SImm9 → List ℕ
+offset9_text imm = signed_decimal imm.value
+
+abbrev pub IsSImm9 : SImm9 → Type 0
+IsSImm9 imm = IsOffset9 imm.value
+
+-- so is that of a pair of doublewords
+abbrev pub pair_offset_text : SImm7Scaled → List ℕ
+pair_offset_text imm = signed_decimal imm.value
+
+abbrev pub IsPairOffset64 : SImm7Scaled → Type 0
+IsPairOffset64 imm = IsPairOffset I64 imm.value × (imm.scale_ty ≡ I64)
+
+-- what is known of an access is a dash where it does not trap, else the code of its trap
+abbrev pub flags_text : Option TrapCode → List ℕ
+flags_text None = codes "-"
+flags_text (Some code) = decimal code.0
+
+abbrev pub IsFlags : Option TrapCode → Type 0
+IsFlags None = Unit {0}
+IsFlags (Some code) = IsU8 code.0
 
 -- a name without parentheses, and something in parentheses behind it
 abbrev pub call_text : List ℕ × List ℕ → List ℕ

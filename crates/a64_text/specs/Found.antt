@@ -1,4 +1,4 @@
--- Each operator, shift, extension and condition stands where its name leads.
+-- What has a name stands where its name leads.
 use Rattle.std.specs.Prelude.{◌≡◌, map, Bool, true, Some, refl}
 use Rattle.a64_ops.specs.declared.operator.ALUOp.{ALUOp}
 use Rattle.a64_ops.specs.declared.operator.ALUOp.TheVariants as alu_ops
@@ -16,10 +16,20 @@ use Rattle.a64_base.specs.declared.shift.ExtendOp.{ExtendOp}
 use Rattle.a64_base.specs.declared.shift.ExtendOp.TheVariants as extends
 use Rattle.a64_base.specs.declared.cond.Cond.{Cond}
 use Rattle.a64_base.specs.declared.cond.Cond.TheVariants as conds
+use Rattle.a64_base.specs.declared.ir_type.IrType.{IrType}
+use Rattle.a64_base.specs.declared.ir_type.IrType.TheVariants as types
+use Rattle.a64_text.specs.declared.mode_name.MemLabelName.{MemLabelName}
+use Rattle.a64_text.specs.declared.mode_name.MemLabelName.TheVariants as label_names
+use Rattle.a64_text.specs.declared.mode_name.TheConstants.{MEM_LABEL_HOMES, MEM_LABELS}
+use Rattle.a64_text.specs.declared.type_name.TheConstants.{TYPE_HOMES, TYPES}
+use Rattle.a64_text.specs.declared.frame_field.FrameField.{FrameField}
+use Rattle.a64_text.specs.declared.frame_field.FrameField.TheVariants as frame_fields
+use Rattle.a64_text.specs.declared.frame_field.TheConstants.{FRAME_FIELD_HOMES, FRAME_FIELDS}
 use Rattle.a64_text.specs.declared.operator.TheConstants.{ALU_OP_HOMES, ALU_OPS, ALU_OP3_HOMES, ALU_OP3S, BIT_OP_HOMES, BIT_OPS, BFM_OP_HOMES, BFM_OPS, MOVE_WIDE_OP_HOMES, MOVE_WIDE_OPS}
 use Rattle.a64_text.specs.declared.modifier.TheConstants.{SHIFT_OP_HOMES, SHIFT_OPS, EXTEND_HOMES, EXTENDS, COND_HOMES, CONDS, BOOL_HOMES, BOOLS}
 use Rattle.a64_text.specs.Hash.{look_up}
-use Rattle.a64_text.specs.Operators.{alu_op_text, alu_op3_text, bit_op_text, bfm_op_text, move_wide_op_text, shift_op_text, extend_text, cond_text, bool_text}
+use Rattle.a64_text.specs.Operators.{alu_op_text, alu_op3_text, bit_op_text, bfm_op_text, move_wide_op_text, shift_op_text, extend_text, cond_text, bool_text, frame_field_text, mem_label_name_text}
+use Rattle.a64_text.specs.Types.{type_text}
 
 pub alu_op_found : (x : ALUOp) → look_up ALU_OP_HOMES (map (λ row. row.2) ALU_OPS) (alu_op_text x) ≡ Some x
 alu_op_found alu_ops.Add = refl
@@ -56,3 +66,14 @@ cond_found _ = refl
 pub bool_found : (x : Bool) → look_up BOOL_HOMES (map (λ row. row.2) BOOLS) (bool_text x) ≡ Some x
 bool_found true = refl
 bool_found _ = refl
+
+pub frame_field_found : (x : FrameField) → look_up FRAME_FIELD_HOMES (map (λ row. row.2) FRAME_FIELDS) (frame_field_text x) ≡ Some x
+frame_field_found frame_fields.SetupAreaSize = refl
+frame_field_found _ = refl
+
+pub type_found : (x : IrType) → look_up TYPE_HOMES (map (λ row. row.2) TYPES) (type_text x) ≡ Some x
+type_found types.I8 = refl
+type_found _ = refl
+
+pub mem_label_found : (x : MemLabelName) → look_up MEM_LABEL_HOMES (map (λ row. row.2) MEM_LABELS) (mem_label_name_text x) ≡ Some x
+mem_label_found label_names.PCRel = refl

@@ -10,6 +10,8 @@ use Rattle.a64_text.specs.declared.entry.Entry.{Entry}
 use Rattle.a64_text.specs.declared.entry.Entry.TheVariants as entries
 use Rattle.a64_text.specs.declared.name.ControlName.TheVariants as control
 use Rattle.a64_text.specs.declared.name.IntegerName.TheVariants as integer
+use Rattle.a64_text.specs.declared.name.MemoryName.TheVariants as memory
+use Rattle.a64_ops.specs.declared.access.AccessOp.TheVariants as ops
 use Rattle.a64_text.specs.declared.name.Name.{Name}
 use Rattle.a64_text.specs.declared.name.Name.TheVariants as names
 use Rattle.a64_text.specs.declared.name_table.TheConstants.{NAME_HOMES, NAMES}
@@ -36,7 +38,12 @@ made_some (names.Integer integer.AluRRImmLogic) values r h are = h.some are
 made_some (names.Integer name) values r h are = made (IsMade (names.Integer name) values) r (entry_of (names.Integer name) values) h (refl, at_their_places (kinds_of (names.Integer name)) values are, (tt, refl))
 made_some (names.Control control.Ret) values r h are = made (IsMade (names.Control control.Ret) values) r (entry_of (names.Control control.Ret) values) h (refl, at_their_places (kinds_of (names.Control control.Ret)) values are, (tt, refl))
 made_some (names.Control name) values r h are = made (IsMade (names.Control name) values) r (entry_of (names.Control name) values) h (refl, at_their_places (kinds_of (names.Control name)) values are, (tt, refl))
+made_some (names.Memory memory.LoadAddr) values r h are = made (IsMade (names.Memory memory.LoadAddr) values) r (entry_of (names.Memory memory.LoadAddr) values) h (refl, at_their_places (kinds_of (names.Memory memory.LoadAddr)) values are, (tt, refl))
+made_some (names.Memory name) values r h are = made (IsMade (names.Memory name) values) r (entry_of (names.Memory name) values) h (refl, at_their_places (kinds_of (names.Memory name)) values are, (tt, refl))
+made_some (names.Access ops.ULoad8) values r h are = made (IsMade (names.Access ops.ULoad8) values) r (entry_of (names.Access ops.ULoad8) values) h (refl, at_their_places (kinds_of (names.Access ops.ULoad8)) values are, (tt, refl))
+made_some (names.Access op) values r h are = made (IsMade (names.Access op) values) r (entry_of (names.Access op) values) h (refl, at_their_places (kinds_of (names.Access op)) values are, (tt, refl))
 made_some names.Bind values r h are = made (IsMade names.Bind values) r (entry_of names.Bind values) h (refl, at_their_places (kinds_of names.Bind) values are, tt)
+made_some names.Frame values r h are = made (IsMade names.Frame values) r (entry_of names.Frame values) h (refl, at_their_places (kinds_of names.Frame) values are, tt)
 
 without_map : (inst : Inst) (map : Option UserStackMap) (r : Option Entry) → map ≡ None → r ≡ Some (emitted inst) → r ≡ Some (entries.Item (Emit inst map))
 without_map inst map r none e = e ∙ ap (λ (m : Option UserStackMap). Some (entries.Item (Emit inst m))) (sym none)
@@ -50,6 +57,7 @@ pub made_only : (entry : Entry) (values : List Value) (r : Option Entry) → Mak
 unfolding Makes
 made_only (entries.Item (Bind label)) values r h fits own e = h ∙ ap (λ (t : List Value). Some (entry_of names.Bind t)) (sym e)
 made_only (entries.Item (Emit inst map)) values r h fits own e = without_map inst map r own.1 (inst_only inst values r h fits own.0 e)
+made_only (entries.Frame field bytes) values r h fits own e = h ∙ ap (λ (t : List Value). Some (entry_of names.Frame t)) (sym e)
 
 inst_kinds : (inst : Inst) → map kind_of (inst_parts inst).fields ≡ kinds_of (inst_parts inst).name
 inst_kinds insts.Nop4 = refl
@@ -58,18 +66,25 @@ inst_kinds inst = refl
 pub fields_kinds : (entry : Entry) → map kind_of (fields_of entry) ≡ kinds_of (name_of entry)
 fields_kinds (entries.Item (Bind label)) = refl
 fields_kinds (entries.Item (Emit inst map)) = inst_kinds inst
+fields_kinds (entries.Frame field bytes) = refl
 
 pub few_kinds : (name : Name) → length (kinds_of name) ≤ 12
 few_kinds (names.Integer integer.Nop4) = lit≤ tt
 few_kinds (names.Control control.Ret) = lit≤ tt
+few_kinds (names.Memory memory.LoadAddr) = lit≤ tt
+few_kinds (names.Access ops.ULoad8) = lit≤ tt
 few_kinds _ = lit≤ tt
 
 pub name_plain : (name : Name) → HasNo 32 (name_text name)
 name_plain (names.Integer integer.Nop4) = refl
 name_plain (names.Control control.Ret) = refl
+name_plain (names.Memory memory.LoadAddr) = refl
+name_plain (names.Access ops.ULoad8) = refl
 name_plain _ = refl
 
 pub name_found : (x : Name) → look_up NAME_HOMES (map (λ row. row.2) NAMES) (name_text x) ≡ Some x
 name_found (names.Integer integer.Nop4) = refl
 name_found (names.Control control.Ret) = refl
+name_found (names.Memory memory.LoadAddr) = refl
+name_found (names.Access ops.ULoad8) = refl
 name_found _ = refl

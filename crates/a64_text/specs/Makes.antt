@@ -3,6 +3,7 @@ use Rattle.std.specs.Prelude.{◌≡◌, map, List, Option, Some, None, IfSome}
 use Rattle.a64_base.specs.declared.reg.Reg.{Reg}
 use Rattle.a64_base.specs.declared.size.OperandSize.{OperandSize}
 use Rattle.a64_imms.specs.declared.imm_logic.ImmLogic.{ImmLogic}
+use Rattle.a64_inst.specs.Accesses.{inst_with}
 use Rattle.a64_inst.specs.declared.inst.Inst.{Inst}
 use Rattle.a64_inst.specs.declared.inst.Inst.TheVariants as insts
 use Rattle.a64_inst.specs.declared.item.Item.TheVariants.{Bind, Emit}
@@ -13,10 +14,12 @@ use Rattle.a64_text.specs.declared.name.ControlName.{ControlName}
 use Rattle.a64_text.specs.declared.name.ControlName.TheVariants as control
 use Rattle.a64_text.specs.declared.name.IntegerName.{IntegerName}
 use Rattle.a64_text.specs.declared.name.IntegerName.TheVariants as integer
+use Rattle.a64_text.specs.declared.name.MemoryName.{MemoryName}
+use Rattle.a64_text.specs.declared.name.MemoryName.TheVariants as memory
 use Rattle.a64_text.specs.declared.name.Name.{Name}
 use Rattle.a64_text.specs.declared.name.Name.TheVariants as names
 use Rattle.a64_text.specs.declared.value.Value.{Value}
-use Rattle.a64_text.specs.At.{alu_op3_at, alu_op_at, bfm_op_at, bit_op_at, cond_at, extend_at, i32_at, imm12_at, imm_shift_at, label_at, move_wide_op_at, nzcv_at, preg_at, reg_at, shift_at, size_at, target_at, truth_at, u8_at, uimm5_at, uimm6_at, wide_at}
+use Rattle.a64_text.specs.At.{alu_op3_at, alu_op_at, bfm_op_at, bit_op_at, cond_at, extend_at, flags_at, frame_field_at, i32_at, imm12_at, imm_shift_at, label_at, mode_at, move_wide_op_at, nzcv_at, pair_mode_at, preg_at, reg_at, shift_at, size_at, target_at, truth_at, u32_at, u8_at, uimm5_at, uimm6_at, wide_at}
 use Rattle.a64_text.specs.Names.{kinds_of}
 use Rattle.a64_text.specs.Tokens.{name_of, fields_of, IsOwn, IsEntry}
 use Rattle.a64_text.specs.Values.{kind_of}
@@ -59,11 +62,19 @@ abbrev pub control_of : ControlName → List Value → Inst
 control_of control.Ret values = insts.Ret
 control_of control.Jump values = insts.Jump (target_at values 0)
 
+abbrev pub memory_of : MemoryName → List Value → Inst
+memory_of memory.LoadP64 values = insts.LoadP64 (reg_at values 0) (reg_at values 1) (pair_mode_at values 2) (flags_at values 3)
+memory_of memory.StoreP64 values = insts.StoreP64 (reg_at values 0) (reg_at values 1) (pair_mode_at values 2) (flags_at values 3)
+memory_of memory.LoadAddr values = insts.LoadAddr (reg_at values 0) (mode_at values 1)
+
 -- the entry of this name with these fields, where it needs nothing but these
 abbrev pub entry_of : Name → List Value → Entry
 entry_of (names.Integer name) values = emitted (integer_of name values)
 entry_of (names.Control name) values = emitted (control_of name values)
+entry_of (names.Memory name) values = emitted (memory_of name values)
+entry_of (names.Access op) values = emitted (inst_with op (reg_at values 0) (mode_at values 1) (flags_at values 2))
 entry_of names.Bind values = entries.Item (Bind (label_at values 0))
+entry_of names.Frame values = entries.Frame (frame_field_at values 0) (u32_at values 1)
 
 -- some entry of this name with these fields, exactly where there is one. `make` makes all entries of the name
 pub record MakesOwn {X : Type 0} (name : Name) (make : X → Entry) (values : List Value) (result : Option Entry) : Type 0 where

@@ -4,8 +4,12 @@ use Rattle.a64_text.specs.declared.name.IntegerName.{IntegerName}
 use Rattle.a64_text.specs.declared.name.IntegerName.TheVariants as integer
 use Rattle.a64_text.specs.declared.name.ControlName.{ControlName}
 use Rattle.a64_text.specs.declared.name.ControlName.TheVariants as control
+use Rattle.a64_text.specs.declared.name.MemoryName.{MemoryName}
+use Rattle.a64_text.specs.declared.name.MemoryName.TheVariants as memory
+use Rattle.a64_ops.specs.declared.access.AccessOp.{AccessOp}
+use Rattle.a64_ops.specs.declared.access.AccessOp.TheVariants as ops
 use Rattle.a64_text.specs.declared.name.Name.{Name}
-use Rattle.a64_text.specs.declared.name.Name.TheVariants.{Integer, Control, Bind}
+use Rattle.a64_text.specs.declared.name.Name.TheVariants.{Integer, Control, Memory, Access, Bind, Frame}
 use Rattle.a64_text.specs.declared.value.Kind.{Kind}
 use Rattle.a64_text.specs.declared.value.Kind.TheVariants as kinds
 
@@ -48,10 +52,43 @@ abbrev pub control_heading : ControlName → Heading
 control_heading control.Ret = record { text = codes "Ret"; kinds = [] }
 control_heading control.Jump = record { text = codes "Jump"; kinds = kinds.Target ∷ [] }
 
+abbrev pub memory_heading : MemoryName → Heading
+memory_heading memory.LoadP64 = record { text = codes "LoadP64"; kinds = kinds.Reg ∷ kinds.Reg ∷ kinds.PairMode ∷ kinds.Flags ∷ [] }
+memory_heading memory.StoreP64 = record { text = codes "StoreP64"; kinds = kinds.Reg ∷ kinds.Reg ∷ kinds.PairMode ∷ kinds.Flags ∷ [] }
+memory_heading memory.LoadAddr = record { text = codes "LoadAddr"; kinds = kinds.Reg ∷ kinds.Mode ∷ [] }
+
+-- loads and stores of one register have the same fields
+abbrev pub access_text : AccessOp → List ℕ
+access_text ops.ULoad8 = codes "ULoad8"
+access_text ops.SLoad8 = codes "SLoad8"
+access_text ops.ULoad16 = codes "ULoad16"
+access_text ops.SLoad16 = codes "SLoad16"
+access_text ops.ULoad32 = codes "ULoad32"
+access_text ops.SLoad32 = codes "SLoad32"
+access_text ops.ULoad64 = codes "ULoad64"
+access_text ops.FpuLoad16 = codes "FpuLoad16"
+access_text ops.FpuLoad32 = codes "FpuLoad32"
+access_text ops.FpuLoad64 = codes "FpuLoad64"
+access_text ops.FpuLoad128 = codes "FpuLoad128"
+access_text ops.Store8 = codes "Store8"
+access_text ops.Store16 = codes "Store16"
+access_text ops.Store32 = codes "Store32"
+access_text ops.Store64 = codes "Store64"
+access_text ops.FpuStore16 = codes "FpuStore16"
+access_text ops.FpuStore32 = codes "FpuStore32"
+access_text ops.FpuStore64 = codes "FpuStore64"
+access_text ops.FpuStore128 = codes "FpuStore128"
+
+abbrev pub access_heading : AccessOp → Heading
+access_heading op = record { text = access_text op; kinds = kinds.Reg ∷ kinds.Mode ∷ kinds.Flags ∷ [] }
+
 abbrev pub heading : Name → Heading
 heading (Integer name) = integer_heading name
 heading (Control name) = control_heading name
+heading (Memory name) = memory_heading name
+heading (Access op) = access_heading op
 heading Bind = record { text = codes "bind"; kinds = kinds.Label ∷ [] }
+heading Frame = record { text = codes "frame"; kinds = kinds.FrameField ∷ kinds.U32 ∷ [] }
 
 abbrev pub name_text : Name → List ℕ
 name_text name = (heading name).text

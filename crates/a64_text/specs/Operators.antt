@@ -1,4 +1,4 @@
--- The names of operators, shifts, extensions and conditions.
+-- The names of operators, shifts, extensions, conditions and sizes of a frame.
 use Rattle.std.specs.Prelude.{ℕ, List, codes, Bool, true, false}
 use Rattle.a64_ops.specs.declared.operator.ALUOp.{ALUOp}
 use Rattle.a64_ops.specs.declared.operator.ALUOp.TheVariants as alu_ops
@@ -16,6 +16,10 @@ use Rattle.a64_base.specs.declared.shift.ExtendOp.{ExtendOp}
 use Rattle.a64_base.specs.declared.shift.ExtendOp.TheVariants as extends
 use Rattle.a64_base.specs.declared.cond.Cond.{Cond}
 use Rattle.a64_base.specs.declared.cond.Cond.TheVariants as conds
+use Rattle.a64_text.specs.declared.mode_name.MemLabelName.{MemLabelName}
+use Rattle.a64_text.specs.declared.mode_name.MemLabelName.TheVariants as label_names
+use Rattle.a64_text.specs.declared.frame_field.FrameField.{FrameField}
+use Rattle.a64_text.specs.declared.frame_field.FrameField.TheVariants as frame_fields
 
 abbrev pub alu_op_text : ALUOp → List ℕ
 alu_op_text alu_ops.Add = codes "Add"
@@ -97,6 +101,16 @@ cond_text conds.Gt = codes "Gt"
 cond_text conds.Le = codes "Le"
 cond_text conds.Al = codes "Al"
 cond_text conds.Nv = codes "Nv"
+
+abbrev pub frame_field_text : FrameField → List ℕ
+frame_field_text frame_fields.SetupAreaSize = codes "setup_area_size"
+frame_field_text frame_fields.TailArgsSize = codes "tail_args_size"
+frame_field_text frame_fields.ClobberSize = codes "clobber_size"
+frame_field_text frame_fields.FixedFrameStorageSize = codes "fixed_frame_storage_size"
+frame_field_text frame_fields.OutgoingArgsSize = codes "outgoing_args_size"
+
+abbrev pub mem_label_name_text : MemLabelName → List ℕ
+mem_label_name_text label_names.PCRel = codes "PCRel"
 
 abbrev pub bool_text : Bool → List ℕ
 bool_text false = codes "false"

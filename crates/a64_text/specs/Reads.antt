@@ -1,6 +1,6 @@
 -- What a reader answers.
 use Rattle.std.specs.Prelude.{◌≡◌, ℕ, suc, ◌<◌, ◌^◌, ℤ, pos, negsuc, FitsSigned, Option, Some, None, IfSome}
-use Rattle.std.specs.Int.{w32}
+use Rattle.std.specs.Int.{w32, w64}
 
 -- a reader answers Some x exactly where the text is that of x; `fits` says which x have a text
 pub record Reads {X T : Type 0} (fits : X → Type 0) (text : X → T) (token : T) (result : Option X) : Type 0 where
@@ -23,12 +23,15 @@ IsU64 n = n < 2 ^ 64
 abbrev pub IsI32 : ℤ → Type 0
 IsI32 z = FitsSigned w32 z
 
--- the number with a minus, where that is below zero and one of 32 bits
-abbrev pub IsBelowZero : ℕ → Option ℤ → Type 0
-IsBelowZero size None = (m : ℕ) → size ≡ suc m → m < 2 ^ 31 → ⊥
-IsBelowZero size (Some z) = (m : ℕ) × (size ≡ suc m) × (m < 2 ^ 31) × (z ≡ negsuc m)
+abbrev pub IsI64 : ℤ → Type 0
+IsI64 z = FitsSigned w64 z
 
--- the number itself, where that is one of 32 bits
+-- the number with a minus, where that is below zero and one of 64 bits
+abbrev pub IsBelowZero : ℕ → Option ℤ → Type 0
+IsBelowZero size None = (m : ℕ) → size ≡ suc m → m < 2 ^ 63 → ⊥
+IsBelowZero size (Some z) = (m : ℕ) × (size ≡ suc m) × (m < 2 ^ 63) × (z ≡ negsuc m)
+
+-- the number itself, where that is one of 64 bits
 abbrev pub IsFromZero : ℕ → Option ℤ → Type 0
-IsFromZero size None = size < 2 ^ 31 → ⊥
-IsFromZero size (Some z) = (size < 2 ^ 31) × (z ≡ pos size)
+IsFromZero size None = size < 2 ^ 63 → ⊥
+IsFromZero size (Some z) = (size < 2 ^ 63) × (z ≡ pos size)

@@ -27,6 +27,10 @@ line_tokens text = slice_split (λ b. b == 32) (first_line text)
 abbrev pub lines_behind : List ℕ → List (List ℕ)
 lines_behind text = others (lines_of text)
 
+-- the fields that a text has, with commas between
+abbrev pub comma_tokens : List ℕ → List (List ℕ)
+comma_tokens text = slice_split (λ b. b == 44) text
+
 -- what some text has, where there is one
 abbrev pub of_text : (List ℕ → List (List ℕ)) → Option (Bor (List ℕ)) → List (List ℕ)
 of_text part None = []

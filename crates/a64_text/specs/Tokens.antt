@@ -1,16 +1,22 @@
 -- The line of an entry: its name and its fields, with one space between.
 use Rattle.std.specs.Prelude.{ℕ, ◌≡◌, List, [], ◌∷◌, map, Option, None}
 use Rattle.std.specs.List.{join_with_byte, AllByRecursion}
+use Rattle.a64_base.specs.declared.entity.TrapCode.{TrapCode}
 use Rattle.a64_base.specs.declared.entity.UserStackMap.{UserStackMap}
+use Rattle.a64_base.specs.declared.reg.Reg.{Reg}
 use Rattle.a64_imms.specs.Logic.{logic_value, IsLogicOf}
 use Rattle.a64_inst.specs.declared.inst.Inst.{Inst}
 use Rattle.a64_inst.specs.declared.inst.Inst.TheVariants as insts
 use Rattle.a64_inst.specs.declared.item.Item.{Item}
 use Rattle.a64_inst.specs.declared.item.Item.TheVariants.{Bind, Emit}
+use Rattle.a64_inst.specs.declared.mode.AMode.{AMode}
+use Rattle.a64_ops.specs.declared.access.AccessOp.{AccessOp}
+use Rattle.a64_ops.specs.declared.access.AccessOp.TheVariants as ops
 use Rattle.a64_text.specs.declared.entry.Entry.{Entry}
 use Rattle.a64_text.specs.declared.entry.Entry.TheVariants as entries
 use Rattle.a64_text.specs.declared.name.ControlName.TheVariants as control
 use Rattle.a64_text.specs.declared.name.IntegerName.TheVariants as integer
+use Rattle.a64_text.specs.declared.name.MemoryName.TheVariants as memory
 use Rattle.a64_text.specs.declared.name.Name.{Name}
 use Rattle.a64_text.specs.declared.name.Name.TheVariants as names
 use Rattle.a64_text.specs.declared.value.Value.{Value}
@@ -22,6 +28,9 @@ use Rattle.a64_text.specs.Values.{value_text, IsValue}
 pub record Parts : Type 0 where
   pub name : Name
   pub fields : List Value
+
+abbrev pub access_parts : AccessOp → Reg → AMode → Option TrapCode → Parts
+access_parts op rd mem flags = record { name = names.Access op; fields = values.Reg rd ∷ values.Mode mem ∷ values.Flags flags ∷ [] }
 
 abbrev pub inst_parts : Inst → Parts
 inst_parts insts.Nop0 = record { name = names.Integer integer.Nop0; fields = [] }
@@ -54,6 +63,28 @@ inst_parts (insts.Adr rd off) = record { name = names.Integer integer.Adr; field
 inst_parts (insts.Adrp rd off) = record { name = names.Integer integer.Adrp; fields = values.Reg rd ∷ values.I32 off ∷ [] }
 inst_parts insts.Ret = record { name = names.Control control.Ret; fields = [] }
 inst_parts (insts.Jump dest) = record { name = names.Control control.Jump; fields = values.Target dest ∷ [] }
+inst_parts (insts.LoadP64 rt rt2 mem flags) = record { name = names.Memory memory.LoadP64; fields = values.Reg rt ∷ values.Reg rt2 ∷ values.PairMode mem ∷ values.Flags flags ∷ [] }
+inst_parts (insts.StoreP64 rt rt2 mem flags) = record { name = names.Memory memory.StoreP64; fields = values.Reg rt ∷ values.Reg rt2 ∷ values.PairMode mem ∷ values.Flags flags ∷ [] }
+inst_parts (insts.LoadAddr rd mem) = record { name = names.Memory memory.LoadAddr; fields = values.Reg rd ∷ values.Mode mem ∷ [] }
+inst_parts (insts.ULoad8 rd mem flags) = access_parts ops.ULoad8 rd mem flags
+inst_parts (insts.SLoad8 rd mem flags) = access_parts ops.SLoad8 rd mem flags
+inst_parts (insts.ULoad16 rd mem flags) = access_parts ops.ULoad16 rd mem flags
+inst_parts (insts.SLoad16 rd mem flags) = access_parts ops.SLoad16 rd mem flags
+inst_parts (insts.ULoad32 rd mem flags) = access_parts ops.ULoad32 rd mem flags
+inst_parts (insts.SLoad32 rd mem flags) = access_parts ops.SLoad32 rd mem flags
+inst_parts (insts.ULoad64 rd mem flags) = access_parts ops.ULoad64 rd mem flags
+inst_parts (insts.FpuLoad16 rd mem flags) = access_parts ops.FpuLoad16 rd mem flags
+inst_parts (insts.FpuLoad32 rd mem flags) = access_parts ops.FpuLoad32 rd mem flags
+inst_parts (insts.FpuLoad64 rd mem flags) = access_parts ops.FpuLoad64 rd mem flags
+inst_parts (insts.FpuLoad128 rd mem flags) = access_parts ops.FpuLoad128 rd mem flags
+inst_parts (insts.Store8 rd mem flags) = access_parts ops.Store8 rd mem flags
+inst_parts (insts.Store16 rd mem flags) = access_parts ops.Store16 rd mem flags
+inst_parts (insts.Store32 rd mem flags) = access_parts ops.Store32 rd mem flags
+inst_parts (insts.Store64 rd mem flags) = access_parts ops.Store64 rd mem flags
+inst_parts (insts.FpuStore16 rd mem flags) = access_parts ops.FpuStore16 rd mem flags
+inst_parts (insts.FpuStore32 rd mem flags) = access_parts ops.FpuStore32 rd mem flags
+inst_parts (insts.FpuStore64 rd mem flags) = access_parts ops.FpuStore64 rd mem flags
+inst_parts (insts.FpuStore128 rd mem flags) = access_parts ops.FpuStore128 rd mem flags
 
 abbrev pub item_parts : Item → Parts
 item_parts (Bind label) = record { name = names.Bind; fields = values.Label label ∷ [] }
@@ -61,6 +92,7 @@ item_parts (Emit inst map) = inst_parts inst
 
 abbrev pub parts : Entry → Parts
 parts (entries.Item item) = item_parts item
+parts (entries.Frame field bytes) = record { name = names.Frame; fields = values.FrameField field ∷ values.U32 bytes ∷ [] }
 
 abbrev pub name_of : Entry → Name
 name_of entry = (parts entry).name
@@ -83,6 +115,7 @@ IsOwnItem (Emit inst map) = IsOwnInst inst × IsMap inst map
 
 abbrev pub IsOwn : Entry → Type 0
 IsOwn (entries.Item item) = IsOwnItem item
+IsOwn (entries.Frame field bytes) = Unit {0}
 
 -- an entry that has a line
 pub record IsEntry (entry : Entry) : Type 0 where

@@ -20,13 +20,23 @@ use Rattle.a64_base.specs.declared.cond.Cond.{Cond}
 use Rattle.a64_imms.specs.declared.flags.NZCV.{NZCV}
 use Rattle.a64_base.specs.declared.target.BranchTarget.{BranchTarget}
 use Rattle.a64_base.specs.declared.entity.MachLabel.{MachLabel}
+use Rattle.a64_text.specs.declared.frame_field.FrameField.{FrameField}
+use Rattle.a64_base.specs.declared.entity.TrapCode.{TrapCode}
+use Rattle.a64_base.specs.declared.ir_type.IrType.{IrType}
+use Rattle.a64_imms.specs.declared.offset.SImm9.{SImm9}
+use Rattle.a64_imms.specs.declared.offset.SImm7Scaled.{SImm7Scaled}
+use Rattle.a64_inst.specs.declared.mode.AMode.{AMode}
+use Rattle.a64_inst.specs.declared.mode.PairAMode.{PairAMode}
+use Rattle.a64_text.specs.declared.mode_name.MemLabelName.{MemLabelName}
 use Rattle.a64_text.specs.declared.value.Kind.{Kind}
 use Rattle.a64_text.specs.declared.value.Kind.TheVariants as kinds
 use Rattle.a64_text.specs.declared.value.Value.{Value}
 use Rattle.a64_text.specs.declared.value.Value.TheVariants as values
-use Rattle.a64_text.specs.Reads.{Always, IsU8, IsU32, IsU64, IsI32}
-use Rattle.a64_text.specs.Operators.{alu_op3_text, alu_op_text, bfm_op_text, bit_op_text, bool_text, cond_text, extend_text, move_wide_op_text}
-use Rattle.a64_text.specs.Fields.{imm12_text, imm_shift_text, label_text, nzcv_text, preg_text, reg_text, shift_text, size_text, target_text, uimm5_text, uimm6_text, wide_text, IsImm12, IsImmShift, IsLabel, IsPReg, IsReg, IsShift, IsTarget, IsUImm6, IsWide}
+use Rattle.a64_text.specs.Reads.{Always, IsU8, IsU64, IsI32}
+use Rattle.a64_text.specs.Operators.{alu_op3_text, alu_op_text, bfm_op_text, bit_op_text, bool_text, cond_text, frame_field_text, move_wide_op_text}
+use Rattle.a64_text.specs.Modes.{mode_text, IsMode, pair_text, IsPairMode}
+use Rattle.a64_text.specs.Parts.{part_text, IsPart}
+use Rattle.a64_text.specs.Fields.{flags_text, imm12_text, imm_shift_text, label_text, nzcv_text, preg_text, shift_text, size_text, target_text, uimm5_text, uimm6_text, wide_text, IsFlags, IsImm12, IsImmShift, IsLabel, IsPReg, IsShift, IsTarget, IsUImm6, IsWide}
 
 abbrev pub kind_of : Value → Kind
 kind_of (values.AluOp x) = kinds.AluOp
@@ -53,8 +63,17 @@ kind_of (values.U64 x) = kinds.U64
 kind_of (values.I32 x) = kinds.I32
 kind_of (values.Target x) = kinds.Target
 kind_of (values.Label x) = kinds.Label
+kind_of (values.FrameField x) = kinds.FrameField
+kind_of (values.I64 x) = kinds.I64
+kind_of (values.Offset9 x) = kinds.Offset9
+kind_of (values.PairOffset x) = kinds.PairOffset
+kind_of (values.Type x) = kinds.Type
+kind_of (values.MemLabelName x) = kinds.MemLabelName
+kind_of (values.Mode x) = kinds.Mode
+kind_of (values.PairMode x) = kinds.PairMode
+kind_of (values.Flags x) = kinds.Flags
 
--- the text of a field
+-- the text of a field. Those that may stand with commas between have theirs in Parts
 abbrev pub value_text : Value → List ℕ
 value_text (values.AluOp x) = alu_op_text x
 value_text (values.AluOp3 x) = alu_op3_text x
@@ -62,7 +81,6 @@ value_text (values.BitOp x) = bit_op_text x
 value_text (values.BfmOp x) = bfm_op_text x
 value_text (values.MoveWideOp x) = move_wide_op_text x
 value_text (values.Size x) = size_text x
-value_text (values.Reg x) = reg_text x
 value_text (values.PReg x) = preg_text x
 value_text (values.Imm12 x) = imm12_text x
 value_text (values.Wide x) = wide_text x
@@ -70,16 +88,19 @@ value_text (values.ImmShift x) = imm_shift_text x
 value_text (values.UImm5 x) = uimm5_text x
 value_text (values.UImm6 x) = uimm6_text x
 value_text (values.Shift x) = shift_text x
-value_text (values.Extend x) = extend_text x
 value_text (values.Cond x) = cond_text x
 value_text (values.Nzcv x) = nzcv_text x
 value_text (values.Bool x) = bool_text x
 value_text (values.U8 x) = decimal x
-value_text (values.U32 x) = decimal x
 value_text (values.U64 x) = decimal x
 value_text (values.I32 x) = signed_decimal x
 value_text (values.Target x) = target_text x
 value_text (values.Label x) = label_text x
+value_text (values.FrameField x) = frame_field_text x
+value_text (values.Mode x) = mode_text x
+value_text (values.PairMode x) = pair_text x
+value_text (values.Flags x) = flags_text x
+value_text part = part_text part
 
 -- a field that has a text
 abbrev pub IsValue : Value → Type 0
@@ -89,7 +110,6 @@ IsValue (values.BitOp x) = Always x
 IsValue (values.BfmOp x) = Always x
 IsValue (values.MoveWideOp x) = Always x
 IsValue (values.Size x) = Always x
-IsValue (values.Reg x) = IsReg x
 IsValue (values.PReg x) = IsPReg x
 IsValue (values.Imm12 x) = IsImm12 x
 IsValue (values.Wide x) = IsWide x
@@ -97,16 +117,19 @@ IsValue (values.ImmShift x) = IsImmShift x
 IsValue (values.UImm5 x) = Always x
 IsValue (values.UImm6 x) = IsUImm6 x
 IsValue (values.Shift x) = IsShift x
-IsValue (values.Extend x) = Always x
 IsValue (values.Cond x) = Always x
 IsValue (values.Nzcv x) = Always x
 IsValue (values.Bool x) = Always x
 IsValue (values.U8 x) = IsU8 x
-IsValue (values.U32 x) = IsU32 x
 IsValue (values.U64 x) = IsU64 x
 IsValue (values.I32 x) = IsI32 x
 IsValue (values.Target x) = IsTarget x
 IsValue (values.Label x) = IsLabel x
+IsValue (values.FrameField x) = Always x
+IsValue (values.Mode x) = IsMode x
+IsValue (values.PairMode x) = IsPairMode x
+IsValue (values.Flags x) = IsFlags x
+IsValue part = IsPart part
 
 -- a field of this kind that has a text
 abbrev pub IsOf : Kind → Value → Type 0
@@ -142,3 +165,12 @@ ReadsKind kinds.U64 = ReadsAs kinds.U64 (λ (x : ℕ). values.U64 x)
 ReadsKind kinds.I32 = ReadsAs kinds.I32 (λ (x : ℤ). values.I32 x)
 ReadsKind kinds.Target = ReadsAs kinds.Target (λ (x : BranchTarget). values.Target x)
 ReadsKind kinds.Label = ReadsAs kinds.Label (λ (x : MachLabel). values.Label x)
+ReadsKind kinds.FrameField = ReadsAs kinds.FrameField (λ (x : FrameField). values.FrameField x)
+ReadsKind kinds.I64 = ReadsAs kinds.I64 (λ (x : ℤ). values.I64 x)
+ReadsKind kinds.Offset9 = ReadsAs kinds.Offset9 (λ (x : SImm9). values.Offset9 x)
+ReadsKind kinds.PairOffset = ReadsAs kinds.PairOffset (λ (x : SImm7Scaled). values.PairOffset x)
+ReadsKind kinds.Type = ReadsAs kinds.Type (λ (x : IrType). values.Type x)
+ReadsKind kinds.MemLabelName = ReadsAs kinds.MemLabelName (λ (x : MemLabelName). values.MemLabelName x)
+ReadsKind kinds.Mode = ReadsAs kinds.Mode (λ (x : AMode). values.Mode x)
+ReadsKind kinds.PairMode = ReadsAs kinds.PairMode (λ (x : PairAMode). values.PairMode x)
+ReadsKind kinds.Flags = ReadsAs kinds.Flags (λ (x : Option TrapCode). values.Flags x)

@@ -2,14 +2,17 @@
 //! answer is some value of the type: no caller looks there.
 
 ghost use Rattle.std.specs.Prelude.{◌≡◌, None};
-ghost use Rattle.a64_text.specs.At.{uimm5_of, shift_of, alu_op_at, alu_op3_at, bit_op_at, bfm_op_at, move_wide_op_at, size_at, reg_at, preg_at, imm12_at, wide_at, imm_shift_at, uimm5_at, uimm6_at, shift_at, extend_at, cond_at, nzcv_at, truth_at, u8_at, u32_at, u64_at, i32_at, target_at, label_at};
+ghost use Rattle.a64_text.specs.At.{uimm5_of, shift_of, alu_op_at, alu_op3_at, bit_op_at, bfm_op_at, move_wide_op_at, size_at, reg_at, preg_at, imm12_at, wide_at, imm_shift_at, uimm5_at, uimm6_at, shift_at, extend_at, cond_at, nzcv_at, truth_at, u8_at, u32_at, u64_at, i32_at, target_at, label_at, frame_field_at, i64_at, offset9_at, pair_offset_at, type_at, mem_label_name_at, mode_at, pair_mode_at, flags_at};
 
+use crate::frame_field::FrameField;
+use crate::mode_name::MemLabelName;
 use crate::value::Value;
 use a64_base::{
-    BranchTarget, Cond, ExtendOp, MachLabel, OperandSize, PReg, Reg, RegClass, ShiftOp,
-    ShiftOpAndAmt, ShiftOpShiftImm,
+    BranchTarget, Cond, ExtendOp, IrType, MachLabel, MemFlagsData, OperandSize, PReg, Reg,
+    RegClass, ShiftOp, ShiftOpAndAmt, ShiftOpShiftImm,
 };
-use a64_imms::{Imm12, ImmShift, MoveWideConst, NZCV, UImm5, UImm6};
+use a64_imms::{Imm12, ImmShift, MoveWideConst, NZCV, SImm7Scaled, SImm9, UImm5, UImm6};
+use a64_inst::{AMode, PairAMode};
 use a64_ops::{ALUOp, ALUOp3, BfmOp, BitOp, MoveWideOp};
 
 /// An integer operator.
@@ -275,5 +278,103 @@ pub fn label(values: &[Value], i: usize) -> MachLabel
     match values.get(i) {
         Some(Value::Label(x)) => *x,
         _ => MachLabel(0),
+    }
+}
+
+/// The size of an area of a frame.
+pub fn frame_field(values: &[Value], i: usize) -> FrameField
+    ensures { result ≡ frame_field_at values.now i }
+{
+    match values.get(i) {
+        Some(Value::FrameField(x)) => *x,
+        _ => FrameField::SetupAreaSize,
+    }
+}
+
+/// A number of 64 bits, which may be below zero.
+pub fn i64(values: &[Value], i: usize) -> i64
+    ensures { result ≡ i64_at values.now i }
+{
+    match values.get(i) {
+        Some(Value::I64(x)) => *x,
+        _ => 0,
+    }
+}
+
+/// A signed offset of 9 bits.
+pub fn offset9(values: &[Value], i: usize) -> SImm9
+    ensures { result ≡ offset9_at values.now i }
+{
+    match values.get(i) {
+        Some(Value::Offset9(x)) => *x,
+        _ => SImm9 { value: 0 },
+    }
+}
+
+/// A signed offset of 7 bits in doublewords.
+pub fn pair_offset(values: &[Value], i: usize) -> SImm7Scaled
+    ensures { result ≡ pair_offset_at values.now i }
+{
+    match values.get(i) {
+        Some(Value::PairOffset(x)) => *x,
+        _ => SImm7Scaled {
+            value: 0,
+            scale_ty: IrType::I64,
+        },
+    }
+}
+
+/// A type.
+pub fn ir_type(values: &[Value], i: usize) -> IrType
+    ensures { result ≡ type_at values.now i }
+{
+    match values.get(i) {
+        Some(Value::Type(x)) => *x,
+        _ => IrType::I64,
+    }
+}
+
+/// The name of an address in the code.
+pub fn mem_label_name(values: &[Value], i: usize) -> MemLabelName
+    ensures { result ≡ mem_label_name_at values.now i }
+{
+    match values.get(i) {
+        Some(Value::MemLabelName(x)) => *x,
+        _ => MemLabelName::PCRel,
+    }
+}
+
+/// An addressing mode.
+pub fn mode(values: &[Value], i: usize) -> AMode
+    ensures { result ≡ mode_at values.now i }
+{
+    match values.get(i) {
+        Some(Value::Mode(x)) => *x,
+        _ => AMode::SPOffset { off: 0 },
+    }
+}
+
+/// An addressing mode of a pair of doublewords.
+pub fn pair_mode(values: &[Value], i: usize) -> PairAMode
+    ensures { result ≡ pair_mode_at values.now i }
+{
+    match values.get(i) {
+        Some(Value::PairMode(x)) => *x,
+        _ => PairAMode::SPPreIndexed {
+            simm7: SImm7Scaled {
+                value: 0,
+                scale_ty: IrType::I64,
+            },
+        },
+    }
+}
+
+/// What is known of a memory access.
+pub fn flags(values: &[Value], i: usize) -> MemFlagsData
+    ensures { result ≡ flags_at values.now i }
+{
+    match values.get(i) {
+        Some(Value::Flags(x)) => *x,
+        _ => MemFlagsData::trusted(),
     }
 }

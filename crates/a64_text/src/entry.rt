@@ -3,13 +3,23 @@
 ghost use Rattle.std.specs.Prelude.{◌≡◌};
 ghost use Rattle.a64_text.specs.States.{once_name};
 
+use crate::frame_field::FrameField;
 use a64_inst::Item;
 
-/// A name that a file gives at most once. No entry gives one so far.
+/// A name that a file gives at most once. No entry gives a constant's so far.
 #[derive(Clone, Copy, Debug, PartialEq, Eq, PartialOrd, Ord)]
 pub enum OnceName {
     /// The constant of this number.
     Constant(u32),
+    /// A size of the frame.
+    Frame(FrameField),
+}
+
+/// An item that a file gets.
+#[derive(Drop)]
+pub enum NewItem {
+    /// The item.
+    Item(Item),
 }
 
 /// What a line of a file says.
@@ -17,6 +27,8 @@ pub enum OnceName {
 pub enum Entry {
     /// An item of the code: an instruction or a binding.
     Item(Item),
+    /// A size of the frame, in bytes.
+    Frame(FrameField, u32),
 }
 
 impl Entry {
@@ -26,6 +38,7 @@ impl Entry {
     {
         match self {
             Entry::Item(_) => None,
+            Entry::Frame(field, _) => Some(OnceName::Frame(*field)),
         }
     }
 }

@@ -2,21 +2,26 @@
 #![tactic(auto)]
 
 mod at;
+mod call;
 mod decimal;
 mod entry;
 mod entry_name;
 mod fields;
 mod file;
+mod flags;
+mod frame_field;
 mod immediate;
 mod label;
 mod line;
 mod make;
+mod mode_name;
 mod modifier;
 mod name;
 mod name_table;
 mod named;
 mod offset;
 mod operator;
+mod parts;
 mod read;
 mod read_value;
 mod register;
@@ -27,6 +32,7 @@ mod split;
 mod state;
 #[cfg(test)]
 mod tests;
+mod type_name;
 mod value;
 mod wide;
 

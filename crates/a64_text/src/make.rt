@@ -2,6 +2,8 @@
 
 mod control;
 mod integer;
+mod memory;
+pub mod mode;
 
 ghost use Rattle.std.specs.Prelude.{◌≡◌};
 ghost use Rattle.a64_text.specs.Makes.{Makes};
@@ -28,6 +30,14 @@ fn make_bind(values: &[Value]) -> Option<Entry>
     Some(Entry::Item(Item::Bind(at::label(values, 0))))
 }
 
+/// The size of an area of the frame.
+#[tactic(auto, unfolding(crate::specs::Makes::Makes))]
+fn make_frame(values: &[Value]) -> Option<Entry>
+    ensures { Makes Name.Frame values.now result }
+{
+    Some(Entry::Frame(at::frame_field(values, 0), at::u32(values, 1)))
+}
+
 /// The entry of this name with these fields.
 pub fn make(name: Name, values: &[Value]) -> Option<Entry>
     ensures { Makes name values.now result }
@@ -35,6 +45,9 @@ pub fn make(name: Name, values: &[Value]) -> Option<Entry>
     match name {
         Name::Integer(name) => integer::make_integer(name, values),
         Name::Control(name) => control::make_control(name, values),
+        Name::Memory(name) => memory::make_memory(name, values),
+        Name::Access(op) => memory::make_access(op, values),
         Name::Bind => make_bind(values),
+        Name::Frame => make_frame(values),
     }
 }

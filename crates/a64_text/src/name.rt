@@ -1,5 +1,7 @@
 //! The names with which lines begin.
 
+use a64_inst::AccessOp;
+
 /// The name of an integer instruction.
 #[derive(Clone, Copy)]
 pub enum IntegerName {
@@ -70,6 +72,17 @@ pub enum ControlName {
     Jump,
 }
 
+/// The name of an instruction of memory that is no load or store of one register.
+#[derive(Clone, Copy)]
+pub enum MemoryName {
+    /// `LoadP64`.
+    LoadP64,
+    /// `StoreP64`.
+    StoreP64,
+    /// `LoadAddr`.
+    LoadAddr,
+}
+
 /// The name with which a line begins.
 #[derive(Clone, Copy)]
 pub enum Name {
@@ -77,6 +90,12 @@ pub enum Name {
     Integer(IntegerName),
     /// A branch or another instruction of control.
     Control(ControlName),
+    /// An instruction of memory that is no load or store of one register.
+    Memory(MemoryName),
+    /// A load or store of one register.
+    Access(AccessOp),
     /// `bind`.
     Bind,
+    /// `frame`.
+    Frame,
 }

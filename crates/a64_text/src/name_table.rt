@@ -1,21 +1,28 @@
 //! The names with which lines begin, each with the kinds of the fields behind it.
 
-use crate::name::{ControlName, IntegerName, Name};
+use crate::name::{ControlName, IntegerName, MemoryName, Name};
 use crate::named::Row;
 use crate::value::Kind;
+use a64_inst::AccessOp;
 
 /// For each remainder of a hash, the row of the name that has it.
-pub static NAME_HOMES: [u8; 177] = [
-    0, 0, 0, 0, 0, 0, 0, 0, 2, 0, 0, 0, 0, 0, 0, 0, 0, 22, 0, 0, 0, 30, 0, 0, 3, 0, 0, 0, 0, 0, 0,
-    0, 0, 0, 0, 9, 0, 0, 18, 0, 0, 0, 0, 0, 0, 7, 0, 0, 8, 0, 0, 0, 0, 4, 0, 21, 1, 24, 0, 0, 0,
-    12, 0, 0, 0, 0, 0, 0, 0, 0, 29, 0, 0, 0, 0, 0, 0, 0, 0, 0, 0, 0, 0, 0, 0, 0, 0, 0, 15, 0, 0, 0,
-    0, 0, 14, 0, 17, 0, 0, 0, 0, 20, 0, 0, 0, 0, 0, 0, 0, 0, 0, 0, 6, 0, 0, 0, 0, 0, 0, 0, 0, 0, 0,
-    0, 0, 0, 0, 0, 0, 27, 28, 0, 0, 0, 0, 0, 0, 0, 0, 0, 0, 0, 0, 0, 0, 25, 0, 19, 0, 11, 10, 0, 0,
-    0, 23, 16, 0, 13, 0, 0, 5, 0, 0, 0, 0, 0, 0, 26, 0, 0, 0, 0, 0, 0, 0, 0, 0,
+pub static NAME_HOMES: [u8; 345] = [
+    0, 0, 0, 0, 0, 0, 0, 0, 0, 0, 0, 0, 0, 0, 37, 0, 0, 0, 10, 0, 0, 33, 0, 2, 0, 0, 0, 0, 0, 0, 0,
+    0, 0, 0, 48, 0, 0, 0, 26, 0, 0, 0, 27, 25, 22, 0, 0, 0, 0, 0, 0, 0, 0, 0, 0, 32, 0, 0, 0, 0, 0,
+    0, 0, 0, 45, 0, 0, 0, 0, 0, 23, 0, 7, 0, 0, 0, 0, 0, 0, 0, 0, 0, 0, 0, 0, 40, 0, 0, 0, 0, 0, 0,
+    16, 0, 0, 9, 49, 0, 0, 0, 0, 0, 0, 0, 0, 0, 0, 0, 0, 0, 18, 0, 53, 0, 0, 39, 0, 24, 0, 0, 0, 0,
+    0, 0, 0, 0, 46, 0, 0, 0, 0, 0, 31, 14, 0, 0, 0, 43, 0, 0, 0, 0, 0, 0, 0, 0, 0, 41, 21, 0, 0, 0,
+    0, 0, 0, 0, 0, 0, 0, 0, 0, 0, 0, 5, 0, 0, 0, 0, 0, 0, 0, 0, 0, 0, 0, 6, 0, 0, 0, 51, 0, 0, 0,
+    0, 0, 0, 0, 0, 11, 0, 0, 0, 0, 0, 0, 0, 0, 50, 0, 15, 0, 0, 0, 0, 0, 0, 0, 17, 0, 0, 0, 0, 0,
+    0, 0, 0, 0, 0, 0, 0, 0, 0, 0, 0, 0, 0, 0, 47, 0, 0, 0, 52, 0, 0, 0, 0, 0, 0, 0, 0, 0, 36, 0, 0,
+    0, 0, 0, 0, 42, 3, 34, 0, 0, 0, 0, 0, 0, 0, 30, 0, 0, 0, 12, 0, 8, 13, 0, 0, 0, 0, 0, 0, 0, 0,
+    0, 0, 0, 0, 0, 19, 0, 0, 0, 0, 0, 0, 0, 0, 0, 0, 0, 0, 0, 0, 0, 0, 0, 35, 0, 0, 0, 28, 0, 38,
+    0, 0, 0, 0, 0, 0, 0, 0, 0, 0, 1, 0, 0, 4, 0, 0, 0, 0, 0, 20, 0, 0, 0, 0, 0, 0, 0, 0, 0, 0, 0,
+    0, 0, 0, 0, 0, 0, 44, 0, 29, 0,
 ];
 
 /// The names.
-pub static NAMES: [Row<Name>; 31] = [
+pub static NAMES: [Row<Name>; 54] = [
     (b"Nop0", &[], Name::Integer(IntegerName::Nop0)),
     (b"Nop4", &[], Name::Integer(IntegerName::Nop4)),
     (
@@ -191,5 +198,116 @@ pub static NAMES: [Row<Name>; 31] = [
     ),
     (b"Ret", &[], Name::Control(ControlName::Ret)),
     (b"Jump", &[Kind::Target], Name::Control(ControlName::Jump)),
+    (
+        b"LoadP64",
+        &[Kind::Reg, Kind::Reg, Kind::PairMode, Kind::Flags],
+        Name::Memory(MemoryName::LoadP64),
+    ),
+    (
+        b"StoreP64",
+        &[Kind::Reg, Kind::Reg, Kind::PairMode, Kind::Flags],
+        Name::Memory(MemoryName::StoreP64),
+    ),
+    (
+        b"LoadAddr",
+        &[Kind::Reg, Kind::Mode],
+        Name::Memory(MemoryName::LoadAddr),
+    ),
+    (
+        b"ULoad8",
+        &[Kind::Reg, Kind::Mode, Kind::Flags],
+        Name::Access(AccessOp::ULoad8),
+    ),
+    (
+        b"SLoad8",
+        &[Kind::Reg, Kind::Mode, Kind::Flags],
+        Name::Access(AccessOp::SLoad8),
+    ),
+    (
+        b"ULoad16",
+        &[Kind::Reg, Kind::Mode, Kind::Flags],
+        Name::Access(AccessOp::ULoad16),
+    ),
+    (
+        b"SLoad16",
+        &[Kind::Reg, Kind::Mode, Kind::Flags],
+        Name::Access(AccessOp::SLoad16),
+    ),
+    (
+        b"ULoad32",
+        &[Kind::Reg, Kind::Mode, Kind::Flags],
+        Name::Access(AccessOp::ULoad32),
+    ),
+    (
+        b"SLoad32",
+        &[Kind::Reg, Kind::Mode, Kind::Flags],
+        Name::Access(AccessOp::SLoad32),
+    ),
+    (
+        b"ULoad64",
+        &[Kind::Reg, Kind::Mode, Kind::Flags],
+        Name::Access(AccessOp::ULoad64),
+    ),
+    (
+        b"FpuLoad16",
+        &[Kind::Reg, Kind::Mode, Kind::Flags],
+        Name::Access(AccessOp::FpuLoad16),
+    ),
+    (
+        b"FpuLoad32",
+        &[Kind::Reg, Kind::Mode, Kind::Flags],
+        Name::Access(AccessOp::FpuLoad32),
+    ),
+    (
+        b"FpuLoad64",
+        &[Kind::Reg, Kind::Mode, Kind::Flags],
+        Name::Access(AccessOp::FpuLoad64),
+    ),
+    (
+        b"FpuLoad128",
+        &[Kind::Reg, Kind::Mode, Kind::Flags],
+        Name::Access(AccessOp::FpuLoad128),
+    ),
+    (
+        b"Store8",
+        &[Kind::Reg, Kind::Mode, Kind::Flags],
+        Name::Access(AccessOp::Store8),
+    ),
+    (
+        b"Store16",
+        &[Kind::Reg, Kind::Mode, Kind::Flags],
+        Name::Access(AccessOp::Store16),
+    ),
+    (
+        b"Store32",
+        &[Kind::Reg, Kind::Mode, Kind::Flags],
+        Name::Access(AccessOp::Store32),
+    ),
+    (
+        b"Store64",
+        &[Kind::Reg, Kind::Mode, Kind::Flags],
+        Name::Access(AccessOp::Store64),
+    ),
+    (
+        b"FpuStore16",
+        &[Kind::Reg, Kind::Mode, Kind::Flags],
+        Name::Access(AccessOp::FpuStore16),
+    ),
+    (
+        b"FpuStore32",
+        &[Kind::Reg, Kind::Mode, Kind::Flags],
+        Name::Access(AccessOp::FpuStore32),
+    ),
+    (
+        b"FpuStore64",
+        &[Kind::Reg, Kind::Mode, Kind::Flags],
+        Name::Access(AccessOp::FpuStore64),
+    ),
+    (
+        b"FpuStore128",
+        &[Kind::Reg, Kind::Mode, Kind::Flags],
+        Name::Access(AccessOp::FpuStore128),
+    ),
     (b"bind", &[Kind::Label], Name::Bind),
+    (b"frame", &[Kind::FrameField, Kind::U32], Name::Frame),
 ];

@@ -1,17 +1,19 @@
 //! Reads files.
 
-ghost use Rattle.std.specs.Prelude.{◌≡◌, ◌≤◌, ◌+◌, length, IfOk, OnOk};
-ghost use Rattle.a64_text.specs.States.{contents_of, said};
+ghost use Rattle.std.specs.Prelude.{◌≡◌, ◌≤◌, ◌+◌, [], ◌∷◌, ◌++◌, length, IfOk, OnOk};
+ghost use Rattle.a64_text.specs.States.{contents_of, item_in, said};
 ghost use Rattle.a64_text.specs.FileText as FileText;
 ghost use Rattle.a64_text.specs.Splitting.{first_line};
 ghost use Rattle.a64_text.specs.AddsLine.{AddsName, AddsLine};
 ghost use Rattle.a64_text.specs.Reading.{Answers};
 
-use crate::entry::{Entry, OnceName};
+use crate::entry::{Entry, NewItem, OnceName};
 use crate::file::{File, FileError};
+use crate::frame_field::set_frame_field;
 use crate::line::read_line;
 use crate::split::cut;
 use crate::state::{ReaderState, start_state};
+use a64_inst::Item;
 use std::alloc::{AllocError, Global};
 use std::collections::BTreeSet;
 
@@ -35,13 +37,26 @@ fn add_name(given: &mut BTreeSet<OnceName>, name: Option<OnceName>) -> Result<bo
     }
 }
 
+/// Adds the item behind the others.
+fn add_item(items: &mut Vec<Item>, item: NewItem) -> Result<(), AllocError>
+    ensures { OnOk result (items.new.items ≡ items.old.items ++ item_in item ∷ []) }
+{
+    match item {
+        NewItem::Item(item) => {
+            items.push(item)?;
+            Ok(())
+        }
+    }
+}
+
 /// Adds what the entry says to the file.
 fn add_entry(file: &mut File, entry: Entry) -> Result<(), AllocError>
     ensures { OnOk result (contents_of file.new ≡ said entry (contents_of file.old)) }
 {
     match entry {
-        Entry::Item(item) => {
-            file.items.push(item)?;
+        Entry::Item(item) => add_item(&mut file.items, NewItem::Item(item)),
+        Entry::Frame(field, bytes) => {
+            set_frame_field(&mut file.frame, field, bytes);
             Ok(())
         }
     }

@@ -1,18 +1,23 @@
 //! Reads a field by its kind.
 
+ghost use Rattle.a64_text.specs.ReadsParts.{ReadsPart};
 ghost use Rattle.a64_text.specs.Values.{ReadsKind};
 
+use crate::call::read_made;
 use crate::decimal::{read_u8, read_u32, read_u64};
+use crate::flags::read_flags;
+use crate::frame_field::FrameField;
 use crate::immediate::{read_imm_shift, read_imm12, read_nzcv, read_uimm5, read_uimm6};
 use crate::label::{read_label, read_target};
+use crate::mode_name::{MemLabelName, ModeName, PairModeName};
 use crate::named::read_named;
-use crate::offset::read_i32;
+use crate::offset::{read_i32, read_i64, read_offset9, read_pair_offset};
 use crate::register::{read_preg, read_reg};
 use crate::shift::read_shift;
 use crate::size::read_size;
 use crate::value::{Kind, Value};
 use crate::wide::read_wide;
-use a64_base::{Cond, ExtendOp};
+use a64_base::{Cond, ExtendOp, IrType};
 use a64_ops::{ALUOp, ALUOp3, BfmOp, BitOp, MoveWideOp};
 
 /// Reads an integer operator.
@@ -207,6 +212,95 @@ fn label(token: &[u8]) -> Option<Value>
     Some(Value::Label(read_label(token)?))
 }
 
+/// Reads the size of an area of a frame.
+#[tactic(auto, unfolding(crate::specs::Values::ReadsKind))]
+fn frame_field(token: &[u8]) -> Option<Value>
+    ensures { ReadsKind Kind.FrameField token.now result }
+{
+    Some(Value::FrameField(read_named::<FrameField>(token)?))
+}
+
+/// Reads a number of 64 bits, which may be below zero.
+#[tactic(auto, unfolding(crate::specs::Values::ReadsKind))]
+fn i64(token: &[u8]) -> Option<Value>
+    ensures { ReadsKind Kind.I64 token.now result }
+{
+    Some(Value::I64(read_i64(token)?))
+}
+
+/// Reads a signed offset of 9 bits.
+#[tactic(auto, unfolding(crate::specs::Values::ReadsKind))]
+fn offset9(token: &[u8]) -> Option<Value>
+    ensures { ReadsKind Kind.Offset9 token.now result }
+{
+    Some(Value::Offset9(read_offset9(token)?))
+}
+
+/// Reads a signed offset of 7 bits in doublewords.
+#[tactic(auto, unfolding(crate::specs::Values::ReadsKind))]
+fn pair_offset(token: &[u8]) -> Option<Value>
+    ensures { ReadsKind Kind.PairOffset token.now result }
+{
+    Some(Value::PairOffset(read_pair_offset(token)?))
+}
+
+/// Reads a type.
+#[tactic(auto, unfolding(crate::specs::Values::ReadsKind))]
+fn ir_type(token: &[u8]) -> Option<Value>
+    ensures { ReadsKind Kind.Type token.now result }
+{
+    Some(Value::Type(read_named::<IrType>(token)?))
+}
+
+/// Reads the name of an address in the code.
+#[tactic(auto, unfolding(crate::specs::Values::ReadsKind))]
+fn mem_label_name(token: &[u8]) -> Option<Value>
+    ensures { ReadsKind Kind.MemLabelName token.now result }
+{
+    Some(Value::MemLabelName(read_named::<MemLabelName>(token)?))
+}
+
+/// Reads an addressing mode.
+#[tactic(auto, unfolding(crate::specs::Values::ReadsKind))]
+fn mode(token: &[u8]) -> Option<Value>
+    ensures { ReadsKind Kind.Mode token.now result }
+{
+    Some(Value::Mode(read_made::<ModeName>(token)?))
+}
+
+/// Reads an addressing mode of a pair of doublewords.
+#[tactic(auto, unfolding(crate::specs::Values::ReadsKind))]
+fn pair_mode(token: &[u8]) -> Option<Value>
+    ensures { ReadsKind Kind.PairMode token.now result }
+{
+    Some(Value::PairMode(read_made::<PairModeName>(token)?))
+}
+
+/// Reads what is known of a memory access.
+#[tactic(auto, unfolding(crate::specs::Values::ReadsKind))]
+fn flags(token: &[u8]) -> Option<Value>
+    ensures { ReadsKind Kind.Flags token.now result }
+{
+    Some(Value::Flags(read_flags(token)?))
+}
+
+/// The field of the kind that the token is, where such a field may stand with commas between.
+pub fn read_part(kind: Kind, token: &[u8]) -> Option<Value>
+    ensures { ReadsPart kind token.now result }
+{
+    match kind {
+        Kind::Reg => reg(token),
+        Kind::Extend => extend(token),
+        Kind::U32 => u32(token),
+        Kind::I64 => i64(token),
+        Kind::Offset9 => offset9(token),
+        Kind::PairOffset => pair_offset(token),
+        Kind::Type => ir_type(token),
+        Kind::MemLabelName => mem_label_name(token),
+        _ => None,
+    }
+}
+
 /// The field of the kind that the token is.
 pub fn read_value(kind: Kind, token: &[u8]) -> Option<Value>
     ensures { ReadsKind kind token.now result }
@@ -236,5 +330,14 @@ pub fn read_value(kind: Kind, token: &[u8]) -> Option<Value>
         Kind::I32 => i32(token),
         Kind::Target => target(token),
         Kind::Label => label(token),
+        Kind::FrameField => frame_field(token),
+        Kind::I64 => i64(token),
+        Kind::Offset9 => offset9(token),
+        Kind::PairOffset => pair_offset(token),
+        Kind::Type => ir_type(token),
+        Kind::MemLabelName => mem_label_name(token),
+        Kind::Mode => mode(token),
+        Kind::PairMode => pair_mode(token),
+        Kind::Flags => flags(token),
     }
 }

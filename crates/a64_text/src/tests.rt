@@ -6,7 +6,7 @@ use a64_inst::Item;
 use std::test::Fail;
 
 /// Lines that are entries, a line at least for each name, and edges of their fields.
-const ENTRIES: [&str; 78] = [
+const ENTRIES: [&str; 105] = [
     "Nop0",
     "Nop4",
     "AluRRR Add 64 sp x0 x1",
@@ -82,6 +82,33 @@ const ENTRIES: [&str; 78] = [
     "Jump 0",
     "Jump 2147483647",
     "Jump -2147483648",
+    "ULoad8 x0 Unscaled(x1,-3) -",
+    "SLoad8 x0 Unscaled(sp,255) 0",
+    "ULoad16 x0 UnsignedOffset(x1,8190,i16) 255",
+    "SLoad16 %i7 UnsignedOffset(%i0,0,i8) -",
+    "ULoad32 x0 UnsignedOffset(x1,16,i32) -",
+    "SLoad32 xzr UnsignedOffset(sp,16380,i32) -",
+    "ULoad64 x0 UnsignedOffset(x1,32760,i64) -",
+    "FpuLoad16 v0 RegReg(x1,x2) -",
+    "FpuLoad32 v0 RegScaled(x1,xzr) -",
+    "FpuLoad64 v31 RegExtended(x1,x2,UXTB) -",
+    "FpuLoad128 v0 UnsignedOffset(x1,65520,i8x16) -",
+    "Store8 x0 RegScaledExtended(x1,x2,SXTW) -",
+    "Store16 x0 Label(PCRel,8) -",
+    "Store32 x0 Label(PCRel,-2147483648) -",
+    "Store64 x16 RegOffset(x1,65536) 7",
+    "Store64 x16 RegOffset(x1,-9223372036854775808) -",
+    "FpuStore16 v0 SPPreIndexed(-256) -",
+    "FpuStore32 v0 SPPostIndexed(255) -",
+    "FpuStore64 v0 FPOffset(9223372036854775807) -",
+    "FpuStore64 v0 SPOffset(0) -",
+    "FpuStore128 v0 IncomingArg(8) -",
+    "FpuStore128 v0 SlotOffset(-1) -",
+    "LoadP64 x29 x30 SPPostIndexed(16) -",
+    "LoadP64 x29 x30 SignedOffset(x1,-512) 3",
+    "StoreP64 x29 x30 SPPreIndexed(-16) -",
+    "StoreP64 x29 x30 SignedOffset(sp,504) -",
+    "LoadAddr x0 SPOffset(65536)",
     "bind L0",
     "bind L4294967295",
     "bind L7",
@@ -120,8 +147,22 @@ fn takes_lines_that_mean_nothing(rt: HostRuntime) -> Result<(), Fail> {
     Ok(())
 }
 
+#[test]
+fn takes_the_sizes_of_a_frame(rt: HostRuntime) -> Result<(), Fail> {
+    let text =
+        "frame outgoing_args_size 8\nframe setup_area_size 16\nNop4\nframe clobber_size 0\nframe fixed_frame_storage_size 4294967295";
+    let file = read_file(rt.alloc(), text.as_bytes())?;
+    assert_eq!(rt; file.items.len(), 1);
+    assert_eq!(rt; file.frame.setup_area_size, 16);
+    assert_eq!(rt; file.frame.tail_args_size, 0);
+    assert_eq!(rt; file.frame.clobber_size, 0);
+    assert_eq!(rt; file.frame.fixed_frame_storage_size, 4294967295);
+    assert_eq!(rt; file.frame.outgoing_args_size, 8);
+    Ok(())
+}
+
 /// Lines that are no entries.
-const OTHERS: [&str; 100] = [
+const OTHERS: [&str; 153] = [
     "Nop4 x",
     "Nop4 ",
     "Nop4\r",
@@ -222,6 +263,59 @@ const OTHERS: [&str; 100] = [
     "BitfieldMoveMod 64 x0 x1 x2 5 256",
     "Adr x0 2147483648",
     "Adrp x0 L1",
+    "frame",
+    "frame clobber_size",
+    "frame clobber_size 4294967296",
+    "frame clobber_size -1",
+    "frame clobber_size 01",
+    "frame clobber_sizes 1",
+    "frame restore 1",
+    "Frame clobber_size 1",
+    "ULoad8 x0 Unscaled(x1,-257) -",
+    "ULoad8 x0 Unscaled(x1,256) -",
+    "ULoad8 x0 Unscaled(x1,-0) -",
+    "ULoad8 x0 Unscaled(x1) -",
+    "ULoad8 x0 Unscaled(x1,3,4) -",
+    "ULoad8 x0 Unscaled(x1,-3 -",
+    "ULoad8 x0 Unscaled x1,-3) -",
+    "ULoad8 x0 Unscaled(x1, -3) -",
+    "ULoad8 x0 Unscaled() -",
+    "ULoad8 x0 Unscaled(x1,-3)) -",
+    "ULoad8 x0 unscaled(x1,-3) -",
+    "ULoad8 x0 (x1,-3) -",
+    "ULoad8 x0 Unscaled(x1,-3)",
+    "ULoad8 x0 Unscaled(x1,-3) --",
+    "ULoad8 x0 Unscaled(x1,-3) 256",
+    "ULoad8 x0 Unscaled(x1,-3) -1",
+    "ULoad8 x0 Unscaled(x1,-3) 00",
+    "ULoad8 - Unscaled(x1,-3) -",
+    "ULoad9 x0 Unscaled(x1,-3) -",
+    "ULoad64 x0 UnsignedOffset(x1,3,i64) -",
+    "ULoad64 x0 UnsignedOffset(x1,-8,i64) -",
+    "ULoad64 x0 UnsignedOffset(x1,32768,i64) -",
+    "ULoad64 x0 UnsignedOffset(x1,16,f64) -",
+    "ULoad64 x0 UnsignedOffset(x1,16,i128) -",
+    "ULoad64 x0 UnsignedOffset(x1,16,I64) -",
+    "ULoad64 x0 UnsignedOffset(x1,16) -",
+    "ULoad64 x0 UnsignedOffset(16,x1,i64) -",
+    "ULoad64 x0 RegReg(x1) -",
+    "ULoad64 x0 RegReg(x1,x2,UXTW) -",
+    "ULoad64 x0 RegExtended(x1,x2) -",
+    "ULoad64 x0 RegExtended(x1,x2,LSL) -",
+    "ULoad64 x0 RegOffset(x1,9223372036854775808) -",
+    "ULoad64 x0 RegOffset(x1,-9223372036854775809) -",
+    "ULoad64 x0 SPOffset(x1,8) -",
+    "ULoad64 x0 SPPreIndexed(256) -",
+    "ULoad64 x0 SignedOffset(x1,16) -",
+    "ULoad64 x0 Label(PCRel,2147483648) -",
+    "ULoad64 x0 Label(pcrel,8) -",
+    "ULoad64 x0 Label(8) -",
+    "LoadP64 x0 SPPostIndexed(16) -",
+    "LoadP64 x0 x1 SPPostIndexed(12) -",
+    "LoadP64 x0 x1 SPPostIndexed(512) -",
+    "LoadP64 x0 x1 Unscaled(x1,8) -",
+    "StoreP64 x0 x1 SignedOffset(x1,-520) -",
+    "LoadAddr x0 SPOffset(65536) -",
 ];
 
 #[test]
@@ -241,6 +335,14 @@ fn reports_the_first_bad_line(rt: HostRuntime) -> Result<(), Fail> {
         ("Nop4\nNop5\nNop6\n", "line 2: not an entry"),
         ("Jump L1\n\n \n", "line 3: not an entry"),
         ("Nop4 \nNop4\n", "line 1: not an entry"),
+        (
+            "frame clobber_size 0\nframe clobber_size 0",
+            "line 2: not an entry",
+        ),
+        (
+            "frame clobber_size 1\nNop4\nframe tail_args_size 1\nframe clobber_size 2",
+            "line 4: not an entry",
+        ),
     ] {
         let Err(error) = read_file(rt.alloc(), text.as_bytes()) else {
             return Err(Fail::from("no error"));

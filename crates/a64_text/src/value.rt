@@ -1,7 +1,13 @@
 //! The fields of entries.
 
-use a64_base::{BranchTarget, Cond, ExtendOp, MachLabel, OperandSize, PReg, Reg, ShiftOpAndAmt};
-use a64_imms::{Imm12, ImmShift, MoveWideConst, NZCV, UImm5, UImm6};
+use crate::frame_field::FrameField;
+use crate::mode_name::MemLabelName;
+use a64_base::{
+    BranchTarget, Cond, ExtendOp, IrType, MachLabel, MemFlagsData, OperandSize, PReg, Reg,
+    ShiftOpAndAmt,
+};
+use a64_imms::{Imm12, ImmShift, MoveWideConst, NZCV, SImm7Scaled, SImm9, UImm5, UImm6};
+use a64_inst::{AMode, PairAMode};
 use a64_ops::{ALUOp, ALUOp3, BfmOp, BitOp, MoveWideOp};
 use arrayvec::ArrayVec;
 
@@ -56,6 +62,24 @@ pub enum Kind {
     Target,
     /// A label.
     Label,
+    /// The size of an area of a frame.
+    FrameField,
+    /// A number of 64 bits, which may be below zero.
+    I64,
+    /// A signed offset of 9 bits.
+    Offset9,
+    /// A signed offset of 7 bits in doublewords.
+    PairOffset,
+    /// A type.
+    Type,
+    /// The name of an address in the code.
+    MemLabelName,
+    /// An addressing mode.
+    Mode,
+    /// An addressing mode of a pair of doublewords.
+    PairMode,
+    /// What is known of a memory access.
+    Flags,
 }
 
 /// A field.
@@ -109,6 +133,24 @@ pub enum Value {
     Target(BranchTarget),
     /// A label.
     Label(MachLabel),
+    /// The size of an area of a frame.
+    FrameField(FrameField),
+    /// A number of 64 bits, which may be below zero.
+    I64(i64),
+    /// A signed offset of 9 bits.
+    Offset9(SImm9),
+    /// A signed offset of 7 bits in doublewords.
+    PairOffset(SImm7Scaled),
+    /// A type.
+    Type(IrType),
+    /// The name of an address in the code.
+    MemLabelName(MemLabelName),
+    /// An addressing mode.
+    Mode(AMode),
+    /// An addressing mode of a pair of doublewords.
+    PairMode(PairAMode),
+    /// What is known of a memory access.
+    Flags(MemFlagsData),
 }
 
 /// The fields of an entry: a name has few of them.

@@ -1,5 +1,5 @@
 use Rattle.a64_text.proofs.Calls.{no_call, behind, no_end, other_end, is_call}
-use Rattle.a64_text.proofs.shift.read_call.Goals as goal
+use Rattle.a64_text.proofs.call.read_call.Goals as goal
 
 pub returns-in_err-rest : goal.returns-in_err-rest
 returns-in_err-rest c = rw c.from_residual.ensures (no_call c.args.token.now c.cut.result.0.now c.cut.result.1 c.in_err-rest.was c.cut.ensures)

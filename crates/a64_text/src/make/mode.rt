@@ -1,0 +1,143 @@
+//! Makes addressing modes of their fields.
+
+ghost use Rattle.std.specs.Prelude.{◌≡◌};
+ghost use Rattle.a64_text.specs.ModeMakes.{MakesMode, MakesPair};
+ghost use Rattle.a64_text.specs.Modes.{IsScaled, scaled_parts, IsMemLabel, mem_label_parts};
+ghost use Rattle.a64_text.specs.Reads.{Reads};
+ghost use Rattle.a64_text.specs.Types as types;
+
+use crate::at;
+use crate::mode_name::{MemLabelName, ModeName, PairModeName};
+use crate::value::Value;
+use a64_base::IrType;
+use a64_imms::UImm12Scaled;
+use a64_inst::{AMode, MemLabel, PairAMode};
+
+/// Whether the size of the type scales an unsigned offset.
+fn is_scale(ty: IrType) -> bool
+    ensures { result ≡ types.is_scale ty }
+{
+    matches!(
+        ty,
+        IrType::I8 | IrType::I16 | IrType::I32 | IrType::I64 | IrType::I8X16
+    )
+}
+
+/// The unsigned offset that the constructor gives for the value at the scale.
+fn scaled_of(value: i64, scale: IrType) -> Option<UImm12Scaled>
+    ensures { Reads IsScaled scaled_parts (value, scale) result }
+{
+    if !is_scale(scale) {
+        return None;
+    }
+    UImm12Scaled::maybe_from_i64(value, scale)
+}
+
+/// The address in the code that the name and the number are.
+fn mem_label_of(name: MemLabelName, number: i64) -> Option<MemLabel>
+    ensures { Reads IsMemLabel mem_label_parts (name, number) result }
+{
+    match name {
+        MemLabelName::PCRel => {
+            if number < i64::from(i32::MIN) || number > i64::from(i32::MAX) {
+                return None;
+            }
+            Some(MemLabel::PCRel(number as i32))
+        }
+    }
+}
+
+/// A base plus an unsigned offset.
+#[tactic(auto, unfolding(crate::specs::ModeMakes::MakesMode))]
+fn unsigned_offset(values: &[Value]) -> Option<AMode>
+    ensures { MakesMode ModeName.UnsignedOffset values.now result }
+{
+    Some(AMode::UnsignedOffset {
+        rn: at::reg(values, 0),
+        uimm12: scaled_of(at::i64(values, 1), at::ir_type(values, 2))?,
+    })
+}
+
+/// An address in the code.
+#[tactic(auto, unfolding(crate::specs::ModeMakes::MakesMode))]
+fn in_code(values: &[Value]) -> Option<AMode>
+    ensures { MakesMode ModeName.Label values.now result }
+{
+    Some(AMode::Label {
+        label: mem_label_of(at::mem_label_name(values, 0), at::i64(values, 1))?,
+    })
+}
+
+/// The mode of this name with these fields.
+#[tactic(auto, unfolding(crate::specs::ModeMakes::MakesMode))]
+pub fn make_mode(name: ModeName, values: &[Value]) -> Option<AMode>
+    ensures { MakesMode name values.now result }
+{
+    match name {
+        ModeName::RegReg => Some(AMode::RegReg {
+            rn: at::reg(values, 0),
+            rm: at::reg(values, 1),
+        }),
+        ModeName::RegScaled => Some(AMode::RegScaled {
+            rn: at::reg(values, 0),
+            rm: at::reg(values, 1),
+        }),
+        ModeName::RegScaledExtended => Some(AMode::RegScaledExtended {
+            rn: at::reg(values, 0),
+            rm: at::reg(values, 1),
+            extendop: at::extend(values, 2),
+        }),
+        ModeName::RegExtended => Some(AMode::RegExtended {
+            rn: at::reg(values, 0),
+            rm: at::reg(values, 1),
+            extendop: at::extend(values, 2),
+        }),
+        ModeName::Unscaled => Some(AMode::Unscaled {
+            rn: at::reg(values, 0),
+            simm9: at::offset9(values, 1),
+        }),
+        ModeName::UnsignedOffset => unsigned_offset(values),
+        ModeName::Label => in_code(values),
+        ModeName::SPPreIndexed => Some(AMode::SPPreIndexed {
+            simm9: at::offset9(values, 0),
+        }),
+        ModeName::SPPostIndexed => Some(AMode::SPPostIndexed {
+            simm9: at::offset9(values, 0),
+        }),
+        ModeName::FPOffset => Some(AMode::FPOffset {
+            off: at::i64(values, 0),
+        }),
+        ModeName::SPOffset => Some(AMode::SPOffset {
+            off: at::i64(values, 0),
+        }),
+        ModeName::IncomingArg => Some(AMode::IncomingArg {
+            off: at::i64(values, 0),
+        }),
+        ModeName::SlotOffset => Some(AMode::SlotOffset {
+            off: at::i64(values, 0),
+        }),
+        ModeName::RegOffset => Some(AMode::RegOffset {
+            rn: at::reg(values, 0),
+            off: at::i64(values, 1),
+        }),
+    }
+}
+
+/// The mode of a pair of this name with these fields.
+#[tactic(auto, unfolding(crate::specs::ModeMakes::MakesPair))]
+pub fn make_pair_mode(name: PairModeName, values: &[Value]) -> Option<PairAMode>
+    ensures { MakesPair name values.now result }
+{
+    match name {
+        PairModeName::SignedOffset => Some(PairAMode::SignedOffset {
+            reg: at::reg(values, 0),
+            simm7: at::pair_offset(values, 1),
+        }),
+        PairModeName::SPPreIndexed => Some(PairAMode::SPPreIndexed {
+            simm7: at::pair_offset(values, 0),
+        }),
+        PairModeName::SPPostIndexed => Some(PairAMode::SPPostIndexed {
+            simm7: at::pair_offset(values, 0),
+        }),
+    }
+}
