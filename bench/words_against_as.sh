@@ -1,6 +1,6 @@
 #!/usr/bin/env bash
-# Holds the words of the program against those of GNU as: random integer instructions, jumps and labels. `Adrp` is left out:
-# of it GNU as leaves the offset to the linker.
+# Holds the words of the program against those of GNU as: random integer instructions, loads and stores, jumps and labels.
+# `Adrp` is left out: of it GNU as leaves the offset to the linker.
 # Usage: bench/words_against_as.sh [ITEMS] [SEED]
 set -eu
 cd "$(dirname "$0")/.."
@@ -188,9 +188,93 @@ def address(labels):
     rd, offset = register(), random.randrange(-2**20 + 1, 2**20)
     return f"Adr x{rd} {offset}", f"adr x{rd}, .{offset:+d}"
 
+# A load or a store: its mnemonic, that with an unscaled offset, the letter of its register, and the bytes of the access.
+ACCESSES = {
+    "ULoad8": ("ldrb", "ldurb", "w", 1), "SLoad8": ("ldrsb", "ldursb", "x", 1),
+    "ULoad16": ("ldrh", "ldurh", "w", 2), "SLoad16": ("ldrsh", "ldursh", "x", 2),
+    "ULoad32": ("ldr", "ldur", "w", 4), "SLoad32": ("ldrsw", "ldursw", "x", 4), "ULoad64": ("ldr", "ldur", "x", 8),
+    "FpuLoad16": ("ldr", "ldur", "h", 2), "FpuLoad32": ("ldr", "ldur", "s", 4),
+    "FpuLoad64": ("ldr", "ldur", "d", 8), "FpuLoad128": ("ldr", "ldur", "q", 16),
+    "Store8": ("strb", "sturb", "w", 1), "Store16": ("strh", "sturh", "w", 2),
+    "Store32": ("str", "stur", "w", 4), "Store64": ("str", "stur", "x", 8),
+    "FpuStore16": ("str", "stur", "h", 2), "FpuStore32": ("str", "stur", "s", 4),
+    "FpuStore64": ("str", "stur", "d", 8), "FpuStore128": ("str", "stur", "q", 16),
+}
+SCALES = {1: "i8", 2: "i16", 4: "i32", 8: "i64", 16: "i8x16"}
+
+def held(letter):
+    """The register of an access, in the program's words and in those of assembly."""
+    if letter in "wx":
+        return named(letter, True)
+    number = random.randrange(32)
+    return f"v{number}", f"{letter}{number}"
+
+def offset_mode(size):
+    """A base and an offset that one instruction holds: whether the offset is unscaled, the mode, and the operand."""
+    offset = random.choice([random.randrange(-256, 256), size * random.randrange(4096)])
+    # Of the two forms, the program takes the unscaled one where both hold the offset.
+    unscaled = -256 <= offset < 256
+    base = named("x", False)
+    modes = [(f"RegOffset({base[0]},{offset})", base[1]), (f"SPOffset({offset})", "sp"), (f"FPOffset({offset})", "x29"),
+             (f"SlotOffset({offset})", "sp"), (f"IncomingArg({-offset})", "sp")]
+    mode, register = random.choice(modes)
+    return unscaled, mode, f"[{register}, #{offset}]"
+
+def register_mode(size):
+    """A base and an index."""
+    base, index, shift = named("x", False), register(), size.bit_length() - 1
+    extend, letter = random.choice([("UXTW", "w"), ("SXTW", "w"), ("SXTX", "x")])
+    return random.choice([
+        (False, f"RegReg({base[0]},x{index})", f"[{base[1]}, x{index}]"),
+        (False, f"RegScaled({base[0]},x{index})", f"[{base[1]}, x{index}, lsl #{shift}]"),
+        (False, f"RegExtended({base[0]},x{index},{extend})", f"[{base[1]}, {letter}{index}, {extend.lower()}]"),
+        (False, f"RegScaledExtended({base[0]},x{index},{extend})", f"[{base[1]}, {letter}{index}, {extend.lower()} #{shift}]"),
+    ])
+
+def written_mode(size):
+    """A mode that stays as it is written."""
+    base, offset, scaled = named("x", False), random.randrange(-256, 256), size * random.randrange(4096)
+    return random.choice([
+        (True, f"Unscaled({base[0]},{offset})", f"[{base[1]}, #{offset}]"),
+        (False, f"UnsignedOffset({base[0]},{scaled},{SCALES[size]})", f"[{base[1]}, #{scaled}]"),
+        (False, f"SPPreIndexed({offset})", f"[sp, #{offset}]!"),
+        (False, f"SPPostIndexed({offset})", f"[sp], #{offset}"),
+    ])
+
+def access(labels):
+    name = random.choice(list(ACCESSES))
+    mnemonic, unscaled_mnemonic, letter, size = ACCESSES[name]
+    unscaled, mode, operand = random.choice([offset_mode, register_mode, written_mode])(size)
+    rd = held(letter)
+    return f"{name} {rd[0]} {mode} -", f"{unscaled_mnemonic if unscaled else mnemonic} {rd[1]}, {operand}"
+
+def literal(labels):
+    name, offset = random.choice(["ULoad32", "ULoad64", "SLoad32", "FpuLoad32", "FpuLoad64", "FpuLoad128"]), 4 * random.randrange(-2**18, 2**18)
+    mnemonic, _, letter, _ = ACCESSES[name]
+    rd = held(letter)
+    return f"{name} {rd[0]} Label(PCRel,{offset}) -", f"{mnemonic} {rd[1]}, .{offset:+d}"
+
+def pair(labels):
+    (name, mnemonic), offset = random.choice([("LoadP64", "ldp"), ("StoreP64", "stp")]), 8 * random.randrange(-64, 64)
+    first, second, base = named("x", True), named("x", True), named("x", False)
+    mode, operand = random.choice([
+        (f"SignedOffset({base[0]},{offset})", f"[{base[1]}, #{offset}]"),
+        (f"SPPreIndexed({offset})", f"[sp, #{offset}]!"), (f"SPPostIndexed({offset})", f"[sp], #{offset}"),
+    ])
+    return f"{name} {first[0]} {second[0]} {mode} -", f"{mnemonic} {first[1]}, {second[1]}, {operand}"
+
+def load_address(labels):
+    rd, base, index = random.randrange(31), named("x", False), register()
+    offset = random.choice([random.randrange(-256, 0), random.randrange(1, 4096)])
+    extend, letter = random.choice([("UXTB", "w"), ("SXTW", "w"), ("UXTX", "x"), ("SXTX", "x")])
+    return random.choice([
+        (f"LoadAddr x{rd} RegOffset({base[0]},{offset})", f"{'sub' if offset < 0 else 'add'} x{rd}, {base[1]}, #{abs(offset)}"),
+        (f"LoadAddr x{rd} RegExtended({base[0]},x{index},{extend})", f"add x{rd}, {base[1]}, {letter}{index}, {extend.lower()}"),
+    ])
+
 KINDS = [
     jump, alone, move_wide, alu_rr_imm12, alu_rr_imm_logic, alu_rrr, alu_rrrr, alu_rr_imm_shift, alu_rrr_shift, alu_rrr_extend,
-    bit_rr, move, select, compare, extend, bitfield, address,
+    bit_rr, move, select, compare, extend, bitfield, address, access, access, literal, pair, load_address,
 ]
 
 def item(labels):
@@ -208,7 +292,7 @@ with open(f"{work}/items.txt", "w") as ours, open(f"{work}/items.s", "w") as the
 P
 
 crates/a64_cli/out/a64_cli < "$work/items.txt" | awk '$1 == "word" { print $3 }' > "$work/ours"
-aarch64-linux-gnu-as "$work/items.s" -o "$work/items.o"
+aarch64-linux-gnu-as --no-warn "$work/items.s" -o "$work/items.o"
 aarch64-linux-gnu-objcopy -O binary --only-section=.text "$work/items.o" "$work/items.bin"
 python3 - "$work" <<'P'
 import struct, sys

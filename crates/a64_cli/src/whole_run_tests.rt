@@ -24,6 +24,10 @@ fn files_give_their_reports(rt: HostRuntime) -> Result<(), Fail> {
             b"Nop0\nRet\nbind L1\nNop0\nJump L1\n".as_slice(),
             b"item 0 0\nitem 1 0\nitem 2 4\nitem 3 4\nitem 4 4\nlabel L1 4\npool 8\nword 0 d65f03c0\nword 4 14000000\n".as_slice(),
         ),
+        (
+            b"frame outgoing_args_size 16\nULoad64 x0 SlotOffset(65536) 3\nRet\n".as_slice(),
+            b"item 0 0\nitem 1 12\npool 16\nword 0 52800210\nword 4 72a00030\nword 8 f870ebe0\nword 12 d65f03c0\ntrap 8 3\n".as_slice(),
+        ),
     ];
     for (file, report) in rows {
         for at_most in [1, 3, usize::MAX] {
@@ -41,7 +45,7 @@ fn files_give_their_reports(rt: HostRuntime) -> Result<(), Fail> {
 }
 
 /// Lines of one instruction each, which are no branch, with their words.
-const LINES: [(&str, u32); 35] = [
+const LINES: [(&str, u32); 60] = [
     ("Nop4", 0xd503_201f),
     ("AluRRR Add 64 x1 x2 x3", 0x8b03_0041),
     ("AluRRRR UMAddL 32 x29 x20 x19 x25", 0x9bb3_669d),
@@ -78,6 +82,34 @@ const LINES: [(&str, u32); 35] = [
     ("Adr x0 -1048575", 0x3080_0000),
     ("Adr x4 -886444", 0x1093_caa4),
     ("Adrp x1 457996", 0x9037_e861),
+    ("ULoad8 x21 RegOffset(x3,514) 87", 0x3948_0875),
+    ("SLoad8 x25 RegScaledExtended(sp,x4,SXTW) 115", 0x38a4_dbf9),
+    ("ULoad16 x19 SPPreIndexed(245) -", 0x784f_5ff3),
+    ("SLoad16 xzr RegExtended(x12,x24,SXTX) 5", 0x78b8_e99f),
+    ("ULoad32 x12 Label(PCRel,92668) -", 0x180b_4fec),
+    ("SLoad32 x10 Label(PCRel,-925688) 229", 0x988f_004a),
+    ("ULoad64 x10 SPPostIndexed(-53) 102", 0xf85c_b7ea),
+    ("FpuLoad16 v1 IncomingArg(-240) 117", 0x7c4f_03e1),
+    ("FpuLoad32 v6 RegScaled(sp,x14) 82", 0xbc6e_7be6),
+    ("FpuLoad64 v5 UnsignedOffset(x28,21720,i64) -", 0xfd6a_6f85),
+    ("FpuLoad128 v30 Label(PCRel,319976) -", 0x9c27_0f5e),
+    ("Store8 x30 RegScaled(x26,x16) 83", 0x3830_7b5e),
+    ("Store16 x25 SlotOffset(-40) -", 0x781d_83f9),
+    ("Store32 x22 RegReg(x20,x2) 16", 0xb822_6a96),
+    ("Store64 x8 SPPostIndexed(-161) 64", 0xf815_f7e8),
+    (
+        "FpuStore16 v6 RegScaledExtended(x16,x19,SXTW) -",
+        0x7c33_da06,
+    ),
+    ("FpuStore32 v16 Unscaled(x19,-60) -", 0xbc1c_4270),
+    ("FpuStore64 v24 UnsignedOffset(sp,20056,i64) -", 0xfd27_2ff8),
+    ("FpuStore128 v3 FPOffset(10464) -", 0x3d8a_3ba3),
+    ("LoadP64 x15 x9 SignedOffset(x10,-368) 180", 0xa969_254f),
+    ("StoreP64 x29 x30 SPPreIndexed(-16) -", 0xa9bf_7bfd),
+    ("StoreP64 x25 x20 SPPostIndexed(240) -", 0xa88f_53f9),
+    ("LoadAddr x6 Unscaled(x8,-250)", 0xd103_e906),
+    ("LoadAddr x2 RegOffset(x11,0)", 0xaa0b_03e2),
+    ("LoadAddr x5 RegExtended(x14,x25,SXTX)", 0x8b39_e1c5),
     ("Jump -134217728", 0x1600_0000),
     ("Ret", 0xd65f_03c0),
 ];
@@ -106,7 +138,15 @@ fn lines_give_their_words(rt: HostRuntime) -> Result<(), Fail> {
 }
 
 /// Lines of one instruction each, with an operand that it cannot have.
-const BAD_OPERANDS: [&str; 28] = [
+const BAD_OPERANDS: [&str; 36] = [
+    "ULoad8 sp Unscaled(x2,117) 187",
+    "SLoad32 x12 RegReg(xzr,x0) -",
+    "FpuLoad128 v31 RegExtended(x27,sp,SXTW) 4",
+    "Store16 x18 UnsignedOffset(x20,16244,i32) 129",
+    "ULoad64 x0 UnsignedOffset(x1,16,i32) -",
+    "ULoad8 x0 Label(PCRel,6) -",
+    "LoadP64 x28 sp SignedOffset(x13,-472) -",
+    "LoadAddr xzr UnsignedOffset(x25,1434,i8)",
     "AluRRR Add 64 sp x0 x1",
     "AluRRRR SMAddL 64 x10 x28 x1 x8",
     "AluRRImm12 Add 64 xzr x0 1",
@@ -165,6 +205,22 @@ fn refused_files_give_their_lines(rt: HostRuntime) -> Result<(), Fail> {
             b"label L1: bound twice\n".as_slice(),
         ),
         (b"Nop4 x\n".as_slice(), b"line 1: not an entry\n".as_slice()),
+        (
+            b"ULoad8 x0 Label(PCRel,8) -\n".as_slice(),
+            b"item 0: bad addressing mode\n".as_slice(),
+        ),
+        (
+            b"LoadAddr x8 RegReg(x21,x28)\n".as_slice(),
+            b"item 0: bad addressing mode\n".as_slice(),
+        ),
+        (
+            b"Nop4\nStore64 x16 RegOffset(x1,65536) -\n".as_slice(),
+            b"item 1: scratch register in use\n".as_slice(),
+        ),
+        (
+            b"frame clobber_size 0\nframe clobber_size 16\n".as_slice(),
+            b"line 2: not an entry\n".as_slice(),
+        ),
         (
             b"AluRRImmLogic Orr 64 x0 xzr 5\n".as_slice(),
             b"line 1: not an entry\n".as_slice(),
