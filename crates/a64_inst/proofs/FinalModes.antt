@@ -1,14 +1,12 @@
 -- The mode that stands for a base and an offset has the parts that the definition gives.
-use Rattle.std.proofs.Common.{ℕ, ℤ, pos, ◌≡◌, Bool, true, false, not, ◌||◌, if◌then◌else◌, refl, ap, ap₂, sym, ◌∙◌}
+use Rattle.std.proofs.Common.{◌≡◌, Bool, true, false, not, ◌||◌, if◌then◌else◌, refl, ap, ap₂, sym, ◌∙◌}
 use Rattle.std.specs.Int.RustNames.{unsigned_abs}
-use Rattle.std.proofs.lemmas.Bool.{not-true, or_parts}
 use Rattle.a64_base.specs.declared.ir_type.IrType.{IrType}
-use Rattle.a64_base.specs.declared.shift.ExtendOp.TheVariants.{SXTX}
 use Rattle.a64_base.specs.Registers.{integer_register}
 use Rattle.a64_imms.specs.ScaledOffsets.{uimm12_value}
 use Rattle.a64_inst.specs.declared.mode.AMode.{AMode}
 use Rattle.a64_inst.specs.declared.mode.AMode.TheVariants.{RegReg, RegScaled, RegScaledExtended, RegExtended, Unscaled, UnsignedOffset, Label, SPPreIndexed, SPPostIndexed, FPOffset, SPOffset, IncomingArg, SlotOffset, RegOffset}
-use Rattle.a64_inst.specs.Modes.{BaseOffset, is_offset9, is_scaled_offset, is_far, StandsFor}
+use Rattle.a64_inst.specs.Modes.{BaseOffset, is_offset9, is_scaled_offset, StandsFor}
 use Rattle.a64_inst.specs.FinalModes.{FinalMode, SignedOffset, ScaledOffset, Other, parts_of, placed_mode}
 
 -- the first, the second or the third, by two tests

@@ -18,8 +18,8 @@ use Rattle.a64_inst.specs.declared.virtuals.VirtualRegisters.{VirtualRegisters}
 use Rattle.a64_inst.specs.declared.inst.Inst.{Inst}
 use Rattle.a64_inst.specs.declared.fault.OwnFault.{OwnFault}
 use Rattle.a64_inst.specs.declared.fault.OwnFault.TheVariants as own
-use Rattle.a64_inst.specs.Operands.{is_wide_in, is_offset26}
-use Rattle.a64_inst.specs.ControlOperands.{are_jump_operands}
+use Rattle.a64_inst.specs.Operands.{is_wide_in, is_offset14, is_offset19, is_offset26}
+use Rattle.a64_inst.specs.ControlOperands.{are_jump_operands, is_target14, is_target19}
 use Rattle.a64_inst.specs.Faults.{first_of, constant_size, has_operands, is_within_constant, has_mode, has_scratch, has_constant, inst_fault}
 
 -- where no test fails, the first was passed
@@ -57,3 +57,29 @@ pub jump_fits : (dest : BranchTarget) → are_jump_operands dest ≡ true → Fi
 unfolding are_jump_operands
 jump_fits (Label label) e = tt
 jump_fits (ResolvedOffset offset) e = within_26 offset e
+
+-- the same of a branch of 19 bits
+pub within_19 : (offset : ℤ) → is_offset19 offset ≡ true → IsWithinField 19 (words_of offset)
+within_19 (pos n) e =
+    let small : n < 2 ^ 20 = ltb-true n (2 ^ 20) (second (nat_eq (n % 4) 0) (nat_lt n (2 ^ 20)) e) in
+    record { low = omega (arith, ints); high = omega (arith, ints) }
+within_19 (negsuc n) e =
+    let small : n < 2 ^ 20 = ltb-true n (2 ^ 20) (second (nat_eq (n % 4) 3) (nat_lt n (2 ^ 20)) e) in
+    record { low = omega (arith, ints); high = omega (arith, ints) }
+
+pub target19_fits : (taken : BranchTarget) → is_target19 taken ≡ true → FitsField 19 taken
+target19_fits (Label label) e = tt
+target19_fits (ResolvedOffset offset) e = within_19 offset e
+
+-- the same of a branch of 14 bits
+pub within_14 : (offset : ℤ) → is_offset14 offset ≡ true → IsWithinField 14 (words_of offset)
+within_14 (pos n) e =
+    let small : n < 2 ^ 15 = ltb-true n (2 ^ 15) (second (nat_eq (n % 4) 0) (nat_lt n (2 ^ 15)) e) in
+    record { low = omega (arith, ints); high = omega (arith, ints) }
+within_14 (negsuc n) e =
+    let small : n < 2 ^ 15 = ltb-true n (2 ^ 15) (second (nat_eq (n % 4) 3) (nat_lt n (2 ^ 15)) e) in
+    record { low = omega (arith, ints); high = omega (arith, ints) }
+
+pub target14_fits : (taken : BranchTarget) → is_target14 taken ≡ true → FitsField 14 taken
+target14_fits (Label label) e = tt
+target14_fits (ResolvedOffset offset) e = within_14 offset e

@@ -63,6 +63,14 @@ module _ (frame : FrameLayout) (flags : EmitFlags) (virtuals : VirtualRegisters)
   has_other_operands (insts.Adrp rd off) = integer.are_adr_operands virtuals rd off
   has_other_operands insts.Ret = true
   has_other_operands (insts.Jump dest) = control.are_jump_operands dest
+  has_other_operands (insts.CondBr taken not_taken kind) = control.are_cond_br_operands virtuals taken not_taken kind
+  has_other_operands (insts.TestBitAndBranch kind taken not_taken rn bit) = control.are_test_bit_operands virtuals taken not_taken rn bit
+  has_other_operands (insts.IndirectBr rn targets) = is_register_or_zero virtuals rn
+  has_other_operands insts.Brk = true
+  has_other_operands (insts.Udf trap_code) = true
+  has_other_operands (insts.Word4 value) = true
+  has_other_operands (insts.Word8 value) = true
+  has_other_operands (insts.LabelAddress dst label) = is_register_or_zero virtuals dst
   has_other_operands (insts.LoadP64 rt rt2 mem flags) = memory.are_pair_operands virtuals rt rt2 mem
   has_other_operands (insts.StoreP64 rt rt2 mem flags) = memory.are_pair_operands virtuals rt rt2 mem
   has_other_operands (insts.LoadAddr rd mem) = memory.are_address_operands frame virtuals rd mem

@@ -1,6 +1,6 @@
 -- Which operands and addressing modes loads and stores may have, and which scratch registers they leave alone (Arm Architecture
 -- Reference Manual, C3.2: loads and stores).
-use Rattle.std.specs.Prelude.{ℕ, ℤ, pos, negsuc, ◌+◌, ◌*◌, ◌%◌, ◌^◌, Bool, true, false, not, ◌&&◌, ◌||◌, nat_lt, nat_le, nat_eq, if◌then◌else◌, Option, Some, None, is_some}
+use Rattle.std.specs.Prelude.{ℕ, ℤ, pos, negsuc, ◌+◌, ◌*◌, ◌%◌, ◌^◌, Bool, true, false, not, ◌&&◌, ◌||◌, nat_lt, nat_le, nat_eq, if◌then◌else◌, Some, None, is_some}
 use Rattle.std.specs.Int.RustNames.{unsigned_abs}
 use Rattle.a64_base.specs.declared.reg.Reg.{Reg}
 use Rattle.a64_base.specs.declared.ir_type.IrType.{IrType}
@@ -18,7 +18,7 @@ use Rattle.a64_inst.specs.declared.frame.FrameLayout.{FrameLayout}
 use Rattle.a64_inst.specs.declared.mode.AMode.{AMode}
 use Rattle.a64_inst.specs.declared.mode.AMode.TheVariants as modes
 use Rattle.a64_inst.specs.declared.mode.MemLabel.{MemLabel}
-use Rattle.a64_inst.specs.declared.mode.MemLabel.TheVariants.{PCRel}
+use Rattle.a64_inst.specs.declared.mode.MemLabel.TheVariants.{PCRel, Mach}
 use Rattle.a64_inst.specs.declared.mode.PairAMode.{PairAMode}
 use Rattle.a64_inst.specs.declared.mode.PairAMode.TheVariants as pairs
 use Rattle.a64_inst.specs.declared.virtuals.VirtualRegisters.{VirtualRegisters}
@@ -43,8 +43,10 @@ fits_frame frame _ = true
 abbrev pub has_offset : FrameLayout → AMode → Bool
 has_offset frame mem = elim (base_offset_of frame mem) [ None ↦ true | Some place ↦ is_signed_64 place.offset ]
 
+-- a label's place is known later
 abbrev pub is_literal : MemLabel → Bool
 is_literal (PCRel offset) = is_offset19 offset
+is_literal (Mach label) = true
 
 -- the registers and the immediate that stand in a mode: a base may be the stack pointer, and an index the zero register
 abbrev pub are_mode_parts : VirtualRegisters → AMode → Bool

@@ -93,6 +93,11 @@ abbrev pub is_offset19 : ℤ → Bool
 is_offset19 (pos n) = nat_eq (n % 4) 0 && nat_lt n (2 ^ 20)
 is_offset19 (negsuc n) = nat_eq (n % 4) 3 && nat_lt n (2 ^ 20)
 
+-- an offset that a branch of 14 bits can hold: a multiple of 4, from -2^15 to 2^15 - 4
+abbrev pub is_offset14 : ℤ → Bool
+is_offset14 (pos n) = nat_eq (n % 4) 0 && nat_lt n (2 ^ 15)
+is_offset14 (negsuc n) = nat_eq (n % 4) 3 && nat_lt n (2 ^ 15)
+
 -- an offset to an address near the code, in its unit: above -2^20, and below 2^20
 abbrev pub is_near : ℤ → Bool
 is_near (pos n) = nat_lt n (2 ^ 20)

@@ -60,18 +60,31 @@ fn copied_register(inst: &Inst) -> Result<Inst, AllocError>
     )
 }
 
-/// An equal branch, hint or access to a system register.
-fn copied_control(inst: &Inst) -> Result<Inst, AllocError>
+/// An equal branch, hint, access to a system register, word of data or address of a label.
+fn copied_control(alloc: Global, inst: &Inst) -> Result<Inst, AllocError>
     requires { group_of inst.now ≡ groups.Control }
     ensures { IfOk result (λ copy. copy ≡ inst.now) }
 {
+    if let Inst::IndirectBr { rn, targets } = inst {
+        return Ok(Inst::IndirectBr {
+            rn: *rn,
+            targets: targets.try_clone(alloc)?,
+        });
+    }
     copied!(inst;
         Nop0 {},
         Nop4 {},
         MovToNZCV { rn },
         MovFromNZCV { rd },
         Ret {},
-        Jump { dest }
+        Jump { dest },
+        CondBr { taken, not_taken, kind },
+        TestBitAndBranch { kind, taken, not_taken, rn, bit },
+        Brk {},
+        Udf { trap_code },
+        Word4 { value },
+        Word8 { value },
+        LabelAddress { dst, label }
     )
 }
 
@@ -96,13 +109,13 @@ impl Inst {
     /// # Errors
     ///
     /// Want of memory.
-    pub fn try_clone(&self, _alloc: Global) -> Result<Inst, AllocError>
+    pub fn try_clone(&self, alloc: Global) -> Result<Inst, AllocError>
         ensures { IfOk result (λ inst. inst ≡ self.now) }
     {
         match self.group() {
             Group::Immediate => copied_immediate(self),
             Group::Register => copied_register(self),
-            Group::Control => copied_control(self),
+            Group::Control => copied_control(alloc, self),
             Group::Memory => copied_memory(self),
         }
     }

@@ -10,7 +10,7 @@ pub enum Group {
     Immediate,
     /// Integer operations on registers, and moves of them.
     Register,
-    /// Branches, hints, and accesses to system registers.
+    /// Branches, hints, accesses to system registers, data, and addresses of labels.
     Control,
     /// Loads and stores.
     Memory,

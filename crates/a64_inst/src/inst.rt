@@ -6,9 +6,11 @@ ghost use Rattle.a64_inst.specs.Groups.{group_of};
 use crate::group::Group;
 use crate::mode::{AMode, PairAMode};
 use a64_base::{
-    BranchTarget, Cond, ExtendOp, MemFlagsData, OperandSize, PReg, Reg, ShiftOpAndAmt, Writable,
+    BranchTarget, Cond, CondBrKind, ExtendOp, MachLabel, MemFlagsData, OperandSize, PReg, Reg,
+    ShiftOpAndAmt, TestBitAndBranchKind, TrapCode, Writable,
 };
 use a64_imms::{Imm12, ImmLogic, ImmShift, MoveWideConst, NZCV, UImm5, UImm6};
+use a64_list::ListVec;
 use a64_ops::{ALUOp, ALUOp3, BfmOp, BitOp, MoveWideOp};
 
 /// An AArch64 instruction, or a short sequence of instructions (Cranelift's `Inst`).
@@ -307,6 +309,59 @@ pub enum Inst {
         /// Where it goes.
         dest: BranchTarget,
     },
+    /// A conditional branch, and behind it an unconditional one.
+    CondBr {
+        /// Where it goes if the test succeeds: less than 2^20 bytes forward, at most so many back.
+        taken: BranchTarget,
+        /// Where it goes otherwise.
+        not_taken: BranchTarget,
+        /// The test.
+        kind: CondBrKind,
+    },
+    /// A branch on one bit of a register, and behind it an unconditional one.
+    TestBitAndBranch {
+        /// The test of the bit.
+        kind: TestBitAndBranchKind,
+        /// Where it goes if the test succeeds: less than 2^15 bytes forward, at most so many back.
+        taken: BranchTarget,
+        /// Where it goes otherwise.
+        not_taken: BranchTarget,
+        /// The register.
+        rn: Reg,
+        /// The bit's number, below 64.
+        bit: u8,
+    },
+    /// `br`: a branch to the address in a register.
+    IndirectBr {
+        /// The address.
+        rn: Reg,
+        /// The labels to which it may go, which the word does not tell.
+        targets: ListVec<MachLabel>,
+    },
+    /// `brk`: stops in a debugger.
+    Brk,
+    /// A word that is no instruction, which traps.
+    Udf {
+        /// Why it traps.
+        trap_code: TrapCode,
+    },
+    /// A word of data.
+    Word4 {
+        /// The word.
+        value: u32,
+    },
+    /// Two words of data.
+    Word8 {
+        /// The words, the low one first.
+        value: u64,
+    },
+    /// `adr` of a label: an address near the code.
+    LabelAddress {
+        /// The result.
+        dst: Writable<Reg>,
+        /// The label, whose address it is.
+        label: MachLabel,
+    },
     /// `ldp` of two 64-bit registers.
     LoadP64 {
         /// What is loaded from the address.
@@ -556,7 +611,15 @@ impl Inst {
             | Inst::MovToNZCV { .. }
             | Inst::MovFromNZCV { .. }
             | Inst::Ret
-            | Inst::Jump { .. } => Group::Control,
+            | Inst::Jump { .. }
+            | Inst::CondBr { .. }
+            | Inst::TestBitAndBranch { .. }
+            | Inst::IndirectBr { .. }
+            | Inst::Brk
+            | Inst::Udf { .. }
+            | Inst::Word4 { .. }
+            | Inst::Word8 { .. }
+            | Inst::LabelAddress { .. } => Group::Control,
             Inst::LoadP64 { .. }
             | Inst::StoreP64 { .. }
             | Inst::LoadAddr { .. }

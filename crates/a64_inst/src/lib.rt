@@ -28,4 +28,5 @@ pub use frame::FrameLayout;
 pub use group::Group;
 pub use inst::Inst;
 pub use mode::{AMode, MemLabel, PairAMode};
+pub use place::{Place, is_far, place_of};
 pub use virtuals::VirtualRegisters;

@@ -3,7 +3,7 @@
 ghost use Rattle.std.specs.Prelude.{◌≡◌};
 ghost use Rattle.a64_inst.specs.Modes.{IsRegisterAlone};
 
-use a64_base::{ExtendOp, IrType, Reg};
+use a64_base::{ExtendOp, IrType, MachLabel, Reg};
 use a64_imms::{SImm7Scaled, SImm9, UImm12Scaled};
 
 /// An address in the code, of a load from a literal (Cranelift's `MemLabel`).
@@ -12,6 +12,8 @@ pub enum MemLabel {
     /// So many bytes behind the instruction, or before it where negative: a multiple of 4 from
     /// -2^20 to 2^20 - 4.
     PCRel(i32),
+    /// Where a label is bound.
+    Mach(MachLabel),
 }
 
 /// Where a load or a store finds its address (Cranelift's `AMode`, so far without its constants).

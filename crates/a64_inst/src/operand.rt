@@ -130,6 +130,13 @@ pub fn is_offset19(offset: i32) -> bool
     offset % 4 == 0 && offset >= -(1 << 20) && offset < 1 << 20
 }
 
+/// Whether a branch of 14 bits can hold an offset in bytes.
+pub fn is_offset14(offset: i32) -> bool
+    ensures { result ≡ operands.is_offset14 offset }
+{
+    offset % 4 == 0 && offset >= -(1 << 15) && offset < 1 << 15
+}
+
 /// Whether an address stands near the code, at an offset in its unit.
 pub fn is_near(offset: i32) -> bool
     ensures { result ≡ operands.is_near offset }

@@ -1,32 +1,27 @@
 //! What is wrong with an instruction by itself.
 
-ghost use Rattle.std.specs.Prelude.{◌≡◌};
-ghost use Rattle.a64_inst.specs.Faults.{fault_with, has_operands};
+ghost use Rattle.std.specs.Prelude.{◌≡◌, [], ◌∷◌};
+ghost use Rattle.a64_inst.specs.declared.fault.OwnFault.TheVariants as own;
+ghost use Rattle.a64_inst.specs.Faults.{fault_with, first_of};
 
 use crate::emission::EmitInfo;
 use crate::fault::OwnFault;
 use crate::fault::control::has_control_operands;
 use crate::fault::integer::{has_immediate_operands, has_register_operands};
-use crate::fault::memory::{has_memory_operands, has_mode, has_scratch};
+use crate::fault::memory::memory_fault;
 use crate::frame::FrameLayout;
 use crate::group::Group;
 use crate::inst::Inst;
 use crate::virtuals::VirtualRegisters;
 
-/// Whether the operands of an instruction are in their sets.
-fn has_operands(
-    inst: &Inst,
-    frame: &FrameLayout,
-    info: &EmitInfo,
-    virtuals: VirtualRegisters,
-) -> bool
-    ensures { result ≡ has_operands frame.now info.now virtuals inst.now }
+/// What is wrong with an instruction of which only the operands can be wrong.
+fn operand_fault(is_good: bool) -> Option<OwnFault>
+    ensures { result ≡ first_of ((is_good, own.BadOperand) ∷ []) }
 {
-    match inst.group() {
-        Group::Immediate => has_immediate_operands(inst, frame, info, virtuals),
-        Group::Register => has_register_operands(inst, frame, info, virtuals),
-        Group::Control => has_control_operands(inst, frame, info, virtuals),
-        Group::Memory => has_memory_operands(inst, frame, info, virtuals),
+    if is_good {
+        None
+    } else {
+        Some(OwnFault::BadOperand)
     }
 }
 
@@ -35,6 +30,7 @@ impl Inst {
     ///
     /// `constant` is the size in bytes of the constant that the instruction loads, where it loads
     /// one and that is there, and `virtuals` says whether its registers may be virtual.
+    #[tactic(auto, using(crate::proofs::Groups::one_test))]
     pub fn own_fault(
         &self,
         frame: &FrameLayout,
@@ -44,14 +40,13 @@ impl Inst {
     ) -> Option<OwnFault>
         ensures { result ≡ fault_with frame.now info.now constant virtuals self.now }
     {
-        if !has_operands(self, frame, info, virtuals) {
-            Some(OwnFault::BadOperand)
-        } else if !has_mode(self) {
-            Some(OwnFault::BadMode)
-        } else if !has_scratch(self, frame) {
-            Some(OwnFault::ScratchConflict)
-        } else {
-            None
+        match self.group() {
+            Group::Immediate => {
+                operand_fault(has_immediate_operands(self, frame, info, virtuals))
+            }
+            Group::Register => operand_fault(has_register_operands(self, frame, info, virtuals)),
+            Group::Control => operand_fault(has_control_operands(self, frame, info, virtuals)),
+            Group::Memory => memory_fault(self, frame, info, virtuals),
         }
     }
 }

@@ -43,12 +43,15 @@ pub fn place_of(frame: &FrameLayout, mem: &AMode) -> Option<Place>
     ensures { MatchOption result (sets.base_offset_of frame.now mem.now ≡ None)
         (λ place. sets.base_offset_of frame.now mem.now ≡ Some (record { base = place.base; offset = place.offset })) }
 {
-    let (bytes, outgoing) = (frame_bytes(frame), frame.outgoing_args_size);
+    let outgoing = frame.outgoing_args_size;
     let (base, offset) = match *mem {
         AMode::RegOffset { rn, off } => (rn, i128::from(off)),
         AMode::SPOffset { off } => (stack_reg(), i128::from(off)),
         AMode::FPOffset { off } => (fp_reg(), i128::from(off)),
-        AMode::IncomingArg { off } => (stack_reg(), i128::from(bytes) - i128::from(off)),
+        AMode::IncomingArg { off } => (
+            stack_reg(),
+            i128::from(frame_bytes(frame)) - i128::from(off),
+        ),
         AMode::SlotOffset { off } => (stack_reg(), i128::from(off) + i128::from(outgoing)),
         _ => return None,
     };
@@ -83,8 +86,15 @@ fn is_offset9(offset: i128) -> bool
 fn is_scaled_offset(ty: IrType, offset: i128) -> bool
     ensures { result ≡ sets.is_scaled_offset ty offset }
 {
-    let bytes = i128::from(ty.bytes());
-    offset >= 0 && offset <= 4095 * bytes && offset % bytes == 0
+    let bytes = ty.bytes();
+    offset >= 0 && offset <= 4095 * i128::from(bytes) && offset as u64 % u64::from(bytes) == 0
+}
+
+/// Whether no instruction holds an offset of an access.
+pub fn is_far(ty: IrType, offset: i128) -> bool
+    ensures { result ≡ sets.is_far ty offset }
+{
+    !is_offset9(offset) && !is_scaled_offset(ty, offset)
 }
 
 /// Whether no instruction holds the offset of a mode, so that x16 is needed for it.
@@ -92,7 +102,7 @@ pub fn needs_x16(frame: &FrameLayout, ty: IrType, mem: &AMode) -> bool
     ensures { result ≡ finals.needs_x16 frame.now ty mem.now }
 {
     match place_of(frame, mem) {
-        Some(place) => !is_offset9(place.offset) && !is_scaled_offset(ty, place.offset),
+        Some(place) => is_far(ty, place.offset),
         None => false,
     }
 }

@@ -1,4 +1,5 @@
-//! Whether the operands of branches, hints and accesses to system registers are in their sets.
+//! Whether the operands of branches, hints, accesses to system registers, data and addresses of
+//! labels are in their sets.
 
 ghost use Rattle.std.specs.Prelude.{◌≡◌};
 ghost use Rattle.a64_inst.specs.declared.group.Group.TheVariants.{Control};
@@ -9,9 +10,9 @@ ghost use Rattle.a64_inst.specs.ControlOperands as sets;
 use crate::emission::EmitInfo;
 use crate::frame::FrameLayout;
 use crate::inst::Inst;
-use crate::operand::{is_offset26, is_register_or_zero};
+use crate::operand::{is_offset14, is_offset19, is_offset26, is_register_or_zero};
 use crate::virtuals::VirtualRegisters;
-use a64_base::BranchTarget;
+use a64_base::{BranchTarget, CondBrKind, Reg};
 
 /// Of a `Jump`.
 #[tactic(auto, unfolding(crate::specs::ControlOperands::are_jump_operands))]
@@ -24,7 +25,67 @@ fn jump(dest: BranchTarget) -> bool
     }
 }
 
-/// Whether the operands of a branch, a hint or an access to a system register are in their sets.
+/// Whether a branch of 19 bits can go to a target.
+fn is_target19(taken: BranchTarget) -> bool
+    ensures { result ≡ sets.is_target19 taken }
+{
+    match taken {
+        BranchTarget::Label(_) => true,
+        BranchTarget::ResolvedOffset(offset) => is_offset19(offset),
+    }
+}
+
+/// Whether a branch of 14 bits can go to a target.
+fn is_target14(taken: BranchTarget) -> bool
+    ensures { result ≡ sets.is_target14 taken }
+{
+    match taken {
+        BranchTarget::Label(_) => true,
+        BranchTarget::ResolvedOffset(offset) => is_offset14(offset),
+    }
+}
+
+/// Whether a conditional branch has such a test.
+fn is_test(virtuals: VirtualRegisters, kind: CondBrKind) -> bool
+    ensures { result ≡ sets.is_test virtuals kind }
+{
+    match kind {
+        CondBrKind::Zero(reg, _) | CondBrKind::NotZero(reg, _) => {
+            is_register_or_zero(virtuals, reg)
+        }
+        CondBrKind::Cond(_) => true,
+    }
+}
+
+/// Of a `CondBr`.
+#[tactic(auto, unfolding(crate::specs::ControlOperands::are_cond_br_operands))]
+fn cond_br(
+    virtuals: VirtualRegisters,
+    taken: BranchTarget,
+    not_taken: BranchTarget,
+    kind: CondBrKind,
+) -> bool
+    ensures { result ≡ sets.are_cond_br_operands virtuals taken not_taken kind }
+{
+    is_target19(taken) && jump(not_taken) && is_test(virtuals, kind)
+}
+
+/// Of a `TestBitAndBranch`.
+#[tactic(auto, unfolding(crate::specs::ControlOperands::are_test_bit_operands))]
+fn test_bit(
+    virtuals: VirtualRegisters,
+    taken: BranchTarget,
+    not_taken: BranchTarget,
+    rn: Reg,
+    bit: u8,
+) -> bool
+    ensures { result ≡ sets.are_test_bit_operands virtuals taken not_taken rn bit }
+{
+    is_target14(taken) && jump(not_taken) && is_register_or_zero(virtuals, rn) && bit < 64
+}
+
+/// Whether the operands of a branch, a hint, an access to a system register, a word of data or an
+/// address of a label are in their sets.
 pub fn has_control_operands(
     inst: &Inst,
     frame: &FrameLayout,
@@ -39,6 +100,92 @@ pub fn has_control_operands(
         Inst::MovToNZCV { rn } => is_register_or_zero(virtuals, *rn),
         Inst::MovFromNZCV { rd } => is_register_or_zero(virtuals, rd.to_reg()),
         Inst::Jump { dest } => jump(*dest),
+        Inst::CondBr {
+            taken,
+            not_taken,
+            kind,
+        } => cond_br(virtuals, *taken, *not_taken, *kind),
+        Inst::TestBitAndBranch {
+            kind: _,
+            taken,
+            not_taken,
+            rn,
+            bit,
+        } => test_bit(virtuals, *taken, *not_taken, *rn, *bit),
+        Inst::IndirectBr { rn, targets: _ } => is_register_or_zero(virtuals, *rn),
+        Inst::Brk | Inst::Udf { .. } | Inst::Word4 { .. } | Inst::Word8 { .. } => true,
+        Inst::LabelAddress { dst, label: _ } => is_register_or_zero(virtuals, dst.to_reg()),
         _ => unreachable!(),
+    }
+}
+
+#[cfg(test)]
+mod tests {
+    use super::*;
+    use crate::emission::EmitFlags;
+    use a64_base::{OperandSize, TestBitAndBranchKind, stack_reg, xreg, zero_reg};
+    use a64_list::ListVec;
+    use std::alloc::Global;
+    use std::test::Fail;
+
+    /// Whether nothing is wrong with an instruction that is to be emitted.
+    fn passes(alloc: Global, inst: &Inst) -> bool {
+        let frame = FrameLayout {
+            setup_area_size: 16,
+            tail_args_size: 0,
+            clobber_size: 0,
+            fixed_frame_storage_size: 0,
+            outgoing_args_size: 0,
+            restore: ListVec::new(alloc),
+        };
+        let info = EmitInfo::new(EmitFlags {
+            enable_probestack: false,
+            enable_table_access_spectre_mitigation: false,
+            use_csdb: false,
+        });
+        inst.own_fault(&frame, &info, None, VirtualRegisters::Refused)
+            .is_none()
+    }
+
+    #[test]
+    fn conditional_branches(rt: HostRuntime) -> Result<(), Fail> {
+        for (reg, taken, not_taken, good) in [
+            (xreg(5), 1048572, -134217728, true),
+            (zero_reg(), -1048576, 134217724, true),
+            (stack_reg(), 0, 0, false),
+            (xreg(5), 1048576, 0, false),
+            (xreg(5), 6, 0, false),
+            (xreg(5), 0, 134217728, false),
+        ] {
+            let inst = Inst::CondBr {
+                taken: BranchTarget::ResolvedOffset(taken),
+                not_taken: BranchTarget::ResolvedOffset(not_taken),
+                kind: CondBrKind::NotZero(reg, OperandSize::Size64),
+            };
+            assert_eq!(rt; passes(rt.alloc(), &inst), good, "{taken} {not_taken}");
+        }
+        Ok(())
+    }
+
+    #[test]
+    fn branches_on_bits(rt: HostRuntime) -> Result<(), Fail> {
+        for (bit, taken, good) in [
+            (63, 32764, true),
+            (0, -32768, true),
+            (64, 0, false),
+            (0, 32768, false),
+            (0, -32772, false),
+            (0, 2, false),
+        ] {
+            let inst = Inst::TestBitAndBranch {
+                kind: TestBitAndBranchKind::Z,
+                taken: BranchTarget::ResolvedOffset(taken),
+                not_taken: BranchTarget::ResolvedOffset(0),
+                rn: xreg(5),
+                bit,
+            };
+            assert_eq!(rt; passes(rt.alloc(), &inst), good, "{bit} {taken}");
+        }
+        Ok(())
     }
 }

@@ -6,29 +6,55 @@ mod scratch;
 #[cfg(test)]
 mod tests;
 
-ghost use Rattle.std.specs.Prelude.{◌≡◌};
+ghost use Rattle.std.specs.Prelude.{◌≡◌, None, [], ◌∷◌};
+ghost use Rattle.a64_inst.specs.declared.fault.OwnFault.TheVariants as own;
 ghost use Rattle.a64_inst.specs.declared.group.Group.TheVariants.{Memory};
+ghost use Rattle.a64_inst.specs.Accesses.{access_of};
 ghost use Rattle.a64_inst.specs.Groups.{group_of};
-ghost use Rattle.a64_inst.specs.Faults.{has_operands, has_mode, has_scratch};
+ghost use Rattle.a64_inst.specs.Faults.{first_of, has_operands, has_mode, has_scratch};
+ghost use Rattle.a64_inst.specs.MemoryOperands as sets;
 
+use crate::access::Access;
 use crate::emission::EmitInfo;
+use crate::fault::OwnFault;
 use crate::frame::FrameLayout;
 use crate::inst::Inst;
 use crate::virtuals::VirtualRegisters;
 
-/// Whether the operands of a load or a store are in their sets.
-pub fn has_memory_operands(
+/// What is wrong with a load or a store of one register by itself.
+fn access_fault(
+    access: &Access,
+    frame: &FrameLayout,
+    virtuals: VirtualRegisters,
+) -> Option<OwnFault>
+    ensures { result ≡ first_of (
+        (sets.are_access_operands frame.now virtuals access.now, own.BadOperand)
+        ∷ (sets.has_access_mode access.now.op access.now.mem, own.BadMode)
+        ∷ (sets.has_access_scratch frame.now access.now, own.ScratchConflict) ∷ []) }
+{
+    if !operand::access(frame, virtuals, access) {
+        return Some(OwnFault::BadOperand);
+    }
+    if !mode::has_access_mode(access.op, &access.mem) {
+        return Some(OwnFault::BadMode);
+    }
+    if !scratch::access(frame, access) {
+        return Some(OwnFault::ScratchConflict);
+    }
+    None
+}
+
+/// Whether the operands of a pair, or of the address of a mode, are in their sets.
+fn has_operands(
     inst: &Inst,
     frame: &FrameLayout,
     info: &EmitInfo,
     virtuals: VirtualRegisters,
 ) -> bool
-    requires { group_of inst.now ≡ Memory }
+    requires group { group_of inst.now ≡ Memory }
+    requires other { access_of inst.now ≡ None }
     ensures { result ≡ has_operands frame.now info.now virtuals inst.now }
 {
-    if let Some(access) = inst.access() {
-        return operand::access(frame, virtuals, &access);
-    }
     match inst {
         Inst::LoadP64 {
             rt,
@@ -47,28 +73,68 @@ pub fn has_memory_operands(
     }
 }
 
-/// Whether the addressing mode of an instruction exists, where it has one.
-pub fn has_mode(inst: &Inst) -> bool
+/// Whether the mode exists of which an instruction gives the address, where it gives one.
+fn has_mode(inst: &Inst) -> bool
+    requires { access_of inst.now ≡ None }
     ensures { result ≡ has_mode inst.now }
 {
-    if let Some(access) = inst.access() {
-        return mode::has_access_mode(access.op, &access.mem);
-    }
     match inst {
         Inst::LoadAddr { rd: _, mem } => mode::has_address_mode(mem),
         _ => true,
     }
 }
 
-/// Whether the scratch registers that an instruction needs are none of its own.
-pub fn has_scratch(inst: &Inst, frame: &FrameLayout) -> bool
+/// Whether the scratch registers that such an address needs are none of its own.
+fn has_scratch(inst: &Inst, frame: &FrameLayout) -> bool
+    requires { access_of inst.now ≡ None }
     ensures { result ≡ has_scratch frame.now inst.now }
 {
-    if let Some(access) = inst.access() {
-        return scratch::access(frame, &access);
-    }
     match inst {
         Inst::LoadAddr { rd, mem } => scratch::address(frame, &rd.to_reg(), mem),
         _ => true,
+    }
+}
+
+/// What is wrong with a pair, or with the address of a mode, by itself.
+fn other_fault(
+    inst: &Inst,
+    frame: &FrameLayout,
+    info: &EmitInfo,
+    virtuals: VirtualRegisters,
+) -> Option<OwnFault>
+    requires group { group_of inst.now ≡ Memory }
+    requires other { access_of inst.now ≡ None }
+    ensures { result ≡ first_of (
+        (has_operands frame.now info.now virtuals inst.now, own.BadOperand)
+        ∷ (has_mode inst.now, own.BadMode)
+        ∷ (has_scratch frame.now inst.now, own.ScratchConflict) ∷ []) }
+{
+    if !has_operands(inst, frame, info, virtuals) {
+        Some(OwnFault::BadOperand)
+    } else if !has_mode(inst) {
+        Some(OwnFault::BadMode)
+    } else if !has_scratch(inst, frame) {
+        Some(OwnFault::ScratchConflict)
+    } else {
+        None
+    }
+}
+
+/// What is wrong with a load or a store by itself. None that exists loads a constant.
+pub fn memory_fault(
+    inst: &Inst,
+    frame: &FrameLayout,
+    info: &EmitInfo,
+    virtuals: VirtualRegisters,
+) -> Option<OwnFault>
+    requires { group_of inst.now ≡ Memory }
+    ensures { result ≡ first_of (
+        (has_operands frame.now info.now virtuals inst.now, own.BadOperand)
+        ∷ (has_mode inst.now, own.BadMode)
+        ∷ (has_scratch frame.now inst.now, own.ScratchConflict) ∷ []) }
+{
+    match inst.access() {
+        Some(access) => access_fault(&access, frame, virtuals),
+        None => other_fault(inst, frame, info, virtuals),
     }
 }

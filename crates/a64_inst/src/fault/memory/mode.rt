@@ -30,12 +30,13 @@ fn is_offset9(simm9: SImm9) -> bool
     simm9.value >= -256 && simm9.value <= 255
 }
 
-/// Whether a load can hold the offset of an address in the code.
+/// Whether a load can hold the offset of an address in the code, where it is told.
 fn is_literal(label: MemLabel) -> bool
     ensures { result ≡ sets.is_literal label }
 {
     match label {
         MemLabel::PCRel(offset) => is_offset19(offset),
+        MemLabel::Mach(_) => true,
     }
 }
 

@@ -1,7 +1,9 @@
 //! Of the scratch registers of loads and stores.
 
-ghost use Rattle.std.specs.Prelude.{◌≡◌};
+ghost use Rattle.std.specs.Prelude.{◌≡◌, ◌&&◌, ◌||◌, not};
 ghost use Rattle.a64_base.specs.declared.ir_type.IrType.TheVariants.{I8};
+ghost use Rattle.a64_ops.specs.Accesses.{loads};
+ghost use Rattle.a64_inst.specs.Addresses.{is_numbered};
 ghost use Rattle.a64_inst.specs.FinalModes.{final_mode};
 ghost use Rattle.a64_inst.specs.MemoryOperands as sets;
 
@@ -11,14 +13,20 @@ use crate::mode::AMode;
 use crate::place::{has_base, is_numbered, needs_x16};
 use a64_base::{IrType, Reg};
 
+/// Whether x16 is the base of an access, or what is stored.
+fn is_x16_in_use(frame: &FrameLayout, access: &Access) -> bool
+    ensures { result ≡ (sets.has_base 16 frame.now access.now.mem
+        || (not (loads access.now.op) && is_numbered 16 access.now.reg)) }
+{
+    has_base(16, frame, &access.mem) || !access.op.is_load() && is_numbered(16, &access.reg)
+}
+
 /// Of a load or a store of one register.
 #[tactic(auto, unfolding(crate::specs::MemoryOperands::has_access_scratch))]
 pub fn access(frame: &FrameLayout, access: &Access) -> bool
     ensures { result ≡ sets.has_access_scratch frame.now access.now }
 {
-    let in_use = has_base(16, frame, &access.mem)
-        || (!access.op.is_load() && is_numbered(16, &access.reg));
-    !(needs_x16(frame, access.ty(), &access.mem) && in_use)
+    !(needs_x16(frame, access.ty(), &access.mem) && is_x16_in_use(frame, access))
 }
 
 /// Whether an addition holds a number.

@@ -10,8 +10,8 @@ use crate::inst::Inst;
 use crate::mode::{AMode, MemLabel, PairAMode};
 use crate::virtuals::VirtualRegisters;
 use a64_base::{
-    ExtendOp, IrType, MemFlagsData, Reg, Writable, fp_reg, link_reg, spilltmp_reg, stack_reg,
-    tmp2_reg, xreg, zero_reg,
+    ExtendOp, IrType, MachLabel, MemFlagsData, Reg, Writable, fp_reg, link_reg, spilltmp_reg,
+    stack_reg, tmp2_reg, xreg, zero_reg,
 };
 use a64_imms::{SImm7Scaled, UImm12Scaled};
 use a64_list::ListVec;
@@ -79,6 +79,13 @@ fn address(rd: Reg, mem: AMode) -> Inst {
 fn literal(distance: i32) -> AMode {
     AMode::Label {
         label: MemLabel::PCRel(distance),
+    }
+}
+
+/// A literal at the label with a number.
+fn labelled(number: u32) -> AMode {
+    AMode::Label {
+        label: MemLabel::Mach(MachLabel(number)),
     }
 }
 
@@ -153,6 +160,8 @@ fn literals(rt: HostRuntime) -> Result<(), Fail> {
         )
     );
     assert!(rt; has(alloc, &double(xreg(0), literal(2)), OwnFault::BadOperand));
+    assert!(rt; passes(alloc, &double(xreg(0), labelled(1))));
+    assert!(rt; has(alloc, &byte(labelled(1)), OwnFault::BadMode));
     Ok(())
 }
 

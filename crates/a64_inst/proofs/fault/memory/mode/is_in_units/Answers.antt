@@ -1,4 +1,4 @@
-use Rattle.std.proofs.Common.{◌≡◌, ◌/◌, nat_eq, ap, sym, subst, ◌∙◌}
+use Rattle.std.proofs.Common.{◌/◌, nat_eq, ap, ◌∙◌}
 use Rattle.a64_imms.specs.Scales.{type_bytes}
 use Rattle.a64_imms.specs.ScaledOffsets.{uimm12_value, uimm12_scale}
 use Rattle.a64_inst.proofs.Units.{in_units}
