@@ -9,7 +9,6 @@ pub mod Pays
 pub mod WordLists
 pub mod Given
 pub mod Writing
-pub mod Nexts
 pub mod Islands
 pub mod Memory
 pub mod Traps
@@ -26,6 +25,8 @@ pub mod Sounds
 pub mod Chains
 pub mod Stops
 pub mod Queued
+pub mod Reaching
+pub mod Burdens
 pub mod Loads
 pub mod Unbound
 pub mod Listed

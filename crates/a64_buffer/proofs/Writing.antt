@@ -369,7 +369,7 @@ pub writes_all : {K : Type 0} (r : Kinds K) (limit : ℕ) (start p : Parts K) �
 writes_all r limit start p w none = record { writing = w; done = none_ranks r (seen p) limit w.sound none }
 
 pub same_room_none : {K : Type 0} (p : Parts K) → SameRoom p p
-same_room_none p = record { words = refl; uses = refl; earlier = refl; traps = refl; islands = refl; queues = refl }
+same_room_none p = record { words = refl; uses = refl; earlier = refl; traps = refl; islands = refl }
 
 pub same_room_trans : {K : Type 0} (p q s : Parts K) → SameRoom p q → SameRoom q s → SameRoom p s
-same_room_trans p q s a c = record { words = c.words ∙ a.words; uses = c.uses ∙ a.uses; earlier = c.earlier ∙ a.earlier; traps = c.traps ∙ a.traps; islands = c.islands ∙ a.islands; queues = c.queues ∙ a.queues }
+same_room_trans p q s a c = record { words = c.words ∙ a.words; uses = c.uses ∙ a.uses; earlier = c.earlier ∙ a.earlier; traps = c.traps ∙ a.traps; islands = c.islands ∙ a.islands }

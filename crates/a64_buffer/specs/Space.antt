@@ -6,14 +6,13 @@ use Rattle.a64_buffer.specs.Buffer.{end_of}
 use Rattle.a64_buffer.specs.Classes.{veneer_uses, trap_words, weight_of, owed}
 use Rattle.a64_buffer.specs.Sound.{seen}
 
--- the capacities stayed, and so did the queues of open uses
+-- the capacities stayed
 pub record SameRoom {K : Type 0} (p p' : Parts K) : Type 0 where
   pub words : vec_capacity p'.words ≡ vec_capacity p.words
   pub uses : vec_capacity p'.uses ≡ vec_capacity p.uses
   pub earlier : vec_capacity p'.earlier ≡ vec_capacity p.earlier
   pub traps : vec_capacity p'.traps ≡ vec_capacity p.traps
   pub islands : vec_capacity p'.islands ≡ vec_capacity p.islands
-  pub queues : p'.queues ≡ p.queues
 
 -- each vector has room for what all open uses add to it
 pub record HasSpace {K : Type 0} (r : Kinds K) (p : Parts K) : Type 0 where

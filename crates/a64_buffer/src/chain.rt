@@ -2,10 +2,12 @@
 
 ghost use Rattle.std.specs.Prelude.{◌≡◌, ◌<◌, length, map, slice_set, slice_index_or};
 ghost use Rattle.a64_buffer.specs.Buffer.{reached, closed_at};
-ghost use Rattle.a64_buffer.specs.Queues.{AreBurdens};
+ghost use Rattle.a64_buffer.specs.Queues.{AllHold, AllLimits, AreBurdens, AreWaiting};
 ghost use Rattle.a64_buffer.specs.Chain.{with_stop, labels_of, IsChained, IsLast};
 
 use crate::label_use::MachInstLabelUse;
+use crate::queue::Queue;
+use crate::queues::close_queued;
 use crate::room::Burdens;
 use crate::site::Use;
 use a64_label_map::LabelMap;
@@ -30,13 +32,16 @@ fn last_use(heads: &LabelMap<usize>, label: u32) -> usize
 /// Lets a use that has no stop stop at a place, where it reaches that.
 fn close_use<K: MachInstLabelUse>(
     uses: &mut [Use<K>],
+    queues: &mut [Queue; 5],
     burdens: &mut Burdens,
     index: usize,
     place: u32,
 )
     requires index { index < length uses.old }
-    requires burdens { AreBurdens K.kinds uses.old burdens.old }
+    requires waiting { AreWaiting K.kinds uses.old queues.old burdens.old }
     ensures uses { (d : _) → uses.new ≡ slice_set uses.old index (with_stop K.kinds place (slice_index_or uses.old index d)) }
+    ensures hold { AllHold K.kinds uses.new queues.new }
+    ensures limits { AllLimits K.kinds uses.new queues.new }
     ensures burdens { AreBurdens K.kinds uses.new burdens.new }
 {
     let site = uses[index];
@@ -44,10 +49,12 @@ fn close_use<K: MachInstLabelUse>(
     if site.stop.is_some() || stop.is_none() {
         return;
     }
-    if site.is_open() {
-        burdens.lose(site.class());
-    }
     uses[index].stop = stop;
+    let class = site.class();
+    if class.wants() {
+        burdens.lose(class);
+        close_queued(queues, uses, class, site.limit());
+    }
 }
 
 /// Lets each use of a label that has no stop stop at the label's place, where it reaches that.
@@ -55,19 +62,20 @@ pub fn close_label<K: MachInstLabelUse>(
     uses: &mut [Use<K>],
     earlier: &[usize],
     heads: &LabelMap<usize>,
+    queues: &mut [Queue; 5],
     burdens: &mut Burdens,
     label: u32,
     place: u32,
 )
     requires chained { IsChained (labels_of uses.old) earlier.now heads.now }
-    requires burdens { AreBurdens K.kinds uses.old burdens.old }
+    requires waiting { AreWaiting K.kinds uses.old queues.old burdens.old }
     ensures uses { uses.new ≡ map (closed_at K.kinds label place) uses.old }
-    ensures burdens { AreBurdens K.kinds uses.new burdens.new }
+    ensures waiting { AreWaiting K.kinds uses.new queues.new burdens.new }
 {
     let mut at = last_use(heads, label);
     while at != 0 {
         let index = at - 1;
-        close_use(uses, burdens, index, place);
+        close_use(uses, queues, burdens, index, place);
         at = earlier[index];
     }
 }

@@ -1,8 +1,8 @@
 //! Classes of uses, by what they may want of an island.
 
-ghost use Rattle.std.specs.Prelude.{◌≡◌, ◌≤◌};
+ghost use Rattle.std.specs.Prelude.{◌≡◌, ◌+◌, ◌^◌, ◌<◌, ◌≤◌, ◌↔◌, true, IsTrue};
 ghost use Rattle.a64_buffer.specs.Classes as classes;
-ghost use Rattle.a64_buffer.specs.Classes.{first, second, third, cost};
+ghost use Rattle.a64_buffer.specs.Classes.{first, second, third, cost, rank_of};
 
 use crate::label_use::MachInstLabelUse;
 use crate::site::{Target, Use};
@@ -12,12 +12,12 @@ use crate::site::{Target, Use};
 pub enum Class {
     /// A branch of urgency 1: a jump word.
     Near,
-    /// A branch of urgency 2: a jump word.
-    Middle,
     /// A load of a constant: a copy of it.
     Load,
     /// A branch to a trap: a trap word.
     Trapping,
+    /// A branch of urgency 2: a jump word.
+    Middle,
     /// A branch of urgency 3: a far veneer.
     Far,
     /// Nothing: the use leads straight to its target.
@@ -25,7 +25,7 @@ pub enum Class {
 }
 
 impl<K: MachInstLabelUse> Use<K> {
-    ghost use Rattle.a64_buffer.specs.Pieces.{key_of};
+    ghost use Rattle.a64_buffer.specs.Queues.{IsWaitingClass, limit_of};
 
     /// What the use may want.
     pub fn class(&self) -> Class
@@ -46,12 +46,30 @@ impl<K: MachInstLabelUse> Use<K> {
         self.class().wants() && self.stop.is_none()
     }
 
-    /// Its place in the order of islands: by rank, then by place.
-    pub fn key(&self) -> u64
-        ensures { result ≡ key_of K.kinds self.now }
+    /// Its class where it waits for anything, and else one that wants nothing.
+    pub fn waiting_class(&self) -> Class
+        ensures { IsWaitingClass K.kinds self.now result }
     {
-        let site = *self;
-        site.class().rank() * (1 << 32) + u64::from(site.offset)
+        if self.stop.is_some() {
+            return Class::Direct;
+        }
+        self.class()
+    }
+
+    /// Whether it waits, and is of a rank.
+    pub fn waits_in(&self, rank: u64) -> bool
+        requires { rank < 5 }
+        ensures { IsTrue result ↔ (classes.is_open K.kinds self.now ≡ true × rank_of (classes.class K.kinds self.now) ≡ rank) }
+    {
+        self.stop.is_none() && self.class().rank() == rank
+    }
+
+    /// How far ahead what it gets may stand, in bytes from the start of the code.
+    pub fn limit(&self) -> u64
+        ensures is { result ≡ limit_of K.kinds self.now }
+        ensures low { result < 2 ^ 33 }
+    {
+        u64::from(self.offset) + u64::from(self.kind.max_pos_range())
     }
 }
 

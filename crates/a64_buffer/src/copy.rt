@@ -4,12 +4,15 @@ ghost use Rattle.std.specs.Prelude.{◌≡◌, ◌+◌, ◌*◌, ◌/◌, ◌%�
 ghost use Rattle.std.specs.FinMap as finmap;
 ghost use Rattle.a64_buffer.specs.Buffer.{end_of};
 ghost use Rattle.a64_buffer.specs.Pieces as pieces;
+ghost use Rattle.a64_buffer.specs.Queues.{AreBurdens};
 ghost use Rattle.a64_buffer.specs.Steps as steps;
 ghost use Rattle.a64_buffer.specs.Steps.{stopped, GivesCopy};
 
+use crate::class::Class;
 use crate::give::push_words;
 use crate::label_use::MachInstLabelUse;
 use crate::parts::Parts;
+use crate::room::Burdens;
 use crate::site::{Target, Use};
 use a64_base::VCodeConstant;
 
@@ -45,8 +48,15 @@ impl<K: MachInstLabelUse> Use<K> {
 }
 
 /// Lets all open loads of a constant stop at a place.
-fn stop_loads<K: MachInstLabelUse>(uses: &mut [Use<K>], constant: u32, place: u32)
-    ensures { uses.new ≡ map (stopped (steps.waits_for constant) place) uses.old }
+fn stop_loads<K: MachInstLabelUse>(
+    uses: &mut [Use<K>],
+    burdens: &mut Burdens,
+    constant: u32,
+    place: u32,
+)
+    requires burdens { AreBurdens K.kinds uses.old burdens.old }
+    ensures uses { uses.new ≡ map (stopped (steps.waits_for constant) place) uses.old }
+    ensures burdens { AreBurdens K.kinds uses.new burdens.new }
 {
     for index in 0..uses.len() {
         let site = uses[index];
@@ -54,6 +64,7 @@ fn stop_loads<K: MachInstLabelUse>(uses: &mut [Use<K>], constant: u32, place: u3
             continue;
         }
         uses[index].stop = Some(place);
+        burdens.lose(Class::Load);
     }
 }
 
@@ -64,11 +75,13 @@ impl<'c, K: MachInstLabelUse> Parts<'c, K> {
 
     /// Lets all open loads of a constant stop at a place.
     fn stop_loads(&mut self, constant: u32, place: u32)
+        requires burdens { AreBurdens K.kinds self.old.uses.items self.old.burdens }
         ensures uses { self.new.uses.items ≡ map (stopped (steps.waits_for constant) place) self.old.uses.items }
         ensures capacity { vec_capacity self.new.uses ≡ vec_capacity self.old.uses }
-        ensures rest { self.new ≡ record self.old { uses = self.new.uses } }
+        ensures burdens { AreBurdens K.kinds self.new.uses.items self.new.burdens }
+        ensures rest { self.new ≡ record self.old { uses = self.new.uses; burdens = self.new.burdens } }
     {
-        stop_loads(&mut self.uses, constant, place);
+        stop_loads(&mut self.uses, &mut self.burdens, constant, place);
     }
 
     /// Gives all open loads of a constant a copy of it at the end.
@@ -77,9 +90,12 @@ impl<'c, K: MachInstLabelUse> Parts<'c, K> {
         requires short { end_of (seen self.old) + 28 < 2 ^ 31 }
         requires words { vec_len self.old.words + 7 ≤ vec_capacity self.old.words }
         requires chained { IsChained (labels_of self.old.uses.items) self.old.earlier.items self.old.heads }
+        requires burdens { AreBurdens K.kinds self.old.uses.items self.old.burdens }
         ensures gives { IfSome (finmap.get (seen self.old).constants constant.0) (λ content. GivesCopy K.kinds constant.0 content (seen self.old) (seen self.new)) }
         ensures chained { IsChained (labels_of self.new.uses.items) self.new.earlier.items self.new.heads }
         ensures room { SameRoom self.old self.new }
+        ensures queues { self.new.queues ≡ self.old.queues }
+        ensures burdens { AreBurdens K.kinds self.new.uses.items self.new.burdens }
     {
         let constants = self.constants;
         let Some(bytes) = constants.bytes_of(constant) else {

@@ -47,18 +47,24 @@ impl<'c, K: MachInstLabelUse> Parts<'c, K> {
     ghost use Rattle.a64_buffer.specs.Sound.{seen, AreApart};
     ghost use Rattle.a64_buffer.specs.Steps.{stopped, stands_at, GivesJump, GivesFar, GivesTrap};
     ghost use Rattle.a64_buffer.specs.Chain.{labels_of, IsChained};
+    ghost use Rattle.a64_buffer.specs.Queues.{AreBurdens};
     ghost use Rattle.a64_buffer.specs.Space.{SameRoom};
 
     /// Lets the use at an index stop at a place.
     pub fn stop_at(&mut self, index: usize, place: u32)
-        requires { index < length self.old.uses.items }
+        requires index { index < length self.old.uses.items }
+        requires burdens { AreBurdens K.kinds self.old.uses.items self.old.burdens }
         ensures uses { (d : _) → AreApart self.old.uses.items → self.new.uses.items ≡ map (stopped (stands_at (slice_index_or self.old.uses.items index d).offset) place) self.old.uses.items }
         ensures labels { labels_of self.new.uses.items ≡ labels_of self.old.uses.items }
         ensures capacity { vec_capacity self.new.uses ≡ vec_capacity self.old.uses }
         ensures len { vec_len self.new.uses ≡ vec_len self.old.uses }
-        ensures rest { self.new ≡ record self.old { uses = self.new.uses } }
+        ensures burdens { AreBurdens K.kinds self.new.uses.items self.new.burdens }
+        ensures less { self.new.burdens.third ≤ self.old.burdens.third }
+        ensures rest { self.new ≡ record self.old { uses = self.new.uses; burdens = self.new.burdens } }
     {
+        let class = self.uses[index].waiting_class();
         self.uses[index].stop = Some(place);
+        self.burdens.lose(class);
     }
 
     /// Adds a use, for which there is room, and whose label, if it has one, is that of an older use.
@@ -67,13 +73,18 @@ impl<'c, K: MachInstLabelUse> Parts<'c, K> {
         requires earlier { vec_len self.old.earlier < vec_capacity self.old.earlier }
         requires chained { IsChained (labels_of self.old.uses.items) self.old.earlier.items self.old.heads }
         requires known { IfSome (label_of site.target) (λ label. IsSome (finmap.get self.old.heads label)) }
+        requires burdens { AreBurdens K.kinds self.old.uses.items self.old.burdens }
+        requires few { self.old.burdens.third < 2 ^ 32 }
         ensures uses { self.new.uses.items ≡ self.old.uses.items ++ site ∷ [] }
         ensures chained { IsChained (labels_of self.new.uses.items) self.new.earlier.items self.new.heads }
         ensures uses_capacity { vec_capacity self.new.uses ≡ vec_capacity self.old.uses }
         ensures earlier_capacity { vec_capacity self.new.earlier ≡ vec_capacity self.old.earlier }
-        ensures rest { self.new ≡ record self.old { uses = self.new.uses; earlier = self.new.earlier; heads = self.new.heads } }
+        ensures burdens { AreBurdens K.kinds self.new.uses.items self.new.burdens }
+        ensures rest { self.new ≡ record self.old { uses = self.new.uses; earlier = self.new.earlier; heads = self.new.heads; burdens = self.new.burdens } }
     {
+        let class = site.waiting_class();
         let earlier = self.link(site);
+        self.burdens.gain(class);
         self.earlier.push_reserved(earlier);
         self.uses.push_reserved(site);
     }
@@ -102,9 +113,13 @@ impl<'c, K: MachInstLabelUse> Parts<'c, K> {
         requires uses { vec_len self.old.uses < vec_capacity self.old.uses }
         requires earlier { vec_len self.old.earlier < vec_capacity self.old.earlier }
         requires chained { IsChained (labels_of self.old.uses.items) self.old.earlier.items self.old.heads }
+        requires burdens { AreBurdens K.kinds self.old.uses.items self.old.burdens }
+        requires few { self.old.burdens.third < 2 ^ 32 }
         ensures gives { (d : _) → AreApart self.old.uses.items → GivesJump K.kinds (slice_index_or self.old.uses.items index d) (seen self.old) (seen self.new) }
         ensures chained { IsChained (labels_of self.new.uses.items) self.new.earlier.items self.new.heads }
         ensures room { SameRoom self.old self.new }
+        ensures queues { self.new.queues ≡ self.old.queues }
+        ensures burdens { AreBurdens K.kinds self.new.uses.items self.new.burdens }
     {
         let place = self.end();
         let target = self.uses[index].target;
@@ -129,9 +144,13 @@ impl<'c, K: MachInstLabelUse> Parts<'c, K> {
         requires uses { vec_len self.old.uses < vec_capacity self.old.uses }
         requires earlier { vec_len self.old.earlier < vec_capacity self.old.earlier }
         requires chained { IsChained (labels_of self.old.uses.items) self.old.earlier.items self.old.heads }
+        requires burdens { AreBurdens K.kinds self.old.uses.items self.old.burdens }
+        requires few { self.old.burdens.third < 2 ^ 32 }
         ensures gives { (d : _) → AreApart self.old.uses.items → GivesFar K.kinds (slice_index_or self.old.uses.items index d) (seen self.old) (seen self.new) }
         ensures chained { IsChained (labels_of self.new.uses.items) self.new.earlier.items self.new.heads }
         ensures room { SameRoom self.old self.new }
+        ensures queues { self.new.queues ≡ self.old.queues }
+        ensures burdens { AreBurdens K.kinds self.new.uses.items self.new.burdens }
     {
         let place = self.end();
         let site = self.uses[index];
@@ -153,9 +172,13 @@ impl<'c, K: MachInstLabelUse> Parts<'c, K> {
         requires words { vec_len self.old.words < vec_capacity self.old.words }
         requires traps { vec_len self.old.traps < vec_capacity self.old.traps }
         requires chained { IsChained (labels_of self.old.uses.items) self.old.earlier.items self.old.heads }
+        requires burdens { AreBurdens K.kinds self.old.uses.items self.old.burdens }
+        requires few { self.old.burdens.third < 2 ^ 32 }
         ensures gives { (d : _) → AreApart self.old.uses.items → GivesTrap K.kinds (slice_index_or self.old.uses.items index d) code (seen self.old) (seen self.new) }
         ensures chained { IsChained (labels_of self.new.uses.items) self.new.earlier.items self.new.heads }
         ensures room { SameRoom self.old self.new }
+        ensures queues { self.new.queues ≡ self.old.queues }
+        ensures burdens { AreBurdens K.kinds self.new.uses.items self.new.burdens }
     {
         let place = self.end();
         self.stop_at(index, place);

@@ -2,20 +2,21 @@
 
 ghost use Rattle.std.specs.Prelude.{◌≡◌, ◌⊎◌, ◌+◌, ◌*◌, ◌^◌, ◌<◌, ◌≤◌, All, IsSome, MatchBool, OnOk, OnErr, length, slice_index_or, vec_len, vec_capacity};
 ghost use Rattle.a64_buffer.specs.Buffer.{end_of, label_of};
-ghost use Rattle.a64_buffer.specs.Classes.{class, owed, Fits};
+ghost use Rattle.a64_buffer.specs.Classes.{class, veneer_uses, weight_of, owed, Fits};
 ghost use Rattle.a64_buffer.specs.declared.force.ForceVeneers.TheVariants.{No, Yes};
 
 use crate::class::Class;
 use crate::force::ForceVeneers;
 use crate::label_use::MachInstLabelUse;
 use crate::parts::Parts;
-use crate::room::sum_burdens;
+use crate::queues::first_below;
 use crate::site::{Target, Use};
 use std::alloc::AllocError;
 
 impl<'c, K: MachInstLabelUse> Parts<'c, K> {
-    ghost use Rattle.a64_buffer.specs.Sound.{seen, AreApart, IsKinded, AreSound};
+    ghost use Rattle.a64_buffer.specs.Sound.{seen, IsPlaced, AreApart, IsKinded, AreSound};
     ghost use Rattle.a64_buffer.specs.Chain.{labels_of, IsChained};
+    ghost use Rattle.a64_buffer.specs.Queues.{HaveRoomFor, AllHold, AllLimits, AreBurdens, AreWaiting};
     ghost use Rattle.a64_buffer.specs.Space.{SameRoom, HasSpace, HasSpaceForMore};
     ghost use Rattle.a64_buffer.specs.Steps.{IsNextOpen, IsReady, GivesAll, MayWrite, Writes, WritesFar, ended};
     ghost use Rattle.a64_buffer.specs.Pieces.{begun};
@@ -23,33 +24,25 @@ impl<'c, K: MachInstLabelUse> Parts<'c, K> {
 
     /// The open use that comes first in the order of islands, where its rank is below a limit.
     fn next_open(&self, limit: u64) -> Option<usize>
-        requires { limit ≤ 5 }
+        requires limit { limit ≤ 5 }
+        requires limits { AllLimits K.kinds self.now.uses.items self.now.queues }
+        requires kinded { All (λ u. IsKinded K.kinds u.target u.kind) self.now.uses.items }
+        requires low { All (IsPlaced (2 ^ 31)) self.now.uses.items }
         ensures { IsNextOpen K.kinds limit self.now.uses.items result }
     {
-        let mut next = None;
-        let mut least = limit << 32;
-        for index in 0..self.uses.len() {
-            let site = self.uses[index];
-            if !site.is_open() {
-                continue;
-            }
-            let key = site.key();
-            if key >= least {
-                continue;
-            }
-            next = Some(index);
-            least = key;
-        }
-        next
+        first_below(&self.queues, limit)
     }
 
     /// Gives an open use of a label its veneer.
     fn give_veneer(&mut self, index: usize)
         requires ready { IsReady K.kinds self.old index }
+        requires burdens { AreBurdens K.kinds self.old.uses.items self.old.burdens }
         requires label { (d : _) → IsSome (label_of (slice_index_or self.old.uses.items index d).target) }
         ensures gives { (d : _) → GivesAll K.kinds (class K.kinds (slice_index_or self.old.uses.items index d)) (seen self.old) (seen self.new) }
         ensures chained { IsChained (labels_of self.new.uses.items) self.new.earlier.items self.new.heads }
         ensures room { SameRoom self.old self.new }
+        ensures queues { self.new.queues ≡ self.old.queues }
+        ensures burdens { AreBurdens K.kinds self.new.uses.items self.new.burdens }
     {
         let site = self.uses[index];
         match site.class() {
@@ -63,9 +56,12 @@ impl<'c, K: MachInstLabelUse> Parts<'c, K> {
     /// Gives the open use that comes first what it waits for.
     fn give(&mut self, index: usize)
         requires ready { IsReady K.kinds self.old index }
+        requires burdens { AreBurdens K.kinds self.old.uses.items self.old.burdens }
         ensures gives { (d : _) → GivesAll K.kinds (class K.kinds (slice_index_or self.old.uses.items index d)) (seen self.old) (seen self.new) }
         ensures chained { IsChained (labels_of self.new.uses.items) self.new.earlier.items self.new.heads }
         ensures room { SameRoom self.old self.new }
+        ensures queues { self.new.queues ≡ self.old.queues }
+        ensures burdens { AreBurdens K.kinds self.new.uses.items self.new.burdens }
     {
         let site = self.uses[index];
         match site.target {
@@ -76,25 +72,53 @@ impl<'c, K: MachInstLabelUse> Parts<'c, K> {
         }
     }
 
+    /// Gives the open use that comes first what it waits for, and keeps what waits then.
+    fn serve(&mut self, index: usize)
+        requires ready { IsReady K.kinds self.old index }
+        requires hold { AllHold K.kinds self.old.uses.items self.old.queues }
+        requires burdens { AreBurdens K.kinds self.old.uses.items self.old.burdens }
+        requires queued { HaveRoomFor (weight_of K.kinds veneer_uses self.old.uses.items) self.old.queues }
+        ensures gives { (d : _) → GivesAll K.kinds (class K.kinds (slice_index_or self.old.uses.items index d)) (seen self.old) (seen self.new) }
+        ensures chained { IsChained (labels_of self.new.uses.items) self.new.earlier.items self.new.heads }
+        ensures room { SameRoom self.old self.new }
+        ensures hold { AllHold K.kinds self.new.uses.items self.new.queues }
+        ensures burdens { AreBurdens K.kinds self.new.uses.items self.new.burdens }
+        ensures limits { AllLimits K.kinds self.new.uses.items self.new.queues }
+        ensures queued { HaveRoomFor (weight_of K.kinds veneer_uses self.new.uses.items) self.new.queues }
+    {
+        let from = self.uses.len();
+        self.give(index);
+        self.queue_new(from);
+    }
+
     /// Gives all open uses whose rank is below a limit what they wait for, in the order of islands.
     pub fn write_until(&mut self, limit: u64)
         requires limit { limit ≤ 5 }
         requires may { MayWrite K.kinds (seen self.old) }
         requires space { HasSpace K.kinds self.old }
         requires chained { IsChained (labels_of self.old.uses.items) self.old.earlier.items self.old.heads }
+        requires hold { AllHold K.kinds self.old.uses.items self.old.queues }
+        requires burdens { AreBurdens K.kinds self.old.uses.items self.old.burdens }
+        requires limits { AllLimits K.kinds self.old.uses.items self.old.queues }
+        requires queued { HaveRoomFor (weight_of K.kinds veneer_uses self.old.uses.items) self.old.queues }
         ensures writes { Writes K.kinds limit (seen self.old) (seen self.new) }
         ensures space { HasSpace K.kinds self.new }
         ensures chained { IsChained (labels_of self.new.uses.items) self.new.earlier.items self.new.heads }
         ensures room { SameRoom self.old self.new }
+        ensures hold { AllHold K.kinds self.new.uses.items self.new.queues }
+        ensures burdens { AreBurdens K.kinds self.new.uses.items self.new.burdens }
+        ensures limits { AllLimits K.kinds self.new.uses.items self.new.queues }
+        ensures queued { HaveRoomFor (weight_of K.kinds veneer_uses self.new.uses.items) self.new.queues }
     {
         while let Some(index) = self.next_open(limit) {
-            self.give(index);
+            self.serve(index);
         }
     }
 
     /// Takes the memory for all that open uses may want, and for one use, word and island more.
     pub fn reserve_all(&mut self) -> Result<(), AllocError>
         requires owed { owed K.kinds (seen self.old) < 2 ^ 31 }
+        requires burdens { AreBurdens K.kinds self.old.uses.items self.old.burdens }
         requires chained { IsChained (labels_of self.old.uses.items) self.old.earlier.items self.old.heads }
         ensures ok { OnOk result (HasSpaceForMore K.kinds self.new) }
         ensures rest { seen self.new ≡ seen self.old }
@@ -103,7 +127,7 @@ impl<'c, K: MachInstLabelUse> Parts<'c, K> {
         ensures queues { self.new.queues ≡ self.old.queues }
         ensures burdens { self.new.burdens ≡ self.old.burdens }
     {
-        let owed = sum_burdens(&self.uses).third as usize;
+        let owed = self.burdens.third as usize;
         self.words.reserve(owed / 4 + 2)?;
         self.uses.reserve(owed / 12 + 1)?;
         self.earlier.reserve(owed / 12 + 1)?;
@@ -119,12 +143,21 @@ impl<'c, K: MachInstLabelUse> Parts<'c, K> {
         requires uses { vec_len self.old.uses < vec_capacity self.old.uses }
         requires earlier { vec_len self.old.earlier < vec_capacity self.old.earlier }
         requires chained { IsChained (labels_of self.old.uses.items) self.old.earlier.items self.old.heads }
+        requires hold { AllHold K.kinds self.old.uses.items self.old.queues }
+        requires burdens { AreBurdens K.kinds self.old.uses.items self.old.burdens }
+        requires queued { HaveRoomFor (weight_of K.kinds veneer_uses self.old.uses.items + 1) self.old.queues }
+        requires few { self.old.burdens.third < 2 ^ 32 }
         ensures begun { seen self.new ≡ begun K.kinds (seen self.old) }
         ensures chained { IsChained (labels_of self.new.uses.items) self.new.earlier.items self.new.heads }
         ensures room { SameRoom self.old self.new }
+        ensures hold { AllHold K.kinds self.new.uses.items self.new.queues }
+        ensures burdens { AreBurdens K.kinds self.new.uses.items self.new.burdens }
+        ensures limits { AllLimits K.kinds self.new.uses.items self.new.queues }
+        ensures queued { HaveRoomFor (weight_of K.kinds veneer_uses self.new.uses.items) self.new.queues }
         ensures islands { self.new.islands ≡ self.old.islands }
     {
         let offset = self.end();
+        let from = self.uses.len();
         self.words.push_reserved(K::jump_word());
         self.push_use(Use {
             offset,
@@ -132,6 +165,7 @@ impl<'c, K: MachInstLabelUse> Parts<'c, K> {
             kind: K::jump_use(),
             stop: None,
         });
+        self.queue_new(from);
     }
 
     /// Ends an island, and lets its jump, the use at an index, lead there.
@@ -141,9 +175,11 @@ impl<'c, K: MachInstLabelUse> Parts<'c, K> {
         requires short { end_of (seen self.old) < 2 ^ 31 }
         requires islands { vec_len self.old.islands < vec_capacity self.old.islands }
         requires chained { IsChained (labels_of self.old.uses.items) self.old.earlier.items self.old.heads }
+        requires burdens { AreBurdens K.kinds self.old.uses.items self.old.burdens }
         ensures ended { AreApart self.old.uses.items → seen self.new ≡ ended start (seen self.old) }
         ensures chained { IsChained (labels_of self.new.uses.items) self.new.earlier.items self.new.heads }
         ensures queues { self.new.queues ≡ self.old.queues }
+        ensures burdens { AreBurdens K.kinds self.new.uses.items self.new.burdens }
         ensures capacity { vec_capacity self.new.uses ≡ vec_capacity self.old.uses }
     {
         let end = self.end();
@@ -157,11 +193,12 @@ impl<'c, K: MachInstLabelUse> Parts<'c, K> {
         requires short { end_of (seen self.now) < 2 ^ 31 }
         requires owed { owed K.kinds (seen self.now) < 2 ^ 32 }
         requires kinded { All (λ u. IsKinded K.kinds u.target u.kind) self.now.uses.items }
+        requires waiting { AreWaiting K.kinds self.now.uses.items self.now.queues self.now.burdens }
         ensures { MatchBool result ((force ≡ Yes) ⊎ (Fits K.kinds (seen self.now) distance → ⊥)) ((force ≡ No) × Fits K.kinds (seen self.now) distance) }
     {
         match force {
             ForceVeneers::Yes => true,
-            ForceVeneers::No => !self.fits(distance),
+            ForceVeneers::No => !self.has_room(distance),
         }
     }
 
@@ -181,7 +218,7 @@ impl<'c, K: MachInstLabelUse> Parts<'c, K> {
         self.write_until(4);
         self.promote(distance, force);
         self.end_island(index, start);
-        self.await_island(index);
+        self.await_island();
         Ok(())
     }
 
@@ -190,9 +227,15 @@ impl<'c, K: MachInstLabelUse> Parts<'c, K> {
         requires may { MayWrite K.kinds (seen self.old) }
         requires space { HasSpace K.kinds self.old }
         requires chained { IsChained (labels_of self.old.uses.items) self.old.earlier.items self.old.heads }
+        requires hold { AllHold K.kinds self.old.uses.items self.old.queues }
+        requires burdens { AreBurdens K.kinds self.old.uses.items self.old.burdens }
+        requires limits { AllLimits K.kinds self.old.uses.items self.old.queues }
+        requires queued { HaveRoomFor (weight_of K.kinds veneer_uses self.old.uses.items) self.old.queues }
         ensures promotes { WritesFar K.kinds distance force (seen self.old) (seen self.new) }
         ensures chained { IsChained (labels_of self.new.uses.items) self.new.earlier.items self.new.heads }
         ensures room { SameRoom self.old self.new }
+        ensures hold { AllHold K.kinds self.new.uses.items self.new.queues }
+        ensures burdens { AreBurdens K.kinds self.new.uses.items self.new.burdens }
     {
         if self.promotes(distance, force) {
             self.write_until(5);

@@ -218,12 +218,13 @@ impl<'c, K: MachInstLabelUse> Parts<'c, K> {
         };
         self.uses.reserve(1)?;
         self.earlier.reserve(1)?;
-        reserve_queue(&mut self.queues, &site)?;
+        let class = site.waiting_class();
+        let limit = site.limit();
+        reserve_queue(&mut self.queues, class, limit)?;
         let earlier = self.link_new(target)?;
         self.earlier.push_reserved(earlier);
-        self.await_use(&site);
+        self.await_use(&site, class, limit);
         self.uses.push_reserved(site);
-        self.drop_closed();
         Ok(())
     }
 
@@ -245,11 +246,11 @@ impl<'c, K: MachInstLabelUse> Parts<'c, K> {
             &mut self.uses,
             &self.earlier,
             &self.heads,
+            &mut self.queues,
             &mut self.burdens,
             label.0,
             place,
         );
-        self.drop_closed();
         Ok(())
     }
 
@@ -297,6 +298,7 @@ impl<'c, K: MachInstLabelUse> Parts<'c, K> {
     {
         let pool = self.end();
         self.reserve_all()?;
+        self.reserve_queues()?;
         self.write_until(5);
         self.finish_words(pool)
     }

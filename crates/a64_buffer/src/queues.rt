@@ -1,11 +1,12 @@
 //! The open uses of all ranks, each in the queue of its rank.
 
-ghost use Rattle.std.specs.Prelude.{◌≡◌, ◌+◌, ◌^◌, ◌<◌, ◌≤◌, ◌↔◌, ◌++◌, ◌∷◌, [], ℕ, All, IsTrue, OnOk, length, take, slice_index_or};
-ghost use Rattle.std.specs.BinaryHeap.{IsHeap, heap_len, heap_capacity};
-ghost use Rattle.a64_buffer.specs.Queues.{entry_cmp, entries, HaveRoomFor, HaveRoomFrom, HaveMoreRoom, AllHold, AllOpen, AreRanged};
-ghost use Rattle.a64_buffer.specs.Steps.{UseHasRoom};
+ghost use Rattle.std.specs.Prelude.{◌≡◌, ◌≢◌, ◌⊎◌, ◌-◌, ◌^◌, ◌<◌, ◌≤◌, ◌↔◌, ◌++◌, ◌∷◌, [], ℕ, IsTrue, OnOk, None, length, take, slice_index_or};
+ghost use Rattle.std.specs.BinaryHeap.{IsHeap};
+ghost use Rattle.a64_buffer.specs.Classes.{wants, rank_of};
+ghost use Rattle.a64_buffer.specs.Queues.{entry_cmp, entries, IsSameQueue, HaveRoomFor, LoseRoom, HaveRoomForOne, ReachLimits, IsFoundBelow, IsWaitingClass, limit_of, IsLimit, AllHold, AllLimits};
 ghost use Rattle.a64_buffer.specs.declared.queue.Queue.{Queue};
 
+use crate::class::Class;
 use crate::label_use::MachInstLabelUse;
 use crate::queue::Queue;
 use crate::room::Burdens;
@@ -16,6 +17,8 @@ use std::alloc::{AllocError, Global};
 pub fn no_queues(alloc: Global) -> [Queue; 5]
     ensures none { (rank : ℕ) (q : Queue) → rank < 5 → entries (slice_index_or result rank q) ≡ [] }
     ensures order { (rank : ℕ) (q : Queue) → rank < 5 → IsHeap entry_cmp (entries (slice_index_or result rank q)) }
+    ensures next { (rank : ℕ) (q : Queue) → rank < 5 → (slice_index_or result rank q).next ≡ None }
+    ensures limit { (rank : ℕ) (q : Queue) → rank < 5 → (slice_index_or result rank q).limit ≡ 2 ^ 64 - 1 }
 {
     [
         Queue::new(alloc),
@@ -26,25 +29,21 @@ pub fn no_queues(alloc: Global) -> [Queue; 5]
     ]
 }
 
-/// Takes the memory for a use in the queue of its rank, where it is open.
-pub fn reserve_queue<K: MachInstLabelUse>(
-    queues: &mut [Queue; 5],
-    site: &Use<K>,
-) -> Result<(), AllocError>
-    ensures kept { (rank : ℕ) (q : Queue) → entries (slice_index_or queues.new rank q) ≡ entries (slice_index_or queues.old rank q) }
-    ensures ok { OnOk result (HaveRoomFor K.kinds site.now queues.new) }
+/// Takes the memory for a use with a limit in the queue of its class, where that wants anything.
+pub fn reserve_queue(queues: &mut [Queue; 5], class: Class, limit: u64) -> Result<(), AllocError>
+    ensures kept { (rank : ℕ) (q : Queue) → IsSameQueue (slice_index_or queues.old rank q) (slice_index_or queues.new rank q) }
+    ensures ok { OnOk result (HaveRoomForOne class limit queues.new) }
 {
-    if site.is_open() {
-        let rank = site.class().rank() as usize;
-        queues[rank].reserve(1)?;
+    if class.wants() {
+        queues[class.rank() as usize].reserve_for(limit)?;
     }
     Ok(())
 }
 
 /// Takes the memory for so many uses in each queue.
 pub fn reserve_queues(queues: &mut [Queue; 5], more: usize) -> Result<(), AllocError>
-    ensures kept { (rank : ℕ) (q : Queue) → entries (slice_index_or queues.new rank q) ≡ entries (slice_index_or queues.old rank q) }
-    ensures ok { OnOk result (HaveRoomFrom 0 more queues.new) }
+    ensures kept { (rank : ℕ) (q : Queue) → IsSameQueue (slice_index_or queues.old rank q) (slice_index_or queues.new rank q) }
+    ensures ok { OnOk result (HaveRoomFor more queues.new) }
 {
     for rank in 0..5 {
         queues[rank].reserve(more)?;
@@ -52,15 +51,24 @@ pub fn reserve_queues(queues: &mut [Queue; 5], more: usize) -> Result<(), AllocE
     Ok(())
 }
 
-/// Puts a use, which has an index, into the queue of its rank, where it is open.
-pub fn queue_use<K: MachInstLabelUse>(queues: &mut [Queue; 5], site: &Use<K>, index: usize)
-    requires room { HaveRoomFor K.kinds site.now queues.old }
+/// Puts a use with a limit and an index into the queue of its class, where it is open.
+pub fn queue_use<K: MachInstLabelUse>(
+    queues: &mut [Queue; 5],
+    site: &Use<K>,
+    class: Class,
+    limit: u64,
+    index: usize,
+)
+    requires class { IsWaitingClass K.kinds site.now class }
+    requires limit { limit ≡ limit_of K.kinds site.now }
+    requires low { limit < 2 ^ 33 }
+    requires room { HaveRoomForOne class limit queues.old }
     ensures hold { (uses : _) → length uses ≡ index → AllHold K.kinds uses queues.old → AllHold K.kinds (uses ++ site.now ∷ []) queues.new }
-    ensures room { HaveMoreRoom queues.old queues.new }
+    ensures limits { (uses : _) → length uses ≡ index → AllLimits K.kinds uses queues.old → AllLimits K.kinds (uses ++ site.now ∷ []) queues.new }
+    ensures room { LoseRoom 1 queues.old queues.new }
 {
-    if site.is_open() {
-        let rank = site.class().rank() as usize;
-        queues[rank].push_reserved(site.offset, index);
+    if class.wants() {
+        queues[class.rank() as usize].add(limit, index);
     }
 }
 
@@ -68,49 +76,73 @@ pub fn queue_use<K: MachInstLabelUse>(queues: &mut [Queue; 5], site: &Use<K>, in
 pub fn queue_from<K: MachInstLabelUse>(queues: &mut [Queue; 5], uses: &[Use<K>], from: usize)
     requires from { from ≤ length uses.now }
     requires hold { AllHold K.kinds (take from uses.now) queues.old }
-    requires room { HaveRoomFrom from (length uses.now) queues.old }
+    requires room { HaveRoomFor (length uses.now - from) queues.old }
     ensures hold { AllHold K.kinds uses.now queues.new }
+    ensures room { LoseRoom (length uses.now - from) queues.old queues.new }
 {
     for index in from..uses.len() {
-        queue_use(queues, &uses[index], index);
+        let site = &uses[index];
+        queue_use(queues, site, site.waiting_class(), site.limit(), index);
     }
 }
 
-/// Takes closed uses from the fronts of all queues.
-pub fn drop_closed<K: MachInstLabelUse>(queues: &mut [Queue; 5], uses: &[Use<K>])
+/// An open use of a class and a limit was closed.
+pub fn close_queued<K: MachInstLabelUse>(
+    queues: &mut [Queue; 5],
+    uses: &[Use<K>],
+    class: Class,
+    limit: u64,
+)
+    requires wants { IsTrue (wants class) }
+    requires hold { AllHold K.kinds uses.now queues.old }
+    requires limits { (rank : ℕ) (q : Queue) → rank < 5 → (rank_of class ≢ rank) ⊎ (limit ≢ (slice_index_or queues.old rank q).limit) → IsLimit K.kinds rank uses.now (slice_index_or queues.old rank q).limit (slice_index_or queues.old rank q).first }
+    ensures hold { AllHold K.kinds uses.now queues.new }
+    ensures limits { AllLimits K.kinds uses.now queues.new }
+{
+    let rank = class.rank();
+    queues[rank as usize].close(uses, rank, limit);
+}
+
+/// Leaves closed uses behind in all queues.
+pub fn settle_queues<K: MachInstLabelUse>(queues: &mut [Queue; 5], uses: &[Use<K>])
     requires hold { AllHold K.kinds uses.now queues.old }
     ensures hold { AllHold K.kinds uses.now queues.new }
-    ensures open { AllOpen K.kinds uses.now queues.new }
+    ensures limits { AllLimits K.kinds uses.now queues.new }
+    ensures room { LoseRoom 0 queues.old queues.new }
 {
     for rank in 0..5 {
-        queues[rank].drop_closed(uses, rank as u64);
+        queues[rank].settle(uses, rank as u64);
     }
 }
 
-/// Whether each open use reaches a place and the burden of its urgency behind it: the first of each
-/// rank decides.
-pub fn have_room<K: MachInstLabelUse>(
-    queues: &[Queue; 5],
-    uses: &[Use<K>],
-    from: u64,
-    burdens: Burdens,
-) -> bool
+/// The use of the least limit in the first queue below a limit that has an open use.
+pub fn first_below(queues: &[Queue; 5], limit: u64) -> Option<usize>
+    requires { limit ≤ 5 }
+    ensures ranks { length queues.now ≡ 5 }
+    ensures found { IsFoundBelow limit queues.now result }
+{
+    for rank in 0..limit {
+        let queue = &queues[rank as usize];
+        if queue.limit != u64::MAX {
+            return Some(queue.first);
+        }
+    }
+    None
+}
+
+/// Whether each open use reaches a place and the burden of its urgency behind it: the limits decide.
+pub fn have_room(queues: &[Queue; 5], from: u64, burdens: Burdens) -> bool
     requires from { from < 2 ^ 40 }
     requires first { burdens.first < 2 ^ 40 }
     requires second { burdens.second < 2 ^ 40 }
     requires third { burdens.third < 2 ^ 40 }
-    requires hold { AllHold K.kinds uses.now queues.now }
-    requires open { AllOpen K.kinds uses.now queues.now }
-    requires ranged { AreRanged K.kinds uses.now }
-    ensures { IsTrue result ↔ All (UseHasRoom K.kinds from burdens.first burdens.second burdens.third) uses.now }
+    ensures ranks { length queues.now ≡ 5 }
+    ensures reach { IsTrue result ↔ ReachLimits from burdens.first burdens.second burdens.third queues.now }
 {
-    for rank in 0..5 {
-        let Some(index) = queues[rank].first() else {
-            continue;
-        };
-        if !uses[index].has_room(from, burdens) {
-            return false;
-        }
-    }
-    true
+    let second = from + burdens.second;
+    from + burdens.first <= queues[0].limit
+        && second <= queues[1].limit
+        && second <= queues[2].limit
+        && second <= queues[3].limit
+        && from + burdens.third <= queues[4].limit
 }

@@ -1,14 +1,9 @@
 //! Whether open uses still reach what they get in islands.
 
-ghost use Rattle.std.specs.Prelude.{◌≡◌, ◌+◌, ◌*◌, ◌^◌, ◌<◌, ◌≤◌, ◌↔◌, All, IsTrue};
-ghost use Rattle.a64_buffer.specs.Buffer.{end_of};
-ghost use Rattle.a64_buffer.specs.Classes.{first, second, third, burden, owed, Fits};
-ghost use Rattle.a64_buffer.specs.Steps.{UseHasRoom};
+ghost use Rattle.std.specs.Prelude.{◌≡◌, ◌+◌, ◌^◌, ◌<◌, ◌≤◌};
+ghost use Rattle.a64_buffer.specs.Classes.{first, second, third};
 
 use crate::class::Class;
-use crate::label_use::MachInstLabelUse;
-use crate::parts::Parts;
-use crate::site::Use;
 
 /// How many bytes of an island come before what uses of each urgency get.
 #[derive(Clone, Copy)]
@@ -50,75 +45,5 @@ impl Burdens {
         self.first -= class.first_cost();
         self.second -= class.second_cost();
         self.third -= class.third_cost();
-    }
-}
-
-/// How many bytes the open uses may put before what uses of each urgency get.
-pub fn sum_burdens<K: MachInstLabelUse>(uses: &[Use<K>]) -> Burdens
-    requires { burden K.kinds third uses.now < 2 ^ 32 }
-    ensures first { result.first ≡ burden K.kinds first uses.now }
-    ensures second { result.second ≡ burden K.kinds second uses.now }
-    ensures third { result.third ≡ burden K.kinds third uses.now }
-{
-    let mut first = 0;
-    let mut second = 0;
-    let mut third = 0;
-    for site in uses {
-        if !site.is_open() {
-            continue;
-        }
-        let class = site.class();
-        first += class.first_cost();
-        second += class.second_cost();
-        third += class.third_cost();
-    }
-    Burdens {
-        first,
-        second,
-        third,
-    }
-}
-
-impl<K: MachInstLabelUse> Use<K> {
-    /// Whether it is not open, or reaches a place and the burden of its urgency behind it.
-    pub fn has_room(&self, from: u64, burdens: Burdens) -> bool
-        requires from { from < 2 ^ 40 }
-        requires first { burdens.first < 2 ^ 40 }
-        requires second { burdens.second < 2 ^ 40 }
-        requires third { burdens.third < 2 ^ 40 }
-        ensures { IsTrue result ↔ UseHasRoom K.kinds from burdens.first burdens.second burdens.third self.now }
-    {
-        let site = *self;
-        if !site.is_open() {
-            return true;
-        }
-        let limit = u64::from(site.offset) + u64::from(site.kind.max_pos_range());
-        match site.class() {
-            Class::Near => from + burdens.first <= limit,
-            Class::Load | Class::Trapping | Class::Middle => from + burdens.second <= limit,
-            Class::Far | Class::Direct => from + burdens.third <= limit,
-        }
-    }
-}
-
-impl<'c, K: MachInstLabelUse> Parts<'c, K> {
-    ghost use Rattle.a64_buffer.specs.Sound.{seen, IsKinded};
-
-    /// Whether each open use reaches what it gets in the worst island, if that begins so many bytes
-    /// behind the end.
-    pub fn fits(&self, more: u32) -> bool
-        requires short { end_of (seen self.now) < 2 ^ 31 }
-        requires owed { owed K.kinds (seen self.now) < 2 ^ 32 }
-        requires kinded { All (λ u. IsKinded K.kinds u.target u.kind) self.now.uses.items }
-        ensures { IsTrue result ↔ Fits K.kinds (seen self.now) more }
-    {
-        let burdens = sum_burdens(&self.uses);
-        let from = u64::from(self.end()) + u64::from(more) + 4;
-        for site in &self.uses {
-            if !site.has_room(from, burdens) {
-                return false;
-            }
-        }
-        true
     }
 }

@@ -1,69 +1,75 @@
 //! What is kept of the uses that wait for islands.
 
-ghost use Rattle.std.specs.Prelude.{◌≡◌, ◌+◌, ◌^◌, ◌<◌, ◌≤◌, ◌↔◌, ◌++◌, ◌∷◌, [], ℕ, All, IsTrue, OnOk, length, take, slice_index_or, vec_capacity};
+ghost use Rattle.std.specs.Prelude.{◌≡◌, ◌+◌, ◌^◌, ◌<◌, ◌≤◌, ◌↔◌, ◌++◌, ◌∷◌, [], ℕ, All, IsTrue, OnOk, ◌-◌, length, take, slice_index_or};
 ghost use Rattle.a64_buffer.specs.Buffer.{end_of};
-ghost use Rattle.a64_buffer.specs.Classes.{third, burden, owed, Fits};
-ghost use Rattle.a64_buffer.specs.Queues.{entries, HaveRoomFor, HaveRoomFrom, AllHold, AllOpen, AreBurdens, AreWaiting};
+ghost use Rattle.a64_buffer.specs.Classes.{third, veneer_uses, weight_of, burden, owed, Fits};
+ghost use Rattle.a64_buffer.specs.Queues.{IsSameQueue, HaveRoomFor, LoseRoom, HaveRoomForOne, IsWaitingClass, limit_of, AllHold, AllLimits, AreBurdens, AreWaiting};
 ghost use Rattle.a64_buffer.specs.declared.queue.Queue.{Queue};
 
+use crate::class::Class;
 use crate::label_use::MachInstLabelUse;
 use crate::parts::Parts;
-use crate::queues::{drop_closed, have_room, queue_from, queue_use, reserve_queues};
-use crate::room::sum_burdens;
+use crate::queues::{have_room, queue_from, queue_use, reserve_queues, settle_queues};
 use crate::site::Use;
 use std::alloc::AllocError;
 
 impl<'c, K: MachInstLabelUse> Parts<'c, K> {
     ghost use Rattle.a64_buffer.specs.Sound.{seen, IsKinded};
 
-    /// Keeps a use, which is added next, where it is open.
-    pub fn await_use(&mut self, site: &Use<K>)
-        requires room { HaveRoomFor K.kinds site.now self.old.queues }
+    /// Keeps a use of a class and with a limit, which is added next, where it is open.
+    pub fn await_use(&mut self, site: &Use<K>, class: Class, limit: u64)
+        requires class { IsWaitingClass K.kinds site.now class }
+        requires limit { limit ≡ limit_of K.kinds site.now }
+        requires low { limit < 2 ^ 33 }
+        requires room { HaveRoomForOne class limit self.old.queues }
         requires waiting { AreWaiting K.kinds self.old.uses.items self.old.queues self.old.burdens }
         requires few { burden K.kinds third self.old.uses.items < 2 ^ 32 }
         ensures hold { AllHold K.kinds (self.old.uses.items ++ site.now ∷ []) self.new.queues }
+        ensures limits { AllLimits K.kinds (self.old.uses.items ++ site.now ∷ []) self.new.queues }
         ensures burdens { AreBurdens K.kinds (self.old.uses.items ++ site.now ∷ []) self.new.burdens }
         ensures rest { self.new ≡ record self.old { queues = self.new.queues; burdens = self.new.burdens } }
     {
         let index = self.uses.len();
-        queue_use(&mut self.queues, site, index);
-        if site.is_open() {
-            self.burdens.gain(site.class());
+        queue_use(&mut self.queues, site, class, limit, index);
+        if class.wants() {
+            self.burdens.gain(class);
         }
     }
 
-    /// Takes closed uses from the fronts of all queues.
-    pub fn drop_closed(&mut self)
-        requires hold { AllHold K.kinds self.old.uses.items self.old.queues }
-        ensures hold { AllHold K.kinds self.old.uses.items self.new.queues }
-        ensures open { AllOpen K.kinds self.old.uses.items self.new.queues }
-        ensures rest { self.new ≡ record self.old { queues = self.new.queues } }
-    {
-        drop_closed(&mut self.queues, &self.uses);
-    }
-
-    /// Takes the memory for as many uses in each queue as the buffer has memory for.
+    /// Takes the memory for the uses that an island may add, in each queue.
     pub fn reserve_queues(&mut self) -> Result<(), AllocError>
-        ensures kept { (rank : ℕ) (q : Queue) → entries (slice_index_or self.new.queues rank q) ≡ entries (slice_index_or self.old.queues rank q) }
-        ensures ok { OnOk result (HaveRoomFrom (length self.old.uses.items) (vec_capacity self.old.uses) self.new.queues) }
+        requires burdens { AreBurdens K.kinds self.old.uses.items self.old.burdens }
+        ensures kept { (rank : ℕ) (q : Queue) → IsSameQueue (slice_index_or self.old.queues rank q) (slice_index_or self.new.queues rank q) }
+        ensures ok { OnOk result (HaveRoomFor (weight_of K.kinds veneer_uses self.old.uses.items + 1) self.new.queues) }
         ensures rest { self.new ≡ record self.old { queues = self.new.queues } }
     {
-        let more = self.uses.capacity() - self.uses.len();
-        reserve_queues(&mut self.queues, more)
+        let more = self.burdens.third as usize / 12 + 1;
+        reserve_queues(&mut self.queues, more)?;
+        Ok(())
     }
 
-    /// Keeps what waits once an island stands, whose uses begin at an index.
-    pub fn await_island(&mut self, from: usize)
+    /// Keeps the open uses from an index on, and leaves closed uses behind.
+    pub fn queue_new(&mut self, from: usize)
         requires from { from ≤ length self.old.uses.items }
         requires hold { AllHold K.kinds (take from self.old.uses.items) self.old.queues }
-        requires room { HaveRoomFrom from (vec_capacity self.old.uses) self.old.queues }
-        requires few { burden K.kinds third self.old.uses.items < 2 ^ 32 }
-        ensures waiting { AreWaiting K.kinds self.old.uses.items self.new.queues self.new.burdens }
-        ensures rest { self.new ≡ record self.old { queues = self.new.queues; burdens = self.new.burdens } }
+        requires room { HaveRoomFor (length self.old.uses.items - from) self.old.queues }
+        ensures hold { AllHold K.kinds self.old.uses.items self.new.queues }
+        ensures limits { AllLimits K.kinds self.old.uses.items self.new.queues }
+        ensures room { LoseRoom (length self.old.uses.items - from) self.old.queues self.new.queues }
+        ensures rest { self.new ≡ record self.old { queues = self.new.queues } }
     {
         queue_from(&mut self.queues, &self.uses, from);
-        self.burdens = sum_burdens(&self.uses);
-        self.drop_closed();
+        settle_queues(&mut self.queues, &self.uses);
+    }
+
+    /// Keeps what waits once an island stands.
+    pub fn await_island(&mut self)
+        requires hold { AllHold K.kinds self.old.uses.items self.old.queues }
+        requires burdens { AreBurdens K.kinds self.old.uses.items self.old.burdens }
+        ensures waiting { AreWaiting K.kinds self.old.uses.items self.new.queues self.new.burdens }
+        ensures rest { self.new ≡ record self.old { queues = self.new.queues } }
+    {
+        settle_queues(&mut self.queues, &self.uses);
     }
 
     /// Whether each open use reaches what it gets in the worst island, if that begins so many bytes
@@ -76,6 +82,6 @@ impl<'c, K: MachInstLabelUse> Parts<'c, K> {
         ensures { IsTrue result ↔ Fits K.kinds (seen self.now) more }
     {
         let from = u64::from(self.end()) + u64::from(more) + 4;
-        have_room(&self.queues, &self.uses, from, self.burdens)
+        have_room(&self.queues, from, self.burdens)
     }
 }

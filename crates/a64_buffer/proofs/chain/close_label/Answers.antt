@@ -9,7 +9,7 @@ use Rattle.a64_buffer.proofs.chain.close_label.Goals as goal
 pub loop-at-init : goal.loop-at-init
 loop-at-init g c = record {
   walked = walked_none g.K.MachInstLabelUse.kinds c.args.label c.args.place c.last_use-at.result c.args.uses.now (c.last_use-at.ensures (labels_of c.args.uses.now) c.args.earlier.now c.requires.chained);
-  burdens = c.requires.burdens;
+  waiting = c.requires.waiting;
 }
 
 pub loop-at-preserved : goal.loop-at-preserved
@@ -19,7 +19,7 @@ loop-at-preserved g c =
     let i : c.loop-at.at - 1 < length (labels_of c.args.uses.now) = omega (arith, c.loop-at.invariant.walked.within, length-map c.args.uses.now (λ (u : Use g.row.K.Denot). label_of u.target)) in
     record {
       walked = walked_more g.K.MachInstLabelUse.kinds c.args.label c.args.place c.loop-at.at _ c.args.uses.now c.loop-at.uses c.close_use.new.uses p c.loop-at.invariant.walked (c.requires.chained.links (c.loop-at.at - 1) c.args.label i (c.loop-at.invariant.walked.here p)) c.close_use.ensures.uses c.close_use.auto.uses;
-      burdens = c.close_use.ensures.burdens;
+      waiting = record { hold = c.close_use.ensures.hold; limits = c.close_use.ensures.limits; burdens = c.close_use.ensures.burdens };
     }
 
 pub returns-clause-uses : goal.returns-clause-uses

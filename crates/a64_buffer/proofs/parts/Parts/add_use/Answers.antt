@@ -2,9 +2,8 @@ use Rattle.std.proofs.Common.{ℕ, ◌≡◌, ◌+◌, ◌++◌, ◌∷◌, [], 
 use Rattle.std.specs.FinMap as finmap
 use Rattle.a64_buffer.specs.Buffer.{label_of, made_use}
 use Rattle.a64_buffer.specs.Classes.{third, burden}
-use Rattle.a64_buffer.specs.Chain.{labels_of, IsChained}
 use Rattle.a64_buffer.specs.Later.{IsLaterFrom}
-use Rattle.a64_buffer.specs.Queues.{AreBurdens, AreWaiting}
+use Rattle.a64_buffer.specs.Queues.{AreWaiting}
 use Rattle.a64_buffer.specs.Sound.{seen, IsWhole}
 use Rattle.a64_buffer.proofs.Islands.{owed_short}
 use Rattle.a64_buffer.proofs.Memory.{same_buffer}
@@ -28,21 +27,16 @@ returns-clause-sound g c =
     record {
       whole = subst (IsWhole g.K.MachInstLabelUse.kinds)
           (sym (same_buffer _ _ _ _ _ _ _ _ _ _ _ _
-          (ap (λ p. p.words.items) c.drop_closed.ensures.rest ∙ (ap (λ p. p.words.items) c.await_use.ensures.rest ∙ ap (λ p. p.words.items) c.link_new.ensures.rest))
-          (ap (λ p. p.uses.items) c.drop_closed.ensures.rest ∙ pushed)
-          (ap (λ p. p.labels) c.drop_closed.ensures.rest ∙ (ap (λ p. p.labels) c.await_use.ensures.rest ∙ ap (λ p. p.labels) c.link_new.ensures.rest))
-          (ap (λ p. p.islands.items) c.drop_closed.ensures.rest ∙ (ap (λ p. p.islands.items) c.await_use.ensures.rest ∙ ap (λ p. p.islands.items) c.link_new.ensures.rest))
-          (ap (λ p. p.traps.items) c.drop_closed.ensures.rest ∙ (ap (λ p. p.traps.items) c.await_use.ensures.rest ∙ ap (λ p. p.traps.items) c.link_new.ensures.rest))
-          (ap (λ p. p.constants.now) c.drop_closed.ensures.rest ∙ (ap (λ p. p.constants.now) c.await_use.ensures.rest ∙ ap (λ p. p.constants.now) c.link_new.ensures.rest))))
+          ((ap (λ p. p.words.items) c.await_use.ensures.rest ∙ ap (λ p. p.words.items) c.link_new.ensures.rest))
+          (pushed)
+          ((ap (λ p. p.labels) c.await_use.ensures.rest ∙ ap (λ p. p.labels) c.link_new.ensures.rest))
+          ((ap (λ p. p.islands.items) c.await_use.ensures.rest ∙ ap (λ p. p.islands.items) c.link_new.ensures.rest))
+          ((ap (λ p. p.traps.items) c.await_use.ensures.rest ∙ ap (λ p. p.traps.items) c.link_new.ensures.rest))
+          ((ap (λ p. p.constants.now) c.await_use.ensures.rest ∙ ap (λ p. p.constants.now) c.link_new.ensures.rest))))
           (whole_use g.K.MachInstLabelUse.kinds g.met.K.MachInstLabelUse.lawful (seen c.args.self.now) c.requires.sound.whole c.args.offset c.args.target c.args.kind c.requires.aligned c.requires.inside c.requires.free c.requires.outside c.requires.kinded c.requires.known c.requires.fits);
-      chained = subst (λ p. IsChained (labels_of p.uses.items) p.earlier.items p.heads) (sym c.drop_closed.ensures.rest)
-          (chained_more c.args.self.now.uses.items c.push_reserved-2.new.self.items c.args.self.now.earlier.items c.await_use.new.self.earlier.items c.args.self.now.heads c.await_use.new.self.heads (made_use g.K.MachInstLabelUse.kinds c.args.self.now.labels c.args.offset c.args.target c.args.kind) c.in_ok-earlier.earlier c.requires.sound.chained pushed earlier c.in_ok-earlier.ensures.earlier heads);
-      waiting = subst (λ p. AreWaiting g.K.MachInstLabelUse.kinds p.uses.items p.queues p.burdens) (sym c.drop_closed.ensures.rest)
-          (record {
-            hold = c.drop_closed.ensures.hold;
-            open' = c.drop_closed.ensures.open;
-            burdens = subst (λ us. AreBurdens g.K.MachInstLabelUse.kinds us c.await_use.new.self.burdens) (sym (c.push_reserved-2.ensures.items ∙ ap (λ p. p.uses.items ++ record { offset = c.args.offset; target = c.args.target; kind = c.args.kind; stop = c.stop_of-stop.result } ∷ []) c.await_use.ensures.rest)) c.await_use.ensures.burdens;
-          });
+      chained = chained_more c.args.self.now.uses.items c.push_reserved-2.new.self.items c.args.self.now.earlier.items c.await_use.new.self.earlier.items c.args.self.now.heads c.await_use.new.self.heads (made_use g.K.MachInstLabelUse.kinds c.args.self.now.labels c.args.offset c.args.target c.args.kind) c.in_ok-earlier.earlier c.requires.sound.chained pushed earlier c.in_ok-earlier.ensures.earlier heads;
+      waiting = subst (λ us. AreWaiting g.K.MachInstLabelUse.kinds us c.await_use.new.self.queues c.await_use.new.self.burdens) (sym (c.push_reserved-2.ensures.items ∙ ap (λ p. p.uses.items ++ record { offset = c.args.offset; target = c.args.target; kind = c.args.kind; stop = c.stop_of-stop.result } ∷ []) c.await_use.ensures.rest))
+          (record { hold = c.await_use.ensures.hold; limits = c.await_use.ensures.limits; burdens = c.await_use.ensures.burdens });
     }
 
 pub returns-clause-later : goal.returns-clause-later
@@ -55,10 +49,10 @@ returns-clause-later g c =
     ∙ ap (λ s. c.args.self.now.uses.items ++ record { offset = c.args.offset; target = c.args.target; kind = c.args.kind; stop = s } ∷ []) c.stop_of-stop.ensures in
     subst (IsLaterFrom c.args.offset (seen c.args.self.now))
     (sym (same_buffer _ _ _ _ _ _ _ _ _ _ _ _
-    (ap (λ p. p.words.items) c.drop_closed.ensures.rest ∙ (ap (λ p. p.words.items) c.await_use.ensures.rest ∙ ap (λ p. p.words.items) c.link_new.ensures.rest))
-    (ap (λ p. p.uses.items) c.drop_closed.ensures.rest ∙ pushed)
-    (ap (λ p. p.labels) c.drop_closed.ensures.rest ∙ (ap (λ p. p.labels) c.await_use.ensures.rest ∙ ap (λ p. p.labels) c.link_new.ensures.rest))
-    (ap (λ p. p.islands.items) c.drop_closed.ensures.rest ∙ (ap (λ p. p.islands.items) c.await_use.ensures.rest ∙ ap (λ p. p.islands.items) c.link_new.ensures.rest))
-    (ap (λ p. p.traps.items) c.drop_closed.ensures.rest ∙ (ap (λ p. p.traps.items) c.await_use.ensures.rest ∙ ap (λ p. p.traps.items) c.link_new.ensures.rest))
-    (ap (λ p. p.constants.now) c.drop_closed.ensures.rest ∙ (ap (λ p. p.constants.now) c.await_use.ensures.rest ∙ ap (λ p. p.constants.now) c.link_new.ensures.rest))))
+    ((ap (λ p. p.words.items) c.await_use.ensures.rest ∙ ap (λ p. p.words.items) c.link_new.ensures.rest))
+    (pushed)
+    ((ap (λ p. p.labels) c.await_use.ensures.rest ∙ ap (λ p. p.labels) c.link_new.ensures.rest))
+    ((ap (λ p. p.islands.items) c.await_use.ensures.rest ∙ ap (λ p. p.islands.items) c.link_new.ensures.rest))
+    ((ap (λ p. p.traps.items) c.await_use.ensures.rest ∙ ap (λ p. p.traps.items) c.link_new.ensures.rest))
+    ((ap (λ p. p.constants.now) c.await_use.ensures.rest ∙ ap (λ p. p.constants.now) c.link_new.ensures.rest))))
     (used_later g.K.MachInstLabelUse.kinds g.met.K.MachInstLabelUse.lawful (seen c.args.self.now) c.requires.sound.whole c.args.offset c.args.target c.args.kind)

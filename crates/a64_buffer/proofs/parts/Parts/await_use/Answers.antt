@@ -9,8 +9,14 @@ gain-requires-clause-first g c = omega (arith, c.requires.waiting.burdens.first_
 pub gain-requires-clause-second : goal.gain-requires-clause-second
 gain-requires-clause-second g c = omega (arith, c.requires.waiting.burdens.second_is, burden_third g.K.MachInstLabelUse.kinds second c.args.self.now.uses.items, c.requires.few)
 
-pub returns-then-is_open-clause-hold : goal.returns-then-is_open-clause-hold
-returns-then-is_open-clause-hold g c = c.queue_use.ensures.hold c.args.self.now.uses.items (omega (arith, c.len-index.ensures, c.args.self.now.uses.ok.0)) c.requires.waiting.hold
+pub returns-then-wants-clause-hold : goal.returns-then-wants-clause-hold
+returns-then-wants-clause-hold g c = c.queue_use.ensures.hold c.args.self.now.uses.items (omega (arith, c.len-index.ensures, c.args.self.now.uses.ok.0)) c.requires.waiting.hold
 
-pub returns-else-is_open-clause-hold : goal.returns-else-is_open-clause-hold
-returns-else-is_open-clause-hold g c = c.queue_use.ensures.hold c.args.self.now.uses.items (omega (arith, c.len-index.ensures, c.args.self.now.uses.ok.0)) c.requires.waiting.hold
+pub returns-else-wants-clause-hold : goal.returns-else-wants-clause-hold
+returns-else-wants-clause-hold g c = c.queue_use.ensures.hold c.args.self.now.uses.items (omega (arith, c.len-index.ensures, c.args.self.now.uses.ok.0)) c.requires.waiting.hold
+
+pub returns-then-wants-clause-limits : goal.returns-then-wants-clause-limits
+returns-then-wants-clause-limits g c = c.queue_use.ensures.limits c.args.self.now.uses.items (omega (arith, c.len-index.ensures, c.args.self.now.uses.ok.0)) c.requires.waiting.limits
+
+pub returns-else-wants-clause-limits : goal.returns-else-wants-clause-limits
+returns-else-wants-clause-limits g c = c.queue_use.ensures.limits c.args.self.now.uses.items (omega (arith, c.len-index.ensures, c.args.self.now.uses.ok.0)) c.requires.waiting.limits

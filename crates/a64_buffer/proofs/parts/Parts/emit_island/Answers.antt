@@ -1,15 +1,16 @@
-use Rattle.std.proofs.Common.{◌≡◌, length, get_or, vec_capacity, sym, ◌∙◌, ap, subst, arith}
+use Rattle.std.proofs.Common.{◌≡◌, get_or, sym, ◌∙◌, ap, subst, arith}
 use Rattle.a64_buffer.specs.Buffer.{end_of}
+use Rattle.a64_buffer.specs.Classes.{veneer_uses, weight_of}
 use Rattle.a64_buffer.specs.Chain.{labels_of, IsChained}
-use Rattle.a64_buffer.specs.Queues.{entries, HaveRoomFrom, AreWaiting}
+use Rattle.a64_buffer.specs.Queues.{IsSameQueue, AllHold, AreBurdens, AreWaiting}
 use Rattle.a64_buffer.specs.Islands.{HasIsland}
 use Rattle.a64_buffer.specs.Sound.{seen, IsWhole}
 use Rattle.a64_buffer.specs.Pieces.{begun}
-use Rattle.a64_buffer.specs.Steps.{MayWrite, Writes, ended}
+use Rattle.a64_buffer.specs.Steps.{MayWrite, Writes, stands_at, ended}
 use Rattle.a64_buffer.proofs.Writing.{may_write_on}
-use Rattle.a64_buffer.proofs.Islands.{may_begin, owed_short}
+use Rattle.a64_buffer.proofs.Islands.{may_begin}
 use Rattle.a64_buffer.proofs.Emitting.{sound_m, island_made}
-use Rattle.a64_buffer.proofs.Queued.{island_hold}
+use Rattle.a64_buffer.proofs.Queued.{stopped_closes, all_closed_hold, same_hold}
 use Rattle.a64_buffer.proofs.parts.Parts.emit_island.Goals as goal
 
 pub write_until-requires-clause-may : goal.write_until-requires-clause-may
@@ -24,6 +25,32 @@ promote-requires-clause-may g c =
     (subst (MayWrite g.K.MachInstLabelUse.kinds) (sym begun_is) (may_begin g.K.MachInstLabelUse.kinds g.met.K.MachInstLabelUse.lawful (seen c.args.self.now) c.requires.sound.whole c.requires.short))
     c.write_until.ensures.writes.writing
 
+pub reserve_queues-requires : goal.reserve_queues-requires
+reserve_queues-requires g c = record {
+  burdens = subst (λ us. AreBurdens g.K.MachInstLabelUse.kinds us c.reserve_all.new.self.burdens) (sym (ap (λ b. b.uses) c.in_ok-reserve_all.ensures.rest)) (subst (AreBurdens g.K.MachInstLabelUse.kinds c.args.self.now.uses.items) (sym c.in_ok-reserve_all.ensures.burdens) c.requires.sound.waiting.burdens);
+}
+
+pub begin_island-requires-clause-hold : goal.begin_island-requires-clause-hold
+begin_island-requires-clause-hold g c =
+    let same : seen c.reserve_queues.new.self ≡ seen c.args.self.now = ap (λ p. seen p) c.reserve_queues.ensures.rest ∙ c.in_ok-reserve_all.ensures.rest in
+    subst (λ us. AllHold g.K.MachInstLabelUse.kinds us c.reserve_queues.new.self.queues) (sym (ap (λ b. b.uses) same))
+    (same_hold g.K.MachInstLabelUse.kinds c.args.self.now.uses.items c.args.self.now.queues c.reserve_queues.new.self.queues
+    (λ rank q. subst (λ qs. IsSameQueue (get_or qs rank q) (get_or c.reserve_queues.new.self.queues rank q)) c.in_ok-reserve_all.ensures.queues (c.reserve_queues.ensures.kept rank q))
+    c.requires.sound.waiting.hold)
+
+pub begin_island-requires-clause-burdens : goal.begin_island-requires-clause-burdens
+begin_island-requires-clause-burdens g c =
+    subst (λ p. AreBurdens g.K.MachInstLabelUse.kinds p.uses.items p.burdens) (sym c.reserve_queues.ensures.rest)
+    (subst (λ us. AreBurdens g.K.MachInstLabelUse.kinds us c.reserve_all.new.self.burdens) (sym (ap (λ b. b.uses) c.in_ok-reserve_all.ensures.rest)) (subst (AreBurdens g.K.MachInstLabelUse.kinds c.args.self.now.uses.items) (sym c.in_ok-reserve_all.ensures.burdens) c.requires.sound.waiting.burdens))
+
+pub begin_island-requires-clause-few : goal.begin_island-requires-clause-few
+begin_island-requires-clause-few g c = omega (arith, ap (λ p. p.burdens.third) c.reserve_queues.ensures.rest, ap (λ b. b.third) c.in_ok-reserve_all.ensures.burdens, c.requires.sound.waiting.burdens.third_is, c.requires.short)
+
+pub begin_island-requires-clause-queued : goal.begin_island-requires-clause-queued
+begin_island-requires-clause-queued g c =
+    let weight : weight_of g.K.MachInstLabelUse.kinds veneer_uses c.reserve_queues.new.self.uses.items ≡ weight_of g.K.MachInstLabelUse.kinds veneer_uses c.reserve_all.new.self.uses.items = ap (λ p. weight_of g.K.MachInstLabelUse.kinds veneer_uses p.uses.items) c.reserve_queues.ensures.rest in
+    λ rank q l. omega (arith, c.in_ok-reserve_queues.ensures.ok rank q l, weight)
+
 pub await_island-requires : goal.await_island-requires
 await_island-requires g c =
     let same : seen c.reserve_queues.new.self ≡ seen c.args.self.now = ap (λ p. seen p) c.reserve_queues.ensures.rest ∙ c.in_ok-reserve_all.ensures.rest in
@@ -31,18 +58,11 @@ await_island-requires g c =
     let near = subst (λ b. Writes g.K.MachInstLabelUse.kinds 4 b (seen c.write_until.new.self)) begun_is c.write_until.ensures.writes in
     let apart = (sound_m g.K.MachInstLabelUse.kinds g.met.K.MachInstLabelUse.lawful c.args.distance c.args.force (seen c.args.self.now) (seen c.write_until.new.self) (seen c.promote.new.self) c.requires.sound.whole c.requires.short near c.promote.ensures.promotes).apart in
     let ended_is : seen c.end_island.new.self ≡ ended (end_of (seen c.args.self.now)) (seen c.promote.new.self) = c.end_island.ensures.ended apart ∙ ap (λ start. ended start (seen c.promote.new.self)) (c.end-start.ensures ∙ ap end_of same) in
-    let made = island_made g.K.MachInstLabelUse.kinds g.met.K.MachInstLabelUse.lawful c.args.distance c.args.force (seen c.args.self.now) (seen c.write_until.new.self) (seen c.promote.new.self) c.requires.sound.whole c.requires.short near c.promote.ensures.promotes in
-    let queues = c.end_island.ensures.queues ∙ (c.promote.ensures.room.queues ∙ (c.write_until.ensures.room.queues ∙ c.begin_island.ensures.room.queues)) in
-    let capacity = c.end_island.ensures.capacity ∙ (c.promote.ensures.room.uses ∙ (c.write_until.ensures.room.uses ∙ (c.begin_island.ensures.room.uses ∙ ap (λ p. vec_capacity p.uses) c.reserve_queues.ensures.rest))) in
-    let at : c.len-index.result ≡ length c.args.self.now.uses.items = omega (arith, c.len-index.ensures, c.reserve_queues.new.self.uses.ok.0, ap (λ b. length b.uses) same) in
-    let before : length c.reserve_all.new.self.uses.items ≡ length c.args.self.now.uses.items = ap (λ b. length b.uses) c.in_ok-reserve_all.ensures.rest in
+    let closes = stopped_closes g.K.MachInstLabelUse.kinds (stands_at (end_of (seen c.args.self.now))) (end_of (seen c.promote.new.self)) c.promote.new.self.uses.items in
     record {
-      from = omega (arith, at, made.later.count, ap (λ b. length b.uses) ended_is);
-      hold = island_hold g.K.MachInstLabelUse.kinds (seen c.args.self.now) (ended (end_of (seen c.args.self.now)) (seen c.promote.new.self)) c.end_island.new.self.uses.items c.len-index.result c.args.self.now.queues c.reserve_queues.new.self.queues c.end_island.new.self.queues c.requires.sound.waiting.hold
-          (λ rank q. c.reserve_queues.ensures.kept rank q ∙ ap (λ qs. entries (get_or qs rank q)) c.in_ok-reserve_all.ensures.queues)
-          queues made.later (ap (λ b. b.uses) ended_is) at;
-      room = subst (HaveRoomFrom c.len-index.result (vec_capacity c.end_island.new.self.uses)) (sym queues) (λ rank q l. omega (arith, c.in_ok-reserve_queues.ensures.ok rank q l, capacity, at, before));
-      few = owed_short g.K.MachInstLabelUse.kinds g.met.K.MachInstLabelUse.lawful (seen c.end_island.new.self) (subst (IsWhole g.K.MachInstLabelUse.kinds) (sym ended_is) made.whole);
+      hold = subst (AllHold g.K.MachInstLabelUse.kinds c.end_island.new.self.uses.items) (sym c.end_island.ensures.queues)
+          (subst (λ us. AllHold g.K.MachInstLabelUse.kinds us c.promote.new.self.queues) (sym (ap (λ b. b.uses) ended_is)) (all_closed_hold g.K.MachInstLabelUse.kinds c.promote.new.self.uses.items _ c.promote.new.self.queues closes c.promote.ensures.hold));
+      burdens = c.end_island.ensures.burdens;
     }
 
 pub returns-clause-sound : goal.returns-clause-sound

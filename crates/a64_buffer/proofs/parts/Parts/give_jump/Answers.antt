@@ -1,4 +1,4 @@
-use Rattle.std.proofs.Common.{◌≡◌, ◌++◌, ◌∷◌, [], get_or, map, sym, ◌∙◌, ap, subst}
+use Rattle.std.proofs.Common.{◌≡◌, ◌++◌, ◌∷◌, [], get_or, map, sym, ◌∙◌, ap, subst, arith}
 use Rattle.std.specs.Prelude.{IfSome, IsSome}
 use Rattle.std.specs.FinMap.{get}
 use Rattle.std.proofs.lemmas.List.{get_or_default, append-nil}
@@ -12,6 +12,9 @@ pub push_use-requires-clause-known : goal.push_use-requires-clause-known
 push_use-requires-clause-known g c =
     subst (λ p. IfSome (label_of c.index.result.now.target) (λ label. IsSome (get p.heads label))) (sym c.stop_at.ensures.rest)
     (has_head c.args.self.now.uses.items c.args.self.now.earlier.items c.args.self.now.heads c.args.index c.index.result.now c.requires.chained c.requires.within c.index.ensures)
+
+pub push_use-requires-clause-few : goal.push_use-requires-clause-few
+push_use-requires-clause-few g c = omega (arith, c.requires.few, c.stop_at.ensures.less)
 
 pub returns-clause-gives : goal.returns-clause-gives
 returns-clause-gives g c = λ d apart.

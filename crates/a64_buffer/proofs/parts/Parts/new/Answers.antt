@@ -11,5 +11,5 @@ pub returns-clause-sound : goal.returns-clause-sound
 returns-clause-sound g c = record {
   whole = subst (IsWhole g.K.MachInstLabelUse.kinds) (sym (same_buffer _ _ _ _ _ _ _ _ _ _ _ _ c.new.ensures.items c.new-2.ensures.items c.new-3.ensures c.new-6.ensures.items c.new-7.ensures.items refl)) (whole_empty g.K.MachInstLabelUse.kinds c.args.constants.now);
   chained = chained_empty _ _ _ (ap labels_of c.new-2.ensures.items) c.new-4.ensures.items c.new-5.ensures;
-  waiting = none_waits g.K.MachInstLabelUse.kinds _ _ _ c.new-2.ensures.items c.no_queues.ensures.none c.no_queues.ensures.order refl;
+  waiting = none_waits g.K.MachInstLabelUse.kinds _ _ _ c.new-2.ensures.items c.no_queues.ensures.none c.no_queues.ensures.order c.no_queues.ensures.next c.no_queues.ensures.limit refl;
 }

@@ -1,4 +1,4 @@
-use Rattle.std.proofs.Common.{◌≡◌, ◌+◌, ◌*◌, ◌≤◌, ◌∙◌, length, vec_capacity, ap, arith}
+use Rattle.std.proofs.Common.{◌≡◌, ◌+◌, ◌*◌, ◌≤◌, length, vec_capacity, ap, arith}
 use Rattle.std.proofs.lemmas.List.{length-map}
 use Rattle.a64_buffer.specs.declared.site.Use.{Use}
 use Rattle.a64_buffer.specs.Buffer.{label_of}
@@ -8,7 +8,7 @@ use Rattle.a64_buffer.proofs.parts.Parts.reserve_all.Goals as goal
 
 pub returns-clause-ok : goal.returns-clause-ok
 returns-clause-ok g c =
-    let owed_is : c.sum_burdens-owed.result.third ≡ burden g.K.MachInstLabelUse.kinds third c.args.self.now.uses.items = c.sum_burdens-owed.ensures.third ∙ ap (burden g.K.MachInstLabelUse.kinds third) c.deref.ensures.value in
+    let owed_is : c.args.self.now.burdens.third ≡ burden g.K.MachInstLabelUse.kinds third c.args.self.now.uses.items = c.requires.burdens.third_is in
     let uses_now = c.in_ok-reserve-2.ensures.items in
     let words : 4 * length c.reserve.new.self.items + burden g.K.MachInstLabelUse.kinds third c.reserve-2.new.self.items + 4 ≤ 4 * vec_capacity c.reserve.new.self = omega (arith, owed_is, c.in_ok-reserve.ensures.ok, c.in_ok-reserve.ensures.len, ap length c.in_ok-reserve.ensures.items, c.args.self.now.words.ok.0, ap (burden g.K.MachInstLabelUse.kinds third) uses_now) in
     let uses : length c.reserve-2.new.self.items + weight_of g.K.MachInstLabelUse.kinds veneer_uses c.reserve-2.new.self.items + 1 ≤ vec_capacity c.reserve-2.new.self = omega (arith, owed_is, c.in_ok-reserve-2.ensures.ok, c.in_ok-reserve-2.ensures.len, ap length uses_now, c.args.self.now.uses.ok.0, ap (weight_of g.K.MachInstLabelUse.kinds veneer_uses) uses_now, few_uses g.K.MachInstLabelUse.kinds c.args.self.now.uses.items) in

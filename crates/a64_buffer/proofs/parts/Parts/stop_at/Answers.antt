@@ -1,8 +1,39 @@
+use Rattle.std.proofs.Common.{◌≡◌, ◌+◌, List, Some, set, refl, arith}
+use Rattle.a64_buffer.specs.declared.site.Use.{Use}
+use Rattle.a64_buffer.specs.Classes.{first, second, third, cost, burden}
+use Rattle.a64_buffer.proofs.Queued.{stopped_closed}
+use Rattle.a64_buffer.proofs.Burdens.{stop_burden, stopped_burdens}
 use Rattle.a64_buffer.proofs.Stops.{set_is_map, set_labels}
 use Rattle.a64_buffer.proofs.parts.Parts.stop_at.Goals as goal
 
 pub returns-clause-uses : goal.returns-clause-uses
-returns-clause-uses g c = λ d apart. set_is_map c.args.self.now.uses.items c.args.index c.args.place c.index_mut.result.now d apart c.requires c.index_mut.ensures.value
+returns-clause-uses g c = λ d apart. set_is_map c.args.self.now.uses.items c.args.index c.args.place c.index_mut.result.now d apart c.requires.index c.index_mut.ensures.value
 
 pub returns-clause-labels : goal.returns-clause-labels
-returns-clause-labels g c = set_labels c.args.self.now.uses.items c.args.index c.args.place c.index_mut.result.now c.requires c.index_mut.ensures.value
+returns-clause-labels g c = set_labels c.args.self.now.uses.items c.args.index c.args.place c.index_mut.result.now c.requires.index c.index_mut.ensures.value
+
+pub lose-requires-clause-first : goal.lose-requires-clause-first
+lose-requires-clause-first g c =
+    let us : List (Use g.row.K.Denot) = c.args.self.now.uses.items in
+    let v : Use g.row.K.Denot = record c.index.result.now { stop = Some c.args.place } in
+    let paid : burden g.K.MachInstLabelUse.kinds first (set us c.args.index v) + cost first c.waiting_class-class.result ≡ burden g.K.MachInstLabelUse.kinds first us = stop_burden g.K.MachInstLabelUse.kinds first us c.args.index c.index.result.now v c.waiting_class-class.result c.requires.index c.index.ensures c.waiting_class-class.ensures (stopped_closed g.K.MachInstLabelUse.kinds v refl) in
+    omega (arith, paid, c.requires.burdens.first_is)
+
+pub lose-requires-clause-second : goal.lose-requires-clause-second
+lose-requires-clause-second g c =
+    let us : List (Use g.row.K.Denot) = c.args.self.now.uses.items in
+    let v : Use g.row.K.Denot = record c.index.result.now { stop = Some c.args.place } in
+    let paid : burden g.K.MachInstLabelUse.kinds second (set us c.args.index v) + cost second c.waiting_class-class.result ≡ burden g.K.MachInstLabelUse.kinds second us = stop_burden g.K.MachInstLabelUse.kinds second us c.args.index c.index.result.now v c.waiting_class-class.result c.requires.index c.index.ensures c.waiting_class-class.ensures (stopped_closed g.K.MachInstLabelUse.kinds v refl) in
+    omega (arith, paid, c.requires.burdens.second_is)
+
+pub lose-requires-clause-third : goal.lose-requires-clause-third
+lose-requires-clause-third g c =
+    let us : List (Use g.row.K.Denot) = c.args.self.now.uses.items in
+    let v : Use g.row.K.Denot = record c.index.result.now { stop = Some c.args.place } in
+    let paid : burden g.K.MachInstLabelUse.kinds third (set us c.args.index v) + cost third c.waiting_class-class.result ≡ burden g.K.MachInstLabelUse.kinds third us = stop_burden g.K.MachInstLabelUse.kinds third us c.args.index c.index.result.now v c.waiting_class-class.result c.requires.index c.index.ensures c.waiting_class-class.ensures (stopped_closed g.K.MachInstLabelUse.kinds v refl) in
+    omega (arith, paid, c.requires.burdens.third_is)
+
+pub returns-clause-burdens : goal.returns-clause-burdens
+returns-clause-burdens g c =
+    let v : Use g.row.K.Denot = record c.index_mut.result.now { stop = Some c.args.place } in
+    stopped_burdens g.K.MachInstLabelUse.kinds c.args.self.now.uses.items c.args.index c.index.result.now v c.waiting_class-class.result c.args.self.now.burdens c.lose.new.self c.requires.index c.index.ensures c.waiting_class-class.ensures (stopped_closed g.K.MachInstLabelUse.kinds v refl) c.requires.burdens c.lose.ensures.first c.lose.ensures.second c.lose.ensures.third

@@ -2,6 +2,8 @@ use Rattle.std.proofs.Common.{None}
 use Rattle.a64_buffer.specs.declared.site.Target.TheVariants.{IslandEnd}
 use Rattle.a64_buffer.specs.declared.site.Use.{Use}
 use Rattle.a64_buffer.specs.Sound.{seen}
+use Rattle.a64_buffer.specs.Steps.{everywhere}
+use Rattle.a64_buffer.proofs.Reaching.{placed_low}
 use Rattle.a64_buffer.proofs.Writing.{writing_none, ready_next, writing_next, space_after, less_owed, same_room_none, same_room_trans}
 use Rattle.a64_buffer.proofs.parts.Parts.write_until.Goals as goal
 
@@ -11,24 +13,33 @@ loop-index-init g c = record {
   space = c.requires.space;
   chained = c.requires.chained;
   room = same_room_none c.args.self.now;
+  burdens = c.requires.burdens;
+  hold = c.requires.hold;
+  limits = c.requires.limits;
+  queued = c.requires.queued;
 }
 
-pub give-requires : goal.give-requires
-give-requires g c = record {
-  ready = ready_next g.K.MachInstLabelUse.kinds c.args.limit c.requires.limit c.args.self.now c.loop-index.self c.requires.may c.loop-index.invariant.writing c.in-Some.index c.in-Some.ensures c.loop-index.invariant.space c.loop-index.invariant.chained;
-}
+pub next_open-requires-clause-low : goal.next_open-requires-clause-low
+next_open-requires-clause-low g c = placed_low g.K.MachInstLabelUse.kinds (seen c.loop-index.self) everywhere c.loop-index.invariant.writing.sound
+
+pub serve-requires-clause-ready : goal.serve-requires-clause-ready
+serve-requires-clause-ready g c = ready_next g.K.MachInstLabelUse.kinds c.args.limit c.requires.limit c.args.self.now c.loop-index.self c.requires.may c.loop-index.invariant.writing c.in-Some.index c.in-Some.ensures c.loop-index.invariant.space c.loop-index.invariant.chained
 
 pub loop-index-smaller : goal.loop-index-smaller
 loop-index-smaller g c =
     let d : Use g.row.K.Denot = record { offset = 0; target = IslandEnd; kind = g.K.MachInstLabelUse.kinds.jump; stop = None } in
-    less_owed g.K.MachInstLabelUse.kinds c.loop-index.self c.give.new.self _ (c.give.ensures.gives d)
+    less_owed g.K.MachInstLabelUse.kinds c.loop-index.self c.serve.new.self _ (c.serve.ensures.gives d)
 
 pub loop-index-preserved : goal.loop-index-preserved
 loop-index-preserved g c =
     let d : Use g.row.K.Denot = record { offset = 0; target = IslandEnd; kind = g.K.MachInstLabelUse.kinds.jump; stop = None } in
     record {
-      writing = writing_next g.K.MachInstLabelUse.kinds c.args.limit c.requires.limit c.args.self.now c.loop-index.self c.requires.may c.loop-index.invariant.writing c.in-Some.index c.in-Some.ensures d c.give.new.self (c.give.ensures.gives d);
-      space = space_after g.K.MachInstLabelUse.kinds c.loop-index.self c.give.new.self _ c.loop-index.invariant.space c.give.ensures.room (c.give.ensures.gives d);
-      chained = c.give.ensures.chained;
-      room = same_room_trans c.args.self.now c.loop-index.self c.give.new.self c.loop-index.invariant.room c.give.ensures.room;
+      writing = writing_next g.K.MachInstLabelUse.kinds c.args.limit c.requires.limit c.args.self.now c.loop-index.self c.requires.may c.loop-index.invariant.writing c.in-Some.index c.in-Some.ensures d c.serve.new.self (c.serve.ensures.gives d);
+      space = space_after g.K.MachInstLabelUse.kinds c.loop-index.self c.serve.new.self _ c.loop-index.invariant.space c.serve.ensures.room (c.serve.ensures.gives d);
+      chained = c.serve.ensures.chained;
+      room = same_room_trans c.args.self.now c.loop-index.self c.serve.new.self c.loop-index.invariant.room c.serve.ensures.room;
+      burdens = c.serve.ensures.burdens;
+      hold = c.serve.ensures.hold;
+      limits = c.serve.ensures.limits;
+      queued = c.serve.ensures.queued;
     }

@@ -1,4 +1,5 @@
-use Rattle.a64_buffer.specs.Classes.{owed}
+use Rattle.a64_buffer.specs.Classes.{veneer_uses, weight_of, owed}
+use Rattle.a64_buffer.specs.Queues.{HaveRoomFor, AllHold, AllLimits, AreBurdens}
 use Rattle.a64_buffer.specs.Chain.{labels_of, IsChained}
 use Rattle.a64_buffer.specs.Sound.{seen}
 use Rattle.a64_buffer.specs.Space.{SameRoom, HasSpace}
@@ -11,6 +12,10 @@ invariant-loop-index g l = record {
   space : HasSpace g.K.MachInstLabelUse.kinds l.self;
   chained : IsChained (labels_of l.self.uses.items) l.self.earlier.items l.self.heads;
   room : SameRoom l.fn.self l.self;
+  burdens : AreBurdens g.K.MachInstLabelUse.kinds l.self.uses.items l.self.burdens;
+  hold : AllHold g.K.MachInstLabelUse.kinds l.self.uses.items l.self.queues;
+  limits : AllLimits g.K.MachInstLabelUse.kinds l.self.uses.items l.self.queues;
+  queued : HaveRoomFor (weight_of g.K.MachInstLabelUse.kinds veneer_uses l.self.uses.items) l.self.queues;
 }
 
 -- each use that is given something lessens what is owed

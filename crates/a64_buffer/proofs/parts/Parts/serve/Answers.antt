@@ -1,0 +1,61 @@
+use Rattle.std.proofs.Common.{◌≡◌, ◌-◌, None, length, refl, sym, ◌∙◌, ap, subst, arith, vec_capacity, get_or}
+use Rattle.a64_buffer.specs.declared.site.Target.TheVariants.{IslandEnd}
+use Rattle.a64_buffer.specs.declared.site.Use.{Use}
+use Rattle.a64_buffer.specs.Classes.{class, veneer_uses, weight_of}
+use Rattle.a64_buffer.specs.Chain.{labels_of, IsChained}
+use Rattle.a64_buffer.specs.Queues.{HaveRoomFor, LoseRoom, AllHold, AllLimits, AreBurdens}
+use Rattle.a64_buffer.specs.Sound.{seen}
+use Rattle.a64_buffer.specs.Steps.{GivesAll}
+use Rattle.a64_buffer.proofs.Queued.{island_hold}
+use Rattle.a64_buffer.proofs.parts.Parts.serve.Goals as goal
+
+pub queue_new-requires-clause-from : goal.queue_new-requires-clause-from
+queue_new-requires-clause-from g c =
+    let d : Use g.row.K.Denot = record { offset = 0; target = IslandEnd; kind = g.K.MachInstLabelUse.kinds.jump; stop = None } in
+    omega (arith, c.len-from.ensures, c.args.self.now.uses.ok.0, (c.give.ensures.gives d).given.part.later.count)
+
+pub queue_new-requires-clause-hold : goal.queue_new-requires-clause-hold
+queue_new-requires-clause-hold g c =
+    let d : Use g.row.K.Denot = record { offset = 0; target = IslandEnd; kind = g.K.MachInstLabelUse.kinds.jump; stop = None } in
+    island_hold g.K.MachInstLabelUse.kinds (seen c.args.self.now) (seen c.give.new.self) c.give.new.self.uses.items c.len-from.result c.args.self.now.queues c.args.self.now.queues c.give.new.self.queues c.requires.hold
+    (λ rank q. record { limit = refl; first = refl; most = refl; next = refl; entries' = refl })
+    c.give.ensures.queues (c.give.ensures.gives d).given.part.later refl (omega (arith, c.len-from.ensures, c.args.self.now.uses.ok.0))
+
+pub queue_new-requires-clause-room : goal.queue_new-requires-clause-room
+queue_new-requires-clause-room g c =
+    let d : Use g.row.K.Denot = record { offset = 0; target = IslandEnd; kind = g.K.MachInstLabelUse.kinds.jump; stop = None } in
+    let at : c.len-from.result ≡ length c.args.self.now.uses.items = omega (arith, c.len-from.ensures, c.args.self.now.uses.ok.0) in
+    subst (HaveRoomFor (length c.give.new.self.uses.items - c.len-from.result)) (sym c.give.ensures.queues)
+    (λ rank q l. omega (arith, c.requires.queued rank q l, (c.give.ensures.gives d).given.uses, at))
+
+pub returns-clause-gives : goal.returns-clause-gives
+returns-clause-gives g c = λ d. subst (GivesAll g.K.MachInstLabelUse.kinds (class g.K.MachInstLabelUse.kinds (get_or c.args.self.now.uses.items c.args.index d)) (seen c.args.self.now)) (sym (ap (λ p. seen p) c.queue_new.ensures.rest)) (c.give.ensures.gives d)
+
+pub returns-clause-chained : goal.returns-clause-chained
+returns-clause-chained g c = subst (λ p. IsChained (labels_of p.uses.items) p.earlier.items p.heads) (sym c.queue_new.ensures.rest) c.give.ensures.chained
+
+pub returns-clause-room : goal.returns-clause-room
+returns-clause-room g c = record {
+  words = ap (λ p. vec_capacity p.words) c.queue_new.ensures.rest ∙ c.give.ensures.room.words;
+  uses = ap (λ p. vec_capacity p.uses) c.queue_new.ensures.rest ∙ c.give.ensures.room.uses;
+  earlier = ap (λ p. vec_capacity p.earlier) c.queue_new.ensures.rest ∙ c.give.ensures.room.earlier;
+  traps = ap (λ p. vec_capacity p.traps) c.queue_new.ensures.rest ∙ c.give.ensures.room.traps;
+  islands = ap (λ p. vec_capacity p.islands) c.queue_new.ensures.rest ∙ c.give.ensures.room.islands;
+}
+
+pub returns-clause-hold : goal.returns-clause-hold
+returns-clause-hold g c = subst (λ us. AllHold g.K.MachInstLabelUse.kinds us c.queue_new.new.self.queues) (sym (ap (λ p. p.uses.items) c.queue_new.ensures.rest)) c.queue_new.ensures.hold
+
+pub returns-clause-limits : goal.returns-clause-limits
+returns-clause-limits g c = subst (λ us. AllLimits g.K.MachInstLabelUse.kinds us c.queue_new.new.self.queues) (sym (ap (λ p. p.uses.items) c.queue_new.ensures.rest)) c.queue_new.ensures.limits
+
+pub returns-clause-queued : goal.returns-clause-queued
+returns-clause-queued g c =
+    let d : Use g.row.K.Denot = record { offset = 0; target = IslandEnd; kind = g.K.MachInstLabelUse.kinds.jump; stop = None } in
+    let at : c.len-from.result ≡ length c.args.self.now.uses.items = omega (arith, c.len-from.ensures, c.args.self.now.uses.ok.0) in
+    let lost : LoseRoom (length c.give.new.self.uses.items - c.len-from.result) c.args.self.now.queues c.queue_new.new.self.queues = subst (λ qs. LoseRoom (length c.give.new.self.uses.items - c.len-from.result) qs c.queue_new.new.self.queues) c.give.ensures.queues c.queue_new.ensures.room in
+    let weight : weight_of g.K.MachInstLabelUse.kinds veneer_uses c.queue_new.new.self.uses.items ≡ weight_of g.K.MachInstLabelUse.kinds veneer_uses c.give.new.self.uses.items = ap (λ p. weight_of g.K.MachInstLabelUse.kinds veneer_uses p.uses.items) c.queue_new.ensures.rest in
+    λ rank q l. omega (arith, c.requires.queued rank q l, lost rank q l, (c.give.ensures.gives d).given.uses, (c.give.ensures.gives d).given.part.later.count, at, weight)
+
+pub returns-clause-burdens : goal.returns-clause-burdens
+returns-clause-burdens g c = subst (λ p. AreBurdens g.K.MachInstLabelUse.kinds p.uses.items p.burdens) (sym c.queue_new.ensures.rest) c.give.ensures.burdens
