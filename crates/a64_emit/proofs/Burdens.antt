@@ -1,18 +1,11 @@
 -- What uses may want of islands, by what the items with these uses may want.
-use Rattle.std.proofs.Common.{ℕ, ◌≡◌, ◌+◌, ◌*◌, ◌^◌, ◌≤◌, ◌⊎◌, inl, inr, Bool, true, false, cond, List, [], ◌∷◌, ◌++◌, length, Option, None, Some, refl, sym, subst, arith, nat_cmp}
+use Rattle.std.proofs.Common.{ℕ, ◌≡◌, ◌+◌, ◌*◌, ◌≤◌, ◌⊎◌, inl, inr, Bool, true, false, cond, List, [], ◌∷◌, ◌++◌, length, Option, None, Some, refl, sym, subst, arith, nat_cmp}
 use Rattle.std.specs.Prelude.{All, ◌&&◌, is_none}
 use Rattle.std.specs.List.{cons_option}
 use Rattle.std.specs.FinMap.{FinMap}
-use Rattle.std.proofs.lemmas.List.Elements.{All-append, All-push, filter_map-append}
-use Rattle.a64_base.specs.declared.target.BranchTarget.TheVariants as branch_targets
+use Rattle.std.proofs.lemmas.List.Elements.{All-append, filter_map-append}
 use Rattle.a64_inst.specs.declared.emission.EmitFlags.{EmitFlags}
 use Rattle.a64_inst.specs.declared.frame.FrameLayout.{FrameLayout}
-use Rattle.a64_base.specs.declared.ir_type.IrType.TheVariants.{I8}
-use Rattle.a64_inst.specs.declared.access.Access.{Access}
-use Rattle.a64_inst.specs.Accesses.{access_of}
-use Rattle.a64_inst.specs.FinalModes.{final_mode, final_steps}
-use Rattle.a64_inst.specs.declared.inst.Inst.{Inst}
-use Rattle.a64_inst.specs.declared.inst.Inst.TheVariants as insts
 use Rattle.a64_inst.specs.declared.item.Item.{Item}
 use Rattle.a64_inst.specs.declared.item.Item.TheVariants.{Bind, Emit}
 use Rattle.a64_buffer.specs.declared.site.Use.{Use}
@@ -25,11 +18,10 @@ use Rattle.a64_buffer.proofs.Costs.{weight-cons}
 use Rattle.a64_emit.specs.declared.label_use.LabelUse.{LabelUse}
 use Rattle.a64_emit.specs.declared.label_use.LabelUse.TheVariants as uses
 use Rattle.a64_emit.specs.declared.site.Site.{Site}
-use Rattle.a64_emit.specs.LabelUses.{label_kinds, forward_range, has_veneer}
-use Rattle.a64_emit.specs.MemoryForms.{step_forms, offset_register, access_steps, access_form}
-use Rattle.a64_emit.specs.Cells.{Cell, shape_cells, access_shape, other_shape, inst_cells, cells_of, all_cells, sites_of}
+use Rattle.a64_emit.specs.LabelUses.{label_kinds, forward_range}
+use Rattle.a64_emit.specs.Cells.{Cell, cells_of, all_cells, sites_of}
 use Rattle.a64_emit.specs.Bounds.{veneer_range, ranges_in, charge_of}
-use Rattle.a64_emit.proofs.Several.{several_sites, address_sites}
+use Rattle.a64_emit.proofs.Labelled.{IsLabelSite, inst_labels}
 use Rattle.a64_emit.specs.Emission.{use_at, uses_from, site_of, IsOneOf}
 
 -- ---- what a use may want
@@ -89,36 +81,13 @@ open_range u = go u.target u.kind (is_none u.stop)
 
 -- ---- the uses that exist are of labels
 
--- a kind whose uses may want veneers, or reach as far as code can be addressed
-abbrev pub IsFarKind : LabelUse → Type 0
-IsFarKind kind = (has_veneer kind ≡ true) ⊎ (forward_range kind + 1 ≡ 2 ^ 31)
-
--- a use of a label, of such a kind
-abbrev pub IsLabelSite : Site → Type 0
-IsLabelSite site = (label : ℕ) × (label_of site.target ≡ Some label) × IsFarKind site.kind
-
 module _ (frame : FrameLayout) (flags : EmitFlags) where
   no_sites : All IsLabelSite []
   no_sites k d w = absurd (omega arith)
 
-  other_labels : (inst : Inst) → All IsLabelSite (sites_of (shape_cells (other_shape frame flags inst)))
-  other_labels (insts.Jump (branch_targets.Label label)) = All-push IsLabelSite [] (record { kind = uses.Branch26; target = Label label }) no_sites (label.0, refl, inl refl)
-  other_labels (insts.Jump (branch_targets.ResolvedOffset offset)) = no_sites
-  other_labels (insts.LoadAddr rd mem) = subst (All IsLabelSite) (sym (address_sites rd (step_forms offset_register (final_steps frame I8 mem)) (final_mode frame I8 mem))) no_sites
-  other_labels _ = no_sites
-
-  inst_labels : (inst : Inst) → All IsLabelSite (sites_of (inst_cells frame flags inst))
-  inst_labels inst = go (access_of inst) refl
-    where
-      go : (o : Option Access) → access_of inst ≡ o → All IsLabelSite (sites_of (inst_cells frame flags inst))
-      go None e = subst (λ o. All IsLabelSite (sites_of (shape_cells (elim o [ None ↦ other_shape frame flags inst | Some access ↦ access_shape frame access ])))) (sym e) (other_labels inst)
-      go (Some access) e =
-          subst (λ o. All IsLabelSite (sites_of (shape_cells (elim o [ None ↦ other_shape frame flags inst | Some a ↦ access_shape frame a ])))) (sym e)
-          (subst (All IsLabelSite) (sym (several_sites (access_steps frame access) (access_form frame access) access.flags)) no_sites)
-
   item_labels : (item : Item) → All IsLabelSite (sites_of (cells_of frame flags item))
   item_labels (Bind label) = no_sites
-  item_labels (Emit inst kept) = inst_labels inst
+  item_labels (Emit inst kept) = inst_labels frame flags inst
 
   pub all_labels : (items : List Item) → All IsLabelSite (sites_of (all_cells frame flags items))
   all_labels [] = no_sites
@@ -130,10 +99,7 @@ module _ (frame : FrameLayout) (flags : EmitFlags) where
   buffer_label items end u one = subst IsLabelSite (one.is (site_of u).1) (all_labels items one.index (site_of u).1 one.within)
 
   pub use_labelled : (items : List Item) (end : ℕ) (u : Use LabelUse) → IsOneOf end (sites_of (all_cells frame flags items)) u → (label : ℕ) × (label_of u.target ≡ Some label)
-  use_labelled items end u one = let is = buffer_label items end u one in (is.0, is.1)
-
-  pub use_far : (items : List Item) (end : ℕ) (u : Use LabelUse) → IsOneOf end (sites_of (all_cells frame flags items)) u → IsFarKind u.kind
-  use_far items end u one = let is = buffer_label items end u one in is.2
+  use_labelled items end u one = buffer_label items end u one
 
 -- a use of a label may be of any kind
 pub label_kinded : (t : Target) (kind : LabelUse) → (label : ℕ) × (label_of t ≡ Some label) → IsKinded label_kinds t kind

@@ -20,10 +20,11 @@ use Rattle.a64_emit.specs.declared.error.EmitError.TheVariants.{LabelBoundTwice,
 use Rattle.a64_emit.specs.Cells.{all_cells}
 use Rattle.a64_emit.specs.Bounds.{growth_of, whole, shortest, least, lesser, ranges_in}
 use Rattle.a64_emit.specs.Faults.{own_fault, binding_of, bindings, is_among, first_repeat, first_missing, second_binding, unbound_use, used_labels, too_large, is_too_large, or_else, fault_of}
+use Rattle.a64_emit.specs.Reach.{out_of_reach}
 
 -- ---- no label is bound twice
 
-mapped_none : {A B : Type 0} (f : A → B) (o : Option A) → option_map f o ≡ None → o ≡ None
+pub mapped_none : {A B : Type 0} (f : A → B) (o : Option A) → option_map f o ≡ None → o ≡ None
 mapped_none f None e = refl
 mapped_none f (Some x) e = absurd cc
 
@@ -98,11 +99,11 @@ missing_none bound (l ∷ ls) (suc k) d e h = missing_none bound ls k d (case (i
 
 -- ---- the code is small
 
-neither : (a b : Bool) → (a || b) ≡ false → (a ≡ false) × (b ≡ false)
+pub neither : (a b : Bool) → (a || b) ≡ false → (a ≡ false) × (b ≡ false)
 neither true b h = absurd cc
 neither false b h = (refl, h)
 
-not_le : (m n : ℕ) → nat_le m n ≡ false → n < m
+pub not_le : (m n : ℕ) → nat_le m n ≡ false → n < m
 not_le m n e = elim (cases_lt n m) [ inl lt ↦ lt | inr le ↦ absurd (false≢true (sym e ∙ le-leb m n le)) ]
 
 above : (y n : ℕ) → n < y → nat_le y n ≡ false
@@ -138,40 +139,52 @@ module _ (frame : FrameLayout) (flags : EmitFlags) (items : List Item) where
   pub addressable : too_large frame flags items ≡ None → whole frame flags items < 2 ^ 31
   addressable none = not_le (2 ^ 31) (whole frame flags items) (neither (nat_le (2 ^ 31) (whole frame flags items)) (option_map_or (λ range. nat_le range (whole frame flags items)) (shortest frame flags items) false) (small none)).0
 
-  -- and each range is longer than it
+  -- and the shortest range is longer than it
+  pub not_long : too_large frame flags items ≡ None → option_map_or (λ range. nat_le range (whole frame flags items)) (shortest frame flags items) false ≡ false
+  not_long none = (neither (nat_le (2 ^ 31) (whole frame flags items)) (option_map_or (λ range. nat_le range (whole frame flags items)) (shortest frame flags items) false) (small none)).1
+
+  -- and so is each range
   pub within_ranges : too_large frame flags items ≡ None → (k : ℕ) → k < length (ranges_in (all_cells frame flags items)) → whole frame flags items < get_or (ranges_in (all_cells frame flags items)) k 0
-  within_ranges none k h = below_all (ranges_in (all_cells frame flags items)) (whole frame flags items) (neither (nat_le (2 ^ 31) (whole frame flags items)) (option_map_or (λ range. nat_le range (whole frame flags items)) (shortest frame flags items) false) (small none)).1 k h
+  within_ranges none k h = below_all (ranges_in (all_cells frame flags items)) (whole frame flags items) (not_long none) k h
 
   -- the first items grow no longer than all
   pub first_in_whole : (n : ℕ) → whole frame flags (take n items) ≤ whole frame flags items
   first_in_whole n = sum_by-take-le (growth_of frame flags) items n
 
--- ---- the first fault, by the four checks
+-- ---- the first fault, by the five checks
 
 module _ (frame : FrameLayout) (flags : EmitFlags) (constants : FinMap nat_cmp (List ℕ)) (force : ForceVeneers) (items : List Item) where
-  -- the first fault of items without a fault of their own
-  abbrev later : Option EmitError
-  later = or_else (second_binding items) (or_else (unbound_use frame flags items) (too_large frame flags items))
+  -- the first fault of items whose uses are bound, whose labels are bound once, and without a fault of their own
+  abbrev of_size : Option EmitError
+  of_size = or_else (too_large frame flags items) (out_of_reach frame flags force items)
 
-  pub faultless : own_fault frame flags constants items ≡ None → second_binding items ≡ None → unbound_use frame flags items ≡ None → too_large frame flags items ≡ None → fault_of frame flags constants force items ≡ None
-  faultless own a b c =
-      ap (λ o. or_else o later) own
-      ∙ ap (λ o. or_else o (or_else (unbound_use frame flags items) (too_large frame flags items))) a ∙ ap (λ o. or_else o (too_large frame flags items)) b ∙ c
+  abbrev of_uses : Option EmitError
+  of_uses = or_else (unbound_use frame flags items) of_size
+
+  abbrev of_bindings : Option EmitError
+  of_bindings = or_else (second_binding items) of_uses
+
+  after_item : own_fault frame flags constants items ≡ None → fault_of frame flags constants force items ≡ of_bindings
+  after_item own = ap (λ o. or_else o of_bindings) own
+
+  after_binding : own_fault frame flags constants items ≡ None → second_binding items ≡ None → fault_of frame flags constants force items ≡ of_uses
+  after_binding own a = after_item own ∙ ap (λ o. or_else o of_uses) a
+
+  after_use : own_fault frame flags constants items ≡ None → second_binding items ≡ None → unbound_use frame flags items ≡ None → fault_of frame flags constants force items ≡ of_size
+  after_use own a b = after_binding own a ∙ ap (λ o. or_else o of_size) b
 
   pub fault_at_item : (error : EmitError) → own_fault frame flags constants items ≡ Some error → fault_of frame flags constants force items ≡ Some error
-  fault_at_item error own = ap (λ o. or_else o later) own
+  fault_at_item error own = ap (λ o. or_else o of_bindings) own
 
   pub fault_at_binding : (error : EmitError) → own_fault frame flags constants items ≡ None → second_binding items ≡ Some error → fault_of frame flags constants force items ≡ Some error
-  fault_at_binding error own a =
-      ap (λ o. or_else o later) own
-      ∙ ap (λ o. or_else o (or_else (unbound_use frame flags items) (too_large frame flags items))) a
+  fault_at_binding error own a = after_item own ∙ ap (λ o. or_else o of_uses) a
 
   pub fault_at_use : (error : EmitError) → own_fault frame flags constants items ≡ None → second_binding items ≡ None → unbound_use frame flags items ≡ Some error → fault_of frame flags constants force items ≡ Some error
-  fault_at_use error own a b =
-      ap (λ o. or_else o later) own
-      ∙ ap (λ o. or_else o (or_else (unbound_use frame flags items) (too_large frame flags items))) a ∙ ap (λ o. or_else o (too_large frame flags items)) b
+  fault_at_use error own a b = after_binding own a ∙ ap (λ o. or_else o of_size) b
 
   pub fault_at_size : (error : EmitError) → own_fault frame flags constants items ≡ None → second_binding items ≡ None → unbound_use frame flags items ≡ None → too_large frame flags items ≡ Some error → fault_of frame flags constants force items ≡ Some error
-  fault_at_size error own a b c =
-      ap (λ o. or_else o later) own
-      ∙ ap (λ o. or_else o (or_else (unbound_use frame flags items) (too_large frame flags items))) a ∙ ap (λ o. or_else o (too_large frame flags items)) b ∙ c
+  fault_at_size error own a b c = after_use own a b ∙ ap (λ o. or_else o (out_of_reach frame flags force items)) c
+
+  -- the last check decides where the others find nothing
+  pub fault_at_reach : own_fault frame flags constants items ≡ None → second_binding items ≡ None → unbound_use frame flags items ≡ None → too_large frame flags items ≡ None → fault_of frame flags constants force items ≡ out_of_reach frame flags force items
+  fault_at_reach own a b c = after_use own a b ∙ ap (λ o. or_else o (out_of_reach frame flags force items)) c

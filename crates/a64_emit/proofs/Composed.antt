@@ -1,5 +1,5 @@
 -- From a finished buffer to code in which items are laid, and their uses lead.
-use Rattle.std.proofs.Common.{ℕ, ◌≡◌, ◌+◌, ◌*◌, ◌/◌, ◌<◌, ◌≤◌, ◌^◌, ◌⊎◌, if◌then◌else◌, List, [], ◌∷◌, ◌++◌, length, get_or, map, Option, None, Some, refl, sym, ap, ◌∙◌, subst, arith, inl, inr}
+use Rattle.std.proofs.Common.{ℕ, ◌≡◌, ◌+◌, ◌*◌, ◌/◌, ◌<◌, ◌≤◌, ◌^◌, ◌-◌, ◌⊎◌, if◌then◌else◌, true, List, [], ◌∷◌, ◌++◌, length, get_or, map, Option, None, Some, refl, sym, ap, ◌∙◌, subst, arith, inl, inr}
 use Rattle.std.specs.Prelude.{All, Contains, IfSome, IsSome, IsSomeAnd, MatchOption, ◌↔◌}
 use Rattle.std.specs.List.Sorted.{IsStrictlyIncreasing}
 use Rattle.std.specs.Ordering.{nat_cmp}
@@ -18,6 +18,7 @@ use Rattle.a64_buffer.specs.declared.site.Target.{Target}
 use Rattle.a64_buffer.specs.declared.site.Target.TheVariants.{Label, Constant, Trap, IslandEnd}
 use Rattle.a64_buffer.specs.declared.finish.Finished.{Finished}
 use Rattle.a64_buffer.specs.declared.force.ForceVeneers.{ForceVeneers}
+use Rattle.a64_buffer.specs.declared.force.ForceVeneers.TheVariants.{No}
 use Rattle.a64_buffer.specs.Word.{outside, word_at}
 use Rattle.a64_buffer.specs.Kinds.{IsWithin, GoesTo}
 use Rattle.a64_buffer.specs.Buffer.{Buffer, end_of, label_of, goal_of, IsFree, IsBound, IsReached}
@@ -26,11 +27,12 @@ use Rattle.a64_buffer.specs.Finished.{IsFinished}
 use Rattle.a64_buffer.proofs.Plain.{IsStraight, IsPlain, is_plain}
 use Rattle.a64_emit.specs.declared.label_use.LabelUse.{LabelUse}
 use Rattle.a64_emit.specs.declared.label_use.LabelUse.TheVariants as uses
+use Rattle.a64_emit.specs.declared.error.EmitError.TheVariants.{OutOfReach}
 use Rattle.a64_emit.specs.declared.site.Site.{Site}
 use Rattle.a64_emit.specs.declared.code.Code.{Code}
-use Rattle.a64_emit.specs.LabelUses.{label_kinds, mask_for, forward_range, backward_range}
+use Rattle.a64_emit.specs.LabelUses.{label_kinds, mask_for, forward_range, backward_range, has_veneer}
 use Rattle.a64_emit.specs.Cells.{Cell, cell_word, cells_of, all_cells, sites_of}
-use Rattle.a64_emit.specs.Emission.{site_of, HasUse, IsPut, IsOneOf, HasEmitted}
+use Rattle.a64_emit.specs.Emission.{site_of, HasUse, IsPut, IsOneOf, IsUseOf, HasEmitted}
 use Rattle.a64_emit.specs.Layout.{standing, traps_in, site_mask, Stands, IsBoundAt, Laid, Leads, SiteLeads, IsFollowed}
 use Rattle.a64_emit.specs.Records.{reloc_from, number_from, map_from, relocs_of, calls_of, patchable_of, maps_of, IsTrapOf}
 use Rattle.a64_emit.proofs.Recorded.{all_from-nothing, traps_exact}
@@ -38,19 +40,16 @@ use Rattle.a64_emit.specs.Bounds.{veneer_range}
 use Rattle.a64_emit.specs.Faults.{own_fault, used_label, unbound_use, second_binding, too_large}
 use Rattle.a64_emit.specs.Assembled.{IsAssembled}
 use Rattle.a64_emit.specs.LabelLaws.{label_kinds_lawful}
-use Rattle.a64_emit.proofs.Burdens.{IsFarKind, use_labelled, use_far}
-use Rattle.a64_emit.proofs.Checked.{uses_bound, addressable, within_ranges, faultless}
+use Rattle.a64_emit.specs.Reach.{needs_near, near_label, first_far_from, out_of_reach}
+use Rattle.a64_emit.proofs.Burdens.{use_labelled}
+use Rattle.a64_emit.proofs.Checked.{IsBinding, mapped_none, uses_bound, addressable, within_ranges, fault_at_reach}
+use Rattle.a64_emit.proofs.Reached.{kind_case, near_place}
 use Rattle.a64_emit.proofs.Sites.{found_in}
 
 -- ---- the labels that are used, and their ranges
 
 abbrev no_use : Use LabelUse
 no_use = record { offset = 0; target = Label (record { 0 = 0 }); kind = uses.Branch26; stop = None }
-
--- a kind supports veneers, and its range is the forward range, or that range is longer than all code
-range_of : (kind : LabelUse) (label : MachLabel) → IsFarKind kind → (veneer_range (record { kind = kind; target = Label label }) ≡ Some (forward_range kind)) ⊎ (forward_range kind + 1 ≡ 2 ^ 31)
-range_of kind label (inl veneer) = inl (ap (λ t. if t then Some (forward_range kind) else None) veneer)
-range_of kind label (inr far) = inr far
 
 -- what is of no label is not of one
 no_label : {o : Option ℕ} → None ≡ o → (label : ℕ) × (o ≡ Some label) → ⊥
@@ -72,37 +71,57 @@ module _ (frame : FrameLayout) (flags : EmitFlags) (items : List Item) (places :
       some_eq q = cc
 
   -- each use has its label bound in range
-  module _ (all_bound : unbound_use frame flags items ≡ None) (short : too_large frame flags items ≡ None) where
+  module _ (all_bound : unbound_use frame flags items ≡ None) (short : too_large frame flags items ≡ None) (near : out_of_reach frame flags No items ≡ None) where
+    -- the binding of a label that one of the sites uses
+    label_binding : (j : ℕ) (d : Site) (kind : LabelUse) (label : MachLabel) → j < length (sites_of (all_cells frame flags items)) → get_or (sites_of (all_cells frame flags items)) j d ≡ record { kind = kind; target = Label label } → IsBinding items label
+    label_binding j d kind label within site =
+        let used = found_in used_label (sites_of (all_cells frame flags items)) j d label within (ap used_label site) in
+        subst (IsBinding items) (used.is label) (uses_bound frame flags items all_bound used.index label used.within)
+
     -- the place of a label that one of the sites uses
     label_place : (j : ℕ) (d : Site) (kind : LabelUse) (label : MachLabel) → j < length (sites_of (all_cells frame flags items)) → get_or (sites_of (all_cells frame flags items)) j d ≡ record { kind = kind; target = Label label } → (place : ℕ) × (get b.labels label.0 ≡ Some place)
     label_place j d kind label within site =
-        let used = found_in used_label (sites_of (all_cells frame flags items)) j d label within (ap used_label site) in
-        let binding = uses_bound frame flags items all_bound used.index label used.within in
+        let binding = label_binding j d kind label within site in
         let inside : binding.index < length places = omega (arith, h.count, slice_get_within items binding.index (Bind binding.label) binding.binds) in
-        let number : binding.label.0 ≡ label.0 = binding.same ∙ ap (λ (l : MachLabel). l.0) (used.is label) in
-        (get_or places binding.index 0, ap (get b.labels) (sym number) ∙ h.bound binding.index binding.label binding.binds ∙ slice_get-get_or places binding.index 0 inside)
+        (get_or places binding.index 0, ap (get b.labels) (sym binding.same) ∙ h.bound binding.index binding.label binding.binds ∙ slice_get-get_or places binding.index 0 inside)
 
-    -- such a use reaches as far as the code goes
-    long_range : (j : ℕ) (d : Site) (kind : LabelUse) (label : MachLabel) → j < length (sites_of (all_cells frame flags items)) → get_or (sites_of (all_cells frame flags items)) j d ≡ record { kind = kind; target = Label label } → IsFarKind kind → end_of b ≤ forward_range kind
-    long_range j d kind label within site kind_is_far = elim (range_of kind label kind_is_far) [
-      | inl counts ↦
-          let range = found_in veneer_range (sites_of (all_cells frame flags items)) j d (forward_range kind) within (ap veneer_range site ∙ counts) in
-          omega (arith, h.bounded, within_ranges frame flags items short range.index range.within, range.is 0)
-      | inr far ↦ omega (arith, h.bounded, addressable frame flags items short, far)
-    ]
+    -- a use of a kind with veneers reaches as far as the code goes
+    long_range : (j : ℕ) (d : Site) (kind : LabelUse) (label : MachLabel) → j < length (sites_of (all_cells frame flags items)) → get_or (sites_of (all_cells frame flags items)) j d ≡ record { kind = kind; target = Label label } → has_veneer kind ≡ true → end_of b ≤ forward_range kind
+    long_range j d kind label within site veneer =
+        let range = found_in veneer_range (sites_of (all_cells frame flags items)) j d (forward_range kind) within (ap veneer_range site ∙ ap (λ t. if t then Some (forward_range kind) else None) veneer) in
+        omega (arith, h.bounded, within_ranges frame flags items short range.index range.within, range.is 0)
 
-    use_reached : (u : Use LabelUse) → IsOneOf (end_of b) (sites_of (all_cells frame flags items)) u → IsReached label_kinds b.labels u
-    use_reached u one = go u.target refl
+    -- the label of a use is in its range
+    in_range : (u : Use LabelUse) → IsOneOf (end_of b) (sites_of (all_cells frame flags items)) u → IsUseOf (map (cells_of frame flags) items) places u → (label : MachLabel) → u.target ≡ Label label → (place : ℕ) → get b.labels label.0 ≡ Some place → IsWithin (forward_range u.kind) (backward_range u.kind) u.offset place
+    in_range u one owner label e place there = go (kind_case u.kind)
+      where
+        site : get_or (sites_of (all_cells frame flags items)) one.index (site_of u).1 ≡ record { kind = u.kind; target = Label label }
+        site = one.is (site_of u).1 ∙ ap (λ (t : Target). record { kind = u.kind; target = t }) e
+
+        as_far : end_of b ≤ forward_range u.kind → IsWithin (forward_range u.kind) (backward_range u.kind) u.offset place
+        as_far long =
+            let before = bound_place label.0 place there in
+            let inside = one.inside in
+            let wider = label_kinds_lawful.backward_more u.kind in
+            record { ahead = omega arith; behind = omega arith }
+
+        go : (has_veneer u.kind ≡ true) ⊎ ((forward_range u.kind + 1 ≡ 2 ^ 31) ⊎ ((needs_near u.kind ≡ true) × (forward_range u.kind ≡ 2 ^ 20 - 1))) → IsWithin (forward_range u.kind) (backward_range u.kind) u.offset place
+        go (inl veneer) = as_far (long_range one.index (site_of u).1 u.kind label one.within site veneer)
+        go (inr (inl far)) = as_far (omega (arith, h.bounded, addressable frame flags items short, far))
+        go (inr (inr p)) =
+            let is_near : near_label (site_of u).1 ≡ Some label = ap (λ (t : Target). near_label (record { kind = u.kind; target = t })) e ∙ ap (λ t. if t then Some label else None) p.0 in
+            let apart = near_place frame flags items places b h short (mapped_none OutOfReach (first_far_from frame flags No items 0 items) near) u owner label is_near (label_binding one.index (site_of u).1 u.kind label one.within site) place there in
+            let wider = label_kinds_lawful.backward_more u.kind in
+            record { ahead = omega (arith, apart.0, p.1); behind = omega (arith, apart.1, p.1, wider) }
+
+    use_reached : (u : Use LabelUse) → IsOneOf (end_of b) (sites_of (all_cells frame flags items)) u → IsUseOf (map (cells_of frame flags) items) places u → IsReached label_kinds b.labels u
+    use_reached u one owner = go u.target refl
       where
         go : (t : Target) → u.target ≡ t → IsReached label_kinds b.labels u
         go (Label label) e =
             let site : get_or (sites_of (all_cells frame flags items)) one.index (site_of u).1 ≡ record { kind = u.kind; target = Label label } = one.is (site_of u).1 ∙ ap (λ (t : Target). record { kind = u.kind; target = t }) e in
             let found = label_place one.index (site_of u).1 u.kind label one.within site in
-            let long = long_range one.index (site_of u).1 u.kind label one.within site (use_far frame flags items (end_of b) u one) in
-            let before = bound_place label.0 found.0 found.1 in
-            let inside = one.inside in
-            let wider = label_kinds_lawful.backward_more u.kind in
-            let within : IsWithin (forward_range u.kind) (backward_range u.kind) u.offset found.0 = record { ahead = omega arith; behind = omega arith } in
+            let within = in_range u one owner label e found.0 found.1 in
             subst (λ (t : Target). IfSome (label_of t) (λ l. IsSomeAnd (get b.labels l) (λ place. IsWithin (forward_range u.kind) (backward_range u.kind) u.offset place))) (sym e)
             (subst (λ o. IsSomeAnd o (λ place. IsWithin (forward_range u.kind) (backward_range u.kind) u.offset place)) (sym found.1) within)
         go (Constant n) e = absurd (no_label (ap label_of (sym e)) (use_labelled frame flags items (end_of b) u one))
@@ -110,7 +129,7 @@ module _ (frame : FrameLayout) (flags : EmitFlags) (items : List Item) (places :
         go IslandEnd e = absurd (no_label (ap label_of (sym e)) (use_labelled frame flags items (end_of b) u one))
 
     pub all_reached : All (IsReached label_kinds b.labels) b.uses
-    all_reached k d within = use_reached (get_or b.uses k d) (h.uses k d within)
+    all_reached k d within = use_reached (get_or b.uses k d) (h.uses k d within) (h.owners k d within)
 
     -- what finishing asks for
     pub short_code : end_of b + owed label_kinds b < 2 ^ 31
@@ -249,11 +268,11 @@ module _ (frame : FrameLayout) (flags : EmitFlags) (items : List Item) (places :
         }
 
         -- the code of items without a fault
-        pub is_assembled : (constants : FinMap nat_cmp (List ℕ)) (force : ForceVeneers) → own_fault frame flags constants items ≡ None → second_binding items ≡ None → out.relocs.items ≡ code.relocs.items → out.traps.items ≡ code.traps.items → out.calls.items ≡ code.calls.items → out.patchable.items ≡ code.patchable.items → out.maps.items ≡ code.maps.items → IsAssembled frame flags constants force items out
-        is_assembled constants force own once relocs traps calls patchable maps =
+        pub is_assembled : (constants : FinMap nat_cmp (List ℕ)) (force : ForceVeneers) → force ≡ No → own_fault frame flags constants items ≡ None → second_binding items ≡ None → out.relocs.items ≡ code.relocs.items → out.traps.items ≡ code.traps.items → out.calls.items ≡ code.calls.items → out.patchable.items ≡ code.patchable.items → out.maps.items ≡ code.maps.items → IsAssembled frame flags constants force items out
+        is_assembled constants force unforced own once relocs traps calls patchable maps =
             let traps_are : out.traps.items ≡ traps_in (standing (map (cells_of frame flags) items) out.places.items) = traps ∙ f.traps ∙ h.traps ∙ ap (λ ps. traps_in (standing (map (cells_of frame flags) items) ps)) (sym places_are) in
             record {
-              no_fault = faultless frame flags constants force items own once all_bound short;
+              no_fault = fault_at_reach frame flags constants force items own once all_bound short ∙ ap (λ (f : ForceVeneers). out_of_reach frame flags f items) unforced ∙ near;
               laid = is_laid;
               leads = all_lead;
               records = record {

@@ -29,11 +29,11 @@ use Rattle.a64_emit.specs.declared.site.Site.{Site}
 use Rattle.a64_emit.specs.LabelUses.{label_kinds}
 use Rattle.a64_emit.specs.Cells.{Cell, Data, no_marks, cells_of, all_cells, inst_cells, sites_of}
 use Rattle.a64_emit.specs.Bounds.{growth_of, ranges_in}
-use Rattle.a64_emit.specs.Emission.{uses_from, appended, site_of, IsPut, IsOneOf, HasEmitted, IsUnbound, Binds, Steps}
+use Rattle.a64_emit.specs.Emission.{uses_from, appended, site_of, IsPut, IsOneOf, IsUseOf, HasEmitted, IsUnbound, Binds, Steps}
 use Rattle.a64_emit.specs.Layout.{placed, standing, trap_at, traps_in}
 use Rattle.a64_emit.proofs.Burdens.{new_burden, charge_least}
 use Rattle.a64_emit.proofs.Lists.{slice_get-append_left, slice_get-push, slice_get_pushed}
-use Rattle.a64_emit.proofs.Sites.{standing-push, found_in}
+use Rattle.a64_emit.proofs.Sites.{ComesFrom, standing-push, found_in}
 use Rattle.a64_emit.proofs.Marked.{ordered_more, below_more}
 use Rattle.a64_emit.proofs.Later.{IsLater, put_later, new_from, append_later, longer, all_put, bind_later}
 
@@ -49,6 +49,7 @@ pub record IsStep (cells : List Cell) (b b' : Buffer LabelUse) : Type 0 where
   pub traps_are : b'.traps ≡ b.traps ++ traps_in (placed (end_of b) cells)
   pub put : All (IsPut b') (placed (end_of b) cells)
   pub new : (k : ℕ) (d : Use LabelUse) → length b.uses ≤ k → k < length b'.uses → IsOneOf (end_of b') (sites_of cells) (get_or b'.uses k d)
+  pub from : (k : ℕ) (d : Use LabelUse) → length b.uses ≤ k → k < length b'.uses → ComesFrom (end_of b) cells (site_of (get_or b'.uses k d))
 
 -- an instruction's cells are such a step
 pub append_step : (b : Buffer LabelUse) (cells : List Cell) → All (λ u. u.offset < end_of b) b.uses → IsStep cells b (appended b cells)
@@ -63,6 +64,7 @@ append_step b cells before = record {
       let from = new_from b cells k d ge within in
       let found = found_in (λ cell. cell.site) cells from.index no_cell (site_of (get_or (appended b cells).uses k d)).1 from.within (from.site_is no_cell) in
       record { inside = omega (arith, longer b cells, from.place_is, from.within); index = found.index; within = found.within; is = found.is };
+  from = new_from b cells;
 }
 
 -- and so is the binding of a label, without cells
@@ -78,6 +80,7 @@ bind_step label b b' e =
       traps_are = ap (λ (c : Buffer LabelUse). c.traps) e ∙ sym (append-nil b.traps);
       put = λ k d within. absurd (omega arith);
       new = λ k d ge within. absurd (omega (arith, ge, within, ap (λ (c : Buffer LabelUse). length c.uses) e, length-map b.uses (closed_at label_kinds label.0 (end_of b))));
+      from = λ k d ge within. absurd (omega (arith, ge, within, ap (λ (c : Buffer LabelUse). length c.uses) e, length-map b.uses (closed_at label_kinds label.0 (end_of b))));
     }
 
 -- ---- the labels, as items bind them
@@ -169,6 +172,7 @@ module _ (frame : FrameLayout) (flags : EmitFlags) where
     traps_below = λ k d lt. absurd (omega (arith, ap length no_traps));
     cells = λ k d lt. absurd (omega arith);
     uses = λ k d lt. absurd (omega (arith, ap length u));
+    owners = λ k d lt. absurd (omega (arith, ap length u));
     bound = λ i label e. absurd cc;
     only = λ label place e. absurd (none_of (sym (ap (λ t. get t label) m ∙ get-empty nat_cmp label) ∙ e));
   }
@@ -240,6 +244,36 @@ module _ (frame : FrameLayout) (flags : EmitFlags) where
           }
     ])
 
+    -- each use is that of a cell at its place
+    owners_all : All (IsUseOf (map (cells_of frame flags) (items ++ x ∷ [])) (places ++ end_of b ∷ [])) b'.uses
+    owners_all k d within = subst (λ css. IsUseOf css (places ++ end_of b ∷ []) (get_or b'.uses k d)) (sym lists_push) (elim (cases_lt k (length b.uses)) [
+      | inl old ↦
+          let u = h.owners k d old in
+          let kept = s.later.uses_kept k d old in
+          let there : get_or (map (cells_of frame flags) items ++ cells_of frame flags x ∷ []) u.item [] ≡ get_or (map (cells_of frame flags) items) u.item [] = get_or_append_left (map (cells_of frame flags) items) (cells_of frame flags x ∷ []) [] u.item u.item_within in
+          let start : get_or (places ++ end_of b ∷ []) u.item 0 ≡ get_or places u.item 0 = get_or_append_left places (end_of b ∷ []) 0 u.item (omega (arith, u.item_within, length-map items (cells_of frame flags), h.count)) in
+          record {
+            item = u.item;
+            cell = u.cell;
+            item_within = omega (arith, u.item_within, length-append (map (cells_of frame flags) items) (cells_of frame flags x ∷ []));
+            cell_within = omega (arith, u.cell_within, ap length there);
+            site_is = λ e. ap (λ (cs : List Cell). (get_or cs u.cell e).site) there ∙ u.site_is e ∙ sym (ap (λ (t : ℕ × Site). Some t.1) kept);
+            place_is = omega (arith, u.place_is, start, ap (λ (t : ℕ × Site). t.0) kept);
+          }
+      | inr new ↦
+          let from = s.from k d new within in
+          let there : get_or (map (cells_of frame flags) items ++ cells_of frame flags x ∷ []) (length items) [] ≡ cells_of frame flags x = get_or_push (map (cells_of frame flags) items) (cells_of frame flags x) [] (length items) (length-map items (cells_of frame flags)) in
+          let start : get_or (places ++ end_of b ∷ []) (length items) 0 ≡ end_of b = get_or_push places (end_of b) 0 (length items) h.count in
+          record {
+            item = length items;
+            cell = from.index;
+            item_within = omega (arith, length-map items (cells_of frame flags), length-append (map (cells_of frame flags) items) (cells_of frame flags x ∷ []));
+            cell_within = omega (arith, from.within, ap length there);
+            site_is = λ e. ap (λ (cs : List Cell). (get_or cs from.index e).site) there ∙ from.site_is e;
+            place_is = omega (arith, from.place_is, start);
+          }
+    ])
+
     cells_all : All (IsPut b') (standing (map (cells_of frame flags) (items ++ x ∷ [])) (places ++ end_of b ∷ []))
     cells_all =
         subst (All (IsPut b')) (sym (ap (λ css. standing css (places ++ end_of b ∷ [])) lists_push ∙ standing-push (map (cells_of frame flags) items) (cells_of frame flags x) places (end_of b) (h.count ∙ sym (length-map items (cells_of frame flags)))))
@@ -262,6 +296,7 @@ module _ (frame : FrameLayout) (flags : EmitFlags) where
       traps_below = subst (All (λ t. t.0 < end_of b')) (sym s.traps_are) (below_more b.traps (end_of b) (cells_of frame flags x) (end_of b') h.traps_below s.long);
       cells = cells_all;
       uses = uses_all;
+      owners = owners_all;
       bound = labels.bound;
       only = labels.only;
     }

@@ -5,6 +5,9 @@ pub mod Burdens
 pub mod Fitting
 pub mod Emitted
 pub mod Checked
+pub mod Spans
+pub mod Reached
+pub mod Starting
 pub mod Sites
 pub mod Later
 pub mod UseLists
@@ -12,7 +15,11 @@ pub mod Composed
 pub mod Recorded
 pub mod Marked
 pub mod MemoryWords
+pub mod Joined
+pub mod AsPut
+pub mod Lasts
 pub mod Several
+pub mod Labelled
 pub mod Accesses
 pub mod Steps
 pub mod Owns

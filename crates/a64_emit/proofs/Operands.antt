@@ -4,7 +4,10 @@ use Rattle.std.specs.Prelude.{◌&&◌, ◌||◌, ◌==◌, not, nat_lt, nat_eq,
 use Rattle.std.proofs.lemmas.Bool.{and_parts, or_cases, cases_cond, both_ways, ltb-true}
 use Rattle.std.proofs.lemmas.Bool.Decides.{nat_tests}
 use Rattle.std.proofs.lemmas.Int.{ints}
+use Rattle.a64_base.specs.declared.cond.CondBrKind.{CondBrKind}
+use Rattle.a64_base.specs.declared.cond.CondBrKind.TheVariants.{Zero, NotZero, Cond}
 use Rattle.a64_base.specs.declared.reg.Reg.{Reg}
+use Rattle.a64_base.specs.declared.target.BranchTarget.{BranchTarget}
 use Rattle.a64_base.specs.declared.reg.Reg.TheVariants.{Real, Virtual}
 use Rattle.a64_base.specs.declared.reg.RegClass.{RegClass}
 use Rattle.a64_base.specs.declared.reg.RegClass.TheVariants.{Int, Float}
@@ -20,11 +23,13 @@ use Rattle.a64_imms.proofs.LogicRuns.{passed}
 use Rattle.a64_ops.specs.declared.operator.ALUOp.{ALUOp}
 use Rattle.a64_ops.specs.declared.operator.ALUOp.TheVariants as alu
 use Rattle.a64_inst.specs.declared.virtuals.VirtualRegisters.TheVariants.{Refused}
+use Rattle.a64_inst.specs.ControlOperands.{are_jump_operands, are_cond_br_operands, are_test_bit_operands, is_target14, is_target19, is_test}
 use Rattle.a64_inst.specs.Operands.{is_int, is_register, is_register_or_zero, is_register_or_stack, is_stack_pointer, is_same_size, is_bit_of, is_logic_of, is_near}
 use Rattle.a64_inst.specs.IntegerOperands.{is_add_sub_result, is_logic_result, is_fixed_operand, is_fixed_result, is_extension, is_extend_result, are_alu_rrr_operands, are_alu_rr_imm12_operands, are_move_registers, are_mov_operands, are_mov_from_preg_operands, are_mov_to_preg_operands, are_extend_operands}
 use Rattle.a64_rows.specs.Forms.{IsFormOf}
 use Rattle.a64_rows.specs.Limits.{is_bit_number}
 use Rattle.a64_rows.specs.DataProcessing.{bitfield}
+use Rattle.a64_enc_int.specs.Branches.{IsGeneralTest}
 use Rattle.a64_enc_int.specs.Registers.{IsReal, IsGeneral, register_field}
 
 -- ---- registers of a test are general
@@ -37,6 +42,12 @@ int_class Float e = absurd cc
 pub general : (reg : Reg) → is_register_or_zero Refused reg ≡ true → IsGeneral reg
 general (Real p) e = int_class p.class (and_parts (is_int p.class) (nat_lt p.number 32) e).0
 general (Virtual index class) e = absurd cc
+
+-- the register of a conditional branch
+pub test_general : (kind : CondBrKind) → is_test Refused kind ≡ true → IsGeneralTest kind
+test_general (Zero reg size) e = general reg e
+test_general (NotZero reg size) e = general reg e
+test_general (Cond cond) e = tt
 
 pub real : (reg : Reg) → is_register_or_zero Refused reg ≡ true → IsReal reg
 real (Real p) e = tt
@@ -247,3 +258,33 @@ extension_is_form rd rn signed from_bits to_bits size opc e size_is opc_is =
       (sf_below size, (opc_good.0, (lit< tt, (bit_in size (from_bits - 1) bit, (zero_below rn operand, (extend_result_below signed from_bits to_bits rd result, tt)))))),
       rw (opc_good.1, bit_number size 0 lowest, bit_number size (from_bits - 1) bit) refl,
     )
+
+-- ---- operands of conditional branches
+
+-- what the test of a conditional branch says of each operand
+pub record IsCondBr (taken not_taken : BranchTarget) (kind : CondBrKind) : Type 0 where
+  pub target : is_target19 taken ≡ true
+  pub jump : are_jump_operands not_taken ≡ true
+  pub test : is_test Refused kind ≡ true
+
+pub cond_br_parts : (taken not_taken : BranchTarget) (kind : CondBrKind) → are_cond_br_operands Refused taken not_taken kind ≡ true → IsCondBr taken not_taken kind
+unfolding are_cond_br_operands
+cond_br_parts taken not_taken kind e =
+    let (targets, test) = and_parts (is_target19 taken && are_jump_operands not_taken) (is_test Refused kind) e in
+    let (target, jump) = and_parts (is_target19 taken) (are_jump_operands not_taken) targets in
+    record { target = target; jump = jump; test = test }
+
+-- and of a branch on a bit
+pub record IsTestBit (taken not_taken : BranchTarget) (rn : Reg) (bit : ℕ) : Type 0 where
+  pub target : is_target14 taken ≡ true
+  pub jump : are_jump_operands not_taken ≡ true
+  pub register : is_register_or_zero Refused rn ≡ true
+  pub below : bit < 64
+
+pub test_bit_parts : (taken not_taken : BranchTarget) (rn : Reg) (bit : ℕ) → are_test_bit_operands Refused taken not_taken rn bit ≡ true → IsTestBit taken not_taken rn bit
+unfolding are_test_bit_operands
+test_bit_parts taken not_taken rn bit e =
+    let (others, below) = and_parts ((is_target14 taken && are_jump_operands not_taken) && is_register_or_zero Refused rn) (nat_lt bit 64) e in
+    let (targets, register) = and_parts (is_target14 taken && are_jump_operands not_taken) (is_register_or_zero Refused rn) others in
+    let (target, jump) = and_parts (is_target14 taken) (are_jump_operands not_taken) targets in
+    record { target = target; jump = jump; register = register; below = ltb-true bit 64 below }

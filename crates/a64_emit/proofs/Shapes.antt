@@ -5,10 +5,10 @@ use Rattle.a64_emit.specs.Cells.{Shape, OneWord, Several, Words, plain, shape_ce
 
 pub some_word : (shape : Shape) (word : ℕ) → Some word ≡ only_word shape → (form : Form) × (shape_cells shape ≡ plain form ∷ []) × (word ≡ form_word form)
 some_word (OneWord form) word e = (form, refl, cc)
-some_word (Several forms form trap) word e = absurd cc
+some_word (Several forms body site trap) word e = absurd cc
 some_word (Words cells) word e = absurd cc
 
 pub no_word : (shape : Shape) → None ≡ only_word shape → other_cells shape ≡ shape_cells shape
 no_word (OneWord form) e = absurd cc
-no_word (Several forms form trap) e = refl
+no_word (Several forms body site trap) e = refl
 no_word (Words cells) e = refl

@@ -1,10 +1,11 @@
 -- The uses of an instruction's words, one after another.
-use Rattle.std.proofs.Common.{ℕ, ◌≡◌, ◌+◌, ◌≤◌, suc, zero, List, [], ◌∷◌, ◌++◌, length, get_or, take, drop, map, Option, None, Some, refl, sym, ap, ◌∙◌, arith}
-use Rattle.std.specs.List.{filter_map, slice_get, cons_option}
+use Rattle.std.proofs.Common.{ℕ, ◌≡◌, ◌+◌, ◌≤◌, suc, zero, Bool, true, false, List, [], ◌∷◌, ◌++◌, length, get_or, take, drop, map, Option, None, Some, refl, sym, ap, ◌∙◌, arith}
+use Rattle.std.specs.Prelude.{◌||◌, is_some}
+use Rattle.std.specs.List.{filter_map, slice_get, cons_option, list_any}
 use Rattle.std.specs.Option.{option_or}
 use Rattle.std.proofs.lemmas.List.{take_all, take_more, drop_more, map-append}
 use Rattle.std.proofs.lemmas.List.Elements.{filter_map-append}
-use Rattle.std.proofs.lemmas.List.Folds.{find-append}
+use Rattle.std.proofs.lemmas.List.Folds.{find-append, list_any-append}
 use Rattle.std.proofs.lemmas.Option.{slice_get_within, slice_get-get_or}
 use Rattle.a64_base.specs.declared.entity.MachLabel.{MachLabel}
 use Rattle.a64_emit.specs.declared.site.Site.{Site}
@@ -12,6 +13,7 @@ use Rattle.a64_emit.specs.declared.site.CellUse.{CellUse}
 use Rattle.a64_emit.specs.Cells.{Cell, use_of, uses_of, sites_of}
 use Rattle.a64_emit.specs.Bounds.{veneer_range, ranges_in, lesser, least}
 use Rattle.a64_emit.specs.Faults.{used_label, first_missing}
+use Rattle.a64_emit.specs.Reach.{is_near, first_some}
 use Rattle.a64_emit.proofs.Sizes.{least-append}
 
 -- the sites of uses
@@ -100,9 +102,72 @@ missing_next bound uses n u e none = sym (missing_here bound uses n u e ∙ ap (
 pub missing_at : (bound : List MachLabel) (uses : List CellUse) (n : ℕ) (u : CellUse) (label : MachLabel) → slice_get uses n ≡ Some u → first_missing bound (filter_map used_label (u.site ∷ [])) ≡ Some label → missing_from bound uses n ≡ Some label
 missing_at bound uses n u label e some = missing_here bound uses n u e ∙ ap (λ o. option_or o (missing_from bound uses (n + 1))) some
 
+-- by whether there is one
+pub missing_is : (bound : List MachLabel) (uses : List CellUse) (n : ℕ) (u : CellUse) (o : Option MachLabel) → slice_get uses n ≡ Some u → o ≡ first_missing bound (filter_map used_label (u.site ∷ [])) → is_some o ≡ true → missing_from bound uses n ≡ o
+missing_is bound uses n u None e is some = absurd (let z : false ≡ true = some in cc)
+missing_is bound uses n u (Some label) e is some = missing_at bound uses n u label e (sym is)
+
+pub missing_not : (bound : List MachLabel) (uses : List CellUse) (n : ℕ) (u : CellUse) (o : Option MachLabel) → slice_get uses n ≡ Some u → o ≡ first_missing bound (filter_map used_label (u.site ∷ [])) → is_some o ≡ false → missing_from bound uses (n + 1) ≡ missing_from bound uses n
+missing_not bound uses n u None e is none = missing_next bound uses n u e (sym is)
+missing_not bound uses n u (Some label) e is none = absurd (let z : true ≡ false = none in cc)
+
 pub missing_none : (bound : List MachLabel) (uses : List CellUse) (n : ℕ) → length uses ≤ n → missing_from bound uses n ≡ None
 missing_none bound uses n all = ap (λ us. first_missing bound (filter_map used_label (sites_in us))) (left_none uses n all)
 
 -- the first of all is that of the words
 pub missing_all : (bound : List MachLabel) (cells : List Cell) → missing_from bound (uses_of 0 cells) 0 ≡ first_missing bound (filter_map used_label (sites_of cells))
 missing_all bound cells = ap (λ ss. first_missing bound (filter_map used_label ss)) (sites_in_uses 0 cells)
+
+-- ---- the uses that need their labels near
+
+-- whether one of the first so many uses does
+abbrev pub near_to : List CellUse → ℕ → Bool
+near_to uses n = list_any is_near (sites_in (take n uses))
+
+pub near_start : (uses : List CellUse) → near_to uses 0 ≡ false
+near_start [] = refl
+near_start (u ∷ uses) = refl
+
+pub near_push : (uses : List CellUse) (n : ℕ) (u : CellUse) → slice_get uses n ≡ Some u → near_to uses (n + 1) ≡ (near_to uses n || is_near u.site)
+near_push uses n u e =
+    ap (λ us. list_any is_near (sites_in us)) (taken_more uses n u e)
+    ∙ ap (list_any is_near) (map-append (λ v. v.site) (take n uses) (u ∷ []))
+    ∙ list_any-append is_near (sites_in (take n uses)) (u.site ∷ [])
+    ∙ ap (λ b. near_to uses n || b) (or_false (is_near u.site))
+  where
+    or_false : (b : Bool) → (b || false) ≡ b
+    or_false true = refl
+    or_false false = refl
+
+pub near_end : (n : ℕ) (cells : List Cell) → length (uses_of 0 cells) ≤ n → near_to (uses_of 0 cells) n ≡ list_any is_near (sites_of cells)
+near_end n cells all = ap (λ us. list_any is_near (sites_in us)) (take_all n (uses_of 0 cells) all) ∙ ap (list_any is_near) (sites_in_uses 0 cells)
+
+-- ---- the first use of which a test has something
+
+module _ {Y : Type 0} (f : Site → Option Y) where
+  abbrev pub first_from : List CellUse → ℕ → Option Y
+  first_from uses n = first_some f (sites_in (drop n uses))
+
+  first_here : (uses : List CellUse) (n : ℕ) (u : CellUse) → slice_get uses n ≡ Some u → first_from uses n ≡ option_or (f u.site) (first_from uses (n + 1))
+  first_here uses n u e = ap (λ us. first_some f (sites_in us)) (left_more uses n u e)
+
+  pub first_next : (uses : List CellUse) (n : ℕ) (u : CellUse) → slice_get uses n ≡ Some u → f u.site ≡ None → first_from uses (n + 1) ≡ first_from uses n
+  first_next uses n u e none = sym (first_here uses n u e ∙ ap (λ o. option_or o (first_from uses (n + 1))) none)
+
+  pub first_at : (uses : List CellUse) (n : ℕ) (u : CellUse) (y : Y) → slice_get uses n ≡ Some u → f u.site ≡ Some y → first_from uses n ≡ Some y
+  first_at uses n u y e some = first_here uses n u e ∙ ap (λ o. option_or o (first_from uses (n + 1))) some
+
+  -- by whether the test has something
+  pub first_is : (uses : List CellUse) (n : ℕ) (u : CellUse) (o : Option Y) → slice_get uses n ≡ Some u → o ≡ f u.site → is_some o ≡ true → first_from uses n ≡ o
+  first_is uses n u None e is some = absurd (let z : false ≡ true = some in cc)
+  first_is uses n u (Some y) e is some = first_at uses n u y e (sym is)
+
+  pub first_not : (uses : List CellUse) (n : ℕ) (u : CellUse) (o : Option Y) → slice_get uses n ≡ Some u → o ≡ f u.site → is_some o ≡ false → first_from uses (n + 1) ≡ first_from uses n
+  first_not uses n u None e is none = first_next uses n u e (sym is)
+  first_not uses n u (Some y) e is none = absurd (let z : true ≡ false = none in cc)
+
+  pub first_past : (uses : List CellUse) (n : ℕ) → length uses ≤ n → first_from uses n ≡ None
+  first_past uses n all = ap (λ us. first_some f (sites_in us)) (left_none uses n all)
+
+  pub first_all : (cells : List Cell) → first_from (uses_of 0 cells) 0 ≡ first_some f (sites_of cells)
+  first_all cells = ap (first_some f) (sites_in_uses 0 cells)

@@ -72,6 +72,12 @@ module _ (frame : FrameLayout) (flags : EmitFlags) where
 abbrev pub saturated : ℕ → ℕ
 saturated n = min n (2 ^ 64 - 1)
 
+-- what cells add to the sums, up to the greatest number of 64 bits, and the shortest range of their uses
+pub record AreExtent (cells : List Cell) (size charge : ℕ) (range : Option ℕ) : Type 0 where
+  pub size_is : size ≡ saturated (size_of cells)
+  pub charge_is : charge ≡ saturated (charge_of cells)
+  pub range_is : range ≡ least (ranges_in cells)
+
 -- what an item adds to the sums, up to the greatest number of 64 bits, and its shortest range
 pub record IsExtent (frame : FrameLayout) (flags : EmitFlags) (item : Item) (size charge : ℕ) (range : Option ℕ) : Type 0 where
   pub size_is : size ≡ saturated (item_size frame flags item)

@@ -1,5 +1,5 @@
 -- The words that items are made of.
-use Rattle.std.specs.Prelude.{ℕ, ℤ, pos, ◌+◌, List, [], ◌∷◌, ◌++◌, map, if◌then◌else◌, Option, None, Some}
+use Rattle.std.specs.Prelude.{ℕ, ℤ, pos, ◌+◌, ◌/◌, ◌%◌, ◌^◌, List, [], ◌∷◌, ◌++◌, map, if◌then◌else◌, Option, None, Some}
 use Rattle.std.specs.Ordering.{int_eq}
 use Rattle.std.specs.Int.RustNames.{unsigned_abs}
 use Rattle.a64_base.specs.declared.entity.TrapCode.{TrapCode}
@@ -8,7 +8,10 @@ use Rattle.a64_base.specs.declared.ir_type.IrType.TheVariants.{I8}
 use Rattle.a64_ops.specs.declared.operator.ALUOp.TheVariants as alu
 use Rattle.a64_plan.specs.Plans.{plan_of}
 use Rattle.a64_inst.specs.declared.access.Access.{Access}
+use Rattle.a64_inst.specs.declared.mode.AMode.{AMode}
 use Rattle.a64_inst.specs.declared.mode.AMode.TheVariants as modes
+use Rattle.a64_inst.specs.declared.mode.MemLabel.{MemLabel}
+use Rattle.a64_inst.specs.declared.mode.MemLabel.TheVariants.{PCRel, Mach}
 use Rattle.a64_inst.specs.Accesses.{access_of}
 use Rattle.a64_inst.specs.FinalModes.{FinalMode, SignedOffset, ScaledOffset, Other, final_mode, final_steps}
 use Rattle.a64_inst.specs.MemoryOperands.{is_addend}
@@ -53,21 +56,26 @@ pub record Cell : Type 0 where
   pub site : Option Site
   pub marks : Marks
 
+-- the word of a body
+abbrev pub body_word : Body → ℕ
+body_word (FormOf form) = form_word form
+body_word (Data word) = word
+
 -- the word of a cell, before its use is resolved
 abbrev pub cell_word : Cell → ℕ
-cell_word cell = elim cell.body [ FormOf form ↦ form_word form | Data word ↦ word ]
+cell_word cell = body_word cell.body
 
 -- a word without a use, at which nothing is recorded
 abbrev pub plain : Form → Cell
 plain form = record { body = FormOf form; site = None; marks = no_marks }
 
--- a word without a use, which may trap
-abbrev pub trapping : Form → Option TrapCode → Cell
-trapping form trap = record { body = FormOf form; site = None; marks = record { trap = trap } }
+-- a word that may be a use, and may trap
+abbrev pub last_cell : Body → Option Site → Option TrapCode → Cell
+last_cell body site trap = record { body = body; site = site; marks = record { trap = trap } }
 
--- words without uses, of which the last may trap
-abbrev pub several : List Form → Form → Option TrapCode → List Cell
-several forms form trap = map plain forms ++ trapping form trap ∷ []
+-- words of which only the last may be a use, and may trap
+abbrev pub several : List Form → Body → Option Site → Option TrapCode → List Cell
+several forms body site trap = map plain forms ++ last_cell body site trap ∷ []
 
 -- a branch, whose field is a use of the label, or has the offset already
 abbrev pub branch_site : LabelUse → BranchTarget → Option Site
@@ -77,31 +85,58 @@ branch_site kind (branch_targets.ResolvedOffset offset) = None
 abbrev pub branch : Form → LabelUse → BranchTarget → Cell
 branch form kind dest = record { body = FormOf form; site = branch_site kind dest; marks = no_marks }
 
--- an instruction is one word without a use, or several of which the last may trap, or other words
+-- a conditional branch, and behind it a jump
+abbrev pub branches : Form → LabelUse → BranchTarget → BranchTarget → List Cell
+branches form kind taken not_taken = branch form kind taken ∷ branch (control.jump_form not_taken) uses.Branch26 not_taken ∷ []
+
+-- a data word, at which nothing is recorded
+abbrev pub data_cell : ℕ → Cell
+data_cell word = last_cell (Data word) None None
+
+-- an instruction is one word without a use, or several of which only the last may be a use and may trap, or
+-- other words
 pub data Shape : Type 0 where
   OneWord : Form → Shape
-  Several : List Form → Form → Option TrapCode → Shape
+  Several : List Form → Body → Option Site → Option TrapCode → Shape
   Words : List Cell → Shape
+
+-- words that are no use and do not trap
+abbrev pub quiet : List Form → Form → Shape
+quiet forms form = Several forms (FormOf form) None None
 
 -- the address of a base and an offset: nothing where they are the result already, one addition where it
 -- holds the offset, and else one of x17, which gets the offset before
 abbrev pub sum_shape : Reg → Reg → ℤ → Shape
 sum_shape rd rn offset =
-    if int_eq offset (pos 0) then (if is_same_register rd rn then Words [] else Several [] (integer.mov_form Size64 rd rn) None)
-    else if is_addend (unsigned_abs offset) then Several [] (memory.addend_form rd rn offset) None
-    else Several (memory.step_forms memory.addend_register (plan_of (unsigned_abs offset))) (memory.sum_form rd rn offset) None
+    if int_eq offset (pos 0) then (if is_same_register rd rn then Words [] else quiet [] (integer.mov_form Size64 rd rn))
+    else if is_addend (unsigned_abs offset) then quiet [] (memory.addend_form rd rn offset)
+    else quiet (memory.step_forms memory.addend_register (plan_of (unsigned_abs offset))) (memory.sum_form rd rn offset)
 
 -- the address of a mode, with the steps before it; other modes have none
 abbrev pub address_shape : Reg → List Form → FinalMode → Shape
 address_shape rd before (SignedOffset rn offset) = sum_shape rd rn offset
 address_shape rd before (ScaledOffset rn offset ty) = sum_shape rd rn (pos offset)
-address_shape rd before (Other (modes.RegExtended rn rm extendop)) = Several before (integer.alu_rrr_extend_form alu.Add Size64 rd rn rm extendop) None
+address_shape rd before (Other (modes.RegExtended rn rm extendop)) = quiet before (integer.alu_rrr_extend_form alu.Add Size64 rd rn rm extendop)
 address_shape rd before (Other _) = Words []
 
-abbrev pub access_shape : FrameLayout → Access → Shape
-access_shape frame access = Several (memory.access_steps frame access) (memory.access_form frame access) access.flags
+-- the use that a load of a literal is, where a label says its place
+abbrev pub literal_site : MemLabel → Option Site
+literal_site (PCRel offset) = None
+literal_site (Mach label) = Some (record { kind = uses.Ldr19; target = Label label })
 
--- an instruction that is no load or store of one register
+abbrev pub mode_site : AMode → Option Site
+mode_site (modes.Label label) = literal_site label
+mode_site _ = None
+
+-- the use that a load or a store of one register is, where it is one
+abbrev pub memory_site : Inst → Option Site
+memory_site inst = elim (access_of inst) [ None ↦ None | Some access ↦ mode_site access.mem ]
+
+abbrev pub access_shape : FrameLayout → Access → Shape
+access_shape frame access =
+    Several (memory.access_steps frame access) (FormOf (memory.access_form frame access)) (mode_site access.mem) access.flags
+
+-- an instruction that is no load or store of one register. Those have the shape of their access, and none here.
 abbrev pub other_shape : FrameLayout → EmitFlags → Inst → Shape
 other_shape frame flags insts.Nop0 = Words []
 other_shape frame flags insts.Nop4 = OneWord integer.nop4_form
@@ -133,29 +168,55 @@ other_shape frame flags (insts.Adr rd off) = OneWord (integer.adr_form rd off)
 other_shape frame flags (insts.Adrp rd off) = OneWord (integer.adrp_form rd off)
 other_shape frame flags insts.Ret = OneWord control.ret_form
 other_shape frame flags (insts.Jump dest) = Words (branch (control.jump_form dest) uses.Branch26 dest ∷ [])
-other_shape frame flags (insts.LoadP64 rt rt2 mem trap) = Several [] (memory.pair_form 1 rt rt2 mem) trap
-other_shape frame flags (insts.StoreP64 rt rt2 mem trap) = Several [] (memory.pair_form 0 rt rt2 mem) trap
+other_shape frame flags (insts.CondBr taken not_taken kind) = Words (branches (control.cond_br_form taken kind) uses.Branch19 taken not_taken)
+other_shape frame flags (insts.TestBitAndBranch kind taken not_taken rn bit) = Words (branches (control.test_bit_and_branch_form kind taken rn bit) uses.Branch14 taken not_taken)
+other_shape frame flags (insts.IndirectBr rn targets) = OneWord (control.indirect_br_form rn)
+other_shape frame flags insts.Brk = OneWord control.brk_form
+other_shape frame flags (insts.Udf trap_code) = Words (last_cell (Data control.udf_word) None (Some trap_code) ∷ [])
+other_shape frame flags (insts.Word4 value) = Words (data_cell value ∷ [])
+other_shape frame flags (insts.Word8 value) = Words (data_cell (value % 2 ^ 32) ∷ data_cell (value / 2 ^ 32) ∷ [])
+other_shape frame flags (insts.LabelAddress dst label) = Words (branch (control.label_address_form dst) uses.Adr21 (branch_targets.Label label) ∷ [])
+other_shape frame flags (insts.LoadP64 rt rt2 mem trap) = Several [] (FormOf (memory.pair_form 1 rt rt2 mem)) None trap
+other_shape frame flags (insts.StoreP64 rt rt2 mem trap) = Several [] (FormOf (memory.pair_form 0 rt rt2 mem)) None trap
 other_shape frame flags (insts.LoadAddr rd mem) = address_shape rd (memory.step_forms memory.offset_register (final_steps frame I8 mem)) (final_mode frame I8 mem)
-other_shape frame flags _ = Words []
+other_shape frame flags (insts.ULoad8 rd mem trap) = Words []
+other_shape frame flags (insts.SLoad8 rd mem trap) = Words []
+other_shape frame flags (insts.ULoad16 rd mem trap) = Words []
+other_shape frame flags (insts.SLoad16 rd mem trap) = Words []
+other_shape frame flags (insts.ULoad32 rd mem trap) = Words []
+other_shape frame flags (insts.SLoad32 rd mem trap) = Words []
+other_shape frame flags (insts.ULoad64 rd mem trap) = Words []
+other_shape frame flags (insts.FpuLoad16 rd mem trap) = Words []
+other_shape frame flags (insts.FpuLoad32 rd mem trap) = Words []
+other_shape frame flags (insts.FpuLoad64 rd mem trap) = Words []
+other_shape frame flags (insts.FpuLoad128 rd mem trap) = Words []
+other_shape frame flags (insts.Store8 rd mem trap) = Words []
+other_shape frame flags (insts.Store16 rd mem trap) = Words []
+other_shape frame flags (insts.Store32 rd mem trap) = Words []
+other_shape frame flags (insts.Store64 rd mem trap) = Words []
+other_shape frame flags (insts.FpuStore16 rd mem trap) = Words []
+other_shape frame flags (insts.FpuStore32 rd mem trap) = Words []
+other_shape frame flags (insts.FpuStore64 rd mem trap) = Words []
+other_shape frame flags (insts.FpuStore128 rd mem trap) = Words []
 
 abbrev pub shape_of : FrameLayout → EmitFlags → Inst → Shape
 shape_of frame flags inst = elim (access_of inst) [ None ↦ other_shape frame flags inst | Some access ↦ access_shape frame access ]
 
 abbrev pub shape_cells : Shape → List Cell
 shape_cells (OneWord form) = plain form ∷ []
-shape_cells (Several forms form trap) = several forms form trap
+shape_cells (Several forms body site trap) = several forms body site trap
 shape_cells (Words cells) = cells
 
 -- the word of an instruction that is one word without a use
 abbrev pub only_word : Shape → Option ℕ
 only_word (OneWord form) = Some (form_word form)
-only_word (Several forms form trap) = None
+only_word (Several forms body site trap) = None
 only_word (Words cells) = None
 
 -- the words of another instruction
 abbrev pub other_cells : Shape → List Cell
 other_cells (OneWord form) = []
-other_cells (Several forms form trap) = several forms form trap
+other_cells (Several forms body site trap) = several forms body site trap
 other_cells (Words cells) = cells
 
 -- the words of an instruction

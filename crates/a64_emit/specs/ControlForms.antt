@@ -1,9 +1,16 @@
--- The forms of control instructions that are one word each (Arm Architecture Reference Manual, DDI 0487, C4.1, "Branches,
+-- The forms of control instructions, and their data (Arm Architecture Reference Manual, DDI 0487, C4.1, "Branches,
 -- Exception Generating and System instructions").
+use Rattle.std.specs.Prelude.{ℕ, pos, ◌/◌, ◌%◌}
+use Rattle.a64_base.specs.declared.cond.CondBrKind.{CondBrKind}
+use Rattle.a64_base.specs.declared.cond.TestBitAndBranchKind.{TestBitAndBranchKind}
+use Rattle.a64_base.specs.declared.reg.Reg.{Reg}
 use Rattle.a64_base.specs.declared.target.BranchTarget.{BranchTarget}
 use Rattle.a64_base.specs.Target.{offset_field}
+use Rattle.a64_enc_int.specs.Branches.{conditional_form, nonzero_of}
+use Rattle.a64_enc_int.specs.Registers.{register_field}
 use Rattle.a64_rows.specs.Forms.{Form}
-use Rattle.a64_rows.specs.Control.{branch26, branch_reg}
+use Rattle.a64_rows.specs.Control.{branch26, branch_reg, brk, test_branch}
+use Rattle.a64_emit.specs.IntegerForms.{adr_form}
 
 -- a branch by the return class to x30 (Unconditional branch (register), RET)
 unfoldable pub ret_form : Form
@@ -12,3 +19,29 @@ ret_form = branch_reg (record { opc = 2; rn = 30 })
 -- a branch without link, over the offset in words, or over none as long as it has a label (Unconditional branch (immediate), B)
 unfoldable pub jump_form : BranchTarget → Form
 jump_form dest = branch26 (record { link = 0; imm26 = offset_field 26 dest })
+
+-- a branch on a register (Compare and branch (immediate), CBZ and CBNZ) or on the flags (Conditional branch (immediate), B.cond)
+unfoldable pub cond_br_form : BranchTarget → CondBrKind → Form
+cond_br_form taken kind = conditional_form (offset_field 19 taken) kind
+
+-- a branch on one bit of a register, of which the word has the highest bit of its number apart (Test and branch (immediate),
+-- TBZ and TBNZ)
+unfoldable pub test_bit_and_branch_form : TestBitAndBranchKind → BranchTarget → Reg → ℕ → Form
+test_bit_and_branch_form kind taken rn bit =
+    test_branch (record { b5 = bit / 32; nz = nonzero_of kind; b40 = bit % 32; imm14 = offset_field 14 taken; rt = register_field rn })
+
+-- a branch to the address in a register (Unconditional branch (register), BR)
+unfoldable pub indirect_br_form : Reg → Form
+indirect_br_form rn = branch_reg (record { opc = 0; rn = register_field rn })
+
+-- a breakpoint (Exception generation, BRK)
+unfoldable pub brk_form : Form
+brk_form = brk
+
+-- the address of a label, as long as this has none (PC-rel. addressing, ADR)
+unfoldable pub label_address_form : Reg → Form
+label_address_form dst = adr_form dst (pos 0)
+
+-- the data word that is no instruction
+abbrev pub udf_word : ℕ
+udf_word = 0xc11f

@@ -140,6 +140,15 @@ pub record IsOneOf (end : ℕ) (sites : List Site) (u : Use LabelUse) : Type 0 w
   pub within : index < length sites
   pub is : (d : Site) → slice_index_or sites index d ≡ (site_of u).1
 
+-- a use is that of a cell of one of some items, which stand at these places, and stands where the cell does
+pub record IsUseOf (cells : List (List Cell)) (places : List ℕ) (u : Use LabelUse) : Type 0 where
+  pub item : ℕ
+  pub cell : ℕ
+  pub item_within : item < length cells
+  pub cell_within : cell < length (slice_index_or cells item [])
+  pub site_is : (d : Cell) → (slice_index_or (slice_index_or cells item []) cell d).site ≡ Some (site_of u).1
+  pub place_is : u.offset ≡ slice_index places item + 4 * cell
+
 -- items were emitted one after another: each stands at its place with its cells, and each use of the
 -- buffer is the use of a cell
 pub record HasEmitted (frame : FrameLayout) (flags : EmitFlags) (items : List Item) (places : List ℕ) (b : Buffer LabelUse) : Type 0 where
@@ -154,5 +163,6 @@ pub record HasEmitted (frame : FrameLayout) (flags : EmitFlags) (items : List It
   pub traps_below : All (λ t. t.0 < end_of b) b.traps
   pub cells : All (IsPut b) (standing (map (cells_of frame flags) items) places)
   pub uses : All (IsOneOf (end_of b) (sites_of (all_cells frame flags items))) b.uses
+  pub owners : All (IsUseOf (map (cells_of frame flags) items) places) b.uses
   pub bound : (i : ℕ) (label : MachLabel) → slice_get items i ≡ Some (Bind label) → get b.labels label.0 ≡ slice_get places i
   pub only : (label place : ℕ) → get b.labels label ≡ Some place → (i : ℕ) × (slice_get items i ≡ Some (Bind (record { 0 = label }))) × (slice_get places i ≡ Some place)

@@ -20,6 +20,7 @@ use Rattle.a64_emit.specs.declared.error.EmitError.TheVariants.{BadOperand, BadM
 use Rattle.a64_emit.specs.declared.site.Site.{Site}
 use Rattle.a64_emit.specs.Cells.{sites_of, all_cells}
 use Rattle.a64_emit.specs.Bounds.{whole, shortest}
+use Rattle.a64_emit.specs.Reach.{out_of_reach}
 
 -- the first fault, where there is one, else the second
 abbrev pub or_else : Option EmitError → Option EmitError → Option EmitError
@@ -105,4 +106,5 @@ module _ (frame : FrameLayout) (flags : EmitFlags) (items : List Item) where
 abbrev pub fault_of : FrameLayout → EmitFlags → FinMap nat_cmp (List ℕ) → ForceVeneers → List Item → Option EmitError
 fault_of frame flags constants force items =
     or_else (own_fault frame flags constants items)
-    (or_else (second_binding items) (or_else (unbound_use frame flags items) (too_large frame flags items)))
+    (or_else (second_binding items)
+    (or_else (unbound_use frame flags items) (or_else (too_large frame flags items) (out_of_reach frame flags force items))))

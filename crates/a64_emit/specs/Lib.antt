@@ -7,6 +7,8 @@ pub mod MemoryForms
 pub mod Cells
 pub mod Words
 pub mod Bounds
+pub mod Reach
+pub mod Starts
 pub mod Layout
 pub mod Emission
 pub mod Records

@@ -1,13 +1,18 @@
--- What the words of loads and stores are asked for.
-use Rattle.std.specs.Prelude.{ℕ, ◌≡◌, Bool, true, ◌&&◌, ◌||◌, nat_eq, List, map, Option}
+-- What the words of instructions are asked for, and how they are put.
+use Rattle.std.specs.Prelude.{ℕ, ◌≡◌, Bool, true, ◌&&◌, ◌||◌, nat_eq, List, [], ◌∷◌, ◌++◌, map, Option, None}
+use Rattle.a64_base.specs.declared.entity.MachLabel.{MachLabel}
 use Rattle.a64_base.specs.declared.entity.TrapCode.{TrapCode}
 use Rattle.a64_base.specs.declared.reg.Reg.{Reg}
+use Rattle.a64_base.specs.declared.target.BranchTarget.{BranchTarget}
 use Rattle.a64_base.specs.Registers.{integer_register}
 use Rattle.a64_imms.specs.Scales.{type_bytes}
 use Rattle.a64_ops.specs.declared.access.AccessOp.{AccessOp}
 use Rattle.a64_ops.specs.declared.operator.ALUOp.TheVariants.{Orr}
 use Rattle.a64_plan.specs.declared.step.ConstStep.{ConstStep}
 use Rattle.a64_plan.specs.declared.step.ConstStep.TheVariants as steps
+use Rattle.a64_inst.specs.declared.emission.EmitFlags.{EmitFlags}
+use Rattle.a64_inst.specs.declared.frame.FrameLayout.{FrameLayout}
+use Rattle.a64_inst.specs.declared.inst.Inst.{Inst}
 use Rattle.a64_inst.specs.declared.virtuals.VirtualRegisters.TheVariants.{Refused}
 use Rattle.a64_inst.specs.Accesses.{access_type}
 use Rattle.a64_inst.specs.FinalModes.{FinalMode, SignedOffset, ScaledOffset, Other}
@@ -16,7 +21,12 @@ use Rattle.a64_inst.specs.MemoryOperands as memory
 use Rattle.a64_inst.specs.Modes.{is_offset9}
 use Rattle.a64_inst.specs.Operands.{is_register_or_stack}
 use Rattle.a64_rows.specs.Forms.{form_word}
-use Rattle.a64_emit.specs.Cells.{Shape, Several}
+use Rattle.a64_buffer.specs.declared.site.Target.TheVariants.{Label}
+use Rattle.a64_emit.specs.declared.label_use.LabelUse.{LabelUse}
+use Rattle.a64_emit.specs.declared.label_use.LabelUse.TheVariants.{Branch26}
+use Rattle.a64_emit.specs.declared.site.Site.{Site}
+use Rattle.a64_emit.specs.ControlForms.{jump_form}
+use Rattle.a64_emit.specs.Cells.{Data, Cell, Shape, OneWord, Several, Words, body_word, cell_word, last_cell, branch_site, shape_of, other_cells}
 
 -- the operands of a step into a register are in their sets
 abbrev pub CanStep : Reg → ConstStep → Type 0
@@ -32,7 +42,34 @@ are_held_parts op (ScaledOffset rn offset ty) =
     is_register_or_stack Refused rn && (nat_eq offset 0 || nat_eq (type_bytes ty) (type_bytes (access_type op)))
 are_held_parts op (Other mode) = memory.are_mode_parts Refused mode && memory.has_access_mode op mode
 
--- words are those of several forms, of which the last may trap
-abbrev pub AreSeveral : List ℕ → ℕ → Option TrapCode → Shape → Type 0
-AreSeveral first last trap (Several forms form code) = (first ≡ map form_word forms) × (last ≡ form_word form) × (trap ≡ code)
-AreSeveral first last trap _ = ⊥
+-- words are those of several cells, of which only the last may be a use and may trap
+abbrev pub AreSeveral : List ℕ → ℕ → Option Site → Option TrapCode → Shape → Type 0
+AreSeveral first last site trap (Several forms body own code) =
+    (first ≡ map form_word forms) × (last ≡ body_word body) × (site ≡ own) × (trap ≡ code)
+AreSeveral first last site trap (OneWord form) = ⊥
+AreSeveral first last site trap (Words cells) = ⊥
+
+-- a use leads to a label
+abbrev pub IsOfLabel : Site → Type 0
+IsOfLabel site = (label : MachLabel) × (site.target ≡ Label label)
+
+-- a word as it is put, which may be a use and may trap
+abbrev pub put_cell : ℕ → Option Site → Option TrapCode → Cell
+put_cell word site trap = last_cell (Data word) site trap
+
+-- words as they are put, of which only the last may be a use and may trap
+abbrev pub put_cells : List ℕ → ℕ → Option Site → Option TrapCode → List Cell
+put_cells first last site trap = map (λ word. put_cell word None None) first ++ put_cell last site trap ∷ []
+
+-- a conditional branch as its word is put, and behind it a jump
+abbrev pub put_branches : ℕ → LabelUse → BranchTarget → BranchTarget → List Cell
+put_branches word kind taken not_taken =
+    put_cell word (branch_site kind taken) None ∷ put_cell (form_word (jump_form not_taken)) (branch_site Branch26 not_taken) None ∷ []
+
+-- a cell as its word is put
+abbrev pub as_put : Cell → Cell
+as_put cell = record { body = Data (cell_word cell); site = cell.site; marks = cell.marks }
+
+-- what is put for an instruction that is not one word without a use
+abbrev pub put_for : FrameLayout → EmitFlags → Inst → List Cell
+put_for frame flags inst = map as_put (other_cells (shape_of frame flags inst))

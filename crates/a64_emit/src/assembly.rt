@@ -13,6 +13,7 @@ use crate::code::Code;
 use crate::emit::MachInstEmit;
 use crate::error::EmitError;
 use crate::label_use::LabelUse;
+use crate::reach::check_reach;
 use a64_buffer::{Constants, Finished, ForceVeneers, MachBuffer};
 use a64_inst::{EmitInfo, EmitState, FrameLayout, Item};
 use std::alloc::{AllocError, Global};
@@ -89,8 +90,9 @@ pub fn assemble(
 {
     check_items(items, constants, info, frame)?;
     let bound = bound_labels(alloc, items)?;
-    check_uses(items, &bound, info, frame)?;
-    check_size(items, info, frame)?;
+    let near = check_uses(items, &bound, info, frame)?;
+    let size = check_size(items, info, frame)?;
+    check_reach(alloc, items, near, size, info, frame)?;
     let mut state = EmitState::new(frame.try_clone(alloc)?);
     let mut buffer = MachBuffer::new(alloc, constants);
     let places = emit_items(alloc, items, &mut buffer, info, &mut state)?;

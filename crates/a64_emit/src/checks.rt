@@ -1,15 +1,17 @@
 //! The checks of items before they are emitted.
 
 ghost use Rattle.std.specs.Prelude.{◌≡◌, ◌⊎◌, None, Some, IfOk, IfErr, MatchResult, ◌∷◌, [], ℕ};
-ghost use Rattle.std.specs.List.{filter_map};
+ghost use Rattle.std.specs.List.{filter_map, list_any};
 ghost use Rattle.a64_emit.specs.declared.error.EmitError.TheVariants.{OutOfMemory};
 ghost use Rattle.a64_emit.specs.Cells.{inst_cells, sites_of};
 ghost use Rattle.a64_emit.specs.Faults as Faults;
 ghost use Rattle.a64_emit.specs.Faults.{own_fault, HasLabels, bindings, second_binding, first_missing, used_label, unbound_use, is_too_long, too_large};
-ghost use Rattle.a64_emit.specs.Bounds.{saturated};
+ghost use Rattle.a64_emit.specs.Bounds.{saturated, whole};
+ghost use Rattle.a64_emit.specs.Reach.{is_near, has_near};
 
 use crate::error::EmitError;
 use crate::extent::{Extent, extent_of, lesser};
+use crate::reach::near_label;
 use crate::site::Site;
 use crate::uses::nth_use;
 use a64_base::MachLabel;
@@ -93,6 +95,7 @@ pub fn bound_labels(alloc: Global, items: &[Item]) -> Result<LabelMap<()>, EmitE
 }
 
 /// The label that a use leads to, where it is not bound.
+#[inline(always)]
 fn missing(site: Site, bound: &LabelMap<()>) -> Option<MachLabel>
     ensures { (labels : _) → HasLabels bound.now labels → result ≡ first_missing labels (filter_map used_label (site ∷ [])) }
 {
@@ -102,27 +105,42 @@ fn missing(site: Site, bound: &LabelMap<()>) -> Option<MachLabel>
     }
 }
 
-/// The first label that an instruction uses and that is not bound.
-fn missing_in(
-    inst: &Inst,
-    bound: &LabelMap<()>,
-    frame: &FrameLayout,
-    info: &EmitInfo,
-) -> Option<MachLabel>
-    ensures { (labels : _) → HasLabels bound.now labels
-        → result ≡ first_missing labels (filter_map used_label (sites_of (inst_cells frame.now info.now inst.now))) }
-{
-    let mut n = 0;
-    while let Some(found) = nth_use(inst, n, frame, info) {
-        if let Some(label) = missing(found.site, bound) {
-            return Some(label);
-        }
-        n += 1;
-    }
-    None
+/// What is found among the uses of an instruction.
+#[derive(Clone, Copy)]
+struct Scan {
+    /// The first label that is not bound.
+    missing: Option<MachLabel>,
+    /// Whether some use before it needs its label near.
+    near: bool,
 }
 
-/// Whether each label that items use is bound.
+/// What is found among the uses of an instruction.
+#[inline(always)]
+fn scan_uses(inst: &Inst, bound: &LabelMap<()>, frame: &FrameLayout, info: &EmitInfo) -> Scan
+    ensures missing { (labels : _) → HasLabels bound.now labels
+        → result.missing ≡ first_missing labels (filter_map used_label (sites_of (inst_cells frame.now info.now inst.now))) }
+    ensures near { result.missing ≡ None → result.near ≡ list_any is_near (sites_of (inst_cells frame.now info.now inst.now)) }
+{
+    let mut near = false;
+    let mut n = 0;
+    while let Some(found) = nth_use(inst, n, frame, info) {
+        let label = missing(found.site, bound);
+        if label.is_some() {
+            return Scan {
+                missing: label,
+                near,
+            };
+        }
+        near |= near_label(found.site).is_some();
+        n += 1;
+    }
+    Scan {
+        missing: None,
+        near,
+    }
+}
+
+/// Whether some use of items needs its label near, where each label that they use is bound.
 ///
 /// # Errors
 ///
@@ -132,21 +150,24 @@ pub fn check_uses(
     bound: &LabelMap<()>,
     info: &EmitInfo,
     frame: &FrameLayout,
-) -> Result<(), EmitError>
+) -> Result<bool, EmitError>
     requires { HasLabels bound.now (bindings items.now) }
     ensures { MatchResult result
-        (λ _. unbound_use frame.now info.now items.now ≡ None)
+        (λ near. (unbound_use frame.now info.now items.now ≡ None) × (near ≡ has_near frame.now info.now items.now))
         (λ error. unbound_use frame.now info.now items.now ≡ Some error) }
 {
+    let mut near = false;
     for item in items {
         let Item::Emit { inst, map: _ } = item else {
             continue;
         };
-        if let Some(label) = missing_in(inst, bound, frame, info) {
+        let found = scan_uses(inst, bound, frame, info);
+        if let Some(label) = found.missing {
             return Err(EmitError::UnboundLabel(label));
         }
+        near |= found.near;
     }
-    Ok(())
+    Ok(near)
 }
 
 /// Whether so many bytes, or the greatest number where they are more, are too many to be addressed,
@@ -164,14 +185,15 @@ fn exceeds(whole: u64, shortest: Option<u32>) -> bool
     }
 }
 
-/// Whether code of the items can be addressed, and each of its uses reaches its label.
+/// How many bytes code of the items may have, where it can be addressed, and each use that may have a
+/// veneer reaches its label.
 ///
 /// # Errors
 ///
 /// It may be too large for that.
-pub fn check_size(items: &[Item], info: &EmitInfo, frame: &FrameLayout) -> Result<(), EmitError>
+pub fn check_size(items: &[Item], info: &EmitInfo, frame: &FrameLayout) -> Result<u64, EmitError>
     ensures { MatchResult result
-        (λ _. too_large frame.now info.now items.now ≡ None)
+        (λ size. (too_large frame.now info.now items.now ≡ None) × (size ≡ saturated (whole frame.now info.now items.now)))
         (λ error. too_large frame.now info.now items.now ≡ Some error) }
 {
     let mut whole: u64 = 0;
@@ -188,5 +210,5 @@ pub fn check_size(items: &[Item], info: &EmitInfo, frame: &FrameLayout) -> Resul
     if exceeds(whole, shortest) {
         return Err(EmitError::TooLarge);
     }
-    Ok(())
+    Ok(whole)
 }

@@ -1,27 +1,34 @@
 //! Emission of single instructions.
 
-ghost use Rattle.std.specs.Prelude.{◌≡◌, ◌⊎◌, ◌+◌, ◌*◌, ◌^◌, ◌<◌, [], ◌∷◌, ◌++◌, length, OnOk, OnErr, true, None};
+ghost use Rattle.std.specs.Prelude.{◌≡◌, ◌⊎◌, ◌+◌, ◌*◌, ◌/◌, ◌%◌, ◌^◌, ◌<◌, [], ◌∷◌, ◌++◌, length, OnOk, OnErr, IfSome, true, None};
 ghost use Rattle.a64_inst.specs.declared.group.Group.TheVariants.{Control, Memory};
 ghost use Rattle.a64_inst.specs.declared.emission.EmitFlags.{EmitFlags};
 ghost use Rattle.a64_inst.specs.declared.virtuals.VirtualRegisters.TheVariants.{Refused};
 ghost use Rattle.a64_inst.specs.Faults.{has_operands, has_mode};
+ghost use Rattle.a64_inst.specs.ControlOperands.{are_jump_operands};
 ghost use Rattle.a64_inst.specs.Groups.{group_of};
 ghost use Rattle.a64_inst.specs.State.{State};
 ghost use Rattle.a64_buffer.specs.Buffer.{Buffer, end_of};
 ghost use Rattle.a64_buffer.specs.Classes.{Fits};
 ghost use Rattle.a64_emit.specs.declared.label_use.LabelUse.{LabelUse};
 ghost use Rattle.a64_rows.specs.Forms.{Form, form_word};
-ghost use Rattle.a64_emit.specs.Cells.{Shape, plain, branch, shape_of, only_word, other_cells};
-ghost use Rattle.a64_emit.specs.Words.{AreSeveral};
+ghost use Rattle.a64_emit.specs.Cells as cells;
+ghost use Rattle.a64_emit.specs.Cells.{plain, data_cell, shape_of, only_word};
+ghost use Rattle.a64_emit.specs.Words.{IsOfLabel, put_cell, put_cells, put_branches, put_for};
 ghost use Rattle.a64_emit.specs.LabelUses.{label_kinds};
 ghost use Rattle.a64_emit.specs.Emission.{trapped, PutsInPart, appended, Emits, EmitsInPart, IsAppendedInPart, HasRoom, CellsFit, IsReady};
 
 use crate::label_use::LabelUse;
-use crate::word::control::{jump_word, only_control_word};
+use crate::site::Site;
+use crate::uses::branch_site;
+use crate::word::control::{
+    UDF_WORD, cond_br_word, jump_word, label_address_word, only_control_word,
+    test_bit_and_branch_word,
+};
 use crate::word::integer::{only_immediate_word, only_register_word};
 use crate::word::memory::{SeveralWords, memory_words};
 use a64_base::{BranchTarget, TrapCode};
-use a64_buffer::MachBuffer;
+use a64_buffer::{MachBuffer, Target};
 use a64_inst::{EmitInfo, EmitState, FrameLayout, Group, Inst};
 use std::alloc::AllocError;
 
@@ -76,26 +83,6 @@ fn emit_plain(sink: &mut MachBuffer<'_, LabelUse>, word: u32) -> Result<(), Allo
     sink.put4(word)
 }
 
-/// One word with the use that a branch is.
-fn emit_branch(
-    sink: &mut MachBuffer<'_, LabelUse>,
-    word: u32,
-    kind: LabelUse,
-    dest: BranchTarget,
-) -> Result<(), AllocError>
-    requires short { end_of sink.old + 4 < 2 ^ 31 }
-    requires fits { (form : Form) → CellsFit sink.old (branch form kind dest ∷ []) }
-    ensures ok { OnOk result ((form : Form) → word ≡ form_word form → sink.new ≡ appended sink.old (branch form kind dest ∷ [])) }
-    ensures err { OnErr result ((form : Form) → word ≡ form_word form → IsAppendedInPart sink.old sink.new (branch form kind dest ∷ [])) }
-{
-    let offset = sink.cur_offset();
-    sink.put4(word)?;
-    match dest {
-        BranchTarget::Label(label) => sink.use_label_at_offset(offset, label, kind),
-        BranchTarget::ResolvedOffset(_) => Ok(()),
-    }
-}
-
 /// Words without uses, one behind the other.
 fn put_words(sink: &mut MachBuffer<'_, LabelUse>, words: &[u32]) -> Result<(), AllocError>
     requires short { end_of sink.old + 4 * length words.now < 2 ^ 31 }
@@ -126,17 +113,74 @@ fn put_trapping(
     sink.put4(word)
 }
 
-/// Words without uses, of which the last may trap.
+/// One word with its use, at which a trap is recorded where it may trap.
+#[inline(never)]
+fn put_using(
+    sink: &mut MachBuffer<'_, LabelUse>,
+    word: u32,
+    site: Site,
+    trap: Option<TrapCode>,
+) -> Result<(), AllocError>
+    requires short { end_of sink.old + 4 < 2 ^ 31 }
+    requires labelled { IsOfLabel site }
+    requires fits { CellsFit sink.old (put_cell word (Some site) trap ∷ []) }
+    ensures ok { OnOk result (sink.new ≡ appended sink.old (put_cell word (Some site) trap ∷ [])) }
+    ensures err { OnErr result (IsAppendedInPart sink.old sink.new (put_cell word (Some site) trap ∷ [])) }
+{
+    let offset = sink.cur_offset();
+    put_trapping(sink, word, trap)?;
+    match site.target {
+        Target::Label(label) => sink.use_label_at_offset(offset, label, site.kind),
+        _ => unreachable!(),
+    }
+}
+
+/// One word that may be a use of a label, and may trap.
+#[inline(always)]
+fn emit_last(
+    sink: &mut MachBuffer<'_, LabelUse>,
+    word: u32,
+    site: Option<Site>,
+    trap: Option<TrapCode>,
+) -> Result<(), AllocError>
+    requires short { end_of sink.old + 4 < 2 ^ 31 }
+    requires labelled { IfSome site IsOfLabel }
+    requires fits { CellsFit sink.old (put_cell word site trap ∷ []) }
+    ensures ok { OnOk result (sink.new ≡ appended sink.old (put_cell word site trap ∷ [])) }
+    ensures err { OnErr result (IsAppendedInPart sink.old sink.new (put_cell word site trap ∷ [])) }
+{
+    match site {
+        Some(site) => put_using(sink, word, site, trap),
+        None => put_trapping(sink, word, trap),
+    }
+}
+
+/// Words of which only the last may be a use of a label, and may trap.
 fn emit_several(sink: &mut MachBuffer<'_, LabelUse>, words: &SeveralWords) -> Result<(), AllocError>
-    requires short { end_of sink.old + 4 * length words.now.first.items + 4 < 2 ^ 31 }
-    requires fits { Fits label_kinds sink.old (4 * length words.now.first.items + 4) }
-    ensures ok { OnOk result ((shape : Shape) → AreSeveral words.now.first.items words.now.last words.now.trap shape
-        → sink.new ≡ appended sink.old (other_cells shape)) }
-    ensures err { OnErr result ((shape : Shape) → AreSeveral words.now.first.items words.now.last words.now.trap shape
-        → IsAppendedInPart sink.old sink.new (other_cells shape)) }
+    requires labelled { IfSome words.now.site IsOfLabel }
+    requires room { HasRoom sink.old (put_cells words.now.first.items words.now.last words.now.site words.now.trap) }
+    requires fits { CellsFit sink.old (put_cells words.now.first.items words.now.last words.now.site words.now.trap) }
+    ensures ok { OnOk result (sink.new ≡ appended sink.old (put_cells words.now.first.items words.now.last words.now.site words.now.trap)) }
+    ensures err { OnErr result (IsAppendedInPart sink.old sink.new (put_cells words.now.first.items words.now.last words.now.site words.now.trap)) }
 {
     put_words(sink, words.first.as_slice())?;
-    put_trapping(sink, words.last, words.trap)
+    emit_last(sink, words.last, words.site, words.trap)
+}
+
+/// One word with the use that a branch is.
+#[inline(always)]
+fn emit_branch(
+    sink: &mut MachBuffer<'_, LabelUse>,
+    word: u32,
+    kind: LabelUse,
+    dest: BranchTarget,
+) -> Result<(), AllocError>
+    requires short { end_of sink.old + 4 < 2 ^ 31 }
+    requires fits { CellsFit sink.old (put_cell word (cells.branch_site kind dest) None ∷ []) }
+    ensures ok { OnOk result (sink.new ≡ appended sink.old (put_cell word (cells.branch_site kind dest) None ∷ [])) }
+    ensures err { OnErr result (IsAppendedInPart sink.old sink.new (put_cell word (cells.branch_site kind dest) None ∷ [])) }
+{
+    emit_last(sink, word, branch_site(kind, dest), None)
 }
 
 /// A load or a store, or an address.
@@ -147,13 +191,13 @@ fn emit_memory(
     state: &mut EmitState,
 ) -> Result<(), AllocError>
     requires group { group_of inst.now ≡ Memory }
-    requires room { HasRoom sink.old (other_cells (shape_of state.old.frame info.now inst.now)) }
-    requires fits { CellsFit sink.old (other_cells (shape_of state.old.frame info.now inst.now)) }
+    requires room { HasRoom sink.old (put_for state.old.frame info.now inst.now) }
+    requires fits { CellsFit sink.old (put_for state.old.frame info.now inst.now) }
     requires good { has_operands state.old.frame info.now Refused inst.now ≡ true }
     requires mode { has_mode inst.now ≡ true }
-    ensures ok { OnOk result (sink.new ≡ appended sink.old (other_cells (shape_of state.old.frame info.now inst.now))) }
+    ensures ok { OnOk result (sink.new ≡ appended sink.old (put_for state.old.frame info.now inst.now)) }
     ensures state { OnOk result (state.new ≡ state.old) }
-    ensures err { OnErr result (IsAppendedInPart sink.old sink.new (other_cells (shape_of state.old.frame info.now inst.now))) }
+    ensures err { OnErr result (IsAppendedInPart sink.old sink.new (put_for state.old.frame info.now inst.now)) }
 {
     match memory_words(inst, state.frame_layout(), info) {
         Some(words) => emit_several(sink, &words),
@@ -161,7 +205,35 @@ fn emit_memory(
     }
 }
 
-/// A branch with a use.
+/// A conditional branch, with a jump behind it.
+fn emit_conditional(
+    sink: &mut MachBuffer<'_, LabelUse>,
+    word: u32,
+    kind: LabelUse,
+    taken: BranchTarget,
+    not_taken: BranchTarget,
+) -> Result<(), AllocError>
+    requires good { are_jump_operands not_taken ≡ true }
+    requires short { end_of sink.old + 8 < 2 ^ 31 }
+    requires fits { CellsFit sink.old (put_branches word kind taken not_taken) }
+    ensures ok { OnOk result (sink.new ≡ appended sink.old (put_branches word kind taken not_taken)) }
+    ensures err { OnErr result (IsAppendedInPart sink.old sink.new (put_branches word kind taken not_taken)) }
+{
+    emit_branch(sink, word, kind, taken)?;
+    emit_branch(sink, jump_word(not_taken), LabelUse::Branch26, not_taken)
+}
+
+/// Two data words, the low half of a number first.
+fn emit_word8(sink: &mut MachBuffer<'_, LabelUse>, value: u64) -> Result<(), AllocError>
+    requires short { end_of sink.old + 8 < 2 ^ 31 }
+    requires fits { Fits label_kinds sink.old 8 }
+    ensures ok { OnOk result (sink.new ≡ appended sink.old (data_cell (value % 2 ^ 32) ∷ data_cell (value / 2 ^ 32) ∷ [])) }
+    ensures err { OnErr result (IsAppendedInPart sink.old sink.new (data_cell (value % 2 ^ 32) ∷ data_cell (value / 2 ^ 32) ∷ [])) }
+{
+    sink.put8(value)
+}
+
+/// A branch or an address with a use, or data.
 fn emit_control(
     inst: &Inst,
     sink: &mut MachBuffer<'_, LabelUse>,
@@ -169,15 +241,42 @@ fn emit_control(
     state: &mut EmitState,
 ) -> Result<(), AllocError>
     requires group { group_of inst.now ≡ Control }
-    requires room { HasRoom sink.old (other_cells (shape_of state.old.frame _info.now inst.now)) }
-    requires fits { CellsFit sink.old (other_cells (shape_of state.old.frame _info.now inst.now)) }
+    requires room { HasRoom sink.old (put_for state.old.frame _info.now inst.now) }
+    requires fits { CellsFit sink.old (put_for state.old.frame _info.now inst.now) }
     requires good { has_operands state.old.frame _info.now Refused inst.now ≡ true }
-    ensures ok { OnOk result (sink.new ≡ appended sink.old (other_cells (shape_of state.old.frame _info.now inst.now))) }
+    ensures ok { OnOk result (sink.new ≡ appended sink.old (put_for state.old.frame _info.now inst.now)) }
     ensures state { OnOk result (state.new ≡ state.old) }
-    ensures err { OnErr result (IsAppendedInPart sink.old sink.new (other_cells (shape_of state.old.frame _info.now inst.now))) }
+    ensures err { OnErr result (IsAppendedInPart sink.old sink.new (put_for state.old.frame _info.now inst.now)) }
 {
     match inst {
-        Inst::Jump { dest } => { emit_branch(sink, jump_word(*dest), LabelUse::Branch26, *dest) }
+        Inst::Jump { dest } => emit_branch(sink, jump_word(*dest), LabelUse::Branch26, *dest),
+        Inst::CondBr {
+            taken,
+            not_taken,
+            kind,
+        } => {
+            let word = cond_br_word(*taken, *kind);
+            emit_conditional(sink, word, LabelUse::Branch19, *taken, *not_taken)
+        }
+        Inst::TestBitAndBranch {
+            kind,
+            taken,
+            not_taken,
+            rn,
+            bit,
+        } => {
+            let word = test_bit_and_branch_word(*kind, *taken, *rn, *bit);
+            emit_conditional(sink, word, LabelUse::Branch14, *taken, *not_taken)
+        }
+        Inst::LabelAddress { dst, label } => emit_branch(
+            sink,
+            label_address_word(*dst),
+            LabelUse::Adr21,
+            BranchTarget::Label(*label),
+        ),
+        Inst::Udf { trap_code } => emit_last(sink, UDF_WORD, None, Some(*trap_code)),
+        Inst::Word4 { value } => emit_last(sink, *value, None, None),
+        Inst::Word8 { value } => emit_word8(sink, *value),
         _ => Ok(()),
     }
 }
@@ -189,13 +288,13 @@ fn emit_other(
     info: &EmitInfo,
     state: &mut EmitState,
 ) -> Result<(), AllocError>
-    requires room { HasRoom sink.old (other_cells (shape_of state.old.frame info.now inst.now)) }
-    requires fits { CellsFit sink.old (other_cells (shape_of state.old.frame info.now inst.now)) }
+    requires room { HasRoom sink.old (put_for state.old.frame info.now inst.now) }
+    requires fits { CellsFit sink.old (put_for state.old.frame info.now inst.now) }
     requires good { has_operands state.old.frame info.now Refused inst.now ≡ true }
     requires mode { has_mode inst.now ≡ true }
-    ensures ok { OnOk result (sink.new ≡ appended sink.old (other_cells (shape_of state.old.frame info.now inst.now))) }
+    ensures ok { OnOk result (sink.new ≡ appended sink.old (put_for state.old.frame info.now inst.now)) }
     ensures state { OnOk result (state.new ≡ state.old) }
-    ensures err { OnErr result (IsAppendedInPart sink.old sink.new (other_cells (shape_of state.old.frame info.now inst.now))) }
+    ensures err { OnErr result (IsAppendedInPart sink.old sink.new (put_for state.old.frame info.now inst.now)) }
 {
     match inst.group() {
         Group::Memory => emit_memory(inst, sink, info, state),

@@ -1,10 +1,10 @@
 //! How much an item adds to code.
 
-ghost use Rattle.std.specs.Prelude.{◌≡◌, ◌≢◌, length};
-ghost use Rattle.a64_inst.specs.declared.group.Group.TheVariants.{Memory};
+ghost use Rattle.std.specs.Prelude.{◌≡◌, [], length};
+ghost use Rattle.a64_inst.specs.declared.group.Group.TheVariants.{Control};
 ghost use Rattle.a64_inst.specs.Groups.{group_of};
 ghost use Rattle.a64_emit.specs.Bounds as bounds;
-ghost use Rattle.a64_emit.specs.Bounds.{IsExtent, ranges_in, least, saturated, charge_of};
+ghost use Rattle.a64_emit.specs.Bounds.{IsExtent, AreExtent, ranges_in, least, saturated, charge_of};
 ghost use Rattle.a64_emit.specs.Cells.{inst_cells};
 
 use crate::site::Site;
@@ -34,6 +34,7 @@ struct Wanting {
 }
 
 /// The lesser of two numbers, of which either may be missing.
+#[inline(always)]
 pub fn lesser(a: Option<u32>, b: Option<u32>) -> Option<u32>
     ensures { result ≡ bounds.lesser a b }
 {
@@ -45,6 +46,7 @@ pub fn lesser(a: Option<u32>, b: Option<u32>) -> Option<u32>
 }
 
 /// The forward range of a use in bytes, where it may want a veneer.
+#[inline(always)]
 fn veneer_range(site: Site) -> Option<u32>
     ensures { result ≡ bounds.veneer_range site }
 {
@@ -77,28 +79,20 @@ fn wanting_in(inst: &Inst, frame: &FrameLayout, info: &EmitInfo) -> Wanting
     }
 }
 
-/// How many words an instruction has that is no load or store: one at most.
-fn few_count(inst: &Inst, _frame: &FrameLayout, _info: &EmitInfo) -> u64
-    requires { group_of inst.now ≢ Memory }
+/// How many words a branch, an address or data has.
+fn control_count(inst: &Inst, _frame: &FrameLayout, _info: &EmitInfo) -> u64
+    requires { group_of inst.now ≡ Control }
     ensures { result ≡ length (inst_cells _frame.now _info.now inst.now) }
 {
     match inst {
         Inst::Nop0 => 0,
+        Inst::CondBr { .. } | Inst::TestBitAndBranch { .. } | Inst::Word8 { .. } => 2,
         _ => 1,
     }
 }
 
-/// How many words an instruction has.
-fn cell_count(inst: &Inst, frame: &FrameLayout, info: &EmitInfo) -> u64
-    ensures { result ≡ length (inst_cells frame.now info.now inst.now) }
-{
-    match inst.group() {
-        Group::Immediate | Group::Register | Group::Control => few_count(inst, frame, info),
-        Group::Memory => memory_count(inst, frame, info),
-    }
-}
-
 /// How much an instruction of so many words may add to code, beside these.
+#[inline(always)]
 fn charge(words: u64, wanting: u64) -> u64
     ensures { (cells : _) → words ≡ length cells → wanting ≡ length (ranges_in cells) → result ≡ saturated (charge_of cells) }
 {
@@ -109,7 +103,47 @@ fn charge(words: u64, wanting: u64) -> u64
     }
 }
 
+/// How much an instruction of so many words may add to code, whose uses want no veneers.
+#[inline(always)]
+fn quiet_extent(words: u64) -> Extent
+    ensures { (cells : _) → words ≡ length cells → ranges_in cells ≡ [] → AreExtent cells result.size result.charge result.range }
+{
+    Extent {
+        size: words.saturating_mul(4),
+        charge: charge(words, 0),
+        range: None,
+    }
+}
+
+/// How much a branch, an address or data may add to code.
+#[inline(never)]
+fn control_extent(inst: &Inst, frame: &FrameLayout, info: &EmitInfo) -> Extent
+    requires { group_of inst.now ≡ Control }
+    ensures { AreExtent (inst_cells frame.now info.now inst.now) result.size result.charge result.range }
+{
+    let words = control_count(inst, frame, info);
+    let wanting = wanting_in(inst, frame, info);
+    Extent {
+        size: words.saturating_mul(4),
+        charge: charge(words, wanting.count),
+        range: wanting.range,
+    }
+}
+
+/// How much an instruction may add to code.
+#[inline(always)]
+fn inst_extent(inst: &Inst, frame: &FrameLayout, info: &EmitInfo) -> Extent
+    ensures { AreExtent (inst_cells frame.now info.now inst.now) result.size result.charge result.range }
+{
+    match inst.group() {
+        Group::Immediate | Group::Register => quiet_extent(1),
+        Group::Control => control_extent(inst, frame, info),
+        Group::Memory => quiet_extent(memory_count(inst, frame, info)),
+    }
+}
+
 /// How much an item may add to code.
+#[inline(always)]
 pub fn extent_of(item: &Item, frame: &FrameLayout, info: &EmitInfo) -> Extent
     ensures { IsExtent frame.now info.now item.now result.size result.charge result.range }
 {
@@ -119,14 +153,6 @@ pub fn extent_of(item: &Item, frame: &FrameLayout, info: &EmitInfo) -> Extent
             charge: 0,
             range: None,
         },
-        Item::Emit { inst, map: _ } => {
-            let words = cell_count(inst, frame, info);
-            let wanting = wanting_in(inst, frame, info);
-            Extent {
-                size: words.saturating_mul(4),
-                charge: charge(words, wanting.count),
-                range: wanting.range,
-            }
-        }
+        Item::Emit { inst, map: _ } => inst_extent(inst, frame, info),
     }
 }

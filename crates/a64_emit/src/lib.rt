@@ -11,6 +11,7 @@ mod label_use;
 #[cfg(test)]
 mod memory_tests;
 mod mode;
+mod reach;
 mod site;
 mod state;
 #[cfg(test)]

@@ -1,79 +1,20 @@
 //! The addressing modes that stand in instructions, and the steps before them.
 
-ghost use Rattle.std.specs.Prelude.{◌≡◌, ◌<◌, ◌≤◌, ◌^◌, ◌⊎◌, [], length, None, Some, MatchOption};
+ghost use Rattle.std.specs.Prelude.{◌≡◌, ◌≤◌, ◌^◌, ◌⊎◌, [], length};
 ghost use Rattle.a64_base.specs.declared.shift.ExtendOp.TheVariants.{SXTX};
 ghost use Rattle.a64_base.specs.Registers.{integer_register};
 ghost use Rattle.a64_imms.specs.Offsets.{residue};
 ghost use Rattle.a64_imms.specs.Scales.{type_bytes};
 ghost use Rattle.a64_plan.specs.Shapes.{IsShape};
 ghost use Rattle.a64_inst.specs.declared.mode.AMode.TheVariants.{RegExtended};
-ghost use Rattle.a64_inst.specs.Modes as modes;
-ghost use Rattle.a64_inst.specs.Modes.{base_offset_of, frame_size, IsAccessSize};
+ghost use Rattle.a64_inst.specs.Modes.{IsAccessSize};
 ghost use Rattle.a64_inst.specs.FinalModes as finals;
 ghost use Rattle.a64_inst.specs.FinalModes.{parts_of};
 
-use a64_base::{ExtendOp, IrType, Reg, fp_reg, spilltmp_reg, stack_reg};
+use a64_base::{ExtendOp, IrType, Reg, spilltmp_reg};
 use a64_imms::{SImm9, UImm12Scaled};
-use a64_inst::{AMode, ConstStep, FrameLayout, const_plan};
+use a64_inst::{AMode, ConstStep, FrameLayout, const_plan, is_far, place_of};
 use arrayvec::ArrayVec;
-
-/// A base, and an offset in bytes.
-#[derive(Clone, Copy, Debug)]
-struct Place {
-    base: Reg,
-    offset: i128,
-}
-
-/// A size of a frame, with room for a sum of some.
-fn wide(bytes: u32) -> u64
-    ensures value { result ≡ bytes }
-    ensures below { result < 2 ^ 32 }
-{
-    u64::from(bytes)
-}
-
-/// All areas of a frame together, in bytes.
-fn frame_bytes(frame: &FrameLayout) -> u64
-    ensures { result ≡ frame_size frame.now }
-{
-    wide(frame.setup_area_size)
-        + wide(frame.tail_args_size)
-        + wide(frame.clobber_size)
-        + wide(frame.fixed_frame_storage_size)
-        + wide(frame.outgoing_args_size)
-}
-
-/// The base and the offset of a mode that no instruction holds.
-fn place_of(frame: &FrameLayout, mem: &AMode) -> Option<Place>
-    ensures { MatchOption result (base_offset_of frame.now mem.now ≡ None)
-        (λ place. base_offset_of frame.now mem.now ≡ Some (record { base = place.base; offset = place.offset })) }
-{
-    let (base, offset) = match *mem {
-        AMode::RegOffset { rn, off } => (rn, i128::from(off)),
-        AMode::SPOffset { off } => (stack_reg(), i128::from(off)),
-        AMode::FPOffset { off } => (fp_reg(), i128::from(off)),
-        AMode::IncomingArg { off } => (
-            stack_reg(),
-            i128::from(frame_bytes(frame)) - i128::from(off),
-        ),
-        AMode::SlotOffset { off } => (
-            stack_reg(),
-            i128::from(off) + i128::from(frame.outgoing_args_size),
-        ),
-        _ => return None,
-    };
-    Some(Place { base, offset })
-}
-
-/// Whether no instruction holds an offset of an access.
-fn is_far(ty: IrType, offset: i128) -> bool
-    requires { IsAccessSize (type_bytes ty) }
-    ensures { result ≡ modes.is_far ty offset }
-{
-    let bytes = i128::from(ty.bytes());
-    let near = offset >= -256 && offset <= 255;
-    !near && !(offset >= 0 && offset <= 4095 * bytes && offset % bytes == 0)
-}
 
 /// An offset modulo 2^64.
 fn wrapped(offset: i128) -> u64

@@ -1,19 +1,25 @@
-//! The words of branches and returns.
+//! The words of branches, returns and addresses of labels.
 
-ghost use Rattle.std.specs.Prelude.{◌≡◌, true};
+ghost use Rattle.std.specs.Prelude.{◌≡◌, ◌<◌, true};
 ghost use Rattle.a64_inst.specs.declared.group.Group.TheVariants.{Control};
 ghost use Rattle.a64_inst.specs.declared.virtuals.VirtualRegisters.TheVariants.{Refused};
 ghost use Rattle.a64_inst.specs.Groups.{group_of};
 ghost use Rattle.a64_inst.specs.Faults.{has_operands};
-ghost use Rattle.a64_inst.specs.ControlOperands.{are_jump_operands};
+ghost use Rattle.a64_inst.specs.ControlOperands.{are_jump_operands, is_target14, is_target19, is_test};
+ghost use Rattle.a64_inst.specs.Operands.{is_register_or_zero};
 ghost use Rattle.a64_rows.specs.Forms.{form_word};
 ghost use Rattle.a64_emit.specs.Cells.{shape_of, only_word};
+ghost use Rattle.a64_emit.specs.ControlForms as forms;
 ghost use Rattle.a64_emit.specs.ControlForms.{ret_form, jump_form};
 
+use crate::word::integer::immediate::adr_word;
 use crate::word::integer::system::{mov_from_nzcv_word, mov_to_nzcv_word, nop4_word};
-use a64_base::BranchTarget;
-use a64_enc_int::enc_jump26;
+use a64_base::{BranchTarget, CondBrKind, Reg, TestBitAndBranchKind, Writable};
+use a64_enc_int::{enc_br, enc_conditional_br, enc_jump26, enc_test_bit_and_branch};
 use a64_inst::{EmitInfo, FrameLayout, Inst};
+
+/// The data word that is no instruction, and traps.
+pub const UDF_WORD: u32 = 0xc11f;
 
 /// The word of a branch, a hint or an access to a system register, where it is one word without a use.
 pub fn only_control_word(inst: &Inst, frame: &FrameLayout, info: &EmitInfo) -> Option<u32>
@@ -27,7 +33,15 @@ pub fn only_control_word(inst: &Inst, frame: &FrameLayout, info: &EmitInfo) -> O
         Inst::MovToNZCV { rn } => Some(mov_to_nzcv_word(*rn)),
         Inst::MovFromNZCV { rd } => Some(mov_from_nzcv_word(*rd)),
         Inst::Ret => Some(ret_word()),
-        Inst::Jump { .. } => None,
+        Inst::IndirectBr { rn, targets: _ } => Some(indirect_br_word(*rn)),
+        Inst::Brk => Some(brk_word()),
+        Inst::Jump { .. }
+        | Inst::CondBr { .. }
+        | Inst::TestBitAndBranch { .. }
+        | Inst::Udf { .. }
+        | Inst::Word4 { .. }
+        | Inst::Word8 { .. }
+        | Inst::LabelAddress { .. } => None,
         _ => unreachable!(),
     }
 }
@@ -47,4 +61,56 @@ pub fn jump_word(dest: BranchTarget) -> u32
     ensures { result ≡ form_word (jump_form dest) }
 {
     enc_jump26(0b000101, dest.as_offset26_or_zero())
+}
+
+/// The word of the conditional branch of a `CondBr`, whose offset is zero as long as it has a label.
+#[tactic(auto, using(a64_inst::proofs::Good::target19_fits, crate::proofs::Operands::test_general), unfolding(crate::specs::ControlForms::cond_br_form))]
+pub fn cond_br_word(taken: BranchTarget, kind: CondBrKind) -> u32
+    requires taken { is_target19 taken ≡ true }
+    requires kind { is_test Refused kind ≡ true }
+    ensures { result ≡ form_word (forms.cond_br_form taken kind) }
+{
+    enc_conditional_br(taken, kind)
+}
+
+/// The word of the conditional branch of a `TestBitAndBranch`, whose offset is zero as long as it has a label.
+#[tactic(auto, using(a64_inst::proofs::Good::target14_fits, crate::proofs::Operands::general), unfolding(crate::specs::ControlForms::test_bit_and_branch_form))]
+pub fn test_bit_and_branch_word(
+    kind: TestBitAndBranchKind,
+    taken: BranchTarget,
+    rn: Reg,
+    bit: u8,
+) -> u32
+    requires taken { is_target14 taken ≡ true }
+    requires rn { is_register_or_zero Refused rn ≡ true }
+    requires bit { bit < 64 }
+    ensures { result ≡ form_word (forms.test_bit_and_branch_form kind taken rn bit) }
+{
+    enc_test_bit_and_branch(kind, taken, rn, bit)
+}
+
+/// The word of an `IndirectBr`.
+#[tactic(auto, using(crate::proofs::Operands::general), unfolding(crate::specs::ControlForms::indirect_br_form))]
+fn indirect_br_word(rn: Reg) -> u32
+    requires { is_register_or_zero Refused rn ≡ true }
+    ensures { result ≡ form_word (forms.indirect_br_form rn) }
+{
+    enc_br(rn)
+}
+
+/// The word of a `Brk`.
+#[tactic(auto, unfolding(crate::specs::ControlForms::brk_form))]
+fn brk_word() -> u32
+    ensures { result ≡ form_word forms.brk_form }
+{
+    0xd43e_0000
+}
+
+/// The word of a `LabelAddress`, whose distance is zero as long as the label has no place.
+#[tactic(auto, unfolding(crate::specs::ControlForms::label_address_form, a64_inst::specs::IntegerOperands::are_adr_operands))]
+pub fn label_address_word(dst: Writable<Reg>) -> u32
+    requires { is_register_or_zero Refused dst ≡ true }
+    ensures { result ≡ form_word (forms.label_address_form dst) }
+{
+    adr_word(dst, 0)
 }

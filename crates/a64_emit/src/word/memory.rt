@@ -14,6 +14,8 @@ ghost use Rattle.a64_emit.specs.Cells.{Words, shape_of, access_shape, inst_cells
 ghost use Rattle.a64_emit.specs.Words.{AreSeveral};
 
 use crate::mode::{final_mode, final_steps};
+use crate::site::Site;
+use crate::uses::mode_site;
 use crate::word::memory::access::{held_word, pair_word};
 use crate::word::memory::address::{address_count, address_words};
 use crate::word::memory::step::step_words;
@@ -21,13 +23,15 @@ use a64_base::{TrapCode, writable_spilltmp_reg};
 use a64_inst::{Access, EmitInfo, FrameLayout, Inst};
 use arrayvec::ArrayVec;
 
-/// Words without uses, of which the last may trap.
+/// Words of which only the last may be a use, and may trap.
 #[derive(Drop)]
 pub struct SeveralWords {
     /// The words before the last.
     pub first: ArrayVec<u32, 4>,
     /// The last word.
     pub last: u32,
+    /// The use that the last word is, where it is one.
+    pub site: Option<Site>,
     /// The code of the trap that is recorded at the last word.
     pub trap: Option<TrapCode>,
 }
@@ -37,7 +41,7 @@ pub struct SeveralWords {
 fn access_words(access: &Access, frame: &FrameLayout) -> SeveralWords
     requires operands { memory.are_access_operands frame.now Refused access.now ≡ true }
     requires mode { memory.has_access_mode access.now.op access.now.mem ≡ true }
-    ensures { AreSeveral result.first.items result.last result.trap (access_shape frame.now access.now) }
+    ensures { AreSeveral result.first.items result.last result.site result.trap (access_shape frame.now access.now) }
 {
     let ty = access.ty();
     let steps = final_steps(frame, ty, &access.mem);
@@ -45,6 +49,7 @@ fn access_words(access: &Access, frame: &FrameLayout) -> SeveralWords
     SeveralWords {
         first: step_words(writable_spilltmp_reg(), steps.as_slice()),
         last: held_word(access.op, access.reg, &mode),
+        site: mode_site(&access.mem),
         trap: access.flags.trap_code(),
     }
 }
@@ -55,7 +60,7 @@ pub fn memory_words(inst: &Inst, frame: &FrameLayout, info: &EmitInfo) -> Option
     requires good { has_operands frame.now info.now Refused inst.now ≡ true }
     requires mode { has_mode inst.now ≡ true }
     ensures { MatchOption result (shape_of frame.now info.now inst.now ≡ Words [])
-        (λ words. AreSeveral words.first.items words.last words.trap (shape_of frame.now info.now inst.now)) }
+        (λ words. AreSeveral words.first.items words.last words.site words.trap (shape_of frame.now info.now inst.now)) }
 {
     if let Some(access) = inst.access() {
         return Some(access_words(&access, frame));
@@ -79,6 +84,7 @@ pub fn memory_words(inst: &Inst, frame: &FrameLayout, info: &EmitInfo) -> Option
     Some(SeveralWords {
         first: ArrayVec::new(),
         last,
+        site: None,
         trap: flags.trap_code(),
     })
 }

@@ -1,6 +1,7 @@
 use Rattle.std.proofs.Common.{◌∙◌, ◌+◌, ap, sym, cond, None, Some, true, false}
+use Rattle.std.proofs.lemmas.List.{take_all}
 use Rattle.a64_emit.specs.declared.error.EmitError.TheVariants.{TooLarge}
-use Rattle.a64_emit.specs.Bounds.{lesser, saturated, item_size, item_charge, asked_space}
+use Rattle.a64_emit.specs.Bounds.{lesser, saturated, whole, item_size, item_charge, asked_space}
 use Rattle.a64_emit.proofs.Sizes.{whole_more, shortest_more, large_of, saturated_more}
 use Rattle.a64_emit.proofs.checks.check_size.Goals as goal
 
@@ -28,5 +29,7 @@ returns-then-exceeds c =
     ap (λ b. cond b (Some TooLarge) None) (large_of c.args.frame.now c.args.info.now c.args.items.now c.loop-item.item-index c.loop-item.whole c.loop-item.shortest true c.loop-item-test.false c.loop-item.invariant.whole_is c.loop-item.invariant.shortest_is (λ k is. sym c.if-exceeds.true ∙ c.exceeds.ensures k is))
 
 pub returns : goal.returns
-returns c =
-    ap (λ b. cond b (Some TooLarge) None) (large_of c.args.frame.now c.args.info.now c.args.items.now c.loop-item.item-index c.loop-item.whole c.loop-item.shortest false c.loop-item-test.false c.loop-item.invariant.whole_is c.loop-item.invariant.shortest_is (λ k is. sym c.if-exceeds.false ∙ c.exceeds.ensures k is))
+returns c = (
+  ap (λ b. cond b (Some TooLarge) None) (large_of c.args.frame.now c.args.info.now c.args.items.now c.loop-item.item-index c.loop-item.whole c.loop-item.shortest false c.loop-item-test.false c.loop-item.invariant.whole_is c.loop-item.invariant.shortest_is (λ k is. sym c.if-exceeds.false ∙ c.exceeds.ensures k is)),
+  c.loop-item.invariant.whole_is ∙ ap (λ xs. saturated (whole c.args.frame.now c.args.info.now xs)) (take_all c.loop-item.item-index c.args.items.now c.loop-item-test.false),
+)

@@ -1,26 +1,21 @@
-use Rattle.std.proofs.Common.{◌≡◌, ◌∙◌, [], ◌∷◌}
-use Rattle.std.proofs.lemmas.Result.{on_err_weaker}
-use Rattle.a64_rows.specs.Forms.{Form, form_word}
-use Rattle.a64_emit.specs.Cells.{branch}
-use Rattle.a64_emit.specs.ControlForms.{ret_form}
-use Rattle.a64_emit.specs.Emission.{IsAppendedInPart}
-use Rattle.a64_emit.proofs.Fitting.{before_word, after_word, nothing_appended, word_appended, of_error}
+use Rattle.std.proofs.Common.{◌≡◌, [], ◌∷◌, Option, None, sym, ap, subst, ◌∙◌}
+use Rattle.std.specs.Prelude.{IfSome}
+use Rattle.std.proofs.lemmas.Result.{on_ok_weaker, on_err_weaker}
+use Rattle.a64_emit.specs.declared.site.Site.{Site}
+use Rattle.a64_emit.specs.Emission.{appended, IsAppendedInPart, CellsFit}
+use Rattle.a64_emit.specs.Words.{IsOfLabel, put_cell}
+use Rattle.a64_emit.proofs.AsPut.{branch_labelled}
 use Rattle.a64_emit.proofs.emit.emit_branch.Goals as goal
 
-pub put4-requires-clause-fits : goal.put4-requires-clause-fits
-put4-requires-clause-fits c = before_word c.args.sink.now (branch ret_form c.args.kind c.args.dest) (c.requires.fits ret_form)
+pub emit_last-requires : goal.emit_last-requires
+emit_last-requires c = record {
+  short = c.requires.short;
+  labelled = subst (λ (o : Option Site). IfSome o IsOfLabel) (sym c.branch_site.ensures) (branch_labelled c.args.kind c.args.dest);
+  fits = subst (λ (o : Option Site). CellsFit c.args.sink.now (put_cell c.args.word o None ∷ [])) (sym c.branch_site.ensures) c.requires.fits;
+}
 
-pub returns-in_err-put4-clause-err : goal.returns-in_err-put4-clause-err
-returns-in_err-put4-clause-err c =
-    of_error c.from_residual.result ((form : Form) → c.args.word ≡ form_word form → IsAppendedInPart c.args.sink.now c.put4.new.self (branch form c.args.kind c.args.dest ∷ []))
-    (λ form f. nothing_appended c.args.sink.now c.put4.new.self (branch form c.args.kind c.args.dest ∷ []) c.in_err-put4.ensures.err)
+pub returns-clause-ok : goal.returns-clause-ok
+returns-clause-ok c = on_ok_weaker c.emit_last.result (λ e. e ∙ ap (λ (o : Option Site). appended c.args.sink.now (put_cell c.args.word o None ∷ [])) c.branch_site.ensures) c.emit_last.ensures.ok
 
-pub use_label_at_offset-requires-clause-fits : goal.use_label_at_offset-requires-clause-fits
-use_label_at_offset-requires-clause-fits c =
-    after_word ret_form c.args.sink.now c.put4.new.self c.args.word c.cur_offset-offset.result c.args.kind c.args.dest c.in-Label.label c.in_ok-put4.ensures.ok c.cur_offset-offset.ensures.value c.in-Label.is (c.requires.fits ret_form)
-
-pub returns-in-Label-clause-err : goal.returns-in-Label-clause-err
-returns-in-Label-clause-err c =
-    on_err_weaker c.use_label_at_offset.result
-    (λ e form f. word_appended c.args.sink.now c.use_label_at_offset.new.self c.args.word form c.args.kind c.args.dest (e ∙ c.in_ok-put4.ensures.ok) f)
-    c.use_label_at_offset.ensures.err
+pub returns-clause-err : goal.returns-clause-err
+returns-clause-err c = on_err_weaker c.emit_last.result (subst (λ (o : Option Site). IsAppendedInPart c.args.sink.now c.emit_last.new.sink (put_cell c.args.word o None ∷ [])) c.branch_site.ensures) c.emit_last.ensures.err

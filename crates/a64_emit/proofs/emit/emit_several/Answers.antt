@@ -1,37 +1,54 @@
-use Rattle.std.proofs.Common.{List, ℕ, ◌∙◌, ◌++◌, ap, subst}
+use Rattle.std.proofs.Common.{ℕ, ◌+◌, ◌*◌, ◌<◌, ◌^◌, List, [], ◌∷◌, ◌++◌, length, ◌∙◌, sym, ap, subst}
 use Rattle.std.proofs.lemmas.Result.{on_ok_weaker, on_err_weaker}
-use Rattle.a64_emit.specs.Cells.{Shape, other_cells}
+use Rattle.a64_buffer.specs.Buffer.{end_of}
+use Rattle.a64_buffer.specs.Classes.{Fits}
+use Rattle.a64_emit.specs.LabelUses.{label_kinds}
 use Rattle.a64_emit.specs.Emission.{PutsInPart, IsAppendedInPart}
-use Rattle.a64_emit.specs.Words.{AreSeveral}
+use Rattle.a64_emit.specs.Words.{put_cell, put_cells}
 use Rattle.a64_emit.proofs.Fitting.{of_error}
-use Rattle.a64_emit.proofs.Several.{last_fits, several_done, several_part, several_trapped}
+use Rattle.a64_emit.proofs.Joined.{joined, part_first, part_second, room_first, room_second, fits_first, fits_second}
+use Rattle.a64_emit.proofs.Lasts.{silent, silent_appended, silent_part, silent_room, silent_fits}
 use Rattle.a64_emit.proofs.emit.emit_several.Goals as goal
+
+pub put_words-requires : goal.put_words-requires
+put_words-requires c =
+    let words = c.args.words.now in
+    let room = room_first c.args.sink.now (silent words.first.items) (put_cell words.last words.site words.trap ∷ []) c.requires.room in
+    let fits = fits_first c.args.sink.now (silent words.first.items) (put_cell words.last words.site words.trap ∷ []) c.requires.fits in
+    record {
+      short = subst (λ (ws : List ℕ). end_of c.args.sink.now + 4 * length ws < 2 ^ 31) (sym c.as_slice.ensures.value) (silent_room c.args.sink.now words.first.items room);
+      fits = subst (λ (ws : List ℕ). Fits label_kinds c.args.sink.now (4 * length ws)) (sym c.as_slice.ensures.value) (silent_fits c.args.sink.now words.first.items fits);
+    }
 
 pub returns-in_err-put_words-clause-err : goal.returns-in_err-put_words-clause-err
 returns-in_err-put_words-clause-err c =
     let words = c.args.words.now in
-    of_error c.from_residual.result ((shape : Shape) → AreSeveral words.first.items words.last words.trap shape → IsAppendedInPart c.args.sink.now c.put_words.new.sink (other_cells shape))
-    (several_part c.args.sink.now c.args.sink.now c.put_words.new.sink words.first.items words.last words.trap
-    (subst (PutsInPart c.args.sink.now c.put_words.new.sink) c.as_slice.ensures.value c.in_err-put_words.ensures.err))
+    of_error c.from_residual.result (IsAppendedInPart c.args.sink.now c.put_words.new.sink (put_cells words.first.items words.last words.site words.trap))
+    (part_first c.args.sink.now (silent words.first.items) (put_cell words.last words.site words.trap ∷ []) c.put_words.new.sink
+    (silent_part c.args.sink.now c.put_words.new.sink words.first.items (subst (PutsInPart c.args.sink.now c.put_words.new.sink) c.as_slice.ensures.value c.in_err-put_words.ensures.err)))
 
-pub put_trapping-requires-clause-fits : goal.put_trapping-requires-clause-fits
-put_trapping-requires-clause-fits c =
-    last_fits c.args.sink.now c.put_words.new.sink c.args.words.now.first.items
-    (c.in_ok-put_words.ensures.ok ∙ ap (λ (ws : List ℕ). record c.args.sink.now { words = c.args.sink.now.words ++ ws }) c.as_slice.ensures.value)
-    c.requires.fits
+pub emit_last-requires : goal.emit_last-requires
+emit_last-requires c =
+    let words = c.args.words.now in
+    let put = silent_appended c.args.sink.now c.put_words.new.sink words.first.items (c.in_ok-put_words.ensures.ok ∙ ap (λ (ws : List ℕ). record c.args.sink.now { words = c.args.sink.now.words ++ ws }) c.as_slice.ensures.value) in
+    record {
+      short = room_second c.args.sink.now (silent words.first.items) (put_cell words.last words.site words.trap ∷ []) c.put_words.new.sink put c.requires.room;
+      labelled = c.requires.labelled;
+      fits = fits_second c.args.sink.now (silent words.first.items) (put_cell words.last words.site words.trap ∷ []) c.put_words.new.sink put c.requires.fits;
+    }
 
 pub returns-clause-ok : goal.returns-clause-ok
 returns-clause-ok c =
     let words = c.args.words.now in
-    on_ok_weaker c.put_trapping.result
-    (several_done c.args.sink.now c.put_words.new.sink c.put_trapping.new.sink words.first.items words.last words.trap
-    (c.in_ok-put_words.ensures.ok ∙ ap (λ (ws : List ℕ). record c.args.sink.now { words = c.args.sink.now.words ++ ws }) c.as_slice.ensures.value))
-    c.put_trapping.ensures.ok
+    let put = silent_appended c.args.sink.now c.put_words.new.sink words.first.items (c.in_ok-put_words.ensures.ok ∙ ap (λ (ws : List ℕ). record c.args.sink.now { words = c.args.sink.now.words ++ ws }) c.as_slice.ensures.value) in
+    on_ok_weaker c.emit_last.result
+    (joined c.args.sink.now (silent words.first.items) (put_cell words.last words.site words.trap ∷ []) c.put_words.new.sink c.emit_last.new.sink put)
+    c.emit_last.ensures.ok
 
 pub returns-clause-err : goal.returns-clause-err
 returns-clause-err c =
     let words = c.args.words.now in
-    on_err_weaker c.put_trapping.result
-    (several_trapped c.args.sink.now c.put_words.new.sink c.put_trapping.new.sink words.first.items words.last words.trap
-    (c.in_ok-put_words.ensures.ok ∙ ap (λ (ws : List ℕ). record c.args.sink.now { words = c.args.sink.now.words ++ ws }) c.as_slice.ensures.value))
-    c.put_trapping.ensures.err
+    let put = silent_appended c.args.sink.now c.put_words.new.sink words.first.items (c.in_ok-put_words.ensures.ok ∙ ap (λ (ws : List ℕ). record c.args.sink.now { words = c.args.sink.now.words ++ ws }) c.as_slice.ensures.value) in
+    on_err_weaker c.emit_last.result
+    (part_second c.args.sink.now (silent words.first.items) (put_cell words.last words.site words.trap ∷ []) c.put_words.new.sink c.emit_last.new.sink put)
+    c.emit_last.ensures.err

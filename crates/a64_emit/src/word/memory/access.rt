@@ -70,13 +70,14 @@ fn indexed_word(
     enc_ldst_reg(access_bits(op), rn, rm, scaled, extendop, rt)
 }
 
-/// How many words a literal is ahead, modulo 2^19.
+/// How many words a literal is ahead, modulo 2^19; none as long as it has a label.
 fn literal_words(label: MemLabel) -> u32
     ensures is { result ≡ forms.literal_words label }
     ensures fits { result < 2 ^ 19 }
 {
     match label {
         MemLabel::PCRel(offset) => offset.rem_euclid(1 << 21) as u32 / 4,
+        MemLabel::Mach(_) => 0,
     }
 }
 

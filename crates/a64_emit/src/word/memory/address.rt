@@ -9,7 +9,7 @@ ghost use Rattle.a64_inst.specs.FinalModes as finals;
 ghost use Rattle.a64_inst.specs.MemoryOperands as memory;
 ghost use Rattle.a64_inst.specs.Operands as operands;
 ghost use Rattle.a64_plan.specs.Plans.{plan_of};
-ghost use Rattle.a64_emit.specs.Cells.{Several, Words, sum_shape, address_shape, shape_cells};
+ghost use Rattle.a64_emit.specs.Cells.{Words, quiet, sum_shape, address_shape, shape_cells};
 ghost use Rattle.a64_emit.specs.MemoryForms as forms;
 ghost use Rattle.a64_emit.specs.Words.{AreSeveral};
 
@@ -30,11 +30,13 @@ use arrayvec::ArrayVec;
 fn alone(word: u32) -> SeveralWords
     ensures first { result.first.items ≡ [] }
     ensures last { result.last ≡ word }
+    ensures site { result.site ≡ None }
     ensures trap { result.trap ≡ None }
 {
     SeveralWords {
         first: ArrayVec::new(),
         last: word,
+        site: None,
         trap: None,
     }
 }
@@ -83,13 +85,14 @@ fn addend(n: u32) -> Option<Imm12>
 fn far_sum(rd: Writable<Reg>, rn: Reg, offset: i32) -> SeveralWords
     requires rd { operands.is_register Refused rd ≡ true }
     requires rn { operands.is_register_or_zero Refused rn ≡ true }
-    ensures { AreSeveral result.first.items result.last result.trap
-        (Several (forms.step_forms forms.addend_register (plan_of (unsigned_abs offset))) (forms.sum_form rd rn offset) None) }
+    ensures { AreSeveral result.first.items result.last result.site result.trap
+        (quiet (forms.step_forms forms.addend_register (plan_of (unsigned_abs offset))) (forms.sum_form rd rn offset)) }
 {
     let plan = const_plan(u64::from(offset.unsigned_abs()));
     SeveralWords {
         first: step_words(writable_tmp2_reg(), plan.as_slice()),
         last: alu_rrr_word(sum_op(offset), OperandSize::Size64, rd, rn, tmp2_reg()),
+        site: None,
         trap: None,
     }
 }
@@ -100,7 +103,7 @@ fn sum_words(rd: Writable<Reg>, rn: Reg, offset: i32) -> Option<SeveralWords>
     requires rn { operands.is_register_or_stack Refused rn ≡ true }
     requires far { memory.is_addend (unsigned_abs offset) ≡ false → is_numbered 63 rn ≡ false }
     ensures { MatchOption result (sum_shape rd rn offset ≡ Words [])
-        (λ words. AreSeveral words.first.items words.last words.trap (sum_shape rd rn offset)) }
+        (λ words. AreSeveral words.first.items words.last words.site words.trap (sum_shape rd rn offset)) }
 {
     if offset == 0 {
         if is_same_register(&rd.to_reg(), &rn) {
@@ -126,7 +129,7 @@ pub fn address_words(rd: Writable<Reg>, frame: &FrameLayout, mem: &AMode) -> Opt
     requires { memory.are_address_operands frame.now Refused rd mem.now ≡ true }
     ensures { MatchOption result
         (address_shape rd (forms.step_forms forms.offset_register (finals.final_steps frame.now I8 mem.now)) (finals.final_mode frame.now I8 mem.now) ≡ Words [])
-        (λ words. AreSeveral words.first.items words.last words.trap
+        (λ words. AreSeveral words.first.items words.last words.site words.trap
         (address_shape rd (forms.step_forms forms.offset_register (finals.final_steps frame.now I8 mem.now)) (finals.final_mode frame.now I8 mem.now))) }
 {
     match final_mode(frame, IrType::I8, mem) {
@@ -137,6 +140,7 @@ pub fn address_words(rd: Writable<Reg>, frame: &FrameLayout, mem: &AMode) -> Opt
             Some(SeveralWords {
                 first: step_words(writable_spilltmp_reg(), steps.as_slice()),
                 last: alu_rrr_extend_word(ALUOp::Add, OperandSize::Size64, rd, rn, rm, extendop),
+                site: None,
                 trap: None,
             })
         }

@@ -8,6 +8,7 @@ use Rattle.a64_inst.proofs.Good.{operands_good}
 use Rattle.a64_emit.specs.Cells.{plain, shape_of, only_word, other_cells}
 use Rattle.a64_emit.specs.Emission.{appended, IsAppendedInPart, HasRoom, CellsFit}
 use Rattle.a64_emit.proofs.Accesses.{mode_good}
+use Rattle.a64_emit.proofs.AsPut.{put_appended, put_part, put_room, put_fits}
 use Rattle.a64_emit.proofs.Fitting.{before_word}
 use Rattle.a64_emit.proofs.Shapes.{some_word, no_word}
 use Rattle.a64_emit.proofs.emit.InstMachInstEmit.emit.Goals as goal
@@ -23,8 +24,8 @@ emit_other-requires c =
     let cells = no_word (shape_of c.args.state.now.frame c.args.info.now c.args.self.now) (sym c.in-None.is ∙ c.only_word.ensures ∙ ap (λ (f : FrameLayout). only_word (shape_of f c.args.info.now c.args.self.now)) frame_is) in
     let frame = ap (λ (s : State). other_cells (shape_of s.frame c.args.info.now c.args.self.now)) c.take_stack_map-map.ensures.rest in
     record {
-      room = subst (HasRoom c.args.sink.now) (sym (frame ∙ cells)) c.requires.room;
-      fits = subst (CellsFit c.args.sink.now) (sym (frame ∙ cells)) c.requires.fits;
+      room = put_room c.args.sink.now (other_cells (shape_of c.take_stack_map-map.new.self.frame c.args.info.now c.args.self.now)) (subst (HasRoom c.args.sink.now) (sym (frame ∙ cells)) c.requires.room);
+      fits = put_fits c.args.sink.now (other_cells (shape_of c.take_stack_map-map.new.self.frame c.args.info.now c.args.self.now)) (subst (CellsFit c.args.sink.now) (sym (frame ∙ cells)) c.requires.fits);
       good =
           subst (λ (f : FrameLayout). has_operands f c.args.info.now Refused c.args.self.now ≡ true) (sym (ap (λ (s : State). s.frame) c.take_stack_map-map.ensures.rest))
           (operands_good c.args.state.now.frame c.args.info.now c.args.sink.now.constants Refused c.args.self.now c.requires.good);
@@ -57,11 +58,15 @@ returns-in-None-clause-ok c =
     let frame_is = c.frame_layout.ensures ∙ ap (λ (s : State). s.frame) c.take_stack_map-map.ensures.rest in
     let cells = no_word (shape_of c.args.state.now.frame c.args.info.now c.args.self.now) (sym c.in-None.is ∙ c.only_word.ensures ∙ ap (λ (f : FrameLayout). only_word (shape_of f c.args.info.now c.args.self.now)) frame_is) in
     let frame = ap (λ (s : State). other_cells (shape_of s.frame c.args.info.now c.args.self.now)) c.take_stack_map-map.ensures.rest in
-    on_ok_weaker c.emit_other.result (λ e. e ∙ ap (appended c.args.sink.now) (frame ∙ cells)) c.emit_other.ensures.ok
+    on_ok_weaker c.emit_other.result
+    (λ e. e ∙ put_appended c.args.sink.now (other_cells (shape_of c.take_stack_map-map.new.self.frame c.args.info.now c.args.self.now)) ∙ ap (appended c.args.sink.now) (frame ∙ cells))
+    c.emit_other.ensures.ok
 
 pub returns-in-None-clause-err : goal.returns-in-None-clause-err
 returns-in-None-clause-err c =
     let frame_is = c.frame_layout.ensures ∙ ap (λ (s : State). s.frame) c.take_stack_map-map.ensures.rest in
     let cells = no_word (shape_of c.args.state.now.frame c.args.info.now c.args.self.now) (sym c.in-None.is ∙ c.only_word.ensures ∙ ap (λ (f : FrameLayout). only_word (shape_of f c.args.info.now c.args.self.now)) frame_is) in
     let frame = ap (λ (s : State). other_cells (shape_of s.frame c.args.info.now c.args.self.now)) c.take_stack_map-map.ensures.rest in
-    on_err_weaker c.emit_other.result (λ part. subst (IsAppendedInPart c.args.sink.now c.emit_other.new.sink) (frame ∙ cells) part) c.emit_other.ensures.err
+    on_err_weaker c.emit_other.result
+    (λ part. subst (IsAppendedInPart c.args.sink.now c.emit_other.new.sink) (frame ∙ cells) (put_part c.args.sink.now (other_cells (shape_of c.take_stack_map-map.new.self.frame c.args.info.now c.args.self.now)) c.emit_other.new.sink part))
+    c.emit_other.ensures.err

@@ -36,5 +36,6 @@ returns c =
       c.step_words.ensures ∙ ap (λ rd. map form_word (step_forms rd c.as_slice.result.now)) c.writable_spilltmp_reg.ensures
           ∙ ap (λ plan. map form_word (step_forms offset_register plan)) (c.as_slice.ensures.value ∙ c.final_steps-steps.ensures.steps ∙ ap (λ ty. final_steps frame ty access.mem) c.ty-ty.ensures),
       c.held_word.ensures ∙ ap (λ m. form_word (held_form access.op access.reg m)) (c.final_mode-mode.ensures ∙ ap (λ ty. final_mode frame ty access.mem) c.ty-ty.ensures),
+      c.mode_site.ensures,
       c.trap_code.ensures,
     )

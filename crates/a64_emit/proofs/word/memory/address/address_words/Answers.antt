@@ -53,9 +53,10 @@ pub returns-in-RegExtended : goal.returns-in-RegExtended
 returns-in-RegExtended c =
     let frame = c.args.frame.now in
     let mem = c.args.mem.now in
-    subst (λ m. AreSeveral c.step_words.result.items c.alu_rrr_extend_word.result None (address_shape c.args.rd (step_forms offset_register (final_steps frame I8 mem)) m)) (ap parts_of (sym c.in-RegExtended.is) ∙ c.final_mode.ensures) (
+    subst (λ m. AreSeveral c.step_words.result.items c.alu_rrr_extend_word.result None None (address_shape c.args.rd (step_forms offset_register (final_steps frame I8 mem)) m)) (ap parts_of (sym c.in-RegExtended.is) ∙ c.final_mode.ensures) (
       c.step_words.ensures ∙ ap (λ rd. map form_word (step_forms rd c.as_slice.result.now)) c.writable_spilltmp_reg.ensures
           ∙ ap (λ plan. map form_word (step_forms offset_register plan)) (c.as_slice.ensures.value ∙ c.final_steps-steps.ensures.steps),
       c.alu_rrr_extend_word.ensures,
+      refl,
       refl,
     )
