@@ -5,22 +5,25 @@ use Rattle.std.specs.Fmt.{decimal, signed_decimal}
 use Rattle.std.specs.List.{AllByRecursion, join_with_byte}
 use Rattle.std.proofs.lemmas.Int.{ints}
 use Rattle.std.proofs.lemmas.List.Folds.{list_any-append}
-use Rattle.a64_base.specs.RegisterNumbers.{RealRegister, IsRegisterNumber}
+use Rattle.a64_base.specs.RegisterNumbers.{IsRegisterNumber}
+use Rattle.a64_base.specs.declared.cond.Cond.{Cond}
+use Rattle.a64_base.specs.declared.cond.Cond.TheVariants.{Eq}
 use Rattle.a64_base.specs.declared.ir_type.IrType.{IrType}
-use Rattle.a64_base.specs.declared.ir_type.IrType.TheVariants.{I8, I64}
+use Rattle.a64_base.specs.declared.ir_type.IrType.TheVariants.{I8}
 use Rattle.a64_base.specs.declared.reg.Reg.{Reg}
 use Rattle.a64_base.specs.declared.reg.Reg.TheVariants.{Real, Virtual}
 use Rattle.a64_base.specs.declared.reg.RegClass.{RegClass}
 use Rattle.a64_base.specs.declared.reg.RegClass.TheVariants.{Int, Float}
 use Rattle.a64_base.specs.declared.shift.ExtendOp.{ExtendOp}
 use Rattle.a64_base.specs.declared.shift.ExtendOp.TheVariants.{UXTB}
-use Rattle.a64_imms.specs.declared.offset.SImm7Scaled.{SImm7Scaled}
+use Rattle.a64_base.specs.declared.size.OperandSize.{OperandSize}
+use Rattle.a64_base.specs.declared.size.OperandSize.TheVariants.{Size32, Size64}
 use Rattle.a64_text.specs.declared.mode_name.MemLabelName.{MemLabelName}
 use Rattle.a64_text.specs.declared.mode_name.MemLabelName.TheVariants as label_names
 use Rattle.a64_text.specs.declared.value.Value.{Value}
 use Rattle.a64_text.specs.declared.value.Value.TheVariants as values
-use Rattle.a64_text.specs.Fields.{HasNo, integer_text, real_text, virtual_text, reg_text, IsReg, IsPairOffset64}
-use Rattle.a64_text.specs.Operators.{extend_text, mem_label_name_text}
+use Rattle.a64_text.specs.Fields.{HasNo, integer_text, real_text, virtual_text, reg_text, IsReg, size_text}
+use Rattle.a64_text.specs.Operators.{cond_text, extend_text, mem_label_name_text}
 use Rattle.a64_text.specs.PartLaws.{part_is}
 use Rattle.a64_text.specs.Parts.{part_text, part_texts, IsPart}
 use Rattle.a64_text.specs.Reads.{IsU32, IsI64}
@@ -28,7 +31,8 @@ use Rattle.a64_text.specs.Rows.{texts}
 use Rattle.a64_text.specs.Types.{type_text}
 use Rattle.a64_text.specs.Values.{value_text}
 use Rattle.a64_text.proofs.Offsets.{offset9_fits, pair_offset_fits}
-use Rattle.a64_text.proofs.Digits.{decimal_apart, number_fits}
+use Rattle.a64_text.specs.DigitLaws.{decimal_apart}
+use Rattle.a64_text.proofs.Digits.{number_fits}
 
 -- the bytes that stand between fields: a space and a comma
 abbrev pub IsBetween : ℕ → Type 0
@@ -83,6 +87,15 @@ module _ (c : ℕ) (is : IsBetween c) where
 
   label_name_apart : (x : MemLabelName) → HasNo c (mem_label_name_text x)
   label_name_apart label_names.PCRel = at_both (λ c. HasNo c (mem_label_name_text label_names.PCRel)) refl refl c is
+  label_name_apart x = at_both (λ c. HasNo c (mem_label_name_text x)) refl refl c is
+
+  size_apart : (x : OperandSize) → HasNo c (size_text x)
+  size_apart Size32 = at_both (λ c. HasNo c (size_text Size32)) refl refl c is
+  size_apart Size64 = at_both (λ c. HasNo c (size_text Size64)) refl refl c is
+
+  cond_apart : (x : Cond) → HasNo c (cond_text x)
+  cond_apart Eq = at_both (λ c. HasNo c (cond_text Eq)) refl refl c is
+  cond_apart x = at_both (λ c. HasNo c (cond_text x)) refl refl c is
 
   -- a line for each kind
   pub part_apart : (v : Value) → IsPart v → HasNo c (part_text v)
@@ -94,6 +107,8 @@ module _ (c : ℕ) (is : IsBetween c) where
   part_apart (values.PairOffset x) fits = signed_apart x.value (pair_offset_fits x fits)
   part_apart (values.Type x) fits = type_apart x
   part_apart (values.MemLabelName x) fits = label_name_apart x
+  part_apart (values.Size x) fits = size_apart x
+  part_apart (values.Cond x) fits = cond_apart x
   part_apart _ fits = absurd fits
 
   pub parts_apart : (vs : List Value) → AllByRecursion IsPart vs → AllByRecursion (HasNo c) (part_texts vs)

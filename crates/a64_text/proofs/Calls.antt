@@ -1,20 +1,17 @@
 -- Names with something in parentheses behind them.
-use Rattle.std.proofs.Common.{Bor, ◌≡◌, ℕ, ◌<◌, Bool, true, false, List, [], ◌∷◌, ◌++◌, length, length-append, eqb, Option, Some, None, refl, sym, ap, subst, ◌∙◌, arith}
+use Rattle.std.proofs.Common.{Bor, ◌≡◌, ℕ, ◌<◌, List, [], ◌∷◌, ◌++◌, length, length-append, eqb, Option, Some, None, refl, sym, ap, ◌∙◌, arith}
 use Rattle.std.specs.Prelude.{MatchOption}
-use Rattle.std.specs.List.{slice_split, join_with_byte, onto_first}
-use Rattle.std.proofs.lemmas.List.Splits.{join_with_byte-slice_split, slice_split-cons_yes, slice_split-cons_no}
-use Rattle.a64_text.specs.Fields.{HasNo, IsCall, call_text}
+use Rattle.std.specs.List.{slice_split, join_with_byte}
+use Rattle.std.proofs.lemmas.List.Splits.{join_with_byte-slice_split}
+use Rattle.a64_text.specs.Fields.{IsCall, call_text}
 use Rattle.a64_text.specs.Reads.{Reads}
-use Rattle.a64_text.proofs.Splits.{split_at, parts_left}
+use Rattle.a64_text.proofs.Splits.{heads, split_at, parts_left, first_plain}
 
 abbrev split : List ℕ → List (List ℕ)
 split token = slice_split (λ b. eqb b 40) token
 
 abbrev join : List (List ℕ) → List ℕ
 join tokens = join_with_byte 40 tokens
-
-heads : {A : Type 0} (a b : A) (xs ys : List A) → a ∷ xs ≡ b ∷ ys → (a ≡ b) × (xs ≡ ys)
-heads a b xs ys e = (cc, cc)
 
 same_split : (a b : List ℕ) → split a ≡ split b → a ≡ b
 same_split a b e = sym (join_with_byte-slice_split 40 a) ∙ ap join e ∙ join_with_byte-slice_split 40 b
@@ -28,18 +25,6 @@ same_last (a ∷ xs) (b ∷ ys) x y e =
     let both = heads a b (xs ++ x ∷ []) (ys ++ y ∷ []) e in
     let rest = same_last xs ys x y both.1 in
     (rw (both.0, rest.0) refl, rest.1)
-
--- the first part has no parenthesis
-next_plain : (b : ℕ) (w name : List ℕ) (ws : List (List ℕ)) → ((v : List ℕ) (vs : List (List ℕ)) → split w ≡ v ∷ vs → HasNo 40 v) → split (b ∷ w) ≡ name ∷ ws → (test : Bool) → eqb b 40 ≡ test → (vs : List (List ℕ)) → split w ≡ vs → HasNo 40 name
-next_plain b w name ws plain e true is vs s = subst (λ (u : List ℕ). HasNo 40 u) (heads [] name (split w) ws (sym (slice_split-cons_yes (λ c. eqb c 40) b w is) ∙ e)).0 refl
-next_plain b w name ws plain e false is [] s = absurd (omega (arith, parts_left 40 w, ap (λ (u : List (List ℕ)). length u) s))
-next_plain b w name ws plain e false is (v ∷ vs) s =
-    let both = heads (b ∷ v) name vs ws (sym (slice_split-cons_no (λ c. eqb c 40) b w is ∙ ap (λ (u : List (List ℕ)). onto_first b u) s) ∙ e) in
-    subst (λ (u : List ℕ). HasNo 40 u) both.0 (rw (is, plain v vs s) refl)
-
-first_plain : (w name : List ℕ) (ws : List (List ℕ)) → split w ≡ name ∷ ws → HasNo 40 name
-first_plain [] name ws e = subst (λ (t : List ℕ). HasNo 40 t) (heads [] name [] ws e).0 refl
-first_plain (b ∷ w) name ws e = next_plain b w name ws (λ v vs s. first_plain w v vs s) e (eqb b 40) refl (split w) refl
 
 -- what is cut off at the first parenthesis, where there is one
 abbrev pub IsFront : List ℕ → List ℕ → Option (Bor (List ℕ)) → Type 0
@@ -77,7 +62,7 @@ module _ (token name : List ℕ) where
 
       pub is_call : last ≡ 41 → Reads IsCall call_text token (Some (name, inside))
       is_call ends = record {
-        some = (first_plain token name (split rest) cut, sym (join_with_byte-slice_split 40 token) ∙ ap join cut ∙ joined (split rest) (parts_left 40 rest) ∙ ap (λ (t : List ℕ). name ++ 40 ∷ t) (join_with_byte-slice_split 40 rest ∙ is ∙ ap (λ (b : ℕ). inside ++ b ∷ []) ends));
+        some = (first_plain 40 token name (split rest) cut, sym (join_with_byte-slice_split 40 token) ∙ ap join cut ∙ joined (split rest) (parts_left 40 rest) ∙ ap (λ (t : List ℕ). name ++ 40 ∷ t) (join_with_byte-slice_split 40 rest ∙ is ∙ ap (λ (b : ℕ). inside ++ b ∷ []) ends));
         only = λ x fits e.
             let both = call_is x fits e in
             let insides : inside ≡ x.1 = (same_last inside x.1 last 41 (sym is ∙ both.1)).0 in

@@ -120,3 +120,7 @@ not_added old given line entry name answer read same adds is e fits text state h
     let one : Some entry ≡ Some e = read.only e fits text in
     let equal : entry ≡ e = cc in
     clash (once_name entry) state.given (names state.given h.given) (subst (λ (w : Entry). MayStand state w) (sym equal) stands)
+
+-- the line is no entry
+pub no_entry : (old : ReaderState) (line : List ℕ) → Reads IsEntry line_of line None → AddsNothing old line
+no_entry old line read e fits text state h stands = let none : None ≡ Some e = read.only e fits text in cc

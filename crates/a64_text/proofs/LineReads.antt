@@ -1,16 +1,20 @@
 -- From the tokens of a line to the entry that the line is.
-use Rattle.std.proofs.Common.{◌≡◌, ℕ, List, eqb, Option, Some, None, sym, ap, ◌∙◌}
+use Rattle.std.proofs.Common.{◌≡◌, ℕ, List, ◌∷◌, eqb, Option, Some, None, refl, sym, ap, subst, ◌∙◌}
 use Rattle.std.specs.Prelude.{IfSome}
 use Rattle.std.specs.List.{AllByRecursion, slice_split}
 use Rattle.a64_text.specs.declared.entry.Entry.{Entry}
-use Rattle.a64_text.specs.Makers.{name_plain}
-use Rattle.a64_text.specs.Names.{name_text}
+use Rattle.a64_text.specs.declared.name.Name.{Name}
+use Rattle.a64_text.specs.declared.value.Value.{Value}
+use Rattle.a64_text.specs.Makers.{made_some, made_only, fields_kinds, name_plain}
+use Rattle.a64_text.specs.Makes.{Makes}
+use Rattle.a64_text.specs.Names.{name_text, kinds_of}
 use Rattle.a64_text.specs.Reads.{Reads}
-use Rattle.a64_text.specs.Rows.{texts}
+use Rattle.a64_text.specs.Rows.{AreFields, texts}
 use Rattle.a64_text.specs.Tokens.{name_of, fields_of, IsOwn, IsEntry, tokens_of, line_of}
 use Rattle.a64_text.specs.Values.{IsValue}
 use Rattle.a64_text.proofs.Joined.{all_plain, joined_some}
 use Rattle.a64_text.proofs.Plain.{value_plain}
+use Rattle.a64_text.proofs.Schemas.{Names, none_made, made_of}
 use Rattle.a64_text.proofs.Splits.{split-join}
 
 line_split : (line : List ℕ) (entry : Entry) → IsEntry entry → line ≡ line_of entry → slice_split (λ b. eqb b 32) line ≡ tokens_of entry
@@ -25,3 +29,31 @@ line_read line tokens r split h = record {
   some = is_some line tokens r split h.some;
   only = λ entry is e. h.only entry (is.fields, is.own) (sym split ∙ line_split line entry is e);
 }
+
+-- the names of entries
+entries : Names Name Entry
+entries = record {
+  text = name_text;
+  kinds_of = kinds_of;
+  name_of = name_of;
+  fields_of = fields_of;
+  own = IsOwn;
+  makes = Makes;
+  made_some = made_some;
+  made_only = made_only;
+  fields_kinds = fields_kinds;
+}
+
+-- the name and the fields of a line
+abbrev pub ReadsLine : List ℕ → Option (Name × List Value) → Type 0
+ReadsLine line r = Reads (λ (p : Name × List Value). AreFields IsValue (kinds_of p.0) p.1) (λ p. name_text p.0 ∷ texts p.1) (slice_split (λ b. eqb b 32) line) r
+
+pub line_none : (line : List ℕ) → ReadsLine line None → Reads IsEntry line_of line None
+unfolding entries
+line_none line h = line_read line (slice_split (λ b. eqb b 32) line) None refl (none_made entries IsValue (λ v fits. fits) (slice_split (λ b. eqb b 32) line) h)
+
+pub line_made : (line : List ℕ) (name : Name) (values given : List Value) (made r : Option Entry) → ReadsLine line (Some (name, values)) → given ≡ values → made ≡ r → Makes name given made → Reads IsEntry line_of line r
+unfolding entries
+line_made line name values given made r h same is makes =
+    let its_makes = subst (λ (vs : List Value). Makes name vs r) same (subst (λ (m : Option Entry). Makes name given m) is makes) in
+    line_read line (slice_split (λ b. eqb b 32) line) r refl (made_of entries IsValue (λ v fits. fits) (slice_split (λ b. eqb b 32) line) name values h r its_makes)

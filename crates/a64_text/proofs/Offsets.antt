@@ -1,6 +1,6 @@
 -- Offsets are numbers of 64 bits.
-use Rattle.std.specs.Prelude.{ℕ, ℤ, List, ◌≡◌, Option, Some, None}
-use Rattle.std.proofs.Common.{arith, sym, ap, ◌∙◌, subst}
+use Rattle.std.specs.Prelude.{ℕ, ℤ, List, None}
+use Rattle.std.proofs.Common.{arith}
 use Rattle.std.specs.Fmt.{signed_decimal}
 use Rattle.std.proofs.lemmas.Int.{ints}
 use Rattle.a64_imms.specs.declared.offset.SImm9.{SImm9}

@@ -1,18 +1,12 @@
 -- No field's text has a space.
-use Rattle.std.specs.Prelude.{ℕ, ℤ, pos, negsuc, suc, ◌<◌, ◌==◌, ◌*◌, ◌^◌, ◌++◌, if◌then◌else◌, Bool, true, false, codes, List, [], ◌∷◌, Option, Some, None, refl}
+use Rattle.std.specs.Prelude.{ℕ, ℤ, pos, negsuc, suc, ◌<◌, ◌*◌, ◌^◌, ◌++◌, if◌then◌else◌, Bool, true, false, List, [], ◌∷◌, Option, Some, None, refl}
 use Rattle.std.proofs.Common.{arith, lit<, inl}
 use Rattle.std.proofs.lemmas.Int.{ints}
 use Rattle.std.specs.Fmt.{decimal, signed_decimal}
 use Rattle.std.specs.List.{AllByRecursion, join_with_byte}
-use Rattle.a64_base.specs.RegisterNumbers.{RealRegister, IsRegisterNumber}
+use Rattle.a64_base.specs.RegisterNumbers.{RealRegister}
 use Rattle.a64_base.specs.declared.entity.MachLabel.{MachLabel}
 use Rattle.a64_base.specs.declared.entity.TrapCode.{TrapCode}
-use Rattle.a64_base.specs.declared.reg.Reg.{Reg}
-use Rattle.a64_base.specs.declared.reg.Reg.TheVariants.{Real, Virtual}
-use Rattle.a64_base.specs.declared.reg.RegClass.{RegClass}
-use Rattle.a64_base.specs.declared.reg.RegClass.TheVariants.{Int, Float}
-use Rattle.a64_base.specs.declared.size.OperandSize.{OperandSize}
-use Rattle.a64_base.specs.declared.size.OperandSize.TheVariants.{Size32, Size64}
 use Rattle.a64_base.specs.declared.target.BranchTarget.{BranchTarget}
 use Rattle.a64_base.specs.declared.target.BranchTarget.TheVariants as targets
 use Rattle.a64_imms.specs.declared.imm12.Imm12.{Imm12}
@@ -30,16 +24,16 @@ use Rattle.a64_ops.specs.declared.operator.MoveWideOp.{MoveWideOp}
 use Rattle.a64_ops.specs.declared.operator.MoveWideOp.TheVariants.{MovZ}
 use Rattle.a64_base.specs.declared.shift.ShiftOp.{ShiftOp}
 use Rattle.a64_base.specs.declared.shift.ShiftOp.TheVariants.{LSL}
-use Rattle.a64_base.specs.declared.shift.ExtendOp.{ExtendOp}
-use Rattle.a64_base.specs.declared.shift.ExtendOp.TheVariants.{UXTB}
-use Rattle.a64_base.specs.declared.cond.Cond.{Cond}
-use Rattle.a64_base.specs.declared.cond.Cond.TheVariants.{Eq}
+use Rattle.a64_base.specs.declared.cond.TestBitAndBranchKind.{TestBitAndBranchKind}
+use Rattle.a64_base.specs.declared.cond.TestBitAndBranchKind.TheVariants.{Z}
 use Rattle.a64_base.specs.ShiftParts.{Shift}
 use Rattle.a64_imms.specs.declared.flags.NZCV.{NZCV}
 use Rattle.a64_imms.specs.declared.unsigned.UImm5.{UImm5}
 use Rattle.a64_imms.specs.Flags.{flags_of, nzcv_bits}
 use Rattle.a64_text.specs.declared.frame_field.FrameField.{FrameField}
 use Rattle.a64_text.specs.declared.frame_field.FrameField.TheVariants.{SetupAreaSize}
+use Rattle.a64_text.specs.declared.branch_name.CondBrName.{CondBrName}
+use Rattle.a64_text.specs.declared.branch_name.CondBrName.TheVariants as cond_br_names
 use Rattle.a64_text.specs.declared.mode_name.ModeName.{ModeName}
 use Rattle.a64_text.specs.declared.mode_name.ModeName.TheVariants as mode_names
 use Rattle.a64_text.specs.declared.mode_name.PairModeName.{PairModeName}
@@ -47,13 +41,14 @@ use Rattle.a64_text.specs.declared.mode_name.PairModeName.TheVariants as pair_na
 use Rattle.a64_text.specs.declared.value.Value.{Value}
 use Rattle.a64_text.specs.declared.value.Value.TheVariants as values
 use Rattle.a64_text.specs.Values.{value_text, IsValue}
-use Rattle.a64_text.specs.Reads.{IsU8, IsU32, IsU64, IsI32, Always}
-use Rattle.a64_text.specs.Operators.{alu_op_text, alu_op3_text, bit_op_text, bfm_op_text, move_wide_op_text, shift_op_text, extend_text, cond_text, bool_text, frame_field_text}
+use Rattle.a64_text.specs.Reads.{IsU8, IsU32, IsU64, IsI32}
+use Rattle.a64_text.specs.Operators.{alu_op_text, alu_op3_text, bit_op_text, bfm_op_text, move_wide_op_text, shift_op_text, bool_text, frame_field_text, test_bit_text}
+use Rattle.a64_text.specs.Branches.{cond_br_name_text, cond_br_name_of, cond_br_fields}
 use Rattle.a64_text.specs.Modes.{mode_name_text, mode_name_of, mode_fields, pair_name_text, pair_name_of, pair_fields}
 use Rattle.a64_text.specs.Parts.{part_texts, IsPart}
 use Rattle.a64_text.proofs.Between.{append_apart, join_plain, parts_apart, part_apart, real_apart}
-use Rattle.a64_text.proofs.Digits.{decimal_apart}
-use Rattle.a64_text.specs.Fields.{HasNo, call_text, flags_text, IsFlags, label_text, IsLabel, target_text, IsTarget, size_text, integer_text, real_text, virtual_text, reg_text, IsReg, imm12_text, IsImm12, IsPReg, preg_text, wide_text, IsWide, shift_text, IsShift, nzcv_text, uimm5_text}
+use Rattle.a64_text.specs.DigitLaws.{decimal_apart}
+use Rattle.a64_text.specs.Fields.{HasNo, call_text, flags_text, IsFlags, label_text, IsLabel, target_text, IsTarget, imm12_text, IsImm12, IsPReg, preg_text, wide_text, IsWide, shift_text, IsShift, nzcv_text, uimm5_text}
 
 pub decimal_plain : (n : ℕ) → IsU64 n → HasNo 32 (decimal n)
 decimal_plain n fits = decimal_apart 32 n (lit< tt) fits
@@ -74,10 +69,6 @@ signed_plain (negsuc n) fits = decimal_plain (suc n) (omega (arith, ints, fits))
 pub target_plain : (target : BranchTarget) → IsTarget target → HasNo 32 (target_text target)
 target_plain (targets.Label label) fits = label_plain label fits
 target_plain (targets.ResolvedOffset offset) fits = signed_plain offset fits
-
-pub size_plain : (size : OperandSize) → Always size → HasNo 32 (size_text size)
-size_plain Size32 fits = refl
-size_plain Size64 fits = refl
 
 preg_plain : (p : RealRegister) → IsPReg p → HasNo 32 (preg_text p)
 preg_plain p fits = real_apart 32 (inl refl) p.class p.number fits
@@ -121,9 +112,9 @@ shift_op_plain : (x : ShiftOp) → HasNo 32 (shift_op_text x)
 shift_op_plain LSL = refl
 shift_op_plain _ = refl
 
-cond_plain : (x : Cond) → HasNo 32 (cond_text x)
-cond_plain Eq = refl
-cond_plain _ = refl
+test_bit_plain : (x : TestBitAndBranchKind) → HasNo 32 (test_bit_text x)
+test_bit_plain Z = refl
+test_bit_plain _ = refl
 
 bool_plain : (x : Bool) → HasNo 32 (bool_text x)
 bool_plain true = refl
@@ -169,6 +160,10 @@ pair_name_plain : (name : PairModeName) → HasNo 32 (pair_name_text name)
 pair_name_plain pair_names.SignedOffset = refl
 pair_name_plain _ = refl
 
+cond_br_name_plain : (name : CondBrName) → HasNo 32 (cond_br_name_text name)
+cond_br_name_plain cond_br_names.Zero = refl
+cond_br_name_plain _ = refl
+
 -- a line for each kind, and one for those that may stand with commas between
 pub value_plain : (v : Value) → IsValue v → HasNo 32 (value_text v)
 value_plain (values.AluOp x) fits = alu_op_plain x
@@ -176,7 +171,6 @@ value_plain (values.AluOp3 x) fits = alu_op3_plain x
 value_plain (values.BitOp x) fits = bit_op_plain x
 value_plain (values.BfmOp x) fits = bfm_op_plain x
 value_plain (values.MoveWideOp x) fits = move_wide_op_plain x
-value_plain (values.Size x) fits = size_plain x fits
 value_plain (values.PReg x) fits = preg_plain x fits
 value_plain (values.Imm12 x) fits = imm12_plain x fits
 value_plain (values.Wide x) fits = wide_plain x fits
@@ -184,7 +178,6 @@ value_plain (values.ImmShift x) fits = decimal_plain x.imm (omega (arith, fits))
 value_plain (values.UImm5 x) fits = uimm5_plain x
 value_plain (values.UImm6 x) fits = decimal_plain x.imm (omega (arith, fits))
 value_plain (values.Shift x) fits = shift_plain x fits
-value_plain (values.Cond x) fits = cond_plain x
 value_plain (values.Nzcv x) fits = nzcv_plain x
 value_plain (values.Bool x) fits = bool_plain x
 value_plain (values.U8 x) fits = u8_plain x fits
@@ -196,4 +189,7 @@ value_plain (values.FrameField x) fits = frame_field_plain x
 value_plain (values.Mode x) fits = call_plain (mode_name_text (mode_name_of x)) (mode_fields x) (mode_name_plain (mode_name_of x)) fits.0
 value_plain (values.PairMode x) fits = call_plain (pair_name_text (pair_name_of x)) (pair_fields x) (pair_name_plain (pair_name_of x)) fits.0
 value_plain (values.Flags x) fits = flags_plain x fits
+value_plain (values.CondBrKind x) fits = call_plain (cond_br_name_text (cond_br_name_of x)) (cond_br_fields x) (cond_br_name_plain (cond_br_name_of x)) fits.0
+value_plain (values.TestBitAndBranchKind x) fits = test_bit_plain x
+value_plain (values.List x) fits = fits
 value_plain part fits = part_apart 32 (inl refl) part fits

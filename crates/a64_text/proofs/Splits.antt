@@ -1,12 +1,12 @@
 -- Texts that are cut at a byte, and joined by it.
-use Rattle.std.proofs.Common.{Bor, ◌≡◌, ℕ, ◌+◌, ◌<◌, Bool, true, false, eqb, List, [], ◌∷◌, ◌++◌, length, get_or, take, drop, Some, None, refl, sym, ap, ◌∙◌, arith, add-one}
+use Rattle.std.proofs.Common.{Bor, ◌≡◌, ℕ, ◌+◌, ◌<◌, Bool, true, false, eqb, List, [], ◌∷◌, ◌++◌, length, get_or, take, drop, Some, None, refl, sym, ap, subst, ◌∙◌, arith, add-one}
 use Rattle.std.specs.Prelude.{◌||◌}
 use Rattle.std.specs.List.{slice_split, join_with_byte, list_any, onto_first, AllByRecursion}
 use Rattle.std.proofs.lemmas.List.{take-append-drop}
 use Rattle.std.proofs.Math.Seq.{drop-cons}
 use Rattle.std.proofs.lemmas.Bool.{eq-eqb}
 use Rattle.std.proofs.lemmas.List.Elements.{All-from_recursion}
-use Rattle.std.proofs.lemmas.List.Splits.{slice_split_none, slice_split_at, slice_split-cons_no, length-slice_split}
+use Rattle.std.proofs.lemmas.List.Splits.{slice_split_none, slice_split_at, slice_split-cons_yes, slice_split-cons_no, length-slice_split}
 use Rattle.a64_text.specs.Fields.{HasNo}
 use Rattle.a64_text.specs.Splitting.{lines_of, first, others, first_line, line_tokens, lines_behind, IsCut}
 
@@ -40,6 +40,26 @@ cut_at c i text lt e h =
 -- a text has a part at least
 pub parts_left : (c : ℕ) (text : List ℕ) → 0 < length (slice_split (λ b. eqb b c) text)
 parts_left c text = omega (arith, length-slice_split (λ b. eqb b c) text)
+
+-- ---- the first part has no separator
+
+pub heads : {A : Type 0} (a b : A) (xs ys : List A) → a ∷ xs ≡ b ∷ ys → (a ≡ b) × (xs ≡ ys)
+heads a b xs ys e = (cc, cc)
+
+module _ (c : ℕ) where
+  abbrev split : List ℕ → List (List ℕ)
+  split text = slice_split (λ b. eqb b c) text
+
+  next_plain : (b : ℕ) (w name : List ℕ) (ws : List (List ℕ)) → ((v : List ℕ) (vs : List (List ℕ)) → split w ≡ v ∷ vs → HasNo c v) → split (b ∷ w) ≡ name ∷ ws → (test : Bool) → eqb b c ≡ test → (vs : List (List ℕ)) → split w ≡ vs → HasNo c name
+  next_plain b w name ws plain e true is vs s = subst (λ (u : List ℕ). HasNo c u) (heads [] name (split w) ws (sym (slice_split-cons_yes (λ x. eqb x c) b w is) ∙ e)).0 refl
+  next_plain b w name ws plain e false is [] s = absurd (omega (arith, parts_left c w, ap (λ (u : List (List ℕ)). length u) s))
+  next_plain b w name ws plain e false is (v ∷ vs) s =
+      let both = heads (b ∷ v) name vs ws (sym (slice_split-cons_no (λ x. eqb x c) b w is ∙ ap (λ (u : List (List ℕ)). onto_first b u) s) ∙ e) in
+      subst (λ (u : List ℕ). HasNo c u) both.0 (rw (is, plain v vs s) refl)
+
+  pub first_plain : (w name : List ℕ) (ws : List (List ℕ)) → split w ≡ name ∷ ws → HasNo c name
+  first_plain [] name ws e = subst (λ (t : List ℕ). HasNo c t) (heads [] name [] ws e).0 refl
+  first_plain (b ∷ w) name ws e = next_plain b w name ws (λ v vs s. first_plain w v vs s) e (eqb b c) refl (split w) refl
 
 -- ---- lines and tokens of a text
 

@@ -1,5 +1,5 @@
 -- The fields of an entry, each at its place.
-use Rattle.std.specs.Prelude.{ℕ, ℤ, pos, List, Option, Some, None, slice_get, Bool, false}
+use Rattle.std.specs.Prelude.{ℕ, ℤ, pos, List, [], Option, Some, None, slice_get, Bool, false}
 use Rattle.std.proofs.Common.{lit<}
 use Rattle.a64_ops.specs.declared.operator.ALUOp.{ALUOp}
 use Rattle.a64_ops.specs.declared.operator.ALUOp3.{ALUOp3}
@@ -26,6 +26,10 @@ use Rattle.a64_ops.specs.declared.operator.BitOp.TheVariants as bit_ops
 use Rattle.a64_ops.specs.declared.operator.BfmOp.TheVariants as bfm_ops
 use Rattle.a64_ops.specs.declared.operator.MoveWideOp.TheVariants as move_wide_ops
 use Rattle.a64_base.specs.declared.cond.Cond.TheVariants as conds
+use Rattle.a64_base.specs.declared.cond.CondBrKind.{CondBrKind}
+use Rattle.a64_base.specs.declared.cond.CondBrKind.TheVariants as cond_brs
+use Rattle.a64_base.specs.declared.cond.TestBitAndBranchKind.{TestBitAndBranchKind}
+use Rattle.a64_base.specs.declared.cond.TestBitAndBranchKind.TheVariants as bit_tests
 use Rattle.a64_base.specs.declared.reg.Reg.TheVariants.{Virtual}
 use Rattle.a64_base.specs.declared.reg.RegClass.TheVariants.{Int}
 use Rattle.a64_base.specs.declared.shift.ExtendOp.TheVariants as extends
@@ -278,3 +282,24 @@ flags_of _ = None
 
 abbrev pub flags_at : List Value → ℕ → Option TrapCode
 flags_at values i = flags_of (slice_get values i)
+
+abbrev pub cond_br_kind_of : Option Value → CondBrKind
+cond_br_kind_of (Some (values.CondBrKind x)) = x
+cond_br_kind_of _ = cond_brs.Cond conds.Eq
+
+abbrev pub cond_br_kind_at : List Value → ℕ → CondBrKind
+cond_br_kind_at values i = cond_br_kind_of (slice_get values i)
+
+abbrev pub test_bit_kind_of : Option Value → TestBitAndBranchKind
+test_bit_kind_of (Some (values.TestBitAndBranchKind x)) = x
+test_bit_kind_of _ = bit_tests.Z
+
+abbrev pub test_bit_kind_at : List Value → ℕ → TestBitAndBranchKind
+test_bit_kind_at values i = test_bit_kind_of (slice_get values i)
+
+abbrev pub list_of : Option Value → List ℕ
+list_of (Some (values.List x)) = x
+list_of _ = []
+
+abbrev pub list_at : List Value → ℕ → List ℕ
+list_at values i = list_of (slice_get values i)

@@ -16,6 +16,9 @@ use Rattle.a64_base.specs.declared.shift.ExtendOp.{ExtendOp}
 use Rattle.a64_base.specs.declared.shift.ExtendOp.TheVariants as extends
 use Rattle.a64_base.specs.declared.cond.Cond.{Cond}
 use Rattle.a64_base.specs.declared.cond.Cond.TheVariants as conds
+use Rattle.a64_base.specs.declared.cond.TestBitAndBranchKind.{TestBitAndBranchKind}
+use Rattle.a64_base.specs.declared.cond.TestBitAndBranchKind.TheVariants as bit_tests
+use Rattle.a64_text.specs.declared.branch_name.TheConstants.{TEST_BIT_HOMES, TEST_BITS}
 use Rattle.a64_base.specs.declared.ir_type.IrType.{IrType}
 use Rattle.a64_base.specs.declared.ir_type.IrType.TheVariants as types
 use Rattle.a64_text.specs.declared.mode_name.MemLabelName.{MemLabelName}
@@ -28,7 +31,7 @@ use Rattle.a64_text.specs.declared.frame_field.TheConstants.{FRAME_FIELD_HOMES, 
 use Rattle.a64_text.specs.declared.operator.TheConstants.{ALU_OP_HOMES, ALU_OPS, ALU_OP3_HOMES, ALU_OP3S, BIT_OP_HOMES, BIT_OPS, BFM_OP_HOMES, BFM_OPS, MOVE_WIDE_OP_HOMES, MOVE_WIDE_OPS}
 use Rattle.a64_text.specs.declared.modifier.TheConstants.{SHIFT_OP_HOMES, SHIFT_OPS, EXTEND_HOMES, EXTENDS, COND_HOMES, CONDS, BOOL_HOMES, BOOLS}
 use Rattle.a64_text.specs.Hash.{look_up}
-use Rattle.a64_text.specs.Operators.{alu_op_text, alu_op3_text, bit_op_text, bfm_op_text, move_wide_op_text, shift_op_text, extend_text, cond_text, bool_text, frame_field_text, mem_label_name_text}
+use Rattle.a64_text.specs.Operators.{alu_op_text, alu_op3_text, bit_op_text, bfm_op_text, move_wide_op_text, shift_op_text, extend_text, cond_text, bool_text, frame_field_text, mem_label_name_text, test_bit_text}
 use Rattle.a64_text.specs.Types.{type_text}
 
 pub alu_op_found : (x : ALUOp) → look_up ALU_OP_HOMES (map (λ row. row.2) ALU_OPS) (alu_op_text x) ≡ Some x
@@ -63,6 +66,10 @@ pub cond_found : (x : Cond) → look_up COND_HOMES (map (λ row. row.2) CONDS) (
 cond_found conds.Eq = refl
 cond_found _ = refl
 
+pub test_bit_found : (x : TestBitAndBranchKind) → look_up TEST_BIT_HOMES (map (λ row. row.2) TEST_BITS) (test_bit_text x) ≡ Some x
+test_bit_found bit_tests.Z = refl
+test_bit_found _ = refl
+
 pub bool_found : (x : Bool) → look_up BOOL_HOMES (map (λ row. row.2) BOOLS) (bool_text x) ≡ Some x
 bool_found true = refl
 bool_found _ = refl
@@ -77,3 +84,4 @@ type_found _ = refl
 
 pub mem_label_found : (x : MemLabelName) → look_up MEM_LABEL_HOMES (map (λ row. row.2) MEM_LABELS) (mem_label_name_text x) ≡ Some x
 mem_label_found label_names.PCRel = refl
+mem_label_found _ = refl

@@ -1,5 +1,5 @@
 -- From the fields behind a name to the entry that they make.
-use Rattle.std.specs.Prelude.{◌≡◌, ◌≤◌, List, length, map, Option, Some, None, IfSome, refl}
+use Rattle.std.specs.Prelude.{ℕ, ◌≡◌, ◌≤◌, List, [], ◌∷◌, length, map, option_map, Option, Some, None, IfSome, refl}
 use Rattle.std.proofs.Common.{lit≤, sym, ap, ◌∙◌}
 use Rattle.std.specs.List.{AllByRecursion}
 use Rattle.a64_base.specs.declared.entity.UserStackMap.{UserStackMap}
@@ -16,8 +16,12 @@ use Rattle.a64_text.specs.declared.name.Name.{Name}
 use Rattle.a64_text.specs.declared.name.Name.TheVariants as names
 use Rattle.a64_text.specs.declared.name_table.TheConstants.{NAME_HOMES, NAMES}
 use Rattle.a64_text.specs.declared.value.Value.{Value}
-use Rattle.a64_text.specs.Fields.{HasNo}
+use Rattle.a64_text.specs.declared.value.Value.TheVariants as values
+use Rattle.a64_text.specs.At.{list_at, reg_at}
+use Rattle.a64_text.specs.Fields.{HasNo, label_text, IsLabel}
 use Rattle.a64_text.specs.Hash.{look_up}
+use Rattle.a64_text.specs.Lists.{list_text}
+use Rattle.a64_text.specs.ModeLaws.{made_of}
 use Rattle.a64_text.specs.Makes.{emitted, entry_of, Makes}
 use Rattle.a64_text.specs.Names.{name_text, kinds_of}
 use Rattle.a64_text.specs.Same.{at_their_places}
@@ -36,6 +40,10 @@ pub made_some : (name : Name) (values : List Value) (r : Option Entry) → Makes
 unfolding Makes
 made_some (names.Integer integer.AluRRImmLogic) values r h are = h.some are
 made_some (names.Integer name) values r h are = made (IsMade (names.Integer name) values) r (entry_of (names.Integer name) values) h (refl, at_their_places (kinds_of (names.Integer name)) values are, (tt, refl))
+made_some (names.Control control.IndirectBr) vs r h are =
+    made_of (AllByRecursion IsLabel) (list_text label_text) (list_at vs 1) (λ targets. emitted (insts.IndirectBr (reg_at vs 0) targets)) (IsMade (names.Control control.IndirectBr) vs)
+    (λ targets own is. (refl, ap (λ (t : List ℕ). values.Reg (reg_at vs 0) ∷ values.List t ∷ []) (sym is) ∙ at_their_places (kinds_of (names.Control control.IndirectBr)) vs are, (own, refl)))
+    h.0 h.1 r h.2
 made_some (names.Control control.Ret) values r h are = made (IsMade (names.Control control.Ret) values) r (entry_of (names.Control control.Ret) values) h (refl, at_their_places (kinds_of (names.Control control.Ret)) values are, (tt, refl))
 made_some (names.Control name) values r h are = made (IsMade (names.Control name) values) r (entry_of (names.Control name) values) h (refl, at_their_places (kinds_of (names.Control name)) values are, (tt, refl))
 made_some (names.Memory memory.LoadAddr) values r h are = made (IsMade (names.Memory memory.LoadAddr) values) r (entry_of (names.Memory memory.LoadAddr) values) h (refl, at_their_places (kinds_of (names.Memory memory.LoadAddr)) values are, (tt, refl))
@@ -51,6 +59,10 @@ without_map inst map r none e = e ∙ ap (λ (m : Option UserStackMap). Some (en
 inst_only : (inst : Inst) (values : List Value) (r : Option Entry) → Makes (inst_parts inst).name values r → AllByRecursion IsValue (inst_parts inst).fields → IsOwnInst inst → (inst_parts inst).fields ≡ values → r ≡ Some (emitted inst)
 unfolding Makes
 inst_only (insts.AluRRImmLogic alu_op size rd rn imml) values r h fits own e = h.only (alu_op, size, rd, rn, imml) (record { fields = fits; own = (own, refl) }) e
+inst_only (insts.IndirectBr rn targets) vs r h fits own e =
+    h.2
+    ∙ ap (λ o. option_map (λ ts. emitted (insts.IndirectBr (reg_at vs 0) ts)) o) (h.1.only targets own (ap (λ (t : List Value). list_at t 1) (sym e)))
+    ∙ ap (λ (t : List Value). Some (emitted (insts.IndirectBr (reg_at t 0) targets))) (sym e)
 inst_only inst values r h fits own e = h ∙ ap (λ (t : List Value). Some (entry_of (inst_parts inst).name t)) (sym e)
 
 pub made_only : (entry : Entry) (values : List Value) (r : Option Entry) → Makes (name_of entry) values r → AllByRecursion IsValue (fields_of entry) → IsOwn entry → fields_of entry ≡ values → r ≡ Some entry

@@ -1,5 +1,6 @@
 -- What a name makes of the fields behind it.
 use Rattle.std.specs.Prelude.{◌≡◌, map, List, Option, Some, None, IfSome}
+use Rattle.std.specs.List.{AllByRecursion}
 use Rattle.a64_base.specs.declared.reg.Reg.{Reg}
 use Rattle.a64_base.specs.declared.size.OperandSize.{OperandSize}
 use Rattle.a64_imms.specs.declared.imm_logic.ImmLogic.{ImmLogic}
@@ -19,7 +20,10 @@ use Rattle.a64_text.specs.declared.name.MemoryName.TheVariants as memory
 use Rattle.a64_text.specs.declared.name.Name.{Name}
 use Rattle.a64_text.specs.declared.name.Name.TheVariants as names
 use Rattle.a64_text.specs.declared.value.Value.{Value}
-use Rattle.a64_text.specs.At.{alu_op3_at, alu_op_at, bfm_op_at, bit_op_at, cond_at, extend_at, flags_at, frame_field_at, i32_at, imm12_at, imm_shift_at, label_at, mode_at, move_wide_op_at, nzcv_at, pair_mode_at, preg_at, reg_at, shift_at, size_at, target_at, truth_at, u32_at, u8_at, uimm5_at, uimm6_at, wide_at}
+use Rattle.a64_text.specs.At.{alu_op3_at, alu_op_at, bfm_op_at, bit_op_at, cond_at, cond_br_kind_at, extend_at, flags_at, frame_field_at, i32_at, imm12_at, imm_shift_at, label_at, list_at, mode_at, move_wide_op_at, nzcv_at, pair_mode_at, preg_at, reg_at, shift_at, size_at, target_at, test_bit_kind_at, truth_at, u32_at, u64_at, u8_at, uimm5_at, uimm6_at, wide_at}
+use Rattle.a64_text.specs.Fields.{label_text, IsLabel}
+use Rattle.a64_text.specs.Lists.{list_text}
+use Rattle.a64_text.specs.ModeMakes.{MakesOf}
 use Rattle.a64_text.specs.Names.{kinds_of}
 use Rattle.a64_text.specs.Tokens.{name_of, fields_of, IsOwn, IsEntry}
 use Rattle.a64_text.specs.Values.{kind_of}
@@ -61,6 +65,13 @@ integer_of _ values = insts.Nop4
 abbrev pub control_of : ControlName → List Value → Inst
 control_of control.Ret values = insts.Ret
 control_of control.Jump values = insts.Jump (target_at values 0)
+control_of control.CondBr values = insts.CondBr (target_at values 0) (target_at values 1) (cond_br_kind_at values 2)
+control_of control.TestBitAndBranch values = insts.TestBitAndBranch (test_bit_kind_at values 0) (target_at values 1) (target_at values 2) (reg_at values 3) (u8_at values 4)
+control_of control.Udf values = insts.Udf (record { 0 = u8_at values 0 })
+control_of control.Word4 values = insts.Word4 (u32_at values 0)
+control_of control.Word8 values = insts.Word8 (u64_at values 0)
+control_of control.LabelAddress values = insts.LabelAddress (reg_at values 0) (label_at values 1)
+control_of _ values = insts.Brk
 
 abbrev pub memory_of : MemoryName → List Value → Inst
 memory_of memory.LoadP64 values = insts.LoadP64 (reg_at values 0) (reg_at values 1) (pair_mode_at values 2) (flags_at values 3)
@@ -83,4 +94,5 @@ pub record MakesOwn {X : Type 0} (name : Name) (make : X → Entry) (values : Li
 
 unfoldable pub Makes : Name → List Value → Option Entry → Type 0
 Makes (names.Integer integer.AluRRImmLogic) values result = MakesOwn (names.Integer integer.AluRRImmLogic) (λ (x : ALUOp × OperandSize × Reg × Reg × ImmLogic). emitted (insts.AluRRImmLogic x.0 x.1 x.2 x.3 x.4)) values result
+Makes (names.Control control.IndirectBr) values result = MakesOf (AllByRecursion IsLabel) (list_text label_text) (list_at values 1) (λ targets. emitted (insts.IndirectBr (reg_at values 0) targets)) result
 Makes name values result = result ≡ Some (entry_of name values)

@@ -1,5 +1,5 @@
 -- The names of addressing modes, and what they make of their fields.
-use Rattle.std.specs.Prelude.{ℕ, ℤ, List, [], ◌∷◌, length, map, ◌≡◌, ◌≤◌, ◌<◌, Option, Some, None, IfSome, option_map, refl}
+use Rattle.std.specs.Prelude.{ℤ, List, [], ◌∷◌, length, map, ◌≡◌, ◌≤◌, ◌<◌, Option, Some, None, IfSome, option_map, refl}
 use Rattle.std.proofs.Common.{lit≤, lit<, sym, ap, ◌∙◌}
 use Rattle.std.specs.List.{AllByRecursion}
 use Rattle.a64_base.specs.declared.ir_type.IrType.{IrType}
@@ -7,7 +7,7 @@ use Rattle.a64_inst.specs.declared.mode.AMode.{AMode}
 use Rattle.a64_inst.specs.declared.mode.AMode.TheVariants as modes
 use Rattle.a64_inst.specs.declared.mode.PairAMode.{PairAMode}
 use Rattle.a64_inst.specs.declared.mode.PairAMode.TheVariants as pair_modes
-use Rattle.a64_text.specs.declared.mode_name.TheConstants.{MODE_HOMES, MODES, PAIR_MODE_HOMES, PAIR_MODES, MEM_LABEL_HOMES, MEM_LABELS}
+use Rattle.a64_text.specs.declared.mode_name.TheConstants.{MODE_HOMES, MODES, PAIR_MODE_HOMES, PAIR_MODES}
 use Rattle.a64_text.specs.declared.mode_name.MemLabelName.{MemLabelName}
 use Rattle.a64_text.specs.declared.mode_name.ModeName.{ModeName}
 use Rattle.a64_text.specs.declared.mode_name.ModeName.TheVariants as mode_names
@@ -30,7 +30,7 @@ pub mode_found : (x : ModeName) → look_up MODE_HOMES (map (λ row. row.2) MODE
 mode_found mode_names.RegReg = refl
 mode_found _ = refl
 
-pub few_mode_kinds : (name : ModeName) → length (mode_kinds name) ≤ 12
+pub few_mode_kinds : (name : ModeName) → length (mode_kinds name) ≤ 4
 few_mode_kinds mode_names.RegReg = lit≤ tt
 few_mode_kinds _ = lit≤ tt
 
@@ -46,7 +46,7 @@ pub pair_found : (x : PairModeName) → look_up PAIR_MODE_HOMES (map (λ row. ro
 pair_found pair_names.SignedOffset = refl
 pair_found _ = refl
 
-pub few_pair_kinds : (name : PairModeName) → length (pair_kinds name) ≤ 12
+pub few_pair_kinds : (name : PairModeName) → length (pair_kinds name) ≤ 4
 few_pair_kinds pair_names.SignedOffset = lit≤ tt
 few_pair_kinds _ = lit≤ tt
 
@@ -64,7 +64,7 @@ made : {M : Type 0} (P : M → Type 0) (r : Option M) (m : M) → r ≡ Some m �
 made P r m is h = rw is h
 
 -- what is made of something that is read of some fields
-made_of : {X T M : Type 0} (fits : X → Type 0) (parts : X → T) (token : T) (make : X → M) (P : M → Type 0) → ((x : X) → fits x → token ≡ parts x → P (make x)) → (q : Option X) → Reads fits parts token q → (r : Option M) → r ≡ option_map make q → IfSome r P
+pub made_of : {X T M : Type 0} (fits : X → Type 0) (parts : X → T) (token : T) (make : X → M) (P : M → Type 0) → ((x : X) → fits x → token ≡ parts x → P (make x)) → (q : Option X) → Reads fits parts token q → (r : Option M) → r ≡ option_map make q → IfSome r P
 made_of fits parts token make P each None reads r is = rw is tt
 made_of fits parts token make P each (Some x) reads r is = rw is (each x reads.some.0 reads.some.1)
 

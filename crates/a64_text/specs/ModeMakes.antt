@@ -1,5 +1,5 @@
 -- What the name of an addressing mode makes of the fields behind it.
-use Rattle.std.specs.Prelude.{ℕ, List, Option, Some, None, ◌≡◌, option_map}
+use Rattle.std.specs.Prelude.{List, Option, Some, ◌≡◌, option_map}
 use Rattle.a64_inst.specs.declared.mode.AMode.{AMode}
 use Rattle.a64_inst.specs.declared.mode.AMode.TheVariants as modes
 use Rattle.a64_inst.specs.declared.mode.PairAMode.{PairAMode}

@@ -20,7 +20,7 @@ use Rattle.a64_text.specs.declared.value.Kind.{Kind}
 use Rattle.a64_text.specs.declared.value.Kind.TheVariants as kinds
 use Rattle.a64_text.specs.declared.value.Value.{Value}
 use Rattle.a64_text.specs.declared.value.Value.TheVariants as values
-use Rattle.a64_text.specs.Fields.{call_text}
+use Rattle.a64_text.specs.Fields.{call_text, IsLabel}
 use Rattle.a64_text.specs.Names.{Heading}
 use Rattle.a64_text.specs.Parts.{part_texts, IsPart}
 use Rattle.a64_text.specs.Reads.{IsI32}
@@ -60,9 +60,11 @@ IsScaled imm = is_scale (uimm12_scale imm) ≡ true
 -- an address in the code is the name of its variant, and a number
 abbrev pub mem_label_parts : MemLabel → MemLabelName × ℤ
 mem_label_parts (mem_labels.PCRel offset) = (label_names.PCRel, offset)
+mem_label_parts (mem_labels.Mach label) = (label_names.Mach, pos label.0)
 
 abbrev pub IsMemLabel : MemLabel → Type 0
 IsMemLabel (mem_labels.PCRel offset) = IsI32 offset
+IsMemLabel (mem_labels.Mach label) = IsLabel label
 
 -- the name of a mode, and its fields
 pub record ModeParts : Type 0 where

@@ -51,6 +51,14 @@ integer_heading integer.Adrp = record { text = codes "Adrp"; kinds = kinds.Reg �
 abbrev pub control_heading : ControlName → Heading
 control_heading control.Ret = record { text = codes "Ret"; kinds = [] }
 control_heading control.Jump = record { text = codes "Jump"; kinds = kinds.Target ∷ [] }
+control_heading control.CondBr = record { text = codes "CondBr"; kinds = kinds.Target ∷ kinds.Target ∷ kinds.CondBrKind ∷ [] }
+control_heading control.TestBitAndBranch = record { text = codes "TestBitAndBranch"; kinds = kinds.TestBitAndBranchKind ∷ kinds.Target ∷ kinds.Target ∷ kinds.Reg ∷ kinds.U8 ∷ [] }
+control_heading control.IndirectBr = record { text = codes "IndirectBr"; kinds = kinds.Reg ∷ kinds.List ∷ [] }
+control_heading control.Brk = record { text = codes "Brk"; kinds = [] }
+control_heading control.Udf = record { text = codes "Udf"; kinds = kinds.U8 ∷ [] }
+control_heading control.Word4 = record { text = codes "Word4"; kinds = kinds.U32 ∷ [] }
+control_heading control.Word8 = record { text = codes "Word8"; kinds = kinds.U64 ∷ [] }
+control_heading control.LabelAddress = record { text = codes "LabelAddress"; kinds = kinds.Reg ∷ kinds.Label ∷ [] }
 
 abbrev pub memory_heading : MemoryName → Heading
 memory_heading memory.LoadP64 = record { text = codes "LoadP64"; kinds = kinds.Reg ∷ kinds.Reg ∷ kinds.PairMode ∷ kinds.Flags ∷ [] }

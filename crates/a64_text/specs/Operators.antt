@@ -16,6 +16,8 @@ use Rattle.a64_base.specs.declared.shift.ExtendOp.{ExtendOp}
 use Rattle.a64_base.specs.declared.shift.ExtendOp.TheVariants as extends
 use Rattle.a64_base.specs.declared.cond.Cond.{Cond}
 use Rattle.a64_base.specs.declared.cond.Cond.TheVariants as conds
+use Rattle.a64_base.specs.declared.cond.TestBitAndBranchKind.{TestBitAndBranchKind}
+use Rattle.a64_base.specs.declared.cond.TestBitAndBranchKind.TheVariants as bit_tests
 use Rattle.a64_text.specs.declared.mode_name.MemLabelName.{MemLabelName}
 use Rattle.a64_text.specs.declared.mode_name.MemLabelName.TheVariants as label_names
 use Rattle.a64_text.specs.declared.frame_field.FrameField.{FrameField}
@@ -102,6 +104,10 @@ cond_text conds.Le = codes "Le"
 cond_text conds.Al = codes "Al"
 cond_text conds.Nv = codes "Nv"
 
+abbrev pub test_bit_text : TestBitAndBranchKind → List ℕ
+test_bit_text bit_tests.Z = codes "Z"
+test_bit_text bit_tests.NZ = codes "NZ"
+
 abbrev pub frame_field_text : FrameField → List ℕ
 frame_field_text frame_fields.SetupAreaSize = codes "setup_area_size"
 frame_field_text frame_fields.TailArgsSize = codes "tail_args_size"
@@ -111,6 +117,7 @@ frame_field_text frame_fields.OutgoingArgsSize = codes "outgoing_args_size"
 
 abbrev pub mem_label_name_text : MemLabelName → List ℕ
 mem_label_name_text label_names.PCRel = codes "PCRel"
+mem_label_name_text label_names.Mach = codes "Mach"
 
 abbrev pub bool_text : Bool → List ℕ
 bool_text false = codes "false"

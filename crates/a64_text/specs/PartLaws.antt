@@ -1,6 +1,5 @@
 -- Fields that may stand with commas between are fields.
-use Rattle.std.specs.Prelude.{ℕ, List, ◌≡◌, true, refl}
-use Rattle.std.proofs.Common.{sym}
+use Rattle.std.specs.Prelude.{◌≡◌, true, refl}
 use Rattle.std.proofs.lemmas.Bool.{false≢true}
 use Rattle.a64_text.specs.declared.value.Value.{Value}
 use Rattle.a64_text.specs.declared.value.Value.TheVariants as values
@@ -17,6 +16,8 @@ part_is (values.Offset9 x) fits = (fits, refl, refl)
 part_is (values.PairOffset x) fits = (fits, refl, refl)
 part_is (values.Type x) fits = (fits, refl, refl)
 part_is (values.MemLabelName x) fits = (fits, refl, refl)
+part_is (values.Size x) fits = (fits, refl, refl)
+part_is (values.Cond x) fits = (fits, refl, refl)
 part_is _ fits = absurd fits
 
 -- nothing else of these kinds has a text
@@ -29,6 +30,8 @@ part_of (values.Offset9 x) is fits = fits
 part_of (values.PairOffset x) is fits = fits
 part_of (values.Type x) is fits = fits
 part_of (values.MemLabelName x) is fits = fits
+part_of (values.Size x) is fits = fits
+part_of (values.Cond x) is fits = fits
 part_of _ is fits = absurd (false≢true is)
 
 pub part_field : (v : Value) → IsPart v → IsValue v

@@ -5,8 +5,8 @@ use Rattle.a64_text.specs.declared.value.Kind.{Kind}
 use Rattle.a64_text.specs.declared.value.Kind.TheVariants as kinds
 use Rattle.a64_text.specs.declared.value.Value.{Value}
 use Rattle.a64_text.specs.declared.value.Value.TheVariants as values
-use Rattle.a64_text.specs.Fields.{reg_text, IsReg, offset9_text, IsSImm9, pair_offset_text, IsPairOffset64}
-use Rattle.a64_text.specs.Operators.{extend_text, mem_label_name_text}
+use Rattle.a64_text.specs.Fields.{reg_text, IsReg, size_text, offset9_text, IsSImm9, pair_offset_text, IsPairOffset64}
+use Rattle.a64_text.specs.Operators.{cond_text, extend_text, mem_label_name_text}
 use Rattle.a64_text.specs.Reads.{Always, IsU32, IsI64}
 use Rattle.a64_text.specs.Types.{type_text}
 
@@ -20,6 +20,8 @@ is_part kinds.Offset9 = true
 is_part kinds.PairOffset = true
 is_part kinds.Type = true
 is_part kinds.MemLabelName = true
+is_part kinds.Size = true
+is_part kinds.Cond = true
 is_part _ = false
 
 -- the text of such a field
@@ -32,6 +34,8 @@ part_text (values.Offset9 x) = offset9_text x
 part_text (values.PairOffset x) = pair_offset_text x
 part_text (values.Type x) = type_text x
 part_text (values.MemLabelName x) = mem_label_name_text x
+part_text (values.Size x) = size_text x
+part_text (values.Cond x) = cond_text x
 part_text _ = []
 
 -- such a field that has a text
@@ -44,6 +48,8 @@ IsPart (values.Offset9 x) = IsSImm9 x
 IsPart (values.PairOffset x) = IsPairOffset64 x
 IsPart (values.Type x) = Always x
 IsPart (values.MemLabelName x) = Always x
+IsPart (values.Size x) = Always x
+IsPart (values.Cond x) = Always x
 IsPart _ = ⊥
 
 abbrev pub part_texts : List Value → List (List ℕ)

@@ -21,6 +21,8 @@ use Rattle.a64_text.specs.declared.name.Name.{Name}
 use Rattle.a64_text.specs.declared.name.Name.TheVariants as names
 use Rattle.a64_text.specs.declared.value.Value.{Value}
 use Rattle.a64_text.specs.declared.value.Value.TheVariants as values
+use Rattle.a64_text.specs.Fields.{label_text, IsLabel}
+use Rattle.a64_text.specs.Lists.{list_text}
 use Rattle.a64_text.specs.Names.{name_text}
 use Rattle.a64_text.specs.Values.{value_text, IsValue}
 
@@ -63,6 +65,14 @@ inst_parts (insts.Adr rd off) = record { name = names.Integer integer.Adr; field
 inst_parts (insts.Adrp rd off) = record { name = names.Integer integer.Adrp; fields = values.Reg rd ∷ values.I32 off ∷ [] }
 inst_parts insts.Ret = record { name = names.Control control.Ret; fields = [] }
 inst_parts (insts.Jump dest) = record { name = names.Control control.Jump; fields = values.Target dest ∷ [] }
+inst_parts (insts.CondBr taken not_taken kind) = record { name = names.Control control.CondBr; fields = values.Target taken ∷ values.Target not_taken ∷ values.CondBrKind kind ∷ [] }
+inst_parts (insts.TestBitAndBranch kind taken not_taken rn bit) = record { name = names.Control control.TestBitAndBranch; fields = values.TestBitAndBranchKind kind ∷ values.Target taken ∷ values.Target not_taken ∷ values.Reg rn ∷ values.U8 bit ∷ [] }
+inst_parts (insts.IndirectBr rn targets) = record { name = names.Control control.IndirectBr; fields = values.Reg rn ∷ values.List (list_text label_text targets) ∷ [] }
+inst_parts insts.Brk = record { name = names.Control control.Brk; fields = [] }
+inst_parts (insts.Udf trap_code) = record { name = names.Control control.Udf; fields = values.U8 trap_code.0 ∷ [] }
+inst_parts (insts.Word4 value) = record { name = names.Control control.Word4; fields = values.U32 value ∷ [] }
+inst_parts (insts.Word8 value) = record { name = names.Control control.Word8; fields = values.U64 value ∷ [] }
+inst_parts (insts.LabelAddress dst label) = record { name = names.Control control.LabelAddress; fields = values.Reg dst ∷ values.Label label ∷ [] }
 inst_parts (insts.LoadP64 rt rt2 mem flags) = record { name = names.Memory memory.LoadP64; fields = values.Reg rt ∷ values.Reg rt2 ∷ values.PairMode mem ∷ values.Flags flags ∷ [] }
 inst_parts (insts.StoreP64 rt rt2 mem flags) = record { name = names.Memory memory.StoreP64; fields = values.Reg rt ∷ values.Reg rt2 ∷ values.PairMode mem ∷ values.Flags flags ∷ [] }
 inst_parts (insts.LoadAddr rd mem) = record { name = names.Memory memory.LoadAddr; fields = values.Reg rd ∷ values.Mode mem ∷ [] }
@@ -103,6 +113,7 @@ fields_of entry = (parts entry).fields
 -- what an instruction asks beside that its fields have texts
 abbrev pub IsOwnInst : Inst → Type 0
 IsOwnInst (insts.AluRRImmLogic alu_op size rd rn imml) = IsLogicOf size (logic_value imml) imml
+IsOwnInst (insts.IndirectBr rn targets) = AllByRecursion IsLabel targets
 IsOwnInst _ = Unit {0}
 
 -- no instruction so far has a map

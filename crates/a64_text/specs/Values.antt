@@ -17,6 +17,8 @@ use Rattle.a64_imms.specs.declared.unsigned.UImm6.{UImm6}
 use Rattle.a64_base.specs.ShiftParts.{Shift}
 use Rattle.a64_base.specs.declared.shift.ExtendOp.{ExtendOp}
 use Rattle.a64_base.specs.declared.cond.Cond.{Cond}
+use Rattle.a64_base.specs.declared.cond.CondBrKind.{CondBrKind}
+use Rattle.a64_base.specs.declared.cond.TestBitAndBranchKind.{TestBitAndBranchKind}
 use Rattle.a64_imms.specs.declared.flags.NZCV.{NZCV}
 use Rattle.a64_base.specs.declared.target.BranchTarget.{BranchTarget}
 use Rattle.a64_base.specs.declared.entity.MachLabel.{MachLabel}
@@ -33,10 +35,12 @@ use Rattle.a64_text.specs.declared.value.Kind.TheVariants as kinds
 use Rattle.a64_text.specs.declared.value.Value.{Value}
 use Rattle.a64_text.specs.declared.value.Value.TheVariants as values
 use Rattle.a64_text.specs.Reads.{Always, IsU8, IsU64, IsI32}
-use Rattle.a64_text.specs.Operators.{alu_op3_text, alu_op_text, bfm_op_text, bit_op_text, bool_text, cond_text, frame_field_text, move_wide_op_text}
+use Rattle.a64_text.specs.Operators.{alu_op3_text, alu_op_text, bfm_op_text, bit_op_text, bool_text, frame_field_text, move_wide_op_text, test_bit_text}
+use Rattle.a64_text.specs.Branches.{cond_br_text, IsCondBr}
+use Rattle.a64_text.specs.Lists.{same_text}
 use Rattle.a64_text.specs.Modes.{mode_text, IsMode, pair_text, IsPairMode}
 use Rattle.a64_text.specs.Parts.{part_text, IsPart}
-use Rattle.a64_text.specs.Fields.{flags_text, imm12_text, imm_shift_text, label_text, nzcv_text, preg_text, shift_text, size_text, target_text, uimm5_text, uimm6_text, wide_text, IsFlags, IsImm12, IsImmShift, IsLabel, IsPReg, IsShift, IsTarget, IsUImm6, IsWide}
+use Rattle.a64_text.specs.Fields.{flags_text, imm12_text, imm_shift_text, label_text, nzcv_text, preg_text, shift_text, target_text, uimm5_text, uimm6_text, wide_text, HasNo, IsFlags, IsImm12, IsImmShift, IsLabel, IsPReg, IsShift, IsTarget, IsUImm6, IsWide}
 
 abbrev pub kind_of : Value → Kind
 kind_of (values.AluOp x) = kinds.AluOp
@@ -72,6 +76,9 @@ kind_of (values.MemLabelName x) = kinds.MemLabelName
 kind_of (values.Mode x) = kinds.Mode
 kind_of (values.PairMode x) = kinds.PairMode
 kind_of (values.Flags x) = kinds.Flags
+kind_of (values.CondBrKind x) = kinds.CondBrKind
+kind_of (values.TestBitAndBranchKind x) = kinds.TestBitAndBranchKind
+kind_of (values.List x) = kinds.List
 
 -- the text of a field. Those that may stand with commas between have theirs in Parts
 abbrev pub value_text : Value → List ℕ
@@ -80,7 +87,6 @@ value_text (values.AluOp3 x) = alu_op3_text x
 value_text (values.BitOp x) = bit_op_text x
 value_text (values.BfmOp x) = bfm_op_text x
 value_text (values.MoveWideOp x) = move_wide_op_text x
-value_text (values.Size x) = size_text x
 value_text (values.PReg x) = preg_text x
 value_text (values.Imm12 x) = imm12_text x
 value_text (values.Wide x) = wide_text x
@@ -88,7 +94,6 @@ value_text (values.ImmShift x) = imm_shift_text x
 value_text (values.UImm5 x) = uimm5_text x
 value_text (values.UImm6 x) = uimm6_text x
 value_text (values.Shift x) = shift_text x
-value_text (values.Cond x) = cond_text x
 value_text (values.Nzcv x) = nzcv_text x
 value_text (values.Bool x) = bool_text x
 value_text (values.U8 x) = decimal x
@@ -100,6 +105,9 @@ value_text (values.FrameField x) = frame_field_text x
 value_text (values.Mode x) = mode_text x
 value_text (values.PairMode x) = pair_text x
 value_text (values.Flags x) = flags_text x
+value_text (values.CondBrKind x) = cond_br_text x
+value_text (values.TestBitAndBranchKind x) = test_bit_text x
+value_text (values.List x) = same_text x
 value_text part = part_text part
 
 -- a field that has a text
@@ -109,7 +117,6 @@ IsValue (values.AluOp3 x) = Always x
 IsValue (values.BitOp x) = Always x
 IsValue (values.BfmOp x) = Always x
 IsValue (values.MoveWideOp x) = Always x
-IsValue (values.Size x) = Always x
 IsValue (values.PReg x) = IsPReg x
 IsValue (values.Imm12 x) = IsImm12 x
 IsValue (values.Wide x) = IsWide x
@@ -117,7 +124,6 @@ IsValue (values.ImmShift x) = IsImmShift x
 IsValue (values.UImm5 x) = Always x
 IsValue (values.UImm6 x) = IsUImm6 x
 IsValue (values.Shift x) = IsShift x
-IsValue (values.Cond x) = Always x
 IsValue (values.Nzcv x) = Always x
 IsValue (values.Bool x) = Always x
 IsValue (values.U8 x) = IsU8 x
@@ -129,6 +135,9 @@ IsValue (values.FrameField x) = Always x
 IsValue (values.Mode x) = IsMode x
 IsValue (values.PairMode x) = IsPairMode x
 IsValue (values.Flags x) = IsFlags x
+IsValue (values.CondBrKind x) = IsCondBr x
+IsValue (values.TestBitAndBranchKind x) = Always x
+IsValue (values.List x) = HasNo 32 x
 IsValue part = IsPart part
 
 -- a field of this kind that has a text
@@ -174,3 +183,6 @@ ReadsKind kinds.MemLabelName = ReadsAs kinds.MemLabelName (λ (x : MemLabelName)
 ReadsKind kinds.Mode = ReadsAs kinds.Mode (λ (x : AMode). values.Mode x)
 ReadsKind kinds.PairMode = ReadsAs kinds.PairMode (λ (x : PairAMode). values.PairMode x)
 ReadsKind kinds.Flags = ReadsAs kinds.Flags (λ (x : Option TrapCode). values.Flags x)
+ReadsKind kinds.CondBrKind = ReadsAs kinds.CondBrKind (λ (x : CondBrKind). values.CondBrKind x)
+ReadsKind kinds.TestBitAndBranchKind = ReadsAs kinds.TestBitAndBranchKind (λ (x : TestBitAndBranchKind). values.TestBitAndBranchKind x)
+ReadsKind kinds.List = ReadsAs kinds.List (λ (x : List ℕ). values.List x)

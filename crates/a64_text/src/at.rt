@@ -2,14 +2,14 @@
 //! answer is some value of the type: no caller looks there.
 
 ghost use Rattle.std.specs.Prelude.{◌≡◌, None};
-ghost use Rattle.a64_text.specs.At.{uimm5_of, shift_of, alu_op_at, alu_op3_at, bit_op_at, bfm_op_at, move_wide_op_at, size_at, reg_at, preg_at, imm12_at, wide_at, imm_shift_at, uimm5_at, uimm6_at, shift_at, extend_at, cond_at, nzcv_at, truth_at, u8_at, u32_at, u64_at, i32_at, target_at, label_at, frame_field_at, i64_at, offset9_at, pair_offset_at, type_at, mem_label_name_at, mode_at, pair_mode_at, flags_at};
+ghost use Rattle.a64_text.specs.At.{uimm5_of, shift_of, alu_op_at, alu_op3_at, bit_op_at, bfm_op_at, move_wide_op_at, size_at, reg_at, preg_at, imm12_at, wide_at, imm_shift_at, uimm5_at, uimm6_at, shift_at, extend_at, cond_at, nzcv_at, truth_at, u8_at, u32_at, u64_at, i32_at, target_at, label_at, frame_field_at, i64_at, offset9_at, pair_offset_at, type_at, mem_label_name_at, mode_at, pair_mode_at, flags_at, cond_br_kind_at, test_bit_kind_at, list_at};
 
 use crate::frame_field::FrameField;
 use crate::mode_name::MemLabelName;
 use crate::value::Value;
 use a64_base::{
-    BranchTarget, Cond, ExtendOp, IrType, MachLabel, MemFlagsData, OperandSize, PReg, Reg,
-    RegClass, ShiftOp, ShiftOpAndAmt, ShiftOpShiftImm,
+    BranchTarget, Cond, CondBrKind, ExtendOp, IrType, MachLabel, MemFlagsData, OperandSize, PReg,
+    Reg, RegClass, ShiftOp, ShiftOpAndAmt, ShiftOpShiftImm, TestBitAndBranchKind,
 };
 use a64_imms::{Imm12, ImmShift, MoveWideConst, NZCV, SImm7Scaled, SImm9, UImm5, UImm6};
 use a64_inst::{AMode, PairAMode};
@@ -376,5 +376,35 @@ pub fn flags(values: &[Value], i: usize) -> MemFlagsData
     match values.get(i) {
         Some(Value::Flags(x)) => *x,
         _ => MemFlagsData::trusted(),
+    }
+}
+
+/// What a conditional branch tests.
+pub fn cond_br_kind(values: &[Value], i: usize) -> CondBrKind
+    ensures { result ≡ cond_br_kind_at values.now i }
+{
+    match values.get(i) {
+        Some(Value::CondBrKind(x)) => *x,
+        _ => CondBrKind::Cond(Cond::Eq),
+    }
+}
+
+/// What a branch on one bit tests.
+pub fn test_bit_kind(values: &[Value], i: usize) -> TestBitAndBranchKind
+    ensures { result ≡ test_bit_kind_at values.now i }
+{
+    match values.get(i) {
+        Some(Value::TestBitAndBranchKind(x)) => *x,
+        _ => TestBitAndBranchKind::Z,
+    }
+}
+
+/// A list, as it is written.
+pub fn list<'t>(values: &[Value<'t>], i: usize) -> &'t [u8]
+    ensures { result.now ≡ list_at values.now i }
+{
+    match values.get(i) {
+        Some(Value::List(text)) => text.as_bytes(),
+        _ => b"",
     }
 }

@@ -27,7 +27,7 @@ pub trait FieldRow {
         ensures { IsCut tokens behind text.now result.token.now result.more result.lines };
 
     /// The field of the kind that the token is.
-    fn read(kind: Kind, token: &[u8]) -> Option<Value>
+    fn read(kind: Kind, token: &[u8]) -> Option<Value<'_>>
         ensures { Reads (λ v. (kind_of v ≡ kind) × fits v) value_text token.now result };
 
     /// A text has a token.
@@ -43,7 +43,7 @@ pub fn read_fields<'t, L: FieldRow, const N: usize>(
     kinds: &[Kind],
     text: Option<&'t [u8]>,
     lines: Option<&'t [u8]>,
-    values: &mut ArrayVec<Value, N>,
+    values: &mut ArrayVec<Value<'t>, N>,
 ) -> Option<Option<&'t [u8]>>
     requires { length kinds.now ≤ N }
     ensures read { Reads (AreFields L.fits kinds.now) texts (of_text L.tokens text.entry) (option_map (λ _. values.new.items) result) }

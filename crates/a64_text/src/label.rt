@@ -1,9 +1,11 @@
 //! Reads labels and branch targets.
 
 ghost use Rattle.a64_text.specs.Reads.{Reads};
+ghost use Rattle.a64_text.specs.ListLaws.{label_apart, label_no_dash};
 ghost use Rattle.a64_text.specs.Fields.{label_text, IsLabel, target_text, IsTarget};
 
 use crate::decimal::read_u32;
+use crate::list::Listed;
 use crate::offset::{after, read_i32};
 use a64_base::{BranchTarget, MachLabel};
 
@@ -15,6 +17,20 @@ pub fn read_label(token: &[u8]) -> Option<MachLabel>
         [b'L', number @ ..] => Some(MachLabel(read_u32(number)?)),
         _ => None,
     }
+}
+
+impl Listed for MachLabel {
+    ghost text = { label_text };
+
+    ghost fits = { IsLabel };
+
+    fn read(token: &[u8]) -> Option<MachLabel> {
+        read_label(token)
+    }
+
+    ghost apart = { label_apart };
+
+    ghost no_dash = { label_no_dash };
 }
 
 /// The branch target whose text the token is: its label, or its distance in bytes.

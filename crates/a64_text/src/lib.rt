@@ -2,6 +2,7 @@
 #![tactic(auto)]
 
 mod at;
+mod branch_name;
 mod call;
 mod decimal;
 mod entry;
@@ -13,6 +14,8 @@ mod frame_field;
 mod immediate;
 mod label;
 mod line;
+mod list;
+mod list_text;
 mod make;
 mod mode_name;
 mod modifier;

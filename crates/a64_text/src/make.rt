@@ -5,7 +5,7 @@ mod integer;
 mod memory;
 pub mod mode;
 
-ghost use Rattle.std.specs.Prelude.{◌≡◌};
+ghost use Rattle.std.specs.Prelude.{◌≡◌, IfOk};
 ghost use Rattle.a64_text.specs.Makes.{Makes};
 ghost use Rattle.a64_text.specs.Makes as makes;
 
@@ -14,6 +14,7 @@ use crate::entry::Entry;
 use crate::name::Name;
 use crate::value::Value;
 use a64_inst::{Inst, Item};
+use std::alloc::{AllocError, Global};
 
 /// The entry that is an instruction without a map of the stack.
 fn emitted(inst: Inst) -> Entry
@@ -39,15 +40,19 @@ fn make_frame(values: &[Value]) -> Option<Entry>
 }
 
 /// The entry of this name with these fields.
-pub fn make(name: Name, values: &[Value]) -> Option<Entry>
-    ensures { Makes name values.now result }
+///
+/// # Errors
+///
+/// Want of memory, for what an item owns.
+pub fn make(alloc: Global, name: Name, values: &[Value]) -> Result<Option<Entry>, AllocError>
+    ensures { IfOk result (Makes name values.now) }
 {
     match name {
-        Name::Integer(name) => integer::make_integer(name, values),
-        Name::Control(name) => control::make_control(name, values),
-        Name::Memory(name) => memory::make_memory(name, values),
-        Name::Access(op) => memory::make_access(op, values),
-        Name::Bind => make_bind(values),
-        Name::Frame => make_frame(values),
+        Name::Integer(name) => Ok(integer::make_integer(name, values)),
+        Name::Control(name) => control::make_control(alloc, name, values),
+        Name::Memory(name) => Ok(memory::make_memory(name, values)),
+        Name::Access(op) => Ok(memory::make_access(op, values)),
+        Name::Bind => Ok(make_bind(values)),
+        Name::Frame => Ok(make_frame(values)),
     }
 }

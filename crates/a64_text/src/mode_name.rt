@@ -11,7 +11,6 @@ ghost use Rattle.a64_text.specs.Found.{mem_label_found};
 use crate::call::Call;
 use crate::make::mode::{make_mode, make_pair_mode};
 use crate::named::{Named, Row};
-use crate::schema::Schema;
 use crate::value::{Kind, Value};
 use a64_inst::{AMode, PairAMode};
 
@@ -100,7 +99,7 @@ impl Named for ModeName {
     ghost found = { mode_found };
 }
 
-impl Schema for ModeName {
+impl Call for ModeName {
     type Made = AMode;
 
     ghost name_of = { mode_name_of };
@@ -117,17 +116,15 @@ impl Schema for ModeName {
 
     ghost few = { few_mode_kinds };
 
+    ghost apart = { mode_apart };
+
+    ghost some_field = { some_mode_field };
+
     ghost made_some = { mode_made_some };
 
     ghost made_only = { mode_made_only };
 
     ghost fields_kinds = { mode_fields_kinds };
-}
-
-impl Call for ModeName {
-    ghost apart = { mode_apart };
-
-    ghost some_field = { some_mode_field };
 }
 
 /// The name of an addressing mode of a pair.
@@ -179,7 +176,7 @@ impl Named for PairModeName {
     ghost found = { pair_found };
 }
 
-impl Schema for PairModeName {
+impl Call for PairModeName {
     type Made = PairAMode;
 
     ghost name_of = { pair_name_of };
@@ -196,6 +193,10 @@ impl Schema for PairModeName {
 
     ghost few = { few_pair_kinds };
 
+    ghost apart = { pair_apart };
+
+    ghost some_field = { some_pair_field };
+
     ghost made_some = { pair_made_some };
 
     ghost made_only = { pair_made_only };
@@ -203,24 +204,23 @@ impl Schema for PairModeName {
     ghost fields_kinds = { pair_fields_kinds };
 }
 
-impl Call for PairModeName {
-    ghost apart = { pair_apart };
-
-    ghost some_field = { some_pair_field };
-}
-
 /// The name of an address in the code.
 #[derive(Clone, Copy)]
 pub enum MemLabelName {
     /// `PCRel`.
     PCRel,
+    /// `Mach`.
+    Mach,
 }
 
 /// For each remainder of a hash, the row of the name that has it.
-pub static MEM_LABEL_HOMES: [u8; 1] = [0];
+pub static MEM_LABEL_HOMES: [u8; 2] = [0, 1];
 
 /// The addresses in the code.
-pub static MEM_LABELS: [Row<MemLabelName>; 1] = [(b"PCRel", &[], MemLabelName::PCRel)];
+pub static MEM_LABELS: [Row<MemLabelName>; 2] = [
+    (b"PCRel", &[], MemLabelName::PCRel),
+    (b"Mach", &[], MemLabelName::Mach),
+];
 
 impl Named for MemLabelName {
     ghost text = { mem_label_name_text };

@@ -70,6 +70,22 @@ pub enum ControlName {
     Ret,
     /// `Jump`.
     Jump,
+    /// `CondBr`.
+    CondBr,
+    /// `TestBitAndBranch`.
+    TestBitAndBranch,
+    /// `IndirectBr`.
+    IndirectBr,
+    /// `Brk`.
+    Brk,
+    /// `Udf`.
+    Udf,
+    /// `Word4`.
+    Word4,
+    /// `Word8`.
+    Word8,
+    /// `LabelAddress`.
+    LabelAddress,
 }
 
 /// The name of an instruction of memory that is no load or store of one register.

@@ -30,7 +30,7 @@ impl FieldRow for Parts {
         }
     }
 
-    fn read(kind: Kind, token: &[u8]) -> Option<Value> {
+    fn read(kind: Kind, token: &[u8]) -> Option<Value<'_>> {
         read_part(kind, token)
     }
 

@@ -11,8 +11,10 @@ use crate::entry::{Entry, NewItem, OnceName};
 use crate::file::{File, FileError};
 use crate::frame_field::set_frame_field;
 use crate::line::read_line;
+use crate::make::make;
 use crate::split::cut;
 use crate::state::{ReaderState, start_state};
+use crate::value::Fields;
 use a64_inst::Item;
 use std::alloc::{AllocError, Global};
 use std::collections::BTreeSet;
@@ -43,7 +45,8 @@ fn add_item(items: &mut Vec<Item>, item: NewItem) -> Result<(), AllocError>
 {
     match item {
         NewItem::Item(item) => {
-            items.push(item)?;
+            items.reserve(1)?;
+            items.push_reserved(item);
             Ok(())
         }
     }
@@ -63,14 +66,19 @@ fn add_entry(file: &mut File, entry: Entry) -> Result<(), AllocError>
 }
 
 /// Takes what the first line says into the state, and answers the lines behind it. None: it is no
-/// entry that may stand there.
+/// entry that may stand there. `values` is room for the fields.
 fn add_line<'t>(
+    alloc: Global,
     state: &mut ReaderState,
     text: &'t [u8],
+    values: &mut Fields<'t>,
 ) -> Result<Option<Option<&'t [u8]>>, AllocError>
     ensures { IfOk result (AddsLine state.old state.new text.now) }
 {
-    let Some((entry, lines)) = read_line(text, &mut state.fields) else {
+    let Some((name, lines)) = read_line(text, values) else {
+        return Ok(None);
+    };
+    let Some(entry) = make(alloc, name, values.as_slice())? else {
         return Ok(None);
     };
     if !add_name(&mut state.given, entry.once_name())? {
@@ -92,6 +100,7 @@ pub fn read_file(alloc: Global, bytes: &[u8]) -> Result<File, FileError>
     ensures few { IfOk result (λ file. length file.items.items ≤ length bytes.now + 1) }
 {
     let mut state = start_state(alloc);
+    let mut values = Fields::new();
     let mut number: u64 = 0;
     let mut rest = Some(bytes);
     while let Some(text) = rest {
@@ -100,7 +109,7 @@ pub fn read_file(alloc: Global, bytes: &[u8]) -> Result<File, FileError>
             let (_, lines) = cut(text, b'\n');
             rest = lines;
         } else {
-            let Some(lines) = add_line(&mut state, text)? else {
+            let Some(lines) = add_line(alloc, &mut state, text, &mut values)? else {
                 return Err(FileError::BadLine(number));
             };
             rest = lines;

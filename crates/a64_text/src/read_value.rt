@@ -3,12 +3,14 @@
 ghost use Rattle.a64_text.specs.ReadsParts.{ReadsPart};
 ghost use Rattle.a64_text.specs.Values.{ReadsKind};
 
+use crate::branch_name::CondBrName;
 use crate::call::read_made;
 use crate::decimal::{read_u8, read_u32, read_u64};
 use crate::flags::read_flags;
 use crate::frame_field::FrameField;
 use crate::immediate::{read_imm_shift, read_imm12, read_nzcv, read_uimm5, read_uimm6};
 use crate::label::{read_label, read_target};
+use crate::list_text::read_list_text;
 use crate::mode_name::{MemLabelName, ModeName, PairModeName};
 use crate::named::read_named;
 use crate::offset::{read_i32, read_i64, read_offset9, read_pair_offset};
@@ -17,12 +19,12 @@ use crate::shift::read_shift;
 use crate::size::read_size;
 use crate::value::{Kind, Value};
 use crate::wide::read_wide;
-use a64_base::{Cond, ExtendOp, IrType};
+use a64_base::{Cond, ExtendOp, IrType, TestBitAndBranchKind};
 use a64_ops::{ALUOp, ALUOp3, BfmOp, BitOp, MoveWideOp};
 
 /// Reads an integer operator.
 #[tactic(auto, unfolding(crate::specs::Values::ReadsKind))]
-fn alu_op(token: &[u8]) -> Option<Value>
+fn alu_op(token: &[u8]) -> Option<Value<'_>>
     ensures { ReadsKind Kind.AluOp token.now result }
 {
     Some(Value::AluOp(read_named::<ALUOp>(token)?))
@@ -30,7 +32,7 @@ fn alu_op(token: &[u8]) -> Option<Value>
 
 /// Reads an integer operator with three operands.
 #[tactic(auto, unfolding(crate::specs::Values::ReadsKind))]
-fn alu_op3(token: &[u8]) -> Option<Value>
+fn alu_op3(token: &[u8]) -> Option<Value<'_>>
     ensures { ReadsKind Kind.AluOp3 token.now result }
 {
     Some(Value::AluOp3(read_named::<ALUOp3>(token)?))
@@ -38,7 +40,7 @@ fn alu_op3(token: &[u8]) -> Option<Value>
 
 /// Reads an operation on bits.
 #[tactic(auto, unfolding(crate::specs::Values::ReadsKind))]
-fn bit_op(token: &[u8]) -> Option<Value>
+fn bit_op(token: &[u8]) -> Option<Value<'_>>
     ensures { ReadsKind Kind.BitOp token.now result }
 {
     Some(Value::BitOp(read_named::<BitOp>(token)?))
@@ -46,7 +48,7 @@ fn bit_op(token: &[u8]) -> Option<Value>
 
 /// Reads a move of a bitfield.
 #[tactic(auto, unfolding(crate::specs::Values::ReadsKind))]
-fn bfm_op(token: &[u8]) -> Option<Value>
+fn bfm_op(token: &[u8]) -> Option<Value<'_>>
     ensures { ReadsKind Kind.BfmOp token.now result }
 {
     Some(Value::BfmOp(read_named::<BfmOp>(token)?))
@@ -54,7 +56,7 @@ fn bfm_op(token: &[u8]) -> Option<Value>
 
 /// Reads a wide move.
 #[tactic(auto, unfolding(crate::specs::Values::ReadsKind))]
-fn move_wide_op(token: &[u8]) -> Option<Value>
+fn move_wide_op(token: &[u8]) -> Option<Value<'_>>
     ensures { ReadsKind Kind.MoveWideOp token.now result }
 {
     Some(Value::MoveWideOp(read_named::<MoveWideOp>(token)?))
@@ -62,7 +64,7 @@ fn move_wide_op(token: &[u8]) -> Option<Value>
 
 /// Reads the size of operands.
 #[tactic(auto, unfolding(crate::specs::Values::ReadsKind))]
-fn size(token: &[u8]) -> Option<Value>
+fn size(token: &[u8]) -> Option<Value<'_>>
     ensures { ReadsKind Kind.Size token.now result }
 {
     Some(Value::Size(read_size(token)?))
@@ -70,7 +72,7 @@ fn size(token: &[u8]) -> Option<Value>
 
 /// Reads a register.
 #[tactic(auto, unfolding(crate::specs::Values::ReadsKind))]
-fn reg(token: &[u8]) -> Option<Value>
+fn reg(token: &[u8]) -> Option<Value<'_>>
     ensures { ReadsKind Kind.Reg token.now result }
 {
     Some(Value::Reg(read_reg(token)?))
@@ -78,7 +80,7 @@ fn reg(token: &[u8]) -> Option<Value>
 
 /// Reads a register of the machine.
 #[tactic(auto, unfolding(crate::specs::Values::ReadsKind))]
-fn preg(token: &[u8]) -> Option<Value>
+fn preg(token: &[u8]) -> Option<Value<'_>>
     ensures { ReadsKind Kind.PReg token.now result }
 {
     Some(Value::PReg(read_preg(token)?))
@@ -86,7 +88,7 @@ fn preg(token: &[u8]) -> Option<Value>
 
 /// Reads an immediate of 12 bits, shifted or not.
 #[tactic(auto, unfolding(crate::specs::Values::ReadsKind))]
-fn imm12(token: &[u8]) -> Option<Value>
+fn imm12(token: &[u8]) -> Option<Value<'_>>
     ensures { ReadsKind Kind.Imm12 token.now result }
 {
     Some(Value::Imm12(read_imm12(token)?))
@@ -94,7 +96,7 @@ fn imm12(token: &[u8]) -> Option<Value>
 
 /// Reads a halfword and its place.
 #[tactic(auto, unfolding(crate::specs::Values::ReadsKind))]
-fn wide(token: &[u8]) -> Option<Value>
+fn wide(token: &[u8]) -> Option<Value<'_>>
     ensures { ReadsKind Kind.Wide token.now result }
 {
     Some(Value::Wide(read_wide(token)?))
@@ -102,7 +104,7 @@ fn wide(token: &[u8]) -> Option<Value>
 
 /// Reads the amount of a shift.
 #[tactic(auto, unfolding(crate::specs::Values::ReadsKind))]
-fn imm_shift(token: &[u8]) -> Option<Value>
+fn imm_shift(token: &[u8]) -> Option<Value<'_>>
     ensures { ReadsKind Kind.ImmShift token.now result }
 {
     Some(Value::ImmShift(read_imm_shift(token)?))
@@ -110,7 +112,7 @@ fn imm_shift(token: &[u8]) -> Option<Value>
 
 /// Reads an immediate of 5 bits.
 #[tactic(auto, unfolding(crate::specs::Values::ReadsKind))]
-fn uimm5(token: &[u8]) -> Option<Value>
+fn uimm5(token: &[u8]) -> Option<Value<'_>>
     ensures { ReadsKind Kind.UImm5 token.now result }
 {
     Some(Value::UImm5(read_uimm5(token)?))
@@ -118,7 +120,7 @@ fn uimm5(token: &[u8]) -> Option<Value>
 
 /// Reads an immediate of 6 bits.
 #[tactic(auto, unfolding(crate::specs::Values::ReadsKind))]
-fn uimm6(token: &[u8]) -> Option<Value>
+fn uimm6(token: &[u8]) -> Option<Value<'_>>
     ensures { ReadsKind Kind.UImm6 token.now result }
 {
     Some(Value::UImm6(read_uimm6(token)?))
@@ -126,7 +128,7 @@ fn uimm6(token: &[u8]) -> Option<Value>
 
 /// Reads a shift and its amount.
 #[tactic(auto, unfolding(crate::specs::Values::ReadsKind))]
-fn shift(token: &[u8]) -> Option<Value>
+fn shift(token: &[u8]) -> Option<Value<'_>>
     ensures { ReadsKind Kind.Shift token.now result }
 {
     Some(Value::Shift(read_shift(token)?))
@@ -134,7 +136,7 @@ fn shift(token: &[u8]) -> Option<Value>
 
 /// Reads an extension.
 #[tactic(auto, unfolding(crate::specs::Values::ReadsKind))]
-fn extend(token: &[u8]) -> Option<Value>
+fn extend(token: &[u8]) -> Option<Value<'_>>
     ensures { ReadsKind Kind.Extend token.now result }
 {
     Some(Value::Extend(read_named::<ExtendOp>(token)?))
@@ -142,7 +144,7 @@ fn extend(token: &[u8]) -> Option<Value>
 
 /// Reads a condition.
 #[tactic(auto, unfolding(crate::specs::Values::ReadsKind))]
-fn cond(token: &[u8]) -> Option<Value>
+fn cond(token: &[u8]) -> Option<Value<'_>>
     ensures { ReadsKind Kind.Cond token.now result }
 {
     Some(Value::Cond(read_named::<Cond>(token)?))
@@ -150,7 +152,7 @@ fn cond(token: &[u8]) -> Option<Value>
 
 /// Reads the flags.
 #[tactic(auto, unfolding(crate::specs::Values::ReadsKind))]
-fn nzcv(token: &[u8]) -> Option<Value>
+fn nzcv(token: &[u8]) -> Option<Value<'_>>
     ensures { ReadsKind Kind.Nzcv token.now result }
 {
     Some(Value::Nzcv(read_nzcv(token)?))
@@ -158,7 +160,7 @@ fn nzcv(token: &[u8]) -> Option<Value>
 
 /// Reads whether something is so.
 #[tactic(auto, unfolding(crate::specs::Values::ReadsKind))]
-fn truth(token: &[u8]) -> Option<Value>
+fn truth(token: &[u8]) -> Option<Value<'_>>
     ensures { ReadsKind Kind.Bool token.now result }
 {
     Some(Value::Bool(read_named::<bool>(token)?))
@@ -166,7 +168,7 @@ fn truth(token: &[u8]) -> Option<Value>
 
 /// Reads a number below 2^8.
 #[tactic(auto, unfolding(crate::specs::Values::ReadsKind))]
-fn u8(token: &[u8]) -> Option<Value>
+fn u8(token: &[u8]) -> Option<Value<'_>>
     ensures { ReadsKind Kind.U8 token.now result }
 {
     Some(Value::U8(read_u8(token)?))
@@ -174,7 +176,7 @@ fn u8(token: &[u8]) -> Option<Value>
 
 /// Reads a number below 2^32.
 #[tactic(auto, unfolding(crate::specs::Values::ReadsKind))]
-fn u32(token: &[u8]) -> Option<Value>
+fn u32(token: &[u8]) -> Option<Value<'_>>
     ensures { ReadsKind Kind.U32 token.now result }
 {
     Some(Value::U32(read_u32(token)?))
@@ -182,7 +184,7 @@ fn u32(token: &[u8]) -> Option<Value>
 
 /// Reads a number below 2^64.
 #[tactic(auto, unfolding(crate::specs::Values::ReadsKind))]
-fn u64(token: &[u8]) -> Option<Value>
+fn u64(token: &[u8]) -> Option<Value<'_>>
     ensures { ReadsKind Kind.U64 token.now result }
 {
     Some(Value::U64(read_u64(token)?))
@@ -190,7 +192,7 @@ fn u64(token: &[u8]) -> Option<Value>
 
 /// Reads a number of 32 bits, which may be below zero.
 #[tactic(auto, unfolding(crate::specs::Values::ReadsKind))]
-fn i32(token: &[u8]) -> Option<Value>
+fn i32(token: &[u8]) -> Option<Value<'_>>
     ensures { ReadsKind Kind.I32 token.now result }
 {
     Some(Value::I32(read_i32(token)?))
@@ -198,7 +200,7 @@ fn i32(token: &[u8]) -> Option<Value>
 
 /// Reads where a branch goes.
 #[tactic(auto, unfolding(crate::specs::Values::ReadsKind))]
-fn target(token: &[u8]) -> Option<Value>
+fn target(token: &[u8]) -> Option<Value<'_>>
     ensures { ReadsKind Kind.Target token.now result }
 {
     Some(Value::Target(read_target(token)?))
@@ -206,7 +208,7 @@ fn target(token: &[u8]) -> Option<Value>
 
 /// Reads a label.
 #[tactic(auto, unfolding(crate::specs::Values::ReadsKind))]
-fn label(token: &[u8]) -> Option<Value>
+fn label(token: &[u8]) -> Option<Value<'_>>
     ensures { ReadsKind Kind.Label token.now result }
 {
     Some(Value::Label(read_label(token)?))
@@ -214,7 +216,7 @@ fn label(token: &[u8]) -> Option<Value>
 
 /// Reads the size of an area of a frame.
 #[tactic(auto, unfolding(crate::specs::Values::ReadsKind))]
-fn frame_field(token: &[u8]) -> Option<Value>
+fn frame_field(token: &[u8]) -> Option<Value<'_>>
     ensures { ReadsKind Kind.FrameField token.now result }
 {
     Some(Value::FrameField(read_named::<FrameField>(token)?))
@@ -222,7 +224,7 @@ fn frame_field(token: &[u8]) -> Option<Value>
 
 /// Reads a number of 64 bits, which may be below zero.
 #[tactic(auto, unfolding(crate::specs::Values::ReadsKind))]
-fn i64(token: &[u8]) -> Option<Value>
+fn i64(token: &[u8]) -> Option<Value<'_>>
     ensures { ReadsKind Kind.I64 token.now result }
 {
     Some(Value::I64(read_i64(token)?))
@@ -230,7 +232,7 @@ fn i64(token: &[u8]) -> Option<Value>
 
 /// Reads a signed offset of 9 bits.
 #[tactic(auto, unfolding(crate::specs::Values::ReadsKind))]
-fn offset9(token: &[u8]) -> Option<Value>
+fn offset9(token: &[u8]) -> Option<Value<'_>>
     ensures { ReadsKind Kind.Offset9 token.now result }
 {
     Some(Value::Offset9(read_offset9(token)?))
@@ -238,7 +240,7 @@ fn offset9(token: &[u8]) -> Option<Value>
 
 /// Reads a signed offset of 7 bits in doublewords.
 #[tactic(auto, unfolding(crate::specs::Values::ReadsKind))]
-fn pair_offset(token: &[u8]) -> Option<Value>
+fn pair_offset(token: &[u8]) -> Option<Value<'_>>
     ensures { ReadsKind Kind.PairOffset token.now result }
 {
     Some(Value::PairOffset(read_pair_offset(token)?))
@@ -246,7 +248,7 @@ fn pair_offset(token: &[u8]) -> Option<Value>
 
 /// Reads a type.
 #[tactic(auto, unfolding(crate::specs::Values::ReadsKind))]
-fn ir_type(token: &[u8]) -> Option<Value>
+fn ir_type(token: &[u8]) -> Option<Value<'_>>
     ensures { ReadsKind Kind.Type token.now result }
 {
     Some(Value::Type(read_named::<IrType>(token)?))
@@ -254,7 +256,7 @@ fn ir_type(token: &[u8]) -> Option<Value>
 
 /// Reads the name of an address in the code.
 #[tactic(auto, unfolding(crate::specs::Values::ReadsKind))]
-fn mem_label_name(token: &[u8]) -> Option<Value>
+fn mem_label_name(token: &[u8]) -> Option<Value<'_>>
     ensures { ReadsKind Kind.MemLabelName token.now result }
 {
     Some(Value::MemLabelName(read_named::<MemLabelName>(token)?))
@@ -262,7 +264,7 @@ fn mem_label_name(token: &[u8]) -> Option<Value>
 
 /// Reads an addressing mode.
 #[tactic(auto, unfolding(crate::specs::Values::ReadsKind))]
-fn mode(token: &[u8]) -> Option<Value>
+fn mode(token: &[u8]) -> Option<Value<'_>>
     ensures { ReadsKind Kind.Mode token.now result }
 {
     Some(Value::Mode(read_made::<ModeName>(token)?))
@@ -270,7 +272,7 @@ fn mode(token: &[u8]) -> Option<Value>
 
 /// Reads an addressing mode of a pair of doublewords.
 #[tactic(auto, unfolding(crate::specs::Values::ReadsKind))]
-fn pair_mode(token: &[u8]) -> Option<Value>
+fn pair_mode(token: &[u8]) -> Option<Value<'_>>
     ensures { ReadsKind Kind.PairMode token.now result }
 {
     Some(Value::PairMode(read_made::<PairModeName>(token)?))
@@ -278,14 +280,38 @@ fn pair_mode(token: &[u8]) -> Option<Value>
 
 /// Reads what is known of a memory access.
 #[tactic(auto, unfolding(crate::specs::Values::ReadsKind))]
-fn flags(token: &[u8]) -> Option<Value>
+fn flags(token: &[u8]) -> Option<Value<'_>>
     ensures { ReadsKind Kind.Flags token.now result }
 {
     Some(Value::Flags(read_flags(token)?))
 }
 
+/// Reads what a conditional branch tests.
+#[tactic(auto, unfolding(crate::specs::Values::ReadsKind))]
+fn cond_br_kind(token: &[u8]) -> Option<Value<'_>>
+    ensures { ReadsKind Kind.CondBrKind token.now result }
+{
+    Some(Value::CondBrKind(read_made::<CondBrName>(token)?))
+}
+
+/// Reads what a branch on one bit tests.
+#[tactic(auto, unfolding(crate::specs::Values::ReadsKind))]
+fn test_bit_kind(token: &[u8]) -> Option<Value<'_>>
+    ensures { ReadsKind Kind.TestBitAndBranchKind token.now result }
+{
+    Some(Value::TestBitAndBranchKind(read_named::<TestBitAndBranchKind>(token)?))
+}
+
+/// Reads a list as it is written.
+#[tactic(auto, unfolding(crate::specs::Values::ReadsKind))]
+fn list(token: &[u8]) -> Option<Value<'_>>
+    ensures { ReadsKind Kind.List token.now result }
+{
+    Some(Value::List(read_list_text(token)?))
+}
+
 /// The field of the kind that the token is, where such a field may stand with commas between.
-pub fn read_part(kind: Kind, token: &[u8]) -> Option<Value>
+pub fn read_part(kind: Kind, token: &[u8]) -> Option<Value<'_>>
     ensures { ReadsPart kind token.now result }
 {
     match kind {
@@ -297,12 +323,14 @@ pub fn read_part(kind: Kind, token: &[u8]) -> Option<Value>
         Kind::PairOffset => pair_offset(token),
         Kind::Type => ir_type(token),
         Kind::MemLabelName => mem_label_name(token),
+        Kind::Size => size(token),
+        Kind::Cond => cond(token),
         _ => None,
     }
 }
 
 /// The field of the kind that the token is.
-pub fn read_value(kind: Kind, token: &[u8]) -> Option<Value>
+pub fn read_value(kind: Kind, token: &[u8]) -> Option<Value<'_>>
     ensures { ReadsKind kind token.now result }
 {
     match kind {
@@ -339,5 +367,8 @@ pub fn read_value(kind: Kind, token: &[u8]) -> Option<Value>
         Kind::Mode => mode(token),
         Kind::PairMode => pair_mode(token),
         Kind::Flags => flags(token),
+        Kind::CondBrKind => cond_br_kind(token),
+        Kind::TestBitAndBranchKind => test_bit_kind(token),
+        Kind::List => list(token),
     }
 }

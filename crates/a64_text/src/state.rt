@@ -6,7 +6,6 @@ ghost use Rattle.a64_text.specs.AddsLine.{Holds};
 
 use crate::entry::OnceName;
 use crate::file::File;
-use crate::value::Fields;
 use a64_buffer::Constants;
 use a64_inst::{EmitFlags, EmitInfo, FrameLayout};
 use a64_list::ListVec;
@@ -20,8 +19,6 @@ pub struct ReaderState {
     pub file: File,
     /// The names that were given, of those that a file gives at most once.
     pub given: BTreeSet<OnceName>,
-    /// The fields of the last line: room for those of the next.
-    pub fields: Fields,
 }
 
 /// The file that says nothing. It takes no memory.
@@ -54,6 +51,5 @@ pub fn start_state(alloc: Global) -> ReaderState
     ReaderState {
         file: empty_file(alloc),
         given: BTreeSet::new(alloc),
-        fields: Fields::new(),
     }
 }

@@ -1,10 +1,11 @@
 //! The fields of entries.
 
 use crate::frame_field::FrameField;
+use crate::list_text::ListText;
 use crate::mode_name::MemLabelName;
 use a64_base::{
-    BranchTarget, Cond, ExtendOp, IrType, MachLabel, MemFlagsData, OperandSize, PReg, Reg,
-    ShiftOpAndAmt,
+    BranchTarget, Cond, CondBrKind, ExtendOp, IrType, MachLabel, MemFlagsData, OperandSize, PReg,
+    Reg, ShiftOpAndAmt, TestBitAndBranchKind,
 };
 use a64_imms::{Imm12, ImmShift, MoveWideConst, NZCV, SImm7Scaled, SImm9, UImm5, UImm6};
 use a64_inst::{AMode, PairAMode};
@@ -80,11 +81,17 @@ pub enum Kind {
     PairMode,
     /// What is known of a memory access.
     Flags,
+    /// What a conditional branch tests.
+    CondBrKind,
+    /// What a branch on one bit tests.
+    TestBitAndBranchKind,
+    /// A list, which takes memory: it is read where the item is made.
+    List,
 }
 
 /// A field.
-#[derive(Clone, Copy)]
-pub enum Value {
+#[derive(Drop)]
+pub enum Value<'t> {
     /// An integer operator.
     AluOp(ALUOp),
     /// An integer operator with three operands.
@@ -151,13 +158,19 @@ pub enum Value {
     PairMode(PairAMode),
     /// What is known of a memory access.
     Flags(MemFlagsData),
+    /// What a conditional branch tests.
+    CondBrKind(CondBrKind),
+    /// What a branch on one bit tests.
+    TestBitAndBranchKind(TestBitAndBranchKind),
+    /// A list, as it is written.
+    List(ListText<'t>),
 }
 
 /// The fields of an entry: a name has few of them.
-pub type Fields = ArrayVec<Value, 12>;
+pub type Fields<'t> = ArrayVec<Value<'t>, 12>;
 
-impl Default for Value {
-    fn default() -> Value {
+impl<'t> Default for Value<'t> {
+    fn default() -> Value<'t> {
         Value::U64(0)
     }
 }

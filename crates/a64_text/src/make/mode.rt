@@ -9,7 +9,7 @@ ghost use Rattle.a64_text.specs.Types as types;
 use crate::at;
 use crate::mode_name::{MemLabelName, ModeName, PairModeName};
 use crate::value::Value;
-use a64_base::IrType;
+use a64_base::{IrType, MachLabel};
 use a64_imms::UImm12Scaled;
 use a64_inst::{AMode, MemLabel, PairAMode};
 
@@ -43,6 +43,12 @@ fn mem_label_of(name: MemLabelName, number: i64) -> Option<MemLabel>
                 return None;
             }
             Some(MemLabel::PCRel(number as i32))
+        }
+        MemLabelName::Mach => {
+            if number < 0 || number > i64::from(u32::MAX) {
+                return None;
+            }
+            Some(MemLabel::Mach(MachLabel(number as u32)))
         }
     }
 }

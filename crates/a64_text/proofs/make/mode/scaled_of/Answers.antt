@@ -1,5 +1,5 @@
 use Rattle.std.proofs.Common.{arith, to_z-of_z}
-use Rattle.a64_text.proofs.Scaled.{scaled_read, scale_bytes}
+use Rattle.a64_text.proofs.Scaled.{scaled_read}
 use Rattle.a64_text.proofs.make.mode.scaled_of.Goals as goal
 
 pub returns : goal.returns

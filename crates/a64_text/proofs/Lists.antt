@@ -1,0 +1,119 @@
+-- Lists, as far as they were read.
+use Rattle.std.proofs.Common.{Bor, ◌≡◌, ℕ, ◌<◌, eqb, List, [], ◌∷◌, ◌++◌, length, map, Option, Some, None, refl, sym, ap, subst, ◌∙◌, append_assoc, append-nil, arith}
+use Rattle.std.specs.Prelude.{codes, MatchOption}
+use Rattle.std.specs.List.{AllByRecursion, slice_split}
+use Rattle.a64_text.specs.Fields.{HasNo}
+use Rattle.a64_text.specs.Lists.{list_text, same_text}
+use Rattle.a64_text.specs.Reads.{Reads}
+use Rattle.a64_text.specs.Splitting.{comma_tokens, of_text}
+use Rattle.a64_text.proofs.Joined.{joined_some}
+use Rattle.a64_text.proofs.Splits.{first_plain, heads, parts_left, split-join, split_none}
+
+-- ---- a list as it is written has no space
+
+pub no_space : (token front : List ℕ) → slice_split (λ b. eqb b 32) token ≡ front ∷ [] → Reads (HasNo 32) same_text token (Some token)
+no_space token front e = record {
+  some = (subst (λ (t : List ℕ). HasNo 32 t) (sym (joined_some 32 token (front ∷ []) e)) (first_plain 32 token front [] e), refl);
+  only = λ x fits same. ap (λ (t : List ℕ). Some t) same;
+}
+
+a_space : (token front rest : List ℕ) → slice_split (λ b. eqb b 32) token ≡ front ∷ slice_split (λ b. eqb b 32) rest → Reads (HasNo 32) same_text token None
+a_space token front rest e = record {
+  some = tt;
+  only = λ x fits same.
+      let one : x ∷ [] ≡ front ∷ slice_split (λ b. eqb b 32) rest = sym (split_none 32 x fits) ∙ ap (λ (t : List ℕ). slice_split (λ b. eqb b 32) t) (sym same) ∙ e in
+      absurd (omega (arith, parts_left 32 rest, ap (λ (t : List (List ℕ)). length t) one));
+}
+
+pub has_space : (token front : List ℕ) (more : Option (Bor (List ℕ))) (rest : Bor (List ℕ)) → more ≡ Some rest → MatchOption more (slice_split (λ b. eqb b 32) token ≡ front ∷ []) (λ rest. (slice_split (λ b. eqb b 32) token ≡ front ∷ slice_split (λ b. eqb b 32) rest.now) × (length rest.now < length token)) → Reads (HasNo 32) same_text token None
+has_space token front None rest is cut = absurd cc
+has_space token front (Some other) rest is cut = a_space token front other.now cut.0
+
+-- ---- what was read is the front of the list, and it is told by what is left of the tokens
+
+pub record Listing {X : Type 0} (text : X → List ℕ) (fits : X → Type 0) (tokens : List (List ℕ)) (read : List X) (others : List (List ℕ)) : Type 0 where
+  pub some : (more : List X) → AllByRecursion fits more → others ≡ map text more → AllByRecursion fits (read ++ more) × (tokens ≡ map text (read ++ more))
+  pub only : (all : List X) → AllByRecursion fits all → tokens ≡ map text all → (more : List X) × (all ≡ read ++ more) × AllByRecursion fits more × (others ≡ map text more)
+
+module _ {X : Type 0} (text : X → List ℕ) (fits : X → Type 0) (tokens : List (List ℕ)) where
+  pub begins : Listing text fits tokens [] tokens
+  begins = record { some = λ more are e. (are, e); only = λ all are e. (all, refl, are, e) }
+
+  module _ (read : List X) (token : List ℕ) (others : List (List ℕ)) (l : Listing text fits tokens read (token ∷ others)) where
+    -- the first of those that are left
+    next : (more : List X) → AllByRecursion fits more → token ∷ others ≡ map text more → (x : X) × (rest : List X) × (more ≡ x ∷ rest) × fits x × AllByRecursion fits rest × (token ≡ text x) × (others ≡ map text rest)
+    next [] are e = absurd cc
+    next (x ∷ rest) are e = let both = heads token (text x) others (map text rest) e in (x, rest, refl, are.0, are.1, both.0, both.1)
+
+    pub one_more : (x : X) → Reads fits text token (Some x) → Listing text fits tokens (read ++ x ∷ []) others
+    one_more x h = record {
+      some = λ more are e.
+          let all_texts : token ∷ others ≡ map text (x ∷ more) = ap (λ (t : List ℕ). t ∷ others) h.some.1 ∙ ap (λ (ts : List (List ℕ)). text x ∷ ts) e in
+          let both = l.some (x ∷ more) (h.some.0, are) all_texts in
+          rw append_assoc both;
+      only = λ all are e.
+          let m = l.only all are e in
+          let n = next m.0 m.2 m.3 in
+          let found : Some x ≡ Some n.0 = h.only n.0 n.3 n.5 in
+          let same : x ≡ n.0 = cc in
+          (n.1, m.1 ∙ ap (λ (t : List X). read ++ t) (n.2 ∙ ap (λ (y : X). y ∷ n.1) (sym same)) ∙ sym (append_assoc read (x ∷ []) n.1), n.4, n.6);
+    }
+
+    pub no_one : Reads fits text token None → (all : List X) → AllByRecursion fits all → tokens ≡ map text all → ⊥
+    no_one h all are e =
+        let m = l.only all are e in
+        let n = next m.0 m.2 m.3 in
+        let found : None ≡ Some n.0 = h.only n.0 n.3 n.5 in
+        cc
+
+-- the first token of what is left
+pub cut_first : (text first : List ℕ) (more : Option (Bor (List ℕ))) → MatchOption more (slice_split (λ b. eqb b 44) text ≡ first ∷ []) (λ rest. (slice_split (λ b. eqb b 44) text ≡ first ∷ slice_split (λ b. eqb b 44) rest.now) × (length rest.now < length text)) → comma_tokens text ≡ first ∷ of_text comma_tokens more
+cut_first text first None h = h
+cut_first text first (Some rest) h = h.0
+
+-- ---- from the tokens of a list to the list
+
+module _ {X : Type 0} (text : X → List ℕ) (fits : X → Type 0) (apart : (x : X) → fits x → HasNo 44 (text x)) (token : List ℕ) where
+  all_apart : (xs : List X) → AllByRecursion fits xs → AllByRecursion (HasNo 44) (map text xs)
+  all_apart [] are = tt
+  all_apart (x ∷ xs) are = (apart x are.0, all_apart xs are.1)
+
+  its_tokens : (x : X) (xs : List X) → AllByRecursion fits (x ∷ xs) → token ≡ list_text text (x ∷ xs) → comma_tokens token ≡ map text (x ∷ xs)
+  its_tokens x xs are e = ap comma_tokens e ∙ split-join 44 (text x) (map text xs) (all_apart (x ∷ xs) are)
+
+  pub dash : ((x : X) → fits x → text x ≡ codes "-" → ⊥) → token ≡ codes "-" → Reads (AllByRecursion fits) (list_text text) token (Some [])
+  dash no_dash is = record { some = (tt, is); only = only }
+    where
+      only : (all : List X) → AllByRecursion fits all → token ≡ list_text text all → Some [] ≡ Some all
+      only [] are e = refl
+      only (x ∷ xs) are e =
+          let one : codes "-" ∷ [] ≡ map text (x ∷ xs) = ap comma_tokens (sym is) ∙ its_tokens x xs are e in
+          absurd (no_dash x are.0 (sym (heads (codes "-") (text x) [] (map text xs) one).0))
+
+  module _ (other : token ≡ codes "-" → ⊥) where
+    pub no_list : ((all : List X) → AllByRecursion fits all → comma_tokens token ≡ map text all → ⊥) → Reads (AllByRecursion fits) (list_text text) token None
+    no_list none = record { some = tt; only = only }
+      where
+        only : (all : List X) → AllByRecursion fits all → token ≡ list_text text all → None ≡ Some all
+        only [] are e = absurd (other e)
+        only (x ∷ xs) are e = absurd (none (x ∷ xs) are (its_tokens x xs are e))
+
+    joined : (read : List X) → comma_tokens token ≡ map text read → token ≡ list_text text read
+    joined [] e = absurd (omega (arith, parts_left 44 token, ap (λ (t : List (List ℕ)). length t) e))
+    joined (x ∷ xs) e = joined_some 44 token (map text (x ∷ xs)) e
+
+    none_more : (more : List X) → [] ≡ map text more → more ≡ []
+    none_more [] e = refl
+    none_more (x ∷ more) e = absurd cc
+
+    pub all_listed : (read : List X) → Listing text fits (comma_tokens token) read [] → Reads (AllByRecursion fits) (list_text text) token (Some read)
+    all_listed read l = record { some = (both.0, joined read both.1); only = only }
+      where
+        both : AllByRecursion fits read × (comma_tokens token ≡ map text read)
+        both = rw append-nil at (l.some [] tt refl)
+
+        only : (all : List X) → AllByRecursion fits all → token ≡ list_text text all → Some read ≡ Some all
+        only [] are e = absurd (other e)
+        only (x ∷ xs) are e =
+            let m = l.only (x ∷ xs) are (its_tokens x xs are e) in
+            ap (λ (t : List X). Some t) (sym (m.1 ∙ ap (λ (t : List X). read ++ t) (none_more m.0 m.3) ∙ append-nil read))
