@@ -1,8 +1,9 @@
 //! Tests of runs that read a file and assemble it.
 
-use crate::memory::{MemSink, MemSource};
+use crate::memory::{MemSink, MemSource, SureSink};
 use crate::run::run;
 use crate::tests::{empty_sink, source_of, words_from};
+use std::alloc::{AllocError, Global};
 use std::test::Fail;
 
 /// A file of four lines.
@@ -28,6 +29,18 @@ fn files_give_their_reports(rt: HostRuntime) -> Result<(), Fail> {
             b"frame outgoing_args_size 16\nULoad64 x0 SlotOffset(65536) 3\nRet\n".as_slice(),
             b"item 0 0\nitem 1 12\npool 16\nword 0 52800210\nword 4 72a00030\nword 8 f870ebe0\nword 12 d65f03c0\ntrap 8 3\n".as_slice(),
         ),
+        (
+            b"CondBr L1 L1 Cond(Eq)\nbind L1\nRet\n".as_slice(),
+            b"item 0 0\nitem 1 8\nitem 2 8\nlabel L1 8\npool 12\nword 0 54000040\nword 4 14000001\nword 8 d65f03c0\n".as_slice(),
+        ),
+        (
+            b"TestBitAndBranch Z L1 L1 x5 33\nbind L1\n".as_slice(),
+            b"item 0 0\nitem 1 8\nlabel L1 8\npool 8\nword 0 b6080045\nword 4 14000001\n".as_slice(),
+        ),
+        (
+            b"ULoad64 x0 Label(Mach,1) 9\nUdf 3\nbind L1\nWord8 72623859790382856\n".as_slice(),
+            b"item 0 0\nitem 1 4\nitem 2 8\nitem 3 8\nlabel L1 8\npool 16\nword 0 58000040\nword 4 0000c11f\nword 8 05060708\nword 12 01020304\ntrap 0 9\ntrap 4 3\n".as_slice(),
+        ),
     ];
     for (file, report) in rows {
         for at_most in [1, 3, usize::MAX] {
@@ -45,7 +58,7 @@ fn files_give_their_reports(rt: HostRuntime) -> Result<(), Fail> {
 }
 
 /// Lines of one instruction each, which are no branch, with their words.
-const LINES: [(&str, u32); 60] = [
+const LINES: [(&str, u32); 66] = [
     ("Nop4", 0xd503_201f),
     ("AluRRR Add 64 x1 x2 x3", 0x8b03_0041),
     ("AluRRRR UMAddL 32 x29 x20 x19 x25", 0x9bb3_669d),
@@ -111,6 +124,12 @@ const LINES: [(&str, u32); 60] = [
     ("LoadAddr x2 RegOffset(x11,0)", 0xaa0b_03e2),
     ("LoadAddr x5 RegExtended(x14,x25,SXTX)", 0x8b39_e1c5),
     ("Jump -134217728", 0x1600_0000),
+    ("IndirectBr x9 -", 0xd61f_0120),
+    ("IndirectBr xzr L7,L0", 0xd61f_03e0),
+    ("Brk", 0xd43e_0000),
+    ("Udf 255", 0x0000_c11f),
+    ("Word4 4294967295", 0xffff_ffff),
+    ("Word4 0", 0),
     ("Ret", 0xd65f_03c0),
 ];
 
@@ -138,49 +157,57 @@ fn lines_give_their_words(rt: HostRuntime) -> Result<(), Fail> {
 }
 
 /// Lines of one instruction each, with an operand that it cannot have.
-const BAD_OPERANDS: [&str; 36] = [
-    "ULoad8 sp Unscaled(x2,117) 187",
-    "SLoad32 x12 RegReg(xzr,x0) -",
-    "FpuLoad128 v31 RegExtended(x27,sp,SXTW) 4",
-    "Store16 x18 UnsignedOffset(x20,16244,i32) 129",
-    "ULoad64 x0 UnsignedOffset(x1,16,i32) -",
-    "ULoad8 x0 Label(PCRel,6) -",
-    "LoadP64 x28 sp SignedOffset(x13,-472) -",
-    "LoadAddr xzr UnsignedOffset(x25,1434,i8)",
-    "AluRRR Add 64 sp x0 x1",
-    "AluRRRR SMAddL 64 x10 x28 x1 x8",
-    "AluRRImm12 Add 64 xzr x0 1",
-    "AluRRImmLogic AndS 64 x2 sp 72057594037927808",
-    "AluRRImmShift Adc 64 x0 x1 13",
-    "AluRRRShift AddS 64 x3 x24 x13 ROR(5)",
-    "AluRRRExtend AndS 32 x8 x12 x0 SXTB",
-    "BitRR Rev64 32 x20 x25",
-    "Mov 32 sp x5",
-    "MovFromPReg x0 x28",
-    "MovToPReg sp x0",
-    "MovWide MovZ x0 5,32 32",
-    "MovK x1 x2 5,16 64",
-    "CSel sp x0 x28 Nv",
-    "CSNeg x11 x14 sp Hs",
-    "CSet sp Vs",
-    "CSetm sp Ls",
-    "CCmp 64 sp x23 0 Lo",
-    "CCmpImm 32 sp 27 1 Hs",
-    "Extend x0 x1 false 32 16",
-    "BitfieldMove 32 UBfm x0 x23 32 22",
-    "BitfieldMoveMod 32 x12 x13 x2 5 13",
-    "MovToNZCV sp",
-    "MovFromNZCV sp",
-    "Adr x0 -1048576",
-    "Adrp x0 1048576",
-    "Jump 134217728",
-    "Jump 6",
-];
+const BAD_OPERANDS: &str = "ULoad8 sp Unscaled(x2,117) 187
+SLoad32 x12 RegReg(xzr,x0) -
+FpuLoad128 v31 RegExtended(x27,sp,SXTW) 4
+Store16 x18 UnsignedOffset(x20,16244,i32) 129
+ULoad64 x0 UnsignedOffset(x1,16,i32) -
+ULoad8 x0 Label(PCRel,6) -
+LoadP64 x28 sp SignedOffset(x13,-472) -
+LoadAddr xzr UnsignedOffset(x25,1434,i8)
+AluRRR Add 64 sp x0 x1
+AluRRRR SMAddL 64 x10 x28 x1 x8
+AluRRImm12 Add 64 xzr x0 1
+AluRRImmLogic AndS 64 x2 sp 72057594037927808
+AluRRImmShift Adc 64 x0 x1 13
+AluRRRShift AddS 64 x3 x24 x13 ROR(5)
+AluRRRExtend AndS 32 x8 x12 x0 SXTB
+BitRR Rev64 32 x20 x25
+Mov 32 sp x5
+MovFromPReg x0 x28
+MovToPReg sp x0
+MovWide MovZ x0 5,32 32
+MovK x1 x2 5,16 64
+CSel sp x0 x28 Nv
+CSNeg x11 x14 sp Hs
+CSet sp Vs
+CSetm sp Ls
+CCmp 64 sp x23 0 Lo
+CCmpImm 32 sp 27 1 Hs
+Extend x0 x1 false 32 16
+BitfieldMove 32 UBfm x0 x23 32 22
+BitfieldMoveMod 32 x12 x13 x2 5 13
+MovToNZCV sp
+MovFromNZCV sp
+Adr x0 -1048576
+Adrp x0 1048576
+Jump 134217728
+Jump 6
+CondBr 1048576 0 Cond(Al)
+CondBr 0 134217728 Cond(Al)
+CondBr L0 6 NotZero(x1,32)
+CondBr 0 0 Zero(sp,64)
+TestBitAndBranch NZ 32768 0 x1 0
+TestBitAndBranch Z -32772 0 x1 0
+TestBitAndBranch Z 0 0 x1 64
+TestBitAndBranch Z 0 0 sp 1
+IndirectBr sp -
+LabelAddress sp L0";
 
 #[test]
 fn bad_operands_are_refused(rt: HostRuntime) -> Result<(), Fail> {
     let alloc = rt.alloc();
-    for line in BAD_OPERANDS {
+    for line in BAD_OPERANDS.lines() {
         let mut source = source_of(alloc, line.as_bytes())?;
         let mut sink = empty_sink(alloc)?;
         let mut errs = empty_sink(alloc)?;
@@ -208,6 +235,14 @@ fn refused_files_give_their_lines(rt: HostRuntime) -> Result<(), Fail> {
         (
             b"ULoad8 x0 Label(PCRel,8) -\n".as_slice(),
             b"item 0: bad addressing mode\n".as_slice(),
+        ),
+        (
+            b"ULoad8 x0 Label(Mach,1) -\n".as_slice(),
+            b"item 0: bad addressing mode\n".as_slice(),
+        ),
+        (
+            b"CondBr L1 L2 Cond(Eq)\nbind L1\n".as_slice(),
+            b"label L2: not bound\n".as_slice(),
         ),
         (
             b"LoadAddr x8 RegReg(x21,x28)\n".as_slice(),
@@ -250,6 +285,38 @@ fn refused_files_give_their_lines(rt: HostRuntime) -> Result<(), Fail> {
         assert_eq!(rt; ran.status, 1);
         assert!(rt; sink.bytes().is_empty());
         assert_eq!(rt; errs.bytes(), line);
+    }
+    Ok(())
+}
+
+/// A file whose first item and a label behind it have so many `Nop4` between them.
+fn far_label(alloc: Global, nops: u64) -> Result<Vec<u8>, AllocError> {
+    let mut file = Vec::from_slice(alloc, b"LabelAddress x0 L1\n")?;
+    for _ in 0..nops {
+        file.extend_from_slice(b"Nop4\n")?;
+    }
+    file.extend_from_slice(b"bind L1\n")?;
+    Ok(file)
+}
+
+/// A literal or an address is refused where its label is one word farther than it reaches.
+#[test]
+fn labels_may_be_out_of_reach(rt: HostRuntime) -> Result<(), Fail> {
+    let alloc = rt.alloc();
+    for (nops, status, line) in [
+        (262_142, 0, b"".as_slice()),
+        (262_143, 1, b"label L1: out of reach\n".as_slice()),
+    ] {
+        let file = far_label(alloc, nops)?;
+        let mut source = source_of(alloc, file.as_slice())?;
+        let mut sink = SureSink::new();
+        let mut errs = empty_sink(alloc)?;
+        let ran = run(alloc, &[], &mut source, &mut sink, &mut errs);
+        assert_eq!(rt; ran.status, status);
+        assert_eq!(rt; errs.bytes(), line);
+        if let Some(code) = &ran.code {
+            assert!(rt; code.bytes.as_slice().starts_with(&[0xe0, 0xff, 0x7f, 0x10]));
+        }
     }
     Ok(())
 }
