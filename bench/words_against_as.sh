@@ -1,6 +1,8 @@
 #!/usr/bin/env bash
-# Holds the words of the program against those of GNU as: random integer instructions, loads and stores, jumps and labels.
-# `Adrp` is left out: of it GNU as leaves the offset to the linker.
+# Holds the words of the program against those of GNU as: random integer instructions, loads and stores, branches, data and labels.
+# `Adrp` is left out: of it GNU as leaves the offset to the linker. Branches on conditions go to labels in files of at most 100,000
+# items, branches on bits in files of at most 2,000, and addresses are those of labels in files of at most 150,000: in longer
+# ones a label could be out of reach.
 # Usage: bench/words_against_as.sh [ITEMS] [SEED]
 set -eu
 cd "$(dirname "$0")/.."
@@ -59,6 +61,47 @@ def alone(labels):
     return random.choice([
         ("Nop4", "nop"), ("Ret", "ret"),
         (f"MovToNZCV x{number}", f"msr nzcv, x{number}"), (f"MovFromNZCV x{number}", f"mrs x{number}, nzcv"),
+    ])
+
+def target(bits, near):
+    """Where a branch of so many bits goes, in the program's words and in those of assembly: to a label only where labels are near."""
+    if near and random.randrange(8) == 0:
+        return (f"L{random.randrange(labels)}",) * 2
+    offset = 4 * random.randrange(-2**(bits - 1), 2**(bits - 1))
+    return f"{offset}", f".{offset:+d}"
+
+def branch(labels):
+    taken, other = target(19, count <= 100_000), target(26, True)
+    size, letter = sized()
+    number, cond = register(), random.choice(CONDITIONS)
+    kind, test = random.choice([
+        (f"Cond({cond})", f"b.{cond.lower()} "), (f"Zero(x{number},{size})", f"cbz {letter}{number}, "),
+        (f"NotZero(x{number},{size})", f"cbnz {letter}{number}, "),
+    ])
+    return f"CondBr {taken[0]} {other[0]} {kind}", f"{test}{taken[1]}\nb {other[1]}"
+
+def branch_on_bit(labels):
+    taken, other = target(14, count <= 2_000), target(26, True)
+    number, bit = register(), random.randrange(64)
+    kind, mnemonic = random.choice([("Z", "tbz"), ("NZ", "tbnz")])
+    return f"TestBitAndBranch {kind} {taken[0]} {other[0]} x{number} {bit}", f"{mnemonic} x{number}, #{bit}, {taken[1]}\nb {other[1]}"
+
+def near_label(labels):
+    label, number = random.randrange(labels), register()
+    if count > 150_000:
+        return f"IndirectBr x{number} L{label}", f"br x{number}"
+    return random.choice([
+        (f"LabelAddress x{number} L{label}", f"adr x{number}, L{label}"),
+        (f"ULoad64 x{number} Label(Mach,{label}) -", f"ldr x{number}, L{label}"),
+        (f"SLoad32 x{number} Label(Mach,{label}) -", f"ldrsw x{number}, L{label}"),
+        (f"FpuLoad128 v7 Label(Mach,{label}) -", f"ldr q7, L{label}"),
+    ])
+
+def data(labels):
+    number, word, long = register(), random.getrandbits(32), random.getrandbits(64)
+    return random.choice([
+        (f"Word4 {word}", f".word {word}"), (f"Word8 {long}", f".word {long % 2**32}, {long >> 32}"),
+        ("Brk", "brk #0xf000"), ("Udf 3", ".word 0xc11f"), (f"IndirectBr x{number} -", f"br x{number}"),
     ])
 
 def move_wide(labels):
@@ -274,7 +317,8 @@ def load_address(labels):
 
 KINDS = [
     jump, alone, move_wide, alu_rr_imm12, alu_rr_imm_logic, alu_rrr, alu_rrrr, alu_rr_imm_shift, alu_rrr_shift, alu_rrr_extend,
-    bit_rr, move, select, compare, extend, bitfield, address, access, access, literal, pair, load_address,
+    bit_rr, move, select, compare, extend, bitfield, address, access, access, literal, pair, load_address, branch,
+    branch_on_bit, near_label, data,
 ]
 
 def item(labels):
