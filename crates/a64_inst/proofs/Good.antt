@@ -1,10 +1,11 @@
 -- What is known of the operands of an instruction without a fault.
-use Rattle.std.proofs.Common.{ℕ, ℤ, pos, negsuc, ◌≡◌, ◌<◌, ◌≤◌, ◌%◌, ◌^◌, Bool, true, false, List, [], ◌∷◌, Option, None, refl, arith}
+use Rattle.std.proofs.Common.{ℕ, ℤ, pos, negsuc, suc, zero, ◌≡◌, ◌<◌, lit<, ◌≤◌, ◌*◌, ◌-◌, ◌%◌, ◌^◌, Bool, true, false, List, [], ◌∷◌, Option, None, refl, ap, ◌∙◌, arith}
 use Rattle.std.specs.Ordering.{nat_cmp}
 use Rattle.std.specs.FinMap.{FinMap}
 use Rattle.std.specs.Prelude.{◌&&◌, nat_lt, nat_eq}
 use Rattle.std.proofs.lemmas.Bool.{leb-true, ltb-true, and_parts}
 use Rattle.std.proofs.lemmas.Int.{ints}
+use Rattle.std.proofs.Math.Nat.{pow-succ'}
 use Rattle.a64_base.specs.declared.size.OperandSize.{OperandSize}
 use Rattle.a64_base.specs.declared.target.BranchTarget.{BranchTarget}
 use Rattle.a64_base.specs.declared.target.BranchTarget.TheVariants.{Label, ResolvedOffset}
@@ -18,8 +19,8 @@ use Rattle.a64_inst.specs.declared.virtuals.VirtualRegisters.{VirtualRegisters}
 use Rattle.a64_inst.specs.declared.inst.Inst.{Inst}
 use Rattle.a64_inst.specs.declared.fault.OwnFault.{OwnFault}
 use Rattle.a64_inst.specs.declared.fault.OwnFault.TheVariants as own
-use Rattle.a64_inst.specs.Operands.{is_wide_in, is_offset14, is_offset19, is_offset26}
-use Rattle.a64_inst.specs.ControlOperands.{are_jump_operands, is_target14, is_target19}
+use Rattle.a64_inst.specs.Operands.{is_wide_in, is_offset}
+use Rattle.a64_inst.specs.ControlOperands.{are_jump_operands, is_target}
 use Rattle.a64_inst.specs.Faults.{first_of, constant_size, has_operands, is_within_constant, has_mode, has_scratch, has_constant, inst_fault}
 
 -- where no test fails, the first was passed
@@ -44,42 +45,27 @@ pub shift_in : (size : OperandSize) (imm : MoveWideConst) → is_wide_in size im
 shift_in Size32 imm e = let le : imm.shift ≤ 1 = leb-true imm.shift 1 e in omega arith
 shift_in Size64 imm e = leb-true imm.shift 3 e
 
--- an offset that a branch of 26 bits can hold fits its field, in words
-pub within_26 : (offset : ℤ) → is_offset26 offset ≡ true → IsWithinField 26 (words_of offset)
-within_26 (pos n) e =
-    let small : n < 2 ^ 27 = ltb-true n (2 ^ 27) (second (nat_eq (n % 4) 0) (nat_lt n (2 ^ 27)) e) in
+-- a power of two is twice the one before
+doubled : (bits : ℕ) → 0 < bits → 2 ^ bits ≡ 2 * 2 ^ (bits - 1)
+doubled zero below = absurd (omega (arith, below))
+doubled (suc n) below = pow-succ' 2 n ∙ ap (λ k. 2 * 2 ^ k) (omega arith)
+
+-- an offset that a field of so many bits can hold in words fits it
+pub within : (bits : ℕ) (offset : ℤ) → 0 < bits → is_offset (2 * 2 ^ bits) offset ≡ true → IsWithinField bits (words_of offset)
+within bits (pos n) some e =
+    let power : 2 ^ bits ≡ 2 * 2 ^ (bits - 1) = doubled bits some in
+    let small : n < 2 * 2 ^ bits = ltb-true n (2 * 2 ^ bits) (second (nat_eq (n % 4) 0) (nat_lt n (2 * 2 ^ bits)) e) in
     record { low = omega (arith, ints); high = omega (arith, ints) }
-within_26 (negsuc n) e =
-    let small : n < 2 ^ 27 = ltb-true n (2 ^ 27) (second (nat_eq (n % 4) 3) (nat_lt n (2 ^ 27)) e) in
+within bits (negsuc n) some e =
+    let power : 2 ^ bits ≡ 2 * 2 ^ (bits - 1) = doubled bits some in
+    let small : n < 2 * 2 ^ bits = ltb-true n (2 * 2 ^ bits) (second (nat_eq (n % 4) 3) (nat_lt n (2 * 2 ^ bits)) e) in
     record { low = omega (arith, ints); high = omega (arith, ints) }
+
+-- and a target of such a branch
+pub target_fits : (bits : ℕ) (dest : BranchTarget) → 0 < bits → is_target (2 * 2 ^ bits) dest ≡ true → FitsField bits dest
+target_fits bits (Label label) some e = tt
+target_fits bits (ResolvedOffset offset) some e = within bits offset some e
 
 pub jump_fits : (dest : BranchTarget) → are_jump_operands dest ≡ true → FitsField 26 dest
 unfolding are_jump_operands
-jump_fits (Label label) e = tt
-jump_fits (ResolvedOffset offset) e = within_26 offset e
-
--- the same of a branch of 19 bits
-pub within_19 : (offset : ℤ) → is_offset19 offset ≡ true → IsWithinField 19 (words_of offset)
-within_19 (pos n) e =
-    let small : n < 2 ^ 20 = ltb-true n (2 ^ 20) (second (nat_eq (n % 4) 0) (nat_lt n (2 ^ 20)) e) in
-    record { low = omega (arith, ints); high = omega (arith, ints) }
-within_19 (negsuc n) e =
-    let small : n < 2 ^ 20 = ltb-true n (2 ^ 20) (second (nat_eq (n % 4) 3) (nat_lt n (2 ^ 20)) e) in
-    record { low = omega (arith, ints); high = omega (arith, ints) }
-
-pub target19_fits : (taken : BranchTarget) → is_target19 taken ≡ true → FitsField 19 taken
-target19_fits (Label label) e = tt
-target19_fits (ResolvedOffset offset) e = within_19 offset e
-
--- the same of a branch of 14 bits
-pub within_14 : (offset : ℤ) → is_offset14 offset ≡ true → IsWithinField 14 (words_of offset)
-within_14 (pos n) e =
-    let small : n < 2 ^ 15 = ltb-true n (2 ^ 15) (second (nat_eq (n % 4) 0) (nat_lt n (2 ^ 15)) e) in
-    record { low = omega (arith, ints); high = omega (arith, ints) }
-within_14 (negsuc n) e =
-    let small : n < 2 ^ 15 = ltb-true n (2 ^ 15) (second (nat_eq (n % 4) 3) (nat_lt n (2 ^ 15)) e) in
-    record { low = omega (arith, ints); high = omega (arith, ints) }
-
-pub target14_fits : (taken : BranchTarget) → is_target14 taken ≡ true → FitsField 14 taken
-target14_fits (Label label) e = tt
-target14_fits (ResolvedOffset offset) e = within_14 offset e
+jump_fits dest e = target_fits 26 dest (lit< tt) e

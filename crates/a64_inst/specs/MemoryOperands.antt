@@ -22,7 +22,7 @@ use Rattle.a64_inst.specs.declared.mode.MemLabel.TheVariants.{PCRel, Mach}
 use Rattle.a64_inst.specs.declared.mode.PairAMode.{PairAMode}
 use Rattle.a64_inst.specs.declared.mode.PairAMode.TheVariants as pairs
 use Rattle.a64_inst.specs.declared.virtuals.VirtualRegisters.{VirtualRegisters}
-use Rattle.a64_inst.specs.Operands.{is_register, is_register_or_zero, is_register_or_stack, is_vector_register, is_offset19}
+use Rattle.a64_inst.specs.Operands.{is_register, is_register_or_zero, is_register_or_stack, is_vector_register, is_offset}
 use Rattle.a64_inst.specs.Accesses.{access_type}
 use Rattle.a64_inst.specs.Modes.{frame_size, base_offset_of, is_offset9}
 use Rattle.a64_inst.specs.Addresses.{is_numbered}
@@ -45,7 +45,7 @@ has_offset frame mem = elim (base_offset_of frame mem) [ None ↦ true | Some pl
 
 -- a label's place is known later
 abbrev pub is_literal : MemLabel → Bool
-is_literal (PCRel offset) = is_offset19 offset
+is_literal (PCRel offset) = is_offset (2 ^ 20) offset
 is_literal (Mach label) = true
 
 -- the registers and the immediate that stand in a mode: a base may be the stack pointer, and an index the zero register

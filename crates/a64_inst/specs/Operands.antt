@@ -83,20 +83,11 @@ is_same_size _ _ = false
 abbrev pub is_logic_of : OperandSize → ImmLogic → Bool
 is_logic_of size imm = is_same_size imm.size size && is_imm_logic imm
 
--- an offset that a branch of 26 bits can hold: a multiple of 4, from -2^27 to 2^27 - 4
-abbrev pub is_offset26 : ℤ → Bool
-is_offset26 (pos n) = nat_eq (n % 4) 0 && nat_lt n (2 ^ 27)
-is_offset26 (negsuc n) = nat_eq (n % 4) 3 && nat_lt n (2 ^ 27)
-
--- an offset that a branch or a load of 19 bits can hold: a multiple of 4, from -2^20 to 2^20 - 4
-abbrev pub is_offset19 : ℤ → Bool
-is_offset19 (pos n) = nat_eq (n % 4) 0 && nat_lt n (2 ^ 20)
-is_offset19 (negsuc n) = nat_eq (n % 4) 3 && nat_lt n (2 ^ 20)
-
--- an offset that a branch of 14 bits can hold: a multiple of 4, from -2^15 to 2^15 - 4
-abbrev pub is_offset14 : ℤ → Bool
-is_offset14 (pos n) = nat_eq (n % 4) 0 && nat_lt n (2 ^ 15)
-is_offset14 (negsuc n) = nat_eq (n % 4) 3 && nat_lt n (2 ^ 15)
+-- an offset that a branch or a load can hold which reaches so many bytes: a multiple of 4, from minus
+-- the reach to 4 below it
+abbrev pub is_offset : ℕ → ℤ → Bool
+is_offset reach (pos n) = nat_eq (n % 4) 0 && nat_lt n reach
+is_offset reach (negsuc n) = nat_eq (n % 4) 3 && nat_lt n reach
 
 -- an offset to an address near the code, in its unit: above -2^20, and below 2^20
 abbrev pub is_near : ℤ → Bool

@@ -578,6 +578,7 @@ impl Default for Inst {
 
 impl Inst {
     /// The group of the instruction.
+    #[inline(always)]
     pub fn group(&self) -> Group
         ensures { result ≡ group_of self.now }
     {

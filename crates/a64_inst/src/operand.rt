@@ -116,25 +116,13 @@ pub fn is_logic_of(size: OperandSize, imm: ImmLogic) -> bool
     imm.size == size && imm.is_lawful()
 }
 
-/// Whether a branch of 26 bits can hold an offset in bytes.
-pub fn is_offset26(offset: i32) -> bool
-    ensures { result ≡ operands.is_offset26 offset }
+/// Whether a branch or a load that reaches so many bytes can hold an offset in bytes.
+#[inline(always)]
+pub fn is_offset(reach: u32, offset: i32) -> bool
+    ensures { result ≡ operands.is_offset reach offset }
 {
-    offset % 4 == 0 && offset >= -(1 << 27) && offset < 1 << 27
-}
-
-/// Whether a branch or a load of 19 bits can hold an offset in bytes.
-pub fn is_offset19(offset: i32) -> bool
-    ensures { result ≡ operands.is_offset19 offset }
-{
-    offset % 4 == 0 && offset >= -(1 << 20) && offset < 1 << 20
-}
-
-/// Whether a branch of 14 bits can hold an offset in bytes.
-pub fn is_offset14(offset: i32) -> bool
-    ensures { result ≡ operands.is_offset14 offset }
-{
-    offset % 4 == 0 && offset >= -(1 << 15) && offset < 1 << 15
+    let (reach, offset) = (i64::from(reach), i64::from(offset));
+    offset % 4 == 0 && offset >= -reach && offset < reach
 }
 
 /// Whether an address stands near the code, at an offset in its unit.

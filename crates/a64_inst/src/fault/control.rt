@@ -10,39 +10,26 @@ ghost use Rattle.a64_inst.specs.ControlOperands as sets;
 use crate::emission::EmitInfo;
 use crate::frame::FrameLayout;
 use crate::inst::Inst;
-use crate::operand::{is_offset14, is_offset19, is_offset26, is_register_or_zero};
+use crate::operand::{is_offset, is_register_or_zero};
 use crate::virtuals::VirtualRegisters;
 use a64_base::{BranchTarget, CondBrKind, Reg};
+
+/// Whether a branch that reaches so many bytes can go to a target.
+fn is_target(reach: u32, dest: BranchTarget) -> bool
+    ensures { result ≡ sets.is_target reach dest }
+{
+    match dest {
+        BranchTarget::Label(_) => true,
+        BranchTarget::ResolvedOffset(offset) => is_offset(reach, offset),
+    }
+}
 
 /// Of a `Jump`.
 #[tactic(auto, unfolding(crate::specs::ControlOperands::are_jump_operands))]
 fn jump(dest: BranchTarget) -> bool
     ensures { result ≡ sets.are_jump_operands dest }
 {
-    match dest {
-        BranchTarget::Label(_) => true,
-        BranchTarget::ResolvedOffset(offset) => is_offset26(offset),
-    }
-}
-
-/// Whether a branch of 19 bits can go to a target.
-fn is_target19(taken: BranchTarget) -> bool
-    ensures { result ≡ sets.is_target19 taken }
-{
-    match taken {
-        BranchTarget::Label(_) => true,
-        BranchTarget::ResolvedOffset(offset) => is_offset19(offset),
-    }
-}
-
-/// Whether a branch of 14 bits can go to a target.
-fn is_target14(taken: BranchTarget) -> bool
-    ensures { result ≡ sets.is_target14 taken }
-{
-    match taken {
-        BranchTarget::Label(_) => true,
-        BranchTarget::ResolvedOffset(offset) => is_offset14(offset),
-    }
+    is_target(1 << 27, dest)
 }
 
 /// Whether a conditional branch has such a test.
@@ -67,7 +54,7 @@ fn cond_br(
 ) -> bool
     ensures { result ≡ sets.are_cond_br_operands virtuals taken not_taken kind }
 {
-    is_target19(taken) && jump(not_taken) && is_test(virtuals, kind)
+    is_target(1 << 20, taken) && jump(not_taken) && is_test(virtuals, kind)
 }
 
 /// Of a `TestBitAndBranch`.
@@ -81,7 +68,7 @@ fn test_bit(
 ) -> bool
     ensures { result ≡ sets.are_test_bit_operands virtuals taken not_taken rn bit }
 {
-    is_target14(taken) && jump(not_taken) && is_register_or_zero(virtuals, rn) && bit < 64
+    is_target(1 << 15, taken) && jump(not_taken) && is_register_or_zero(virtuals, rn) && bit < 64
 }
 
 /// Whether the operands of a branch, a hint, an access to a system register, a word of data or an

@@ -6,7 +6,7 @@ ghost use Rattle.a64_inst.specs.MemoryOperands as sets;
 
 use crate::frame::FrameLayout;
 use crate::mode::{AMode, MemLabel, PairAMode};
-use crate::operand::{is_offset19, is_register_or_stack, is_register_or_zero};
+use crate::operand::{is_offset, is_register_or_stack, is_register_or_zero};
 use crate::place::{frame_bytes, has_offset};
 use crate::virtuals::VirtualRegisters;
 use a64_base::{ExtendOp, IrType};
@@ -35,7 +35,7 @@ fn is_literal(label: MemLabel) -> bool
     ensures { result ≡ sets.is_literal label }
 {
     match label {
-        MemLabel::PCRel(offset) => is_offset19(offset),
+        MemLabel::PCRel(offset) => is_offset(1 << 20, offset),
         MemLabel::Mach(_) => true,
     }
 }
