@@ -40,6 +40,7 @@ impl<V> Model for LabelMap<V> {
 }
 
 /// A count, and one more where there was no value before.
+#[inline(always)]
 fn counted<V: Copy>(count: u64, old: Option<V>) -> u64
     ensures least { count ≤ result }
     ensures most { result ≤ count + (if is_some old then 0 else 1) }
@@ -76,6 +77,7 @@ impl<V: Copy> LabelMap<V> {
     }
 
     /// The value of a number; `None` where it has none.
+    #[inline(always)]
     pub fn get(&self, number: u32) -> Option<V>
         ensures { result ≡ map.get self.now number }
     {
@@ -83,6 +85,7 @@ impl<V: Copy> LabelMap<V> {
     }
 
     /// Whether a number has a value.
+    #[inline(always)]
     pub fn contains(&self, number: u32) -> bool
         ensures { result ≡ map.contains_key self.now number }
     {
@@ -90,7 +93,20 @@ impl<V: Copy> LabelMap<V> {
     }
 
     /// Lengthens the table to have a number, where there are entries enough for such a table.
+    #[inline(always)]
     fn make_room(&mut self, number: u32) -> Result<(), AllocError>
+        ensures { self.new ≡ self.old }
+    {
+        if (number as usize) < self.table.len() {
+            return Ok(());
+        }
+        self.lengthen(number)
+    }
+
+    /// Lengthens the table to have a number that is behind it, where there are entries enough for such
+    /// a table.
+    #[inline(never)]
+    fn lengthen(&mut self, number: u32) -> Result<(), AllocError>
         ensures { self.new ≡ self.old }
     {
         let len = self.table.len();
@@ -113,6 +129,7 @@ impl<V: Copy> LabelMap<V> {
     /// # Errors
     ///
     /// Want of memory, and then nothing has changed.
+    #[inline(always)]
     pub fn insert(&mut self, number: u32, value: V) -> Result<Option<V>, AllocError>
         ensures old { IfOk result (λ old. old ≡ map.get self.old number) }
         ensures ok { OnOk result (self.new ≡ map.insert self.old number value) }
@@ -125,6 +142,7 @@ impl<V: Copy> LabelMap<V> {
     }
 
     /// Gives a number that has a value another one. It takes no memory.
+    #[inline(always)]
     pub fn replace(&mut self, number: u32, value: V)
         requires { IsSome (map.get self.old number) }
         ensures { self.new ≡ map.insert self.old number value }

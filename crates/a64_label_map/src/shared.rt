@@ -10,6 +10,7 @@ use std::alloc::{AllocError, Global};
 use std::collections::BTreeMap;
 
 /// The value of a number.
+#[inline(always)]
 pub fn value_at<V: Copy>(table: &[Option<V>], others: &BTreeMap<u32, V>, number: u32) -> Option<V>
     requires { AreShared table.now others.now }
     ensures { result ≡ map.get (whole table.now others.now) number }
@@ -56,6 +57,7 @@ pub fn extend<V: Copy>(table: &mut Vec<Option<V>>, others: &mut BTreeMap<u32, V>
 }
 
 /// Gives a number a value, and answers the one that it had.
+#[inline(always)]
 pub fn put<V: Copy>(
     table: &mut [Option<V>],
     others: &mut BTreeMap<u32, V>,
