@@ -1,10 +1,10 @@
--- How chains grow.
-use Rattle.std.proofs.Common.{ℕ, ◌≡◌, ◌≢◌, ◌+◌, ◌-◌, ◌<◌, ◌≤◌, List, [], ◌∷◌, ◌++◌, length, get_or, Option, None, Some, sym, ◌∙◌, ap, subst, arith, inl, inr, nat_cmp}
-use Rattle.std.specs.Option.{MatchOption, unwrap_or}
-use Rattle.std.specs.FinMap.{FinMap, get, insert, empty, get-empty}
-use Rattle.std.proofs.lemmas.Bool.{cases_eq, cases_lt}
-use Rattle.std.proofs.lemmas.List.{length_push, get_or_push, get_or_append_left}
-use Rattle.a64_buffer.specs.Chain.{IsLast, IsChained}
+-- How chains grow, and how one is left empty.
+use Rattle.std.proofs.Common.{ℕ, ◌≡◌, ◌≢◌, ◌⊎◌, ◌+◌, ◌-◌, ◌<◌, ◌≤◌, List, [], ◌∷◌, ◌++◌, length, map, get_or, nat_eq, cond, Bool, true, false, refl, Option, None, Some, sym, ◌∙◌, ap, subst, arith, inl, inr, nat_cmp}
+use Rattle.std.specs.Option.{MatchOption, unwrap_or, is_some}
+use Rattle.std.specs.FinMap.{FinMap, get, insert, empty, get-empty, contains_key}
+use Rattle.std.proofs.lemmas.Bool.{cases_eq, cases_lt, false≢true, eq-eqb, ne_eqb}
+use Rattle.std.proofs.lemmas.List.{length_push, length-map, get_or-map, get_or_push, get_or_append_left}
+use Rattle.a64_buffer.specs.Chain.{emptied, IsLast, IsChained}
 use Rattle.a64_buffer.proofs.Labels.{get_here, get_other}
 
 -- what the heads know of a label
@@ -108,3 +108,80 @@ chained_made labels earlier heads label c labels' earlier' heads' l e h =
     subst (λ ls. IsChained ls earlier' heads') (sym l)
     (subst (λ es. IsChained (labels ++ Some label ∷ []) es heads') (sym e)
     (subst (IsChained (labels ++ Some label ∷ []) (earlier ++ unwrap_or (get heads label) 0 ∷ [])) (sym h) (chained_push labels earlier heads label c)))
+
+-- ---- all uses of a number leave their chain
+
+-- a number, unless it is this one
+abbrev pub without : ℕ → Option ℕ → Option ℕ
+without gone None = None
+without gone (Some q) = cond (nat_eq q gone) None (Some q)
+
+module _ (gone : ℕ) where
+  left : (q : ℕ) (o : Option ℕ) → without gone o ≡ Some q → (o ≡ Some q) × (q ≢ gone)
+  left q None e = absurd (let z : None ≡ Some q = e in cc)
+  left q (Some x) e = go (nat_eq x gone) refl e
+    where
+      go : (b : Bool) → nat_eq x gone ≡ b → cond b None (Some x) ≡ Some q → (Some x ≡ Some q) × (q ≢ gone)
+      go true w e = absurd (let z : None ≡ Some q = e in cc)
+      go false w e = (e, λ h. false≢true (sym w ∙ eq-eqb x gone (let z : x ≡ q = cc e in z ∙ h)))
+
+  kept : (q : ℕ) (o : Option ℕ) → q ≢ gone → o ≡ Some q → without gone o ≡ Some q
+  kept q o ne e = ap (without gone) e ∙ ap (λ b. cond b None (Some q)) (ne_eqb q gone ne)
+
+  last_kept : (numbers : List (Option ℕ)) (q to last : ℕ) → q ≢ gone → to ≤ length numbers → IsLast numbers q to last → IsLast (map (without gone) numbers) q to last
+  last_kept numbers q to last ne le l = record {
+    within = l.within;
+    none = λ j a b e. l.none j a b (left q (get_or numbers j None) (sym (get_or-map (without gone) numbers j None None (omega arith)) ∙ e)).0;
+    here = λ p. get_or-map (without gone) numbers (last - 1) None None (let w : last ≤ to = l.within in omega arith) ∙ kept q (get_or numbers (last - 1) None) ne (l.here p);
+  }
+
+  last_gone : (numbers : List (Option ℕ)) (to : ℕ) → to ≤ length numbers → IsLast (map (without gone) numbers) gone to 0
+  last_gone numbers to le = record {
+    within = omega arith;
+    none = λ j a b e. (left gone (get_or numbers j None) (sym (get_or-map (without gone) numbers j None None (omega arith)) ∙ e)).1 refl;
+    here = λ p. absurd (omega arith);
+  }
+
+  head_gone : (heads : FinMap nat_cmp ℕ) → (get (emptied gone heads) gone ≡ None) ⊎ (get (emptied gone heads) gone ≡ Some 0)
+  head_gone heads = go (contains_key heads gone) refl
+    where
+      go : (b : Bool) → contains_key heads gone ≡ b → (get (cond b (insert heads gone 0) heads) gone ≡ None) ⊎ (get (cond b (insert heads gone 0) heads) gone ≡ Some 0)
+      go true e = inr (get_here heads gone 0)
+      go false e = inl (none (get heads gone) e)
+        where
+          none : (o : Option ℕ) → is_some o ≡ false → o ≡ None
+          none None e = refl
+          none (Some x) e = absurd (false≢true (sym e))
+
+  head_kept : (heads : FinMap nat_cmp ℕ) (q : ℕ) → q ≢ gone → get (emptied gone heads) q ≡ get heads q
+  head_kept heads q ne = go (contains_key heads gone)
+    where
+      go : (b : Bool) → get (cond b (insert heads gone 0) heads) q ≡ get heads q
+      go true = get_other heads gone 0 q ne
+      go false = refl
+
+  pub chained_without : (numbers : List (Option ℕ)) (earlier : List ℕ) (heads : FinMap nat_cmp ℕ) → IsChained numbers earlier heads → IsChained (map (without gone) numbers) earlier (emptied gone heads)
+  chained_without numbers earlier heads c =
+      let same : length (map (without gone) numbers) ≡ length numbers = length-map numbers (without gone) in
+      record {
+        same_length = c.same_length ∙ sym same;
+        links = λ k q lt e.
+            let below : k < length numbers = omega (arith, same) in
+            let was = left q (get_or numbers k None) (sym (get_or-map (without gone) numbers k None None below) ∙ e) in
+            last_kept numbers q k (get_or earlier k 0) was.1 (omega arith) (c.links k q below was.0);
+        last = λ q. elim (cases_eq q gone) [
+          | inl e ↦
+              let zero : IsLast (map (without gone) numbers) gone (length (map (without gone) numbers)) 0 = last_gone numbers (length (map (without gone) numbers)) (omega (arith, same)) in
+              subst (λ n. HasLast (map (without gone) numbers) n (get (emptied gone heads) n)) (sym e)
+              (elim (head_gone heads) [
+                | inl none ↦ subst (HasLast (map (without gone) numbers) gone) (sym none) zero
+                | inr some ↦ subst (HasLast (map (without gone) numbers) gone) (sym some) zero
+              ])
+          | inr ne ↦
+              subst (HasLast (map (without gone) numbers) q) (sym (head_kept heads q ne))
+              (elim (get heads q) as (λ o. HasLast numbers q o → HasLast (map (without gone) numbers) q o) [
+                | None ↦ λ h. subst (λ n. IsLast (map (without gone) numbers) q n 0) (sym same) (last_kept numbers q (length numbers) 0 ne (omega arith) h)
+                | Some x ↦ λ h. subst (λ n. IsLast (map (without gone) numbers) q n x) (sym same) (last_kept numbers q (length numbers) x ne (omega arith) h)
+              ] (c.last q))
+        ];
+      }

@@ -32,3 +32,4 @@ pub mod Unbound
 pub mod Listed
 pub mod Final
 pub mod Plain
+pub mod Clients

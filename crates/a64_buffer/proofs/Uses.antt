@@ -48,11 +48,6 @@ pub closed_labels : {K : Type 0} (r : Kinds K) (label place : ℕ) (uses : List 
 closed_labels r label place [] = refl
 closed_labels r label place (u ∷ us) = ap (λ ls. label_of u.target ∷ ls) (closed_labels r label place us)
 
--- the labels of uses, and of one more
-pub labels_push : {K : Type 0} (uses : List (Use K)) (u : Use K) → labels_of (uses ++ u ∷ []) ≡ labels_of uses ++ label_of u.target ∷ []
-labels_push [] u = refl
-labels_push (v ∷ uses) u = ap (λ ls. label_of v.target ∷ ls) (labels_push uses u)
-
 -- the uses of a vector that were closed in place
 pub closed_in_place : {K : Type 0} (r : Kinds K) (v : Vec (Use K)) (label place end : ℕ) (closed before : List (Use K)) → length closed ≡ v.len → closed ≡ map (closed_at r label place) before → before ≡ v.items → place ≡ end → (with_items v closed).items ≡ map (closed_at r label end) v.items
 closed_in_place r v label place end closed before l c b e =

@@ -18,7 +18,7 @@ use Rattle.a64_buffer.specs.Kinds.{Kinds, IsLawful}
 use Rattle.a64_buffer.specs.Constants.{IsConstant}
 use Rattle.a64_buffer.specs.Buffer.{Buffer, end_of, label_of, goal_of}
 use Rattle.a64_buffer.specs.Areas.{InArea}
-use Rattle.a64_buffer.specs.Chain.{labels_of, IsChained}
+use Rattle.a64_buffer.specs.Chain.{AreChained}
 use Rattle.a64_buffer.specs.Classes.{third, urgency_number, level_of, label_class, wants, rank_of, cost, veneer_uses, trap_words, class, is_open, weigh, weight_of, owed, class_of}
 use Rattle.a64_buffer.specs.Later.{IsSameUse, IsLater}
 use Rattle.a64_buffer.specs.Sound.{seen, IsPlaced, IsKinded, IsKnown, IsSound}
@@ -352,7 +352,7 @@ module _ {K : Type 0} (r : Kinds K) (limit : ℕ) (five : limit ≤ 5) (start p 
   ranks d = next_ranks r (seen p) limit index (get_or p.uses.items index d) w.sound next.0 (get_or_default p.uses.items index d (get_or p.uses.items index d) next.0) (next.1 d).1 (next.1 d).2
 
   -- the open use that comes first is ready
-  pub ready_next : HasSpace r p → IsChained (labels_of p.uses.items) p.earlier.items p.heads → IsReady r p index
+  pub ready_next : HasSpace r p → AreChained p.uses.items p.earlier.items p.heads p.loads → IsReady r p index
   ready_next space chained = record {
     within = next.0;
     least = λ d. (next.1 d).2;

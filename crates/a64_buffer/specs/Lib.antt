@@ -15,3 +15,4 @@ pub mod Settled
 pub mod Leads
 pub mod Islands
 pub mod Finished
+pub mod Grown

@@ -13,7 +13,7 @@ use Rattle.a64_buffer.specs.Kinds.{Kinds, IsWithin}
 use Rattle.a64_buffer.specs.Buffer.{Buffer, end_of, goal_of, is_within}
 use Rattle.a64_buffer.specs.Areas.{InArea, HasUse, Stands}
 use Rattle.a64_buffer.specs.Classes.{Fits}
-use Rattle.a64_buffer.specs.Chain.{labels_of, IsChained}
+use Rattle.a64_buffer.specs.Chain.{AreChained}
 use Rattle.a64_buffer.specs.Queues.{AreWaiting}
 
 -- what the parts of a buffer are to its callers
@@ -142,5 +142,5 @@ module _ {K : Type 0} (r : Kinds K) where
   -- the parts of such a buffer, with its chains of uses, and what is kept of the open ones
   pub record AreSound (p : Parts K) : Type 0 where
     pub whole : IsWhole (seen p)
-    pub chained : IsChained (labels_of p.uses.items) p.earlier.items p.heads
+    pub chained : AreChained p.uses.items p.earlier.items p.heads p.loads
     pub waiting : AreWaiting r p.uses.items p.queues p.burdens

@@ -10,7 +10,7 @@ use Rattle.a64_buffer.specs.Word.{words_of}
 use Rattle.a64_buffer.specs.Kinds.{Kinds}
 use Rattle.a64_buffer.specs.Buffer.{Buffer, end_of, goal_of, made_use}
 use Rattle.a64_buffer.specs.Areas.{InArea}
-use Rattle.a64_buffer.specs.Chain.{labels_of, IsChained}
+use Rattle.a64_buffer.specs.Chain.{AreChained}
 use Rattle.a64_buffer.specs.declared.parts.Parts.{Parts}
 use Rattle.a64_buffer.specs.declared.class.Class.{Class}
 use Rattle.a64_buffer.specs.declared.class.Class.TheVariants.{Near, Middle, Load, Trapping, Far, Direct}
@@ -193,4 +193,4 @@ pub record IsReady {K : Type 0} (r : Kinds K) (p : Parts K) (index : ℕ) : Type
   pub next : (d : Use K) → (is_open r (slice_index_or p.uses.items index d) ≡ true) × All (λ u. is_open r u ≡ true → rank_of (class r (slice_index_or p.uses.items index d)) ≤ rank_of (class r u)) p.uses.items
   pub may : MayWrite r (seen p)
   pub space : HasSpace r p
-  pub chained : IsChained (labels_of p.uses.items) p.earlier.items p.heads
+  pub chained : AreChained p.uses.items p.earlier.items p.heads p.loads

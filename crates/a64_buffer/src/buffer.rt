@@ -57,10 +57,23 @@ impl<'c, K: MachInstLabelUse> MachBuffer<'c, K> {
         }
     }
 
+    /// Takes the memory for so many words and uses more, where it is known how many there will be. Else
+    /// memory is taken as it is needed.
+    ///
+    /// # Errors
+    ///
+    /// Want of memory.
+    pub fn reserve(&mut self, words: usize, uses: usize) -> Result<(), AllocError>
+        ensures { self.new ≡ self.old }
+    {
+        self.parts.reserve(words, uses)
+    }
+
     /// Where the next word will stand, in bytes from the start of the code. What is true of every buffer
     /// is told here: uses stand before the end, islands end at it at most, each open use still reaches
     /// what it gets in an island at the end, and a use that has a stop has it before the end, or at its
     /// label.
+    #[inline(always)]
     pub fn cur_offset(&self) -> u32
         ensures value { result ≡ end_of self.now }
         ensures whole { IsWhole K.kinds self.now }
@@ -74,6 +87,7 @@ impl<'c, K: MachInstLabelUse> MachBuffer<'c, K> {
     /// # Errors
     ///
     /// Want of memory, and then nothing has changed.
+    #[inline(always)]
     pub fn put4(&mut self, word: u32) -> Result<(), AllocError>
         requires short { end_of self.old + 4 < 2 ^ 31 }
         requires fits { Fits K.kinds self.old 4 }
@@ -120,6 +134,7 @@ impl<'c, K: MachInstLabelUse> MachBuffer<'c, K> {
     /// # Errors
     ///
     /// Want of memory, and then nothing has changed.
+    #[inline(always)]
     pub fn add_trap(&mut self, code: TrapCode) -> Result<(), AllocError>
         ensures ok { OnOk result (self.new ≡ record self.old { traps = self.old.traps ++ (end_of self.old, code) ∷ [] }) }
         ensures err { OnErr result (self.new ≡ self.old) }
@@ -134,6 +149,7 @@ impl<'c, K: MachInstLabelUse> MachBuffer<'c, K> {
     /// # Errors
     ///
     /// Want of memory, and then nothing has changed.
+    #[inline(always)]
     pub fn use_label_at_offset(
         &mut self,
         offset: u32,
@@ -215,6 +231,7 @@ impl<'c, K: MachInstLabelUse> MachBuffer<'c, K> {
     /// # Errors
     ///
     /// Want of memory, and then nothing has changed.
+    #[inline(always)]
     pub fn bind_label(&mut self, label: MachLabel) -> Result<(), AllocError>
         requires { finmap.get self.old.labels label.0 ≡ None }
         ensures ok { OnOk result (self.new ≡ record self.old {

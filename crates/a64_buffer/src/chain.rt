@@ -1,9 +1,10 @@
-//! The uses of each label in a chain, so that binding a label visits no other uses.
+//! The uses of each label in a chain, so that binding a label visits no other uses, and the loads that
+//! wait for a constant in one, so that a copy of it visits those alone.
 
 ghost use Rattle.std.specs.Prelude.{◌≡◌, ◌<◌, length, map, slice_set, slice_index_or};
 ghost use Rattle.a64_buffer.specs.Buffer.{reached, closed_at};
 ghost use Rattle.a64_buffer.specs.Queues.{AllHold, AllLimits, AreBurdens, AreWaiting};
-ghost use Rattle.a64_buffer.specs.Chain.{with_stop, labels_of, IsChained, IsLast};
+ghost use Rattle.a64_buffer.specs.Chain.{with_stop, labels_of, emptied, IsChained, IsLast};
 
 use crate::label_use::MachInstLabelUse;
 use crate::queue::Queue;
@@ -13,6 +14,7 @@ use crate::site::Use;
 use a64_label_map::LabelMap;
 
 /// The place, where a use of this kind at an offset reaches it.
+#[inline(always)]
 pub fn reached<K: MachInstLabelUse>(kind: K, offset: u32, place: u32) -> Option<u32>
     ensures { result ≡ reached K.kinds kind offset place }
 {
@@ -21,15 +23,26 @@ pub fn reached<K: MachInstLabelUse>(kind: K, offset: u32, place: u32) -> Option<
     if ahead && behind { Some(place) } else { None }
 }
 
-/// One more than the index of the last use of a label, or 0 where it has none.
-fn last_use(heads: &LabelMap<usize>, label: u32) -> usize
-    ensures { (labels : _) (earlier : _) → IsChained labels earlier heads.now
-        → IsLast labels label (length labels) result }
+/// One more than the index of the last use in the chain of a number, or 0 where there is none.
+#[inline(always)]
+pub fn last_use(heads: &LabelMap<usize>, number: u32) -> usize
+    ensures { (numbers : _) (earlier : _) → IsChained numbers earlier heads.now
+        → IsLast numbers number (length numbers) result }
 {
-    heads.get(label).unwrap_or(0)
+    heads.get(number).unwrap_or(0)
+}
+
+/// Leaves the chain of a number empty. It takes no memory.
+pub fn empty_chain(heads: &mut LabelMap<usize>, number: u32)
+    ensures { heads.new ≡ emptied number heads.old }
+{
+    if heads.contains(number) {
+        heads.replace(number, 0);
+    }
 }
 
 /// Lets a use that has no stop stop at a place, where it reaches that.
+#[inline(always)]
 fn close_use<K: MachInstLabelUse>(
     uses: &mut [Use<K>],
     queues: &mut [Queue; 5],

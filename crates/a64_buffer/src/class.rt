@@ -28,6 +28,7 @@ impl<K: MachInstLabelUse> Use<K> {
     ghost use Rattle.a64_buffer.specs.Queues.{IsWaitingClass, limit_of};
 
     /// What the use may want.
+    #[inline(always)]
     pub fn class(&self) -> Class
         ensures { result ≡ classes.class K.kinds self.now }
     {
@@ -40,6 +41,7 @@ impl<K: MachInstLabelUse> Use<K> {
     }
 
     /// Whether it waits for a veneer, a constant or a trap word.
+    #[inline(always)]
     pub fn is_open(&self) -> bool
         ensures { result ≡ classes.is_open K.kinds self.now }
     {
@@ -47,6 +49,7 @@ impl<K: MachInstLabelUse> Use<K> {
     }
 
     /// Its class where it waits for anything, and else one that wants nothing.
+    #[inline(always)]
     pub fn waiting_class(&self) -> Class
         ensures { IsWaitingClass K.kinds self.now result }
     {
@@ -57,6 +60,7 @@ impl<K: MachInstLabelUse> Use<K> {
     }
 
     /// Whether it waits, and is of a rank.
+    #[inline(always)]
     pub fn waits_in(&self, rank: u64) -> bool
         requires { rank < 5 }
         ensures { IsTrue result ↔ (classes.is_open K.kinds self.now ≡ true × rank_of (classes.class K.kinds self.now) ≡ rank) }
@@ -65,6 +69,7 @@ impl<K: MachInstLabelUse> Use<K> {
     }
 
     /// How far ahead what it gets may stand, in bytes from the start of the code.
+    #[inline(always)]
     pub fn limit(&self) -> u64
         ensures is { result ≡ limit_of K.kinds self.now }
         ensures low { result < 2 ^ 33 }
@@ -74,6 +79,7 @@ impl<K: MachInstLabelUse> Use<K> {
 }
 
 /// The class of a use of a label.
+#[inline(always)]
 fn label_class(veneers: bool, urgency: u8) -> Class
     ensures { result ≡ classes.label_class veneers urgency }
 {
@@ -89,6 +95,7 @@ fn label_class(veneers: bool, urgency: u8) -> Class
 
 impl Class {
     /// Whether it wants anything.
+    #[inline(always)]
     pub fn wants(self) -> bool
         ensures { result ≡ classes.wants self }
     {
@@ -99,6 +106,7 @@ impl Class {
     }
 
     /// The order in which an island gives.
+    #[inline(always)]
     pub fn rank(self) -> u64
         ensures is { result ≡ classes.rank_of self }
         ensures most { result ≤ 5 }
@@ -114,6 +122,7 @@ impl Class {
     }
 
     /// How many bytes what is given may put before what uses of urgency 1 get.
+    #[inline(always)]
     pub fn first_cost(self) -> u64
         ensures { result ≡ cost first self }
     {
@@ -124,6 +133,7 @@ impl Class {
     }
 
     /// The same, before what uses of urgency 2 get.
+    #[inline(always)]
     pub fn second_cost(self) -> u64
         ensures { result ≡ cost second self }
     {
@@ -135,6 +145,7 @@ impl Class {
     }
 
     /// The same, before what uses of urgency 3 get, so before the end of the island.
+    #[inline(always)]
     pub fn third_cost(self) -> u64
         ensures { result ≡ cost third self }
     {

@@ -3,18 +3,20 @@
 ghost use Rattle.std.specs.Prelude.{◌≡◌, ◌+◌, ◌*◌, ◌/◌, ◌%◌, ◌^◌, ◌<◌, ◌≤◌, ◌++◌, [], IfSome, IsSome, length, map, replicate, vec_len, vec_capacity};
 ghost use Rattle.std.specs.FinMap as finmap;
 ghost use Rattle.a64_buffer.specs.Buffer.{end_of};
+ghost use Rattle.a64_buffer.specs.Chain.{loads_of, IsChained};
 ghost use Rattle.a64_buffer.specs.Pieces as pieces;
 ghost use Rattle.a64_buffer.specs.Queues.{AreBurdens};
-ghost use Rattle.a64_buffer.specs.Steps as steps;
-ghost use Rattle.a64_buffer.specs.Steps.{stopped, GivesCopy};
+ghost use Rattle.a64_buffer.specs.Steps.{stopped, waits_for, GivesCopy};
 
+use crate::chain::{empty_chain, last_use};
 use crate::class::Class;
 use crate::give::push_words;
 use crate::label_use::MachInstLabelUse;
 use crate::parts::Parts;
 use crate::room::Burdens;
-use crate::site::{Target, Use};
+use crate::site::Use;
 use a64_base::VCodeConstant;
+use a64_label_map::LabelMap;
 
 /// How many zero words bring a place to a multiple of a size.
 fn padding(place: u32, size: u32) -> u32
@@ -35,53 +37,53 @@ fn push_zeros(words: &mut Vec<u32>, count: u32)
     }
 }
 
-impl<K: MachInstLabelUse> Use<K> {
-    /// Whether it is an open load of a constant.
-    fn waits_for(&self, constant: u32) -> bool
-        ensures { result ≡ steps.waits_for constant self.now }
-    {
-        match self.target {
-            Target::Constant(of) => of.0 == constant && self.stop.is_none(),
-            _ => false,
-        }
-    }
-}
-
-/// Lets all open loads of a constant stop at a place.
+/// Lets all open loads of a constant stop at a place: it visits no other uses.
 fn stop_loads<K: MachInstLabelUse>(
     uses: &mut [Use<K>],
+    earlier: &[usize],
+    loads: &LabelMap<usize>,
     burdens: &mut Burdens,
     constant: u32,
     place: u32,
 )
+    requires chained { IsChained (loads_of uses.old) earlier.now loads.now }
     requires burdens { AreBurdens K.kinds uses.old burdens.old }
-    ensures uses { uses.new ≡ map (stopped (steps.waits_for constant) place) uses.old }
+    ensures uses { uses.new ≡ map (stopped (waits_for constant) place) uses.old }
     ensures burdens { AreBurdens K.kinds uses.new burdens.new }
 {
-    for index in 0..uses.len() {
-        let site = uses[index];
-        if !site.waits_for(constant) {
-            continue;
-        }
+    let mut at = last_use(loads, constant);
+    while at != 0 {
+        let index = at - 1;
         uses[index].stop = Some(place);
         burdens.lose(Class::Load);
+        at = earlier[index];
     }
 }
 
 impl<'c, K: MachInstLabelUse> Parts<'c, K> {
     ghost use Rattle.a64_buffer.specs.Sound.{seen};
-    ghost use Rattle.a64_buffer.specs.Chain.{labels_of, IsChained};
+    ghost use Rattle.a64_buffer.specs.Chain.{AreChained};
     ghost use Rattle.a64_buffer.specs.Space.{SameRoom};
 
     /// Lets all open loads of a constant stop at a place.
     fn stop_loads(&mut self, constant: u32, place: u32)
+        requires chained { AreChained self.old.uses.items self.old.earlier.items self.old.heads self.old.loads }
         requires burdens { AreBurdens K.kinds self.old.uses.items self.old.burdens }
-        ensures uses { self.new.uses.items ≡ map (stopped (steps.waits_for constant) place) self.old.uses.items }
+        ensures uses { self.new.uses.items ≡ map (stopped (waits_for constant) place) self.old.uses.items }
         ensures capacity { vec_capacity self.new.uses ≡ vec_capacity self.old.uses }
+        ensures chained { AreChained self.new.uses.items self.new.earlier.items self.new.heads self.new.loads }
         ensures burdens { AreBurdens K.kinds self.new.uses.items self.new.burdens }
-        ensures rest { self.new ≡ record self.old { uses = self.new.uses; burdens = self.new.burdens } }
+        ensures rest { self.new ≡ record self.old { uses = self.new.uses; loads = self.new.loads; burdens = self.new.burdens } }
     {
-        stop_loads(&mut self.uses, &mut self.burdens, constant, place);
+        stop_loads(
+            &mut self.uses,
+            &self.earlier,
+            &self.loads,
+            &mut self.burdens,
+            constant,
+            place,
+        );
+        empty_chain(&mut self.loads, constant);
     }
 
     /// Gives all open loads of a constant a copy of it at the end.
@@ -89,10 +91,10 @@ impl<'c, K: MachInstLabelUse> Parts<'c, K> {
         requires known { IsSome (finmap.get (seen self.old).constants constant.0) }
         requires short { end_of (seen self.old) + 28 < 2 ^ 31 }
         requires words { vec_len self.old.words + 7 ≤ vec_capacity self.old.words }
-        requires chained { IsChained (labels_of self.old.uses.items) self.old.earlier.items self.old.heads }
+        requires chained { AreChained self.old.uses.items self.old.earlier.items self.old.heads self.old.loads }
         requires burdens { AreBurdens K.kinds self.old.uses.items self.old.burdens }
         ensures gives { IfSome (finmap.get (seen self.old).constants constant.0) (λ content. GivesCopy K.kinds constant.0 content (seen self.old) (seen self.new)) }
-        ensures chained { IsChained (labels_of self.new.uses.items) self.new.earlier.items self.new.heads }
+        ensures chained { AreChained self.new.uses.items self.new.earlier.items self.new.heads self.new.loads }
         ensures room { SameRoom self.old self.new }
         ensures queues { self.new.queues ≡ self.old.queues }
         ensures burdens { AreBurdens K.kinds self.new.uses.items self.new.burdens }

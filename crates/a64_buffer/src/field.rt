@@ -16,6 +16,7 @@ pub fn with_field(word: u32, low: u32, bits: u32, value: u32) -> u32
 }
 
 /// Puts a number into a field of the word that four bytes are, and keeps the rest.
+#[inline(always)]
 pub fn patch_field(buffer: &mut [u8], low: u32, bits: u32, value: u32)
     requires word { length buffer.old ≡ 4 }
     requires some { 0 < bits }

@@ -46,16 +46,18 @@ fn push_far_words<K: MachInstLabelUse>(words: &mut Vec<u32>, kind: K, place: u32
 impl<'c, K: MachInstLabelUse> Parts<'c, K> {
     ghost use Rattle.a64_buffer.specs.Sound.{seen, AreApart};
     ghost use Rattle.a64_buffer.specs.Steps.{stopped, stands_at, GivesJump, GivesFar, GivesTrap};
-    ghost use Rattle.a64_buffer.specs.Chain.{labels_of, IsChained};
+    ghost use Rattle.a64_buffer.specs.Chain.{constant_of, AreChained};
     ghost use Rattle.a64_buffer.specs.Queues.{AreBurdens};
     ghost use Rattle.a64_buffer.specs.Space.{SameRoom};
 
-    /// Lets the use at an index stop at a place.
+    /// Lets the use at an index, which loads no constant, stop at a place.
     pub fn stop_at(&mut self, index: usize, place: u32)
         requires index { index < length self.old.uses.items }
+        requires target { (d : _) → constant_of (slice_index_or self.old.uses.items index d).target ≡ None }
+        requires chained { AreChained self.old.uses.items self.old.earlier.items self.old.heads self.old.loads }
         requires burdens { AreBurdens K.kinds self.old.uses.items self.old.burdens }
         ensures uses { (d : _) → AreApart self.old.uses.items → self.new.uses.items ≡ map (stopped (stands_at (slice_index_or self.old.uses.items index d).offset) place) self.old.uses.items }
-        ensures labels { labels_of self.new.uses.items ≡ labels_of self.old.uses.items }
+        ensures chained { AreChained self.new.uses.items self.new.earlier.items self.new.heads self.new.loads }
         ensures capacity { vec_capacity self.new.uses ≡ vec_capacity self.old.uses }
         ensures len { vec_len self.new.uses ≡ vec_len self.old.uses }
         ensures burdens { AreBurdens K.kinds self.new.uses.items self.new.burdens }
@@ -67,16 +69,18 @@ impl<'c, K: MachInstLabelUse> Parts<'c, K> {
         self.burdens.lose(class);
     }
 
-    /// Adds a use, for which there is room, and whose label, if it has one, is that of an older use.
+    /// Adds a use, for which there is room, of no constant: its label, if it has one, is that of an older
+    /// use.
     pub fn push_use(&mut self, site: Use<K>)
         requires uses { vec_len self.old.uses < vec_capacity self.old.uses }
         requires earlier { vec_len self.old.earlier < vec_capacity self.old.earlier }
-        requires chained { IsChained (labels_of self.old.uses.items) self.old.earlier.items self.old.heads }
+        requires chained { AreChained self.old.uses.items self.old.earlier.items self.old.heads self.old.loads }
         requires known { IfSome (label_of site.target) (λ label. IsSome (finmap.get self.old.heads label)) }
+        requires target { constant_of site.target ≡ None }
         requires burdens { AreBurdens K.kinds self.old.uses.items self.old.burdens }
         requires few { self.old.burdens.third < 2 ^ 32 }
         ensures uses { self.new.uses.items ≡ self.old.uses.items ++ site ∷ [] }
-        ensures chained { IsChained (labels_of self.new.uses.items) self.new.earlier.items self.new.heads }
+        ensures chained { AreChained self.new.uses.items self.new.earlier.items self.new.heads self.new.loads }
         ensures uses_capacity { vec_capacity self.new.uses ≡ vec_capacity self.old.uses }
         ensures earlier_capacity { vec_capacity self.new.earlier ≡ vec_capacity self.old.earlier }
         ensures burdens { AreBurdens K.kinds self.new.uses.items self.new.burdens }
@@ -108,15 +112,16 @@ impl<'c, K: MachInstLabelUse> Parts<'c, K> {
     /// Gives an open use a jump word at the end.
     pub fn give_jump(&mut self, index: usize)
         requires within { index < length self.old.uses.items }
+        requires target { (d : _) → constant_of (slice_index_or self.old.uses.items index d).target ≡ None }
         requires short { end_of (seen self.old) + 4 < 2 ^ 31 }
         requires words { vec_len self.old.words < vec_capacity self.old.words }
         requires uses { vec_len self.old.uses < vec_capacity self.old.uses }
         requires earlier { vec_len self.old.earlier < vec_capacity self.old.earlier }
-        requires chained { IsChained (labels_of self.old.uses.items) self.old.earlier.items self.old.heads }
+        requires chained { AreChained self.old.uses.items self.old.earlier.items self.old.heads self.old.loads }
         requires burdens { AreBurdens K.kinds self.old.uses.items self.old.burdens }
         requires few { self.old.burdens.third < 2 ^ 32 }
         ensures gives { (d : _) → AreApart self.old.uses.items → GivesJump K.kinds (slice_index_or self.old.uses.items index d) (seen self.old) (seen self.new) }
-        ensures chained { IsChained (labels_of self.new.uses.items) self.new.earlier.items self.new.heads }
+        ensures chained { AreChained self.new.uses.items self.new.earlier.items self.new.heads self.new.loads }
         ensures room { SameRoom self.old self.new }
         ensures queues { self.new.queues ≡ self.old.queues }
         ensures burdens { AreBurdens K.kinds self.new.uses.items self.new.burdens }
@@ -137,17 +142,18 @@ impl<'c, K: MachInstLabelUse> Parts<'c, K> {
     /// Gives an open use a far veneer at the end.
     pub fn give_far(&mut self, index: usize)
         requires within { index < length self.old.uses.items }
+        requires target { (d : _) → constant_of (slice_index_or self.old.uses.items index d).target ≡ None }
         requires veneers { (d : _) → IsTrue (K.kinds.veneers (slice_index_or self.old.uses.items index d).kind) }
         requires urgency { (d : _) → K.kinds.urgency (slice_index_or self.old.uses.items index d).kind ≡ 3 }
         requires short { end_of (seen self.old) + 20 < 2 ^ 31 }
         requires words { vec_len self.old.words + length K.kinds.far_words + 1 ≤ vec_capacity self.old.words }
         requires uses { vec_len self.old.uses < vec_capacity self.old.uses }
         requires earlier { vec_len self.old.earlier < vec_capacity self.old.earlier }
-        requires chained { IsChained (labels_of self.old.uses.items) self.old.earlier.items self.old.heads }
+        requires chained { AreChained self.old.uses.items self.old.earlier.items self.old.heads self.old.loads }
         requires burdens { AreBurdens K.kinds self.old.uses.items self.old.burdens }
         requires few { self.old.burdens.third < 2 ^ 32 }
         ensures gives { (d : _) → AreApart self.old.uses.items → GivesFar K.kinds (slice_index_or self.old.uses.items index d) (seen self.old) (seen self.new) }
-        ensures chained { IsChained (labels_of self.new.uses.items) self.new.earlier.items self.new.heads }
+        ensures chained { AreChained self.new.uses.items self.new.earlier.items self.new.heads self.new.loads }
         ensures room { SameRoom self.old self.new }
         ensures queues { self.new.queues ≡ self.old.queues }
         ensures burdens { AreBurdens K.kinds self.new.uses.items self.new.burdens }
@@ -168,14 +174,15 @@ impl<'c, K: MachInstLabelUse> Parts<'c, K> {
     /// Gives a use of a trap its trap word at the end.
     pub fn give_trap(&mut self, index: usize, code: TrapCode)
         requires within { index < length self.old.uses.items }
+        requires target { (d : _) → constant_of (slice_index_or self.old.uses.items index d).target ≡ None }
         requires short { end_of (seen self.old) + 4 < 2 ^ 31 }
         requires words { vec_len self.old.words < vec_capacity self.old.words }
         requires traps { vec_len self.old.traps < vec_capacity self.old.traps }
-        requires chained { IsChained (labels_of self.old.uses.items) self.old.earlier.items self.old.heads }
+        requires chained { AreChained self.old.uses.items self.old.earlier.items self.old.heads self.old.loads }
         requires burdens { AreBurdens K.kinds self.old.uses.items self.old.burdens }
         requires few { self.old.burdens.third < 2 ^ 32 }
         ensures gives { (d : _) → AreApart self.old.uses.items → GivesTrap K.kinds (slice_index_or self.old.uses.items index d) code (seen self.old) (seen self.new) }
-        ensures chained { IsChained (labels_of self.new.uses.items) self.new.earlier.items self.new.heads }
+        ensures chained { AreChained self.new.uses.items self.new.earlier.items self.new.heads self.new.loads }
         ensures room { SameRoom self.old self.new }
         ensures queues { self.new.queues ≡ self.old.queues }
         ensures burdens { AreBurdens K.kinds self.new.uses.items self.new.burdens }

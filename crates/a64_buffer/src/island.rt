@@ -15,7 +15,7 @@ use std::alloc::AllocError;
 
 impl<'c, K: MachInstLabelUse> Parts<'c, K> {
     ghost use Rattle.a64_buffer.specs.Sound.{seen, IsPlaced, AreApart, IsKinded, AreSound};
-    ghost use Rattle.a64_buffer.specs.Chain.{labels_of, IsChained};
+    ghost use Rattle.a64_buffer.specs.Chain.{constant_of, AreChained};
     ghost use Rattle.a64_buffer.specs.Queues.{HaveRoomFor, AllHold, AllLimits, AreBurdens, AreWaiting};
     ghost use Rattle.a64_buffer.specs.Space.{SameRoom, HasSpace, HasSpaceForMore};
     ghost use Rattle.a64_buffer.specs.Steps.{IsNextOpen, IsReady, GivesAll, MayWrite, Writes, WritesFar, ended};
@@ -39,7 +39,7 @@ impl<'c, K: MachInstLabelUse> Parts<'c, K> {
         requires burdens { AreBurdens K.kinds self.old.uses.items self.old.burdens }
         requires label { (d : _) → IsSome (label_of (slice_index_or self.old.uses.items index d).target) }
         ensures gives { (d : _) → GivesAll K.kinds (class K.kinds (slice_index_or self.old.uses.items index d)) (seen self.old) (seen self.new) }
-        ensures chained { IsChained (labels_of self.new.uses.items) self.new.earlier.items self.new.heads }
+        ensures chained { AreChained self.new.uses.items self.new.earlier.items self.new.heads self.new.loads }
         ensures room { SameRoom self.old self.new }
         ensures queues { self.new.queues ≡ self.old.queues }
         ensures burdens { AreBurdens K.kinds self.new.uses.items self.new.burdens }
@@ -58,7 +58,7 @@ impl<'c, K: MachInstLabelUse> Parts<'c, K> {
         requires ready { IsReady K.kinds self.old index }
         requires burdens { AreBurdens K.kinds self.old.uses.items self.old.burdens }
         ensures gives { (d : _) → GivesAll K.kinds (class K.kinds (slice_index_or self.old.uses.items index d)) (seen self.old) (seen self.new) }
-        ensures chained { IsChained (labels_of self.new.uses.items) self.new.earlier.items self.new.heads }
+        ensures chained { AreChained self.new.uses.items self.new.earlier.items self.new.heads self.new.loads }
         ensures room { SameRoom self.old self.new }
         ensures queues { self.new.queues ≡ self.old.queues }
         ensures burdens { AreBurdens K.kinds self.new.uses.items self.new.burdens }
@@ -79,7 +79,7 @@ impl<'c, K: MachInstLabelUse> Parts<'c, K> {
         requires burdens { AreBurdens K.kinds self.old.uses.items self.old.burdens }
         requires queued { HaveRoomFor (weight_of K.kinds veneer_uses self.old.uses.items) self.old.queues }
         ensures gives { (d : _) → GivesAll K.kinds (class K.kinds (slice_index_or self.old.uses.items index d)) (seen self.old) (seen self.new) }
-        ensures chained { IsChained (labels_of self.new.uses.items) self.new.earlier.items self.new.heads }
+        ensures chained { AreChained self.new.uses.items self.new.earlier.items self.new.heads self.new.loads }
         ensures room { SameRoom self.old self.new }
         ensures hold { AllHold K.kinds self.new.uses.items self.new.queues }
         ensures burdens { AreBurdens K.kinds self.new.uses.items self.new.burdens }
@@ -96,14 +96,14 @@ impl<'c, K: MachInstLabelUse> Parts<'c, K> {
         requires limit { limit ≤ 5 }
         requires may { MayWrite K.kinds (seen self.old) }
         requires space { HasSpace K.kinds self.old }
-        requires chained { IsChained (labels_of self.old.uses.items) self.old.earlier.items self.old.heads }
+        requires chained { AreChained self.old.uses.items self.old.earlier.items self.old.heads self.old.loads }
         requires hold { AllHold K.kinds self.old.uses.items self.old.queues }
         requires burdens { AreBurdens K.kinds self.old.uses.items self.old.burdens }
         requires limits { AllLimits K.kinds self.old.uses.items self.old.queues }
         requires queued { HaveRoomFor (weight_of K.kinds veneer_uses self.old.uses.items) self.old.queues }
         ensures writes { Writes K.kinds limit (seen self.old) (seen self.new) }
         ensures space { HasSpace K.kinds self.new }
-        ensures chained { IsChained (labels_of self.new.uses.items) self.new.earlier.items self.new.heads }
+        ensures chained { AreChained self.new.uses.items self.new.earlier.items self.new.heads self.new.loads }
         ensures room { SameRoom self.old self.new }
         ensures hold { AllHold K.kinds self.new.uses.items self.new.queues }
         ensures burdens { AreBurdens K.kinds self.new.uses.items self.new.burdens }
@@ -119,11 +119,12 @@ impl<'c, K: MachInstLabelUse> Parts<'c, K> {
     pub fn reserve_all(&mut self) -> Result<(), AllocError>
         requires owed { owed K.kinds (seen self.old) < 2 ^ 31 }
         requires burdens { AreBurdens K.kinds self.old.uses.items self.old.burdens }
-        requires chained { IsChained (labels_of self.old.uses.items) self.old.earlier.items self.old.heads }
+        requires chained { AreChained self.old.uses.items self.old.earlier.items self.old.heads self.old.loads }
         ensures ok { OnOk result (HasSpaceForMore K.kinds self.new) }
         ensures rest { seen self.new ≡ seen self.old }
         ensures earlier { self.new.earlier.items ≡ self.old.earlier.items }
         ensures heads { self.new.heads ≡ self.old.heads }
+        ensures loads { self.new.loads ≡ self.old.loads }
         ensures queues { self.new.queues ≡ self.old.queues }
         ensures burdens { self.new.burdens ≡ self.old.burdens }
     {
@@ -142,13 +143,13 @@ impl<'c, K: MachInstLabelUse> Parts<'c, K> {
         requires words { vec_len self.old.words < vec_capacity self.old.words }
         requires uses { vec_len self.old.uses < vec_capacity self.old.uses }
         requires earlier { vec_len self.old.earlier < vec_capacity self.old.earlier }
-        requires chained { IsChained (labels_of self.old.uses.items) self.old.earlier.items self.old.heads }
+        requires chained { AreChained self.old.uses.items self.old.earlier.items self.old.heads self.old.loads }
         requires hold { AllHold K.kinds self.old.uses.items self.old.queues }
         requires burdens { AreBurdens K.kinds self.old.uses.items self.old.burdens }
         requires queued { HaveRoomFor (weight_of K.kinds veneer_uses self.old.uses.items + 1) self.old.queues }
         requires few { self.old.burdens.third < 2 ^ 32 }
         ensures begun { seen self.new ≡ begun K.kinds (seen self.old) }
-        ensures chained { IsChained (labels_of self.new.uses.items) self.new.earlier.items self.new.heads }
+        ensures chained { AreChained self.new.uses.items self.new.earlier.items self.new.heads self.new.loads }
         ensures room { SameRoom self.old self.new }
         ensures hold { AllHold K.kinds self.new.uses.items self.new.queues }
         ensures burdens { AreBurdens K.kinds self.new.uses.items self.new.burdens }
@@ -171,13 +172,14 @@ impl<'c, K: MachInstLabelUse> Parts<'c, K> {
     /// Ends an island, and lets its jump, the use at an index, lead there.
     fn end_island(&mut self, index: usize, start: u32)
         requires within { index < length self.old.uses.items }
+        requires target { (d : _) → constant_of (slice_index_or self.old.uses.items index d).target ≡ None }
         requires start { (d : _) → (slice_index_or self.old.uses.items index d).offset ≡ start }
         requires short { end_of (seen self.old) < 2 ^ 31 }
         requires islands { vec_len self.old.islands < vec_capacity self.old.islands }
-        requires chained { IsChained (labels_of self.old.uses.items) self.old.earlier.items self.old.heads }
+        requires chained { AreChained self.old.uses.items self.old.earlier.items self.old.heads self.old.loads }
         requires burdens { AreBurdens K.kinds self.old.uses.items self.old.burdens }
         ensures ended { AreApart self.old.uses.items → seen self.new ≡ ended start (seen self.old) }
-        ensures chained { IsChained (labels_of self.new.uses.items) self.new.earlier.items self.new.heads }
+        ensures chained { AreChained self.new.uses.items self.new.earlier.items self.new.heads self.new.loads }
         ensures queues { self.new.queues ≡ self.old.queues }
         ensures burdens { AreBurdens K.kinds self.new.uses.items self.new.burdens }
         ensures capacity { vec_capacity self.new.uses ≡ vec_capacity self.old.uses }
@@ -226,13 +228,13 @@ impl<'c, K: MachInstLabelUse> Parts<'c, K> {
     fn promote(&mut self, distance: u32, force: ForceVeneers)
         requires may { MayWrite K.kinds (seen self.old) }
         requires space { HasSpace K.kinds self.old }
-        requires chained { IsChained (labels_of self.old.uses.items) self.old.earlier.items self.old.heads }
+        requires chained { AreChained self.old.uses.items self.old.earlier.items self.old.heads self.old.loads }
         requires hold { AllHold K.kinds self.old.uses.items self.old.queues }
         requires burdens { AreBurdens K.kinds self.old.uses.items self.old.burdens }
         requires limits { AllLimits K.kinds self.old.uses.items self.old.queues }
         requires queued { HaveRoomFor (weight_of K.kinds veneer_uses self.old.uses.items) self.old.queues }
         ensures promotes { WritesFar K.kinds distance force (seen self.old) (seen self.new) }
-        ensures chained { IsChained (labels_of self.new.uses.items) self.new.earlier.items self.new.heads }
+        ensures chained { AreChained self.new.uses.items self.new.earlier.items self.new.heads self.new.loads }
         ensures room { SameRoom self.old self.new }
         ensures hold { AllHold K.kinds self.new.uses.items self.new.queues }
         ensures burdens { AreBurdens K.kinds self.new.uses.items self.new.burdens }

@@ -13,6 +13,8 @@ mod force;
 mod give;
 mod island;
 mod label_use;
+#[cfg(test)]
+mod load_tests;
 mod parts;
 mod queue;
 mod queues;

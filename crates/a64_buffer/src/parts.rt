@@ -30,10 +30,13 @@ pub struct Parts<'c, K> {
     pub uses: Vec<Use<K>>,
     /// The places of the bound labels by number, in bytes from the start of the code.
     pub labels: LabelMap<u32>,
-    /// For each use, one more than the index of the use of the same label before it, or 0.
+    /// For each use, one more than the index of the use of the same label or constant before it, or 0.
     pub earlier: Vec<usize>,
     /// For each label that is used, one more than the index of its last use.
     pub heads: LabelMap<usize>,
+    /// For each constant that was loaded, one more than the index of its last use that waits for a
+    /// copy, or 0.
+    pub loads: LabelMap<usize>,
     /// The open uses by rank.
     pub queues: [Queue; 5],
     /// How many bytes the open uses may put before what uses of each urgency get.
@@ -49,6 +52,7 @@ pub struct Parts<'c, K> {
 }
 
 /// The label that a target is, where it is one.
+#[inline(always)]
 pub fn target_label(target: Target) -> Option<MachLabel>
     ensures { option_map (λ (l : MachLabel). l.0) result ≡ label_of target }
 {
@@ -71,6 +75,7 @@ fn lesser(first: Option<MachLabel>, label: MachLabel) -> MachLabel
 impl<'c, K: MachInstLabelUse> Parts<'c, K> {
     ghost use Rattle.a64_buffer.specs.Buffer.{new_buffer, end_of, stop_of, IsFree, IsOutside, IsBound, IsUnboundOf, IsFirstUnbound, made_use, closed_at, IsReached};
     ghost use Rattle.a64_buffer.specs.Classes.{owed, Fits};
+    ghost use Rattle.a64_buffer.specs.Chain.{constant_of};
     ghost use Rattle.a64_buffer.specs.Settled.{MayLead, IsCode};
     ghost use Rattle.a64_buffer.specs.Sound.{seen, IsPlaced, AreApart, IsKinded, IsKnown, AreSound};
     ghost use Rattle.a64_buffer.specs.Later.{IsLaterFrom, IsLater};
@@ -87,6 +92,7 @@ impl<'c, K: MachInstLabelUse> Parts<'c, K> {
             labels: LabelMap::new(alloc),
             earlier: Vec::new(alloc),
             heads: LabelMap::new(alloc),
+            loads: LabelMap::new(alloc),
             queues: no_queues(alloc),
             burdens: Burdens {
                 first: 0,
@@ -100,7 +106,19 @@ impl<'c, K: MachInstLabelUse> Parts<'c, K> {
         }
     }
 
+    /// Takes the memory for so many words and uses more.
+    pub fn reserve(&mut self, words: usize, uses: usize) -> Result<(), AllocError>
+        requires sound { AreSound K.kinds self.old }
+        ensures sound { AreSound K.kinds self.new }
+        ensures seen { seen self.new ≡ seen self.old }
+    {
+        self.words.reserve(words)?;
+        self.uses.reserve(uses)?;
+        self.earlier.reserve(uses)
+    }
+
     /// Where the next word will stand.
+    #[inline(always)]
     pub fn end(&self) -> u32
         requires { end_of (seen self.now) < 2 ^ 31 }
         ensures { result ≡ end_of (seen self.now) }
@@ -109,6 +127,7 @@ impl<'c, K: MachInstLabelUse> Parts<'c, K> {
     }
 
     /// Adds a word.
+    #[inline(always)]
     pub fn put(&mut self, word: u32) -> Result<(), AllocError>
         requires sound { AreSound K.kinds self.old }
         requires short { end_of (seen self.old) + 4 < 2 ^ 31 }
@@ -168,6 +187,7 @@ impl<'c, K: MachInstLabelUse> Parts<'c, K> {
     }
 
     /// Where a use that is made now stops.
+    #[inline(always)]
     pub fn stop_of(&self, offset: u32, target: Target, kind: K) -> Option<u32>
         ensures { result ≡ stop_of K.kinds (seen self.now).labels kind offset target }
     {
@@ -176,18 +196,25 @@ impl<'c, K: MachInstLabelUse> Parts<'c, K> {
         reached(kind, offset, place)
     }
 
-    /// Makes the use that is added next the last of its label, and answers which was the last before.
+    /// Makes the use that is added next the last of its label or constant, and answers which was the
+    /// last before.
+    #[inline(always)]
     fn link_new(&mut self, target: Target) -> Result<usize, AllocError>
-        ensures earlier { IfOk result (λ earlier. IfSome (label_of target) (λ label. earlier ≡ unwrap_or (finmap.get self.old.heads label) 0)) }
+        ensures label { IfOk result (λ earlier. IfSome (label_of target) (λ label. earlier ≡ unwrap_or (finmap.get self.old.heads label) 0)) }
+        ensures constant { IfOk result (λ earlier. IfSome (constant_of target) (λ constant. earlier ≡ unwrap_or (finmap.get self.old.loads constant) 0)) }
         ensures heads { OnOk result (self.new.heads ≡ (elim (label_of target) [ None ↦ self.old.heads | Some label ↦ finmap.insert self.old.heads label (length self.old.uses.items + 1) ])) }
-        ensures err { OnErr result (self.new.heads ≡ self.old.heads) }
-        ensures rest { self.new ≡ record self.old { heads = self.new.heads } }
+        ensures loads { OnOk result (self.new.loads ≡ (elim (constant_of target) [ None ↦ self.old.loads | Some constant ↦ finmap.insert self.old.loads constant (length self.old.uses.items + 1) ])) }
+        ensures err_heads { OnErr result (self.new.heads ≡ self.old.heads) }
+        ensures err_loads { OnErr result (self.new.loads ≡ self.old.loads) }
+        ensures rest { self.new ≡ record self.old { heads = self.new.heads; loads = self.new.loads } }
     {
-        let Some(label) = target_label(target) else {
-            return Ok(0);
-        };
         let number = self.uses.len() + 1;
-        Ok(self.heads.insert(label.0, number)?.unwrap_or(0))
+        let before = match target {
+            Target::Label(label) => self.heads.insert(label.0, number)?,
+            Target::Constant(constant) => self.loads.insert(constant.0, number)?,
+            Target::Trap(_) | Target::IslandEnd => None,
+        };
+        Ok(before.unwrap_or(0))
     }
 
     /// Adds a use.

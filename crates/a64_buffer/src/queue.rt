@@ -78,6 +78,7 @@ impl Queue {
     }
 
     /// Takes the memory for a use with a limit.
+    #[inline(always)]
     pub fn reserve_for(&mut self, limit: u64) -> Result<(), AllocError>
         ensures kept { IsSameQueue self.old self.new }
         ensures ok { OnOk result (HasRoomFor limit self.new) }
@@ -89,6 +90,7 @@ impl Queue {
     }
 
     /// Adds a use with a limit, for which there is room, and which has an index.
+    #[inline(always)]
     pub fn add(&mut self, limit: u64, index: usize)
         requires room { HasRoomFor limit self.old }
         ensures rising { self.old.most ≤ limit → (self.new.most ≡ limit) × (MatchOption self.old.next (self.new.next ≡ Some index) (λ n. self.new.next ≡ Some n)) × (entries self.new ≡ entries self.old) }
@@ -112,6 +114,7 @@ impl Queue {
     }
 
     /// Adds a use to the strays, for which there is room.
+    #[inline(never)]
     fn push_stray(&mut self, limit: u64, index: usize)
         requires room { heap_len self.old.strays < heap_capacity self.old.strays }
         ensures added { IsPermutation (entry_of limit index ∷ entries self.old) (entries self.new) }
@@ -138,6 +141,7 @@ impl Queue {
     }
 
     /// A use with a limit was closed.
+    #[inline(always)]
     pub fn close<K: MachInstLabelUse>(&mut self, uses: &[Use<K>], rank: u64, limit: u64)
         requires rank { rank < 5 }
         requires holds { HoldsIn K.kinds rank uses.now self.old }
@@ -151,6 +155,7 @@ impl Queue {
     }
 
     /// Leaves closed uses behind, until open ones are first, and finds the least limit.
+    #[inline(never)]
     pub fn settle<K: MachInstLabelUse>(&mut self, uses: &[Use<K>], rank: u64)
         requires rank { rank < 5 }
         requires holds { HoldsIn K.kinds rank uses.now self.old }

@@ -30,6 +30,7 @@ pub fn no_queues(alloc: Global) -> [Queue; 5]
 }
 
 /// Takes the memory for a use with a limit in the queue of its class, where that wants anything.
+#[inline(always)]
 pub fn reserve_queue(queues: &mut [Queue; 5], class: Class, limit: u64) -> Result<(), AllocError>
     ensures kept { (rank : ℕ) (q : Queue) → IsSameQueue (slice_index_or queues.old rank q) (slice_index_or queues.new rank q) }
     ensures ok { OnOk result (HaveRoomForOne class limit queues.new) }
@@ -52,6 +53,7 @@ pub fn reserve_queues(queues: &mut [Queue; 5], more: usize) -> Result<(), AllocE
 }
 
 /// Puts a use with a limit and an index into the queue of its class, where it is open.
+#[inline(always)]
 pub fn queue_use<K: MachInstLabelUse>(
     queues: &mut [Queue; 5],
     site: &Use<K>,
@@ -87,6 +89,7 @@ pub fn queue_from<K: MachInstLabelUse>(queues: &mut [Queue; 5], uses: &[Use<K>],
 }
 
 /// An open use of a class and a limit was closed.
+#[inline(always)]
 pub fn close_queued<K: MachInstLabelUse>(
     queues: &mut [Queue; 5],
     uses: &[Use<K>],

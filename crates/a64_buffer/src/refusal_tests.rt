@@ -3,14 +3,14 @@
 
 ghost use Rattle.std.specs.Prelude.{◌≡◌, ◌+◌, ◌%◌, ◌^◌, ◌<◌, OnOk, [], ◌∷◌, ◌++◌, IsSomeAnd};
 ghost use Rattle.std.specs.FinMap as finmap;
-ghost use Rattle.a64_buffer.specs.declared.site.Target.TheVariants.{Constant, Trap};
+ghost use Rattle.a64_buffer.specs.declared.site.Target.TheVariants.{Constant, Label, Trap};
 ghost use Rattle.a64_buffer.specs.Constants.{IsConstant, inserted};
 ghost use Rattle.a64_buffer.specs.Classes.{owed, Fits};
 ghost use Rattle.a64_buffer.specs.Buffer.{end_of, IsFree, IsOutside, made_use};
 
 use crate::test_use::TestUse;
 use crate::{Constants, ForceVeneers, MachBuffer, MachInstLabelUse};
-use a64_base::{TrapCode, VCodeConstant};
+use a64_base::{MachLabel, TrapCode, VCodeConstant};
 use std::alloc::AllocError;
 
 /// Adds a constant, at the second try if need be.
@@ -88,6 +88,30 @@ fn trap<K: MachInstLabelUse>(
     buffer.defer_trap(offset, code, kind)
 }
 
+/// Makes a use of a label, at the second try if need be.
+fn branch<K: MachInstLabelUse>(
+    buffer: &mut MachBuffer<'_, K>,
+    offset: u32,
+    label: MachLabel,
+    kind: K,
+) -> Result<(), AllocError>
+    requires aligned { offset % 4 ≡ 0 }
+    requires inside { offset < end_of buffer.old }
+    requires free { IsFree buffer.old.uses offset }
+    requires outside { IsOutside buffer.old.islands offset }
+    requires fits { Fits K.kinds (record buffer.old {
+      uses = buffer.old.uses ++ made_use K.kinds buffer.old.labels offset (Label label) kind ∷ [];
+    }) 0 }
+    ensures { OnOk result (buffer.new ≡ record buffer.old {
+      uses = buffer.old.uses ++ made_use K.kinds buffer.old.labels offset (Label label) kind ∷ [];
+    }) }
+{
+    if buffer.use_label_at_offset(offset, label, kind).is_ok() {
+        return Ok(());
+    }
+    buffer.use_label_at_offset(offset, label, kind)
+}
+
 /// Writes an island, at the second try if need be.
 fn island<K: MachInstLabelUse>(buffer: &mut MachBuffer<'_, K>) -> Result<(), AllocError>
     requires { end_of buffer.old + owed K.kinds buffer.old + 4 < 2 ^ 31 }
@@ -109,10 +133,13 @@ fn ends_as_with_enough_memory(rt: HostRuntime) -> Result<(), AllocError> {
     let mut buffer: MachBuffer<'_, TestUse> = MachBuffer::new(rt.alloc(), &constants);
     put(&mut buffer, 0x5800_0001)?;
     put(&mut buffer, 0x5400_0001)?;
+    put(&mut buffer, 0x3600_0000)?;
     load(&mut buffer, 0, VCodeConstant(7), TestUse::Middle)?;
     trap(&mut buffer, 4, TrapCode(3), TestUse::Middle)?;
+    branch(&mut buffer, 8, MachLabel(5), TestUse::Near)?;
     island(&mut buffer)?;
-    // two words, the jump over the island, a zero word, the constant and a trap word
-    assert_eq!(rt; buffer.cur_offset(), 8 + 4 + 4 + 8 + 4);
+    // three words, the jump over the island, that of the branch, a zero word, the constant, a trap word,
+    // and the far veneer of the branch's jump
+    assert_eq!(rt; buffer.cur_offset(), 12 + 4 + 4 + 4 + 8 + 4 + 20);
     Ok(())
 }

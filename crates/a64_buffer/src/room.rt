@@ -20,6 +20,7 @@ impl Burdens {
     ghost use Rattle.a64_buffer.specs.Classes.{cost};
 
     /// An open use of a class came to be.
+    #[inline(always)]
     pub fn gain(&mut self, class: Class)
         requires first { self.old.first < 2 ^ 40 }
         requires second { self.old.second < 2 ^ 40 }
@@ -34,6 +35,7 @@ impl Burdens {
     }
 
     /// An open use of a class was closed.
+    #[inline(always)]
     pub fn lose(&mut self, class: Class)
         requires first { cost first class ≤ self.old.first }
         requires second { cost second class ≤ self.old.second }

@@ -15,6 +15,7 @@ use a64_label_map::LabelMap;
 use std::alloc::{AllocError, Global};
 
 /// The word of a use, made to lead to a place.
+#[inline(always)]
 fn patched<K: MachInstLabelUse>(word: u32, kind: K, use_offset: u32, place: u32) -> u32
     requires { Reaches K.kinds kind use_offset place }
     ensures rest { outside (K.kinds.mask kind) result ≡ outside (K.kinds.mask kind) word }
@@ -26,6 +27,7 @@ fn patched<K: MachInstLabelUse>(word: u32, kind: K, use_offset: u32, place: u32)
 }
 
 /// Makes the word of one use lead to a place.
+#[inline(always)]
 fn settle_use<K: MachInstLabelUse>(words: &mut [u32], kind: K, use_offset: u32, place: u32)
     requires inside { use_offset / 4 < length words.old }
     requires reaches { Reaches K.kinds kind use_offset place }

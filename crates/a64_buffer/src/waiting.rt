@@ -17,6 +17,7 @@ impl<'c, K: MachInstLabelUse> Parts<'c, K> {
     ghost use Rattle.a64_buffer.specs.Sound.{seen, IsKinded};
 
     /// Keeps a use of a class and with a limit, which is added next, where it is open.
+    #[inline(always)]
     pub fn await_use(&mut self, site: &Use<K>, class: Class, limit: u64)
         requires class { IsWaitingClass K.kinds site.now class }
         requires limit { limit ≡ limit_of K.kinds site.now }

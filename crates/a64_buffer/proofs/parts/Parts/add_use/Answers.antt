@@ -1,14 +1,15 @@
-use Rattle.std.proofs.Common.{ℕ, ◌≡◌, ◌+◌, ◌++◌, ◌∷◌, [], length, None, Some, sym, ◌∙◌, ap, subst, arith}
-use Rattle.std.specs.FinMap as finmap
+use Rattle.std.proofs.Common.{ℕ, ◌≡◌, ◌+◌, ◌++◌, ◌∷◌, [], length, sym, ◌∙◌, ap, subst, arith}
 use Rattle.a64_buffer.specs.Buffer.{label_of, made_use}
+use Rattle.a64_buffer.specs.Chain.{constant_of}
 use Rattle.a64_buffer.specs.Classes.{third, burden}
 use Rattle.a64_buffer.specs.Later.{IsLaterFrom}
 use Rattle.a64_buffer.specs.Queues.{AreWaiting}
 use Rattle.a64_buffer.specs.Sound.{seen, IsWhole}
 use Rattle.a64_buffer.proofs.Islands.{owed_short}
+use Rattle.a64_buffer.proofs.Loads.{made_load}
 use Rattle.a64_buffer.proofs.Memory.{same_buffer}
 use Rattle.a64_buffer.proofs.Sounds.{used_later, whole_use}
-use Rattle.a64_buffer.proofs.Stops.{chained_more}
+use Rattle.a64_buffer.proofs.Stops.{with_head, chained_more}
 use Rattle.a64_buffer.proofs.parts.Parts.add_use.Goals as goal
 
 pub await_use-requires-clause-few : goal.await_use-requires-clause-few
@@ -22,7 +23,8 @@ returns-clause-sound g c =
     c.push_reserved-2.ensures.items
     ∙ ap (λ us. us ++ record { offset = c.args.offset; target = c.args.target; kind = c.args.kind; stop = c.stop_of-stop.result } ∷ []) awaited
     ∙ ap (λ s. c.args.self.now.uses.items ++ record { offset = c.args.offset; target = c.args.target; kind = c.args.kind; stop = s } ∷ []) c.stop_of-stop.ensures in
-    let heads = ap (λ p. p.heads) c.await_use.ensures.rest ∙ (c.in_ok-earlier.ensures.heads ∙ ap (λ (n : ℕ). elim (label_of c.args.target) [ None ↦ c.args.self.now.heads | Some label ↦ finmap.insert c.args.self.now.heads label (n + 1) ]) (ap length c.reserve.ensures.items)) in
+    let heads = ap (λ p. p.heads) c.await_use.ensures.rest ∙ (c.in_ok-earlier.ensures.heads ∙ ap (λ (n : ℕ). with_head (label_of c.args.target) c.args.self.now.heads (n + 1)) (ap length c.reserve.ensures.items)) in
+    let loads = ap (λ p. p.loads) c.await_use.ensures.rest ∙ (c.in_ok-earlier.ensures.loads ∙ ap (λ (n : ℕ). with_head (constant_of c.args.target) c.args.self.now.loads (n + 1)) (ap length c.reserve.ensures.items)) in
     let earlier = ap (λ p. p.earlier.items) c.await_use.ensures.rest ∙ (c.push_reserved.ensures.items ∙ ap (λ p. p.earlier.items ++ c.in_ok-earlier.earlier ∷ []) c.link_new.ensures.rest ∙ ap (λ es. es ++ c.in_ok-earlier.earlier ∷ []) c.reserve-2.ensures.items) in
     record {
       whole = subst (IsWhole g.K.MachInstLabelUse.kinds)
@@ -34,7 +36,7 @@ returns-clause-sound g c =
           ((ap (λ p. p.traps.items) c.await_use.ensures.rest ∙ ap (λ p. p.traps.items) c.link_new.ensures.rest))
           ((ap (λ p. p.constants.now) c.await_use.ensures.rest ∙ ap (λ p. p.constants.now) c.link_new.ensures.rest))))
           (whole_use g.K.MachInstLabelUse.kinds g.met.K.MachInstLabelUse.lawful (seen c.args.self.now) c.requires.sound.whole c.args.offset c.args.target c.args.kind c.requires.aligned c.requires.inside c.requires.free c.requires.outside c.requires.kinded c.requires.known c.requires.fits);
-      chained = chained_more c.args.self.now.uses.items c.push_reserved-2.new.self.items c.args.self.now.earlier.items c.await_use.new.self.earlier.items c.args.self.now.heads c.await_use.new.self.heads (made_use g.K.MachInstLabelUse.kinds c.args.self.now.labels c.args.offset c.args.target c.args.kind) c.in_ok-earlier.earlier c.requires.sound.chained pushed earlier c.in_ok-earlier.ensures.earlier heads;
+      chained = chained_more c.args.self.now.uses.items c.push_reserved-2.new.self.items c.args.self.now.earlier.items c.await_use.new.self.earlier.items c.args.self.now.heads c.await_use.new.self.heads c.args.self.now.loads c.await_use.new.self.loads (made_use g.K.MachInstLabelUse.kinds c.args.self.now.labels c.args.offset c.args.target c.args.kind) c.in_ok-earlier.earlier c.requires.sound.chained pushed earlier (made_load g.K.MachInstLabelUse.kinds c.args.self.now.labels c.args.offset c.args.target c.args.kind) c.in_ok-earlier.ensures.label heads c.in_ok-earlier.ensures.constant loads;
       waiting = subst (λ us. AreWaiting g.K.MachInstLabelUse.kinds us c.await_use.new.self.queues c.await_use.new.self.burdens) (sym (c.push_reserved-2.ensures.items ∙ ap (λ p. p.uses.items ++ record { offset = c.args.offset; target = c.args.target; kind = c.args.kind; stop = c.stop_of-stop.result } ∷ []) c.await_use.ensures.rest))
           (record { hold = c.await_use.ensures.hold; limits = c.await_use.ensures.limits; burdens = c.await_use.ensures.burdens });
     }

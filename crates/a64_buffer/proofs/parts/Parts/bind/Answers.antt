@@ -2,13 +2,15 @@ use Rattle.std.proofs.Common.{◌≡◌, length, map, refl, sym, ◌∙◌, ap, 
 use Rattle.std.specs.FinMap as finmap
 use Rattle.std.specs.Vec.{with_items}
 use Rattle.a64_buffer.specs.Buffer.{closed_at, end_of}
-use Rattle.a64_buffer.specs.Chain.{labels_of, IsChained}
+use Rattle.a64_buffer.specs.Chain.{labels_of, loads_of}
 use Rattle.a64_buffer.specs.Later.{IsLater}
 use Rattle.a64_buffer.specs.Queues.{AreWaiting}
 use Rattle.a64_buffer.specs.Sound.{seen, IsWhole}
 use Rattle.a64_buffer.proofs.Uses.{closed_labels, closed_in_place}
+use Rattle.a64_buffer.proofs.Loads.{closed_loads}
 use Rattle.a64_buffer.proofs.Memory.{same_buffer}
 use Rattle.a64_buffer.proofs.Sounds.{bind_later, whole_bind}
+use Rattle.a64_buffer.proofs.Stops.{chained_same}
 use Rattle.a64_buffer.proofs.parts.Parts.bind.Goals as goal
 
 pub returns-clause-sound : goal.returns-clause-sound
@@ -20,7 +22,9 @@ returns-clause-sound g c =
           (sym (same_buffer _ _ _ _ _ _ _ _ _ _ _ _ refl closed (c.in_ok-insert.ensures.ok ∙ ap (finmap.insert c.args.self.now.labels c.args.label.0) c.end-place.ensures) refl refl refl))
           (whole_bind g.K.MachInstLabelUse.kinds g.met.K.MachInstLabelUse.lawful (seen c.args.self.now) c.requires.sound.whole c.args.label.0 c.requires.unbound);
       chained =
-          subst (λ ls. IsChained ls c.args.self.now.earlier.items c.args.self.now.heads) (sym (ap labels_of closed ∙ closed_labels g.K.MachInstLabelUse.kinds c.args.label.0 (end_of (seen c.args.self.now)) c.args.self.now.uses.items)) c.requires.sound.chained;
+          chained_same c.args.self.now.uses.items _ c.args.self.now.earlier.items c.args.self.now.heads c.args.self.now.loads
+          (ap labels_of closed ∙ closed_labels g.K.MachInstLabelUse.kinds c.args.label.0 (end_of (seen c.args.self.now)) c.args.self.now.uses.items)
+          (ap loads_of closed ∙ closed_loads g.K.MachInstLabelUse.kinds c.args.label.0 (end_of (seen c.args.self.now)) c.args.self.now.uses.items) c.requires.sound.chained;
       waiting =
           subst (λ us. AreWaiting g.K.MachInstLabelUse.kinds us c.close_label.new.queues c.close_label.new.burdens) (sym closed)
           (subst (λ us. AreWaiting g.K.MachInstLabelUse.kinds us c.close_label.new.queues c.close_label.new.burdens) (c.close_label.ensures.uses ∙ (ap (map (closed_at g.K.MachInstLabelUse.kinds c.args.label.0 c.end-place.result)) c.deref_mut.ensures.value ∙ ap (λ place. map (closed_at g.K.MachInstLabelUse.kinds c.args.label.0 place) c.args.self.now.uses.items) c.end-place.ensures)) c.close_label.ensures.waiting);

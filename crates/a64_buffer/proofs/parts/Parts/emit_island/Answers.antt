@@ -1,7 +1,7 @@
 use Rattle.std.proofs.Common.{◌≡◌, get_or, sym, ◌∙◌, ap, subst, arith}
 use Rattle.a64_buffer.specs.Buffer.{end_of}
 use Rattle.a64_buffer.specs.Classes.{veneer_uses, weight_of}
-use Rattle.a64_buffer.specs.Chain.{labels_of, IsChained}
+use Rattle.a64_buffer.specs.Chain.{AreChained}
 use Rattle.a64_buffer.specs.Queues.{IsSameQueue, AllHold, AreBurdens, AreWaiting}
 use Rattle.a64_buffer.specs.Islands.{HasIsland}
 use Rattle.a64_buffer.specs.Sound.{seen, IsWhole}
@@ -74,7 +74,7 @@ returns-clause-sound g c =
     let ended_is = c.end_island.ensures.ended apart ∙ ap (λ start. ended start (seen c.promote.new.self)) (c.end-start.ensures ∙ ap end_of same) in
     record {
       whole = subst (IsWhole g.K.MachInstLabelUse.kinds) (sym (ap (λ p. seen p) c.await_island.ensures.rest ∙ ended_is)) (island_made g.K.MachInstLabelUse.kinds g.met.K.MachInstLabelUse.lawful c.args.distance c.args.force (seen c.args.self.now) (seen c.write_until.new.self) (seen c.promote.new.self) c.requires.sound.whole c.requires.short near c.promote.ensures.promotes).whole;
-      chained = subst (λ p. IsChained (labels_of p.uses.items) p.earlier.items p.heads) (sym c.await_island.ensures.rest) c.end_island.ensures.chained;
+      chained = subst (λ p. AreChained p.uses.items p.earlier.items p.heads p.loads) (sym c.await_island.ensures.rest) c.end_island.ensures.chained;
       waiting = subst (λ us. AreWaiting g.K.MachInstLabelUse.kinds us c.await_island.new.self.queues c.await_island.new.self.burdens) (sym (ap (λ p. p.uses.items) c.await_island.ensures.rest)) c.await_island.ensures.waiting;
     }
 

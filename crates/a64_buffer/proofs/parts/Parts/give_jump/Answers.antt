@@ -11,7 +11,7 @@ use Rattle.a64_buffer.proofs.parts.Parts.give_jump.Goals as goal
 pub push_use-requires-clause-known : goal.push_use-requires-clause-known
 push_use-requires-clause-known g c =
     subst (λ p. IfSome (label_of c.index.result.now.target) (λ label. IsSome (get p.heads label))) (sym c.stop_at.ensures.rest)
-    (has_head c.args.self.now.uses.items c.args.self.now.earlier.items c.args.self.now.heads c.args.index c.index.result.now c.requires.chained c.requires.within c.index.ensures)
+    (has_head c.args.self.now.uses.items c.args.self.now.earlier.items c.args.self.now.heads c.args.index c.index.result.now c.requires.chained.labels c.requires.within c.index.ensures)
 
 pub push_use-requires-clause-few : goal.push_use-requires-clause-few
 push_use-requires-clause-few g c = omega (arith, c.requires.few, c.stop_at.ensures.less)

@@ -1,5 +1,5 @@
 use Rattle.std.proofs.Common.{sym, ap, subst, refl}
-use Rattle.a64_buffer.specs.Chain.{labels_of}
+use Rattle.a64_buffer.specs.Chain.{labels_of, loads_of}
 use Rattle.a64_buffer.specs.Sound.{IsWhole}
 use Rattle.a64_buffer.proofs.Memory.{same_buffer}
 use Rattle.a64_buffer.proofs.Sounds.{whole_empty}
@@ -9,7 +9,10 @@ use Rattle.a64_buffer.proofs.parts.Parts.new.Goals as goal
 
 pub returns-clause-sound : goal.returns-clause-sound
 returns-clause-sound g c = record {
-  whole = subst (IsWhole g.K.MachInstLabelUse.kinds) (sym (same_buffer _ _ _ _ _ _ _ _ _ _ _ _ c.new.ensures.items c.new-2.ensures.items c.new-3.ensures c.new-6.ensures.items c.new-7.ensures.items refl)) (whole_empty g.K.MachInstLabelUse.kinds c.args.constants.now);
-  chained = chained_empty _ _ _ (ap labels_of c.new-2.ensures.items) c.new-4.ensures.items c.new-5.ensures;
+  whole = subst (IsWhole g.K.MachInstLabelUse.kinds) (sym (same_buffer _ _ _ _ _ _ _ _ _ _ _ _ c.new.ensures.items c.new-2.ensures.items c.new-3.ensures c.new-7.ensures.items c.new-8.ensures.items refl)) (whole_empty g.K.MachInstLabelUse.kinds c.args.constants.now);
+  chained = record {
+    labels = chained_empty _ _ _ (ap labels_of c.new-2.ensures.items) c.new-4.ensures.items c.new-5.ensures;
+    constants = chained_empty _ _ _ (ap loads_of c.new-2.ensures.items) c.new-4.ensures.items c.new-6.ensures;
+  };
   waiting = none_waits g.K.MachInstLabelUse.kinds _ _ _ c.new-2.ensures.items c.no_queues.ensures.none c.no_queues.ensures.order c.no_queues.ensures.next c.no_queues.ensures.limit refl;
 }

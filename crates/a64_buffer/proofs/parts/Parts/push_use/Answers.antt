@@ -3,15 +3,15 @@ use Rattle.a64_buffer.specs.Classes.{first, second, third, cost}
 use Rattle.a64_buffer.specs.Queues.{AreBurdens}
 use Rattle.a64_buffer.proofs.Costs.{burden_third}
 use Rattle.a64_buffer.proofs.Burdens.{pushed_burdens}
-use Rattle.a64_buffer.proofs.Stops.{chained_more}
+use Rattle.a64_buffer.proofs.Stops.{chained_other}
 use Rattle.a64_buffer.proofs.parts.Parts.push_use.Goals as goal
 
 pub returns-clause-chained : goal.returns-clause-chained
 returns-clause-chained g c =
-    chained_more c.args.self.now.uses.items c.push_reserved-2.new.self.items c.args.self.now.earlier.items c.push_reserved.new.self.items c.args.self.now.heads c.link-earlier.new.self.heads c.args.site c.link-earlier.result c.requires.chained
+    chained_other c.args.self.now.uses.items c.push_reserved-2.new.self.items c.args.self.now.earlier.items c.push_reserved.new.self.items c.args.self.now.heads c.link-earlier.new.self.heads c.args.self.now.loads c.link-earlier.new.self.loads c.args.site c.link-earlier.result c.requires.chained
     (c.push_reserved-2.ensures.items ∙ ap (λ p. p.uses.items ++ c.args.site ∷ []) c.link-earlier.ensures.rest)
     (c.push_reserved.ensures.items ∙ ap (λ p. p.earlier.items ++ c.link-earlier.result ∷ []) c.link-earlier.ensures.rest)
-    c.link-earlier.ensures.earlier c.link-earlier.ensures.heads
+    c.requires.target c.link-earlier.ensures.earlier c.link-earlier.ensures.heads (ap (λ p. p.loads) c.link-earlier.ensures.rest)
 
 pub gain-requires-clause-first : goal.gain-requires-clause-first
 gain-requires-clause-first g c = omega (arith, c.requires.few, c.requires.burdens.first_is, c.requires.burdens.third_is, burden_third g.K.MachInstLabelUse.kinds first c.args.self.now.uses.items, ap (λ p. p.burdens.first) c.link-earlier.ensures.rest)

@@ -2,7 +2,7 @@ use Rattle.std.proofs.Common.{◌≡◌, ◌-◌, None, length, refl, sym, ◌�
 use Rattle.a64_buffer.specs.declared.site.Target.TheVariants.{IslandEnd}
 use Rattle.a64_buffer.specs.declared.site.Use.{Use}
 use Rattle.a64_buffer.specs.Classes.{class, veneer_uses, weight_of}
-use Rattle.a64_buffer.specs.Chain.{labels_of, IsChained}
+use Rattle.a64_buffer.specs.Chain.{AreChained}
 use Rattle.a64_buffer.specs.Queues.{HaveRoomFor, LoseRoom, AllHold, AllLimits, AreBurdens}
 use Rattle.a64_buffer.specs.Sound.{seen}
 use Rattle.a64_buffer.specs.Steps.{GivesAll}
@@ -32,7 +32,7 @@ pub returns-clause-gives : goal.returns-clause-gives
 returns-clause-gives g c = λ d. subst (GivesAll g.K.MachInstLabelUse.kinds (class g.K.MachInstLabelUse.kinds (get_or c.args.self.now.uses.items c.args.index d)) (seen c.args.self.now)) (sym (ap (λ p. seen p) c.queue_new.ensures.rest)) (c.give.ensures.gives d)
 
 pub returns-clause-chained : goal.returns-clause-chained
-returns-clause-chained g c = subst (λ p. IsChained (labels_of p.uses.items) p.earlier.items p.heads) (sym c.queue_new.ensures.rest) c.give.ensures.chained
+returns-clause-chained g c = subst (λ p. AreChained p.uses.items p.earlier.items p.heads p.loads) (sym c.queue_new.ensures.rest) c.give.ensures.chained
 
 pub returns-clause-room : goal.returns-clause-room
 returns-clause-room g c = record {

@@ -1,16 +1,19 @@
-use Rattle.std.proofs.Common.{◌≡◌, ◌+◌, List, Some, set, refl, arith}
+use Rattle.std.proofs.Common.{◌≡◌, ◌+◌, List, Some, set, refl, ◌∙◌, ap, arith}
 use Rattle.a64_buffer.specs.declared.site.Use.{Use}
+use Rattle.a64_buffer.specs.Chain.{constant_of}
 use Rattle.a64_buffer.specs.Classes.{first, second, third, cost, burden}
 use Rattle.a64_buffer.proofs.Queued.{stopped_closed}
 use Rattle.a64_buffer.proofs.Burdens.{stop_burden, stopped_burdens}
-use Rattle.a64_buffer.proofs.Stops.{set_is_map, set_labels}
+use Rattle.a64_buffer.proofs.Stops.{set_is_map, chained_set}
 use Rattle.a64_buffer.proofs.parts.Parts.stop_at.Goals as goal
 
 pub returns-clause-uses : goal.returns-clause-uses
 returns-clause-uses g c = λ d apart. set_is_map c.args.self.now.uses.items c.args.index c.args.place c.index_mut.result.now d apart c.requires.index c.index_mut.ensures.value
 
-pub returns-clause-labels : goal.returns-clause-labels
-returns-clause-labels g c = set_labels c.args.self.now.uses.items c.args.index c.args.place c.index_mut.result.now c.requires.index c.index_mut.ensures.value
+pub returns-clause-chained : goal.returns-clause-chained
+returns-clause-chained g c =
+    chained_set c.args.self.now.uses.items c.args.self.now.earlier.items c.args.self.now.heads c.args.self.now.loads c.args.index c.args.place c.index_mut.result.now c.requires.index c.index_mut.ensures.value
+    (ap (λ (u : Use g.row.K.Denot). constant_of u.target) c.index_mut.ensures.value ∙ c.requires.target c.index_mut.result.now) c.requires.chained
 
 pub lose-requires-clause-first : goal.lose-requires-clause-first
 lose-requires-clause-first g c =

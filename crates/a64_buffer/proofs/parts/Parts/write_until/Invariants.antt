@@ -1,6 +1,6 @@
 use Rattle.a64_buffer.specs.Classes.{veneer_uses, weight_of, owed}
 use Rattle.a64_buffer.specs.Queues.{HaveRoomFor, AllHold, AllLimits, AreBurdens}
-use Rattle.a64_buffer.specs.Chain.{labels_of, IsChained}
+use Rattle.a64_buffer.specs.Chain.{AreChained}
 use Rattle.a64_buffer.specs.Sound.{seen}
 use Rattle.a64_buffer.specs.Space.{SameRoom, HasSpace}
 use Rattle.a64_buffer.specs.Steps.{IsWriting}
@@ -10,7 +10,7 @@ abbrev pub invariant-loop-index : goal.invariant-loop-index
 invariant-loop-index g l = record {
   writing : IsWriting g.K.MachInstLabelUse.kinds l.limit (seen l.fn.self) (seen l.self);
   space : HasSpace g.K.MachInstLabelUse.kinds l.self;
-  chained : IsChained (labels_of l.self.uses.items) l.self.earlier.items l.self.heads;
+  chained : AreChained l.self.uses.items l.self.earlier.items l.self.heads l.self.loads;
   room : SameRoom l.fn.self l.self;
   burdens : AreBurdens g.K.MachInstLabelUse.kinds l.self.uses.items l.self.burdens;
   hold : AllHold g.K.MachInstLabelUse.kinds l.self.uses.items l.self.queues;
