@@ -179,11 +179,14 @@ module _ (frame : FrameLayout) (flags : EmitFlags) (constants : FinMap nat_cmp (
   pub fault_at_binding : (error : EmitError) → own_fault frame flags constants items ≡ None → second_binding items ≡ Some error → fault_of frame flags constants force items ≡ Some error
   fault_at_binding error own a = after_item own ∙ ap (λ o. or_else o of_uses) a
 
-  pub fault_at_use : (error : EmitError) → own_fault frame flags constants items ≡ None → second_binding items ≡ None → unbound_use frame flags items ≡ Some error → fault_of frame flags constants force items ≡ Some error
-  fault_at_use error own a b = after_binding own a ∙ ap (λ o. or_else o of_size) b
+  -- the first of three faults is the first of two, where one of these is there
+  or_else_first : (a b c : Option EmitError) (error : EmitError) → or_else a b ≡ Some error → or_else a (or_else b c) ≡ Some error
+  or_else_first None b c error is = ap (λ o. or_else o c) is
+  or_else_first (Some fault) b c error is = is
 
-  pub fault_at_size : (error : EmitError) → own_fault frame flags constants items ≡ None → second_binding items ≡ None → unbound_use frame flags items ≡ None → too_large frame flags items ≡ Some error → fault_of frame flags constants force items ≡ Some error
-  fault_at_size error own a b c = after_use own a b ∙ ap (λ o. or_else o (out_of_reach frame flags force items)) c
+  pub fault_at_code : (error : EmitError) → own_fault frame flags constants items ≡ None → second_binding items ≡ None → or_else (unbound_use frame flags items) (too_large frame flags items) ≡ Some error → fault_of frame flags constants force items ≡ Some error
+  fault_at_code error own a found =
+      after_binding own a ∙ or_else_first (unbound_use frame flags items) (too_large frame flags items) (out_of_reach frame flags force items) error found
 
   -- the last check decides where the others find nothing
   pub fault_at_reach : own_fault frame flags constants items ≡ None → second_binding items ≡ None → unbound_use frame flags items ≡ None → too_large frame flags items ≡ None → fault_of frame flags constants force items ≡ out_of_reach frame flags force items

@@ -23,7 +23,7 @@ use Rattle.a64_imms.proofs.LogicRuns.{passed}
 use Rattle.a64_ops.specs.declared.operator.ALUOp.{ALUOp}
 use Rattle.a64_ops.specs.declared.operator.ALUOp.TheVariants as alu
 use Rattle.a64_inst.specs.declared.virtuals.VirtualRegisters.TheVariants.{Refused}
-use Rattle.a64_inst.specs.ControlOperands.{are_jump_operands, are_cond_br_operands, are_test_bit_operands, is_target14, is_target19, is_test}
+use Rattle.a64_inst.specs.ControlOperands.{are_jump_operands, are_cond_br_operands, are_test_bit_operands, is_target, is_test}
 use Rattle.a64_inst.specs.Operands.{is_int, is_register, is_register_or_zero, is_register_or_stack, is_stack_pointer, is_same_size, is_bit_of, is_logic_of, is_near}
 use Rattle.a64_inst.specs.IntegerOperands.{is_add_sub_result, is_logic_result, is_fixed_operand, is_fixed_result, is_extension, is_extend_result, are_alu_rrr_operands, are_alu_rr_imm12_operands, are_move_registers, are_mov_operands, are_mov_from_preg_operands, are_mov_to_preg_operands, are_extend_operands}
 use Rattle.a64_rows.specs.Forms.{IsFormOf}
@@ -263,20 +263,20 @@ extension_is_form rd rn signed from_bits to_bits size opc e size_is opc_is =
 
 -- what the test of a conditional branch says of each operand
 pub record IsCondBr (taken not_taken : BranchTarget) (kind : CondBrKind) : Type 0 where
-  pub target : is_target19 taken ≡ true
+  pub target : is_target (2 ^ 20) taken ≡ true
   pub jump : are_jump_operands not_taken ≡ true
   pub test : is_test Refused kind ≡ true
 
 pub cond_br_parts : (taken not_taken : BranchTarget) (kind : CondBrKind) → are_cond_br_operands Refused taken not_taken kind ≡ true → IsCondBr taken not_taken kind
 unfolding are_cond_br_operands
 cond_br_parts taken not_taken kind e =
-    let (targets, test) = and_parts (is_target19 taken && are_jump_operands not_taken) (is_test Refused kind) e in
-    let (target, jump) = and_parts (is_target19 taken) (are_jump_operands not_taken) targets in
+    let (targets, test) = and_parts (is_target (2 ^ 20) taken && are_jump_operands not_taken) (is_test Refused kind) e in
+    let (target, jump) = and_parts (is_target (2 ^ 20) taken) (are_jump_operands not_taken) targets in
     record { target = target; jump = jump; test = test }
 
 -- and of a branch on a bit
 pub record IsTestBit (taken not_taken : BranchTarget) (rn : Reg) (bit : ℕ) : Type 0 where
-  pub target : is_target14 taken ≡ true
+  pub target : is_target (2 ^ 15) taken ≡ true
   pub jump : are_jump_operands not_taken ≡ true
   pub register : is_register_or_zero Refused rn ≡ true
   pub below : bit < 64
@@ -284,7 +284,7 @@ pub record IsTestBit (taken not_taken : BranchTarget) (rn : Reg) (bit : ℕ) : T
 pub test_bit_parts : (taken not_taken : BranchTarget) (rn : Reg) (bit : ℕ) → are_test_bit_operands Refused taken not_taken rn bit ≡ true → IsTestBit taken not_taken rn bit
 unfolding are_test_bit_operands
 test_bit_parts taken not_taken rn bit e =
-    let (others, below) = and_parts ((is_target14 taken && are_jump_operands not_taken) && is_register_or_zero Refused rn) (nat_lt bit 64) e in
-    let (targets, register) = and_parts (is_target14 taken && are_jump_operands not_taken) (is_register_or_zero Refused rn) others in
-    let (target, jump) = and_parts (is_target14 taken) (are_jump_operands not_taken) targets in
+    let (others, below) = and_parts ((is_target (2 ^ 15) taken && are_jump_operands not_taken) && is_register_or_zero Refused rn) (nat_lt bit 64) e in
+    let (targets, register) = and_parts (is_target (2 ^ 15) taken && are_jump_operands not_taken) (is_register_or_zero Refused rn) others in
+    let (target, jump) = and_parts (is_target (2 ^ 15) taken) (are_jump_operands not_taken) targets in
     record { target = target; jump = jump; register = register; below = ltb-true bit 64 below }

@@ -61,3 +61,6 @@ module _ (frame : FrameLayout) (flags : EmitFlags) where
 -- sums that stand at the greatest number, by one more
 pub saturated_more : (w size charge : ℕ) → saturated (saturated (saturated w + saturated size) + saturated charge) ≡ saturated (w + (size + charge))
 saturated_more w size charge = omega arith
+
+pub saturated_once : (w growth : ℕ) → saturated (saturated w + growth) ≡ saturated (w + growth)
+saturated_once w growth = omega arith

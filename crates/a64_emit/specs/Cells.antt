@@ -251,3 +251,7 @@ uses_of n (c ∷ cs) = use_of n c.site ++ uses_of (n + 1) cs
 -- the uses of an instruction's words
 abbrev pub inst_uses : FrameLayout → EmitFlags → Inst → List CellUse
 inst_uses frame flags inst = uses_of 0 (inst_cells frame flags inst)
+
+-- the uses of words of which only the first two may be uses
+abbrev pub two_uses : Option Site → Option Site → List CellUse
+two_uses first second = use_of 0 first ++ use_of 1 second

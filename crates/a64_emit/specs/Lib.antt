@@ -8,6 +8,7 @@ pub mod Cells
 pub mod Words
 pub mod Bounds
 pub mod Reach
+pub mod Lights
 pub mod Starts
 pub mod Layout
 pub mod Emission

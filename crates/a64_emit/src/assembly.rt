@@ -2,13 +2,14 @@
 
 ghost use Rattle.std.specs.Prelude.{◌≡◌, None, [], ◌^◌, ◌<◌, length, IfOk, IfErr, OnOk};
 ghost use Rattle.std.specs.FinMap.{empty};
+ghost use Rattle.a64_buffer.specs.Buffer.{new_buffer};
 ghost use Rattle.a64_buffer.specs.declared.force.ForceVeneers.TheVariants.{No};
 ghost use Rattle.a64_emit.specs.Cells.{cells_of};
 ghost use Rattle.a64_emit.specs.Emission.{HasRoom, ItemFits, IsUnbound, Steps, HasEmitted};
 ghost use Rattle.a64_emit.specs.Faults.{item_fault, own_fault, second_binding, too_large};
 ghost use Rattle.a64_emit.specs.Assembled.{IsAssembled, IsRefusal};
 
-use crate::checks::{bound_labels, check_items, check_size, check_uses};
+use crate::checks::{bound_labels, check_code, check_items};
 use crate::code::Code;
 use crate::emit::MachInstEmit;
 use crate::error::EmitError;
@@ -67,6 +68,20 @@ fn emit_items(
     Ok(places)
 }
 
+/// A buffer without code, with memory for so many words and uses.
+fn buffer_for(
+    alloc: Global,
+    constants: &Constants,
+    words: usize,
+    uses: usize,
+) -> Result<MachBuffer<'_, LabelUse>, AllocError>
+    ensures { IfOk result (λ buffer. buffer ≡ new_buffer constants.now) }
+{
+    let mut buffer = MachBuffer::new(alloc, constants);
+    buffer.reserve(words, uses)?;
+    Ok(buffer)
+}
+
 /// The code of items: each stands at its place, in order, and each use leads to its label.
 ///
 /// Islands cannot be forced yet.
@@ -90,11 +105,10 @@ pub fn assemble(
 {
     check_items(items, constants, info, frame)?;
     let bound = bound_labels(alloc, items)?;
-    let near = check_uses(items, &bound, info, frame)?;
-    let size = check_size(items, info, frame)?;
-    check_reach(alloc, items, near, size, info, frame)?;
+    let found = check_code(items, &bound, info, frame)?;
+    check_reach(alloc, items, found.near, found.size, info, frame)?;
     let mut state = EmitState::new(frame.try_clone(alloc)?);
-    let mut buffer = MachBuffer::new(alloc, constants);
+    let mut buffer = buffer_for(alloc, constants, items.len(), found.users)?;
     let places = emit_items(alloc, items, &mut buffer, info, &mut state)?;
     let finished = buffer.finish()?;
     Ok(code_of(places, finished))

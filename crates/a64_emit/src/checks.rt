@@ -1,22 +1,21 @@
 //! The checks of items before they are emitted.
 
-ghost use Rattle.std.specs.Prelude.{◌≡◌, ◌⊎◌, None, Some, IfOk, IfErr, MatchResult, ◌∷◌, [], ℕ};
-ghost use Rattle.std.specs.List.{filter_map, list_any};
+ghost use Rattle.std.specs.Prelude.{◌≡◌, ◌⊎◌, None, Some, IfOk, IfErr, MatchResult, [], ℕ};
+ghost use Rattle.std.specs.List.{cons_option, filter_map, list_any};
 ghost use Rattle.a64_emit.specs.declared.error.EmitError.TheVariants.{OutOfMemory};
-ghost use Rattle.a64_emit.specs.Cells.{inst_cells, sites_of};
+ghost use Rattle.a64_emit.specs.Cells.{sites_of, two_uses, uses_of};
 ghost use Rattle.a64_emit.specs.Faults as Faults;
-ghost use Rattle.a64_emit.specs.Faults.{own_fault, HasLabels, bindings, second_binding, first_missing, used_label, unbound_use, is_too_long, too_large};
+ghost use Rattle.a64_emit.specs.Faults.{own_fault, HasLabels, bindings, second_binding, first_missing, used_label, unbound_use, is_too_long, or_else, too_large};
 ghost use Rattle.a64_emit.specs.Bounds.{saturated, whole};
 ghost use Rattle.a64_emit.specs.Reach.{is_near, has_near};
 
 use crate::error::EmitError;
-use crate::extent::{Extent, extent_of, lesser};
+use crate::extent::{Burden, burden_of, lesser, light_of};
 use crate::reach::near_label;
-use crate::site::Site;
-use crate::uses::nth_use;
+use crate::site::{Site, Uses};
 use a64_base::MachLabel;
 use a64_buffer::{Constants, Target};
-use a64_inst::{EmitInfo, FrameLayout, Inst, Item, OwnFault, VirtualRegisters};
+use a64_inst::{EmitInfo, FrameLayout, Item, OwnFault, VirtualRegisters};
 use a64_label_map::LabelMap;
 use std::alloc::Global;
 
@@ -96,78 +95,44 @@ pub fn bound_labels(alloc: Global, items: &[Item]) -> Result<LabelMap<()>, EmitE
 
 /// The label that a use leads to, where it is not bound.
 #[inline(always)]
-fn missing(site: Site, bound: &LabelMap<()>) -> Option<MachLabel>
-    ensures { (labels : _) → HasLabels bound.now labels → result ≡ first_missing labels (filter_map used_label (site ∷ [])) }
+fn missing(site: Option<Site>, bound: &LabelMap<()>) -> Option<MachLabel>
+    ensures { (labels : _) → HasLabels bound.now labels → result ≡ first_missing labels (filter_map used_label (cons_option site [])) }
 {
-    match site.target {
+    match site?.target {
         Target::Label(label) if !bound.contains(label.0) => Some(label),
         _ => None,
     }
 }
 
-/// What is found among the uses of an instruction.
-#[derive(Clone, Copy)]
-struct Scan {
-    /// The first label that is not bound.
-    missing: Option<MachLabel>,
-    /// Whether some use before it needs its label near.
-    near: bool,
-}
-
-/// What is found among the uses of an instruction.
+/// The first label that one of these uses leads to and that is not bound.
 #[inline(always)]
-fn scan_uses(inst: &Inst, bound: &LabelMap<()>, frame: &FrameLayout, info: &EmitInfo) -> Scan
-    ensures missing { (labels : _) → HasLabels bound.now labels
-        → result.missing ≡ first_missing labels (filter_map used_label (sites_of (inst_cells frame.now info.now inst.now))) }
-    ensures near { result.missing ≡ None → result.near ≡ list_any is_near (sites_of (inst_cells frame.now info.now inst.now)) }
+fn missing_in(uses: Uses, bound: &LabelMap<()>) -> Option<MachLabel>
+    ensures { (labels : _) → HasLabels bound.now labels
+        → (cells : _) → uses_of 0 cells ≡ two_uses uses.first uses.second → result ≡ first_missing labels (filter_map used_label (sites_of cells)) }
 {
-    let mut near = false;
-    let mut n = 0;
-    while let Some(found) = nth_use(inst, n, frame, info) {
-        let label = missing(found.site, bound);
-        if label.is_some() {
-            return Scan {
-                missing: label,
-                near,
-            };
-        }
-        near |= near_label(found.site).is_some();
-        n += 1;
-    }
-    Scan {
-        missing: None,
-        near,
+    match missing(uses.first, bound) {
+        Some(label) => Some(label),
+        None => missing(uses.second, bound),
     }
 }
 
-/// Whether some use of items needs its label near, where each label that they use is bound.
-///
-/// # Errors
-///
-/// The first label that is not.
-pub fn check_uses(
-    items: &[Item],
-    bound: &LabelMap<()>,
-    info: &EmitInfo,
-    frame: &FrameLayout,
-) -> Result<bool, EmitError>
-    requires { HasLabels bound.now (bindings items.now) }
-    ensures { MatchResult result
-        (λ near. (unbound_use frame.now info.now items.now ≡ None) × (near ≡ has_near frame.now info.now items.now))
-        (λ error. unbound_use frame.now info.now items.now ≡ Some error) }
+/// Whether a use needs its label near.
+#[inline(always)]
+fn near_use(site: Option<Site>) -> bool
+    ensures { result ≡ list_any is_near (cons_option site []) }
 {
-    let mut near = false;
-    for item in items {
-        let Item::Emit { inst, map: _ } = item else {
-            continue;
-        };
-        let found = scan_uses(inst, bound, frame, info);
-        if let Some(label) = found.missing {
-            return Err(EmitError::UnboundLabel(label));
-        }
-        near |= found.near;
+    match site {
+        Some(site) => near_label(site).is_some(),
+        None => false,
     }
-    Ok(near)
+}
+
+/// Whether one of these uses needs its label near.
+#[inline(always)]
+fn near_in(uses: Uses) -> bool
+    ensures { (cells : _) → uses_of 0 cells ≡ two_uses uses.first uses.second → result ≡ list_any is_near (sites_of cells) }
+{
+    near_use(uses.first) | near_use(uses.second)
 }
 
 /// Whether so many bytes, or the greatest number where they are more, are too many to be addressed,
@@ -185,30 +150,67 @@ fn exceeds(whole: u64, shortest: Option<u32>) -> bool
     }
 }
 
-/// How many bytes code of the items may have, where it can be addressed, and each use that may have a
-/// veneer reaches its label.
+/// What is found of the code that items are.
+#[derive(Clone, Copy)]
+pub struct Found {
+    /// How many bytes it may have.
+    pub size: u64,
+    /// Whether some use needs its label near.
+    pub near: bool,
+    /// How many items may have uses. Memory for these is taken at once, so no clause tells it.
+    pub users: usize,
+}
+
+/// How many bytes code of the items may have, and whether some use of it needs its label near, where
+/// each label that they use is bound, the code can be addressed, and each use that may have a veneer
+/// reaches its label.
 ///
 /// # Errors
 ///
-/// It may be too large for that.
-pub fn check_size(items: &[Item], info: &EmitInfo, frame: &FrameLayout) -> Result<u64, EmitError>
+/// The first label that is not bound, or else that the code may be too large.
+pub fn check_code(
+    items: &[Item],
+    bound: &LabelMap<()>,
+    info: &EmitInfo,
+    frame: &FrameLayout,
+) -> Result<Found, EmitError>
+    requires { HasLabels bound.now (bindings items.now) }
     ensures { MatchResult result
-        (λ size. (too_large frame.now info.now items.now ≡ None) × (size ≡ saturated (whole frame.now info.now items.now)))
-        (λ error. too_large frame.now info.now items.now ≡ Some error) }
+        (λ found. (unbound_use frame.now info.now items.now ≡ None) × (too_large frame.now info.now items.now ≡ None)
+        × (found.near ≡ has_near frame.now info.now items.now) × (found.size ≡ saturated (whole frame.now info.now items.now)))
+        (λ error. or_else (unbound_use frame.now info.now items.now) (too_large frame.now info.now items.now) ≡ Some error) }
 {
+    let mut near = false;
     let mut whole: u64 = 0;
     let mut shortest = None;
+    let mut users: usize = 0;
     for item in items {
-        let Extent {
-            size,
-            charge,
-            range,
-        } = extent_of(item, frame, info);
-        whole = whole.saturating_add(size).saturating_add(charge);
-        shortest = lesser(shortest, range);
+        if let Some(light) = light_of(item, frame, info) {
+            if let Some(label) = missing(light.site, bound) {
+                return Err(EmitError::UnboundLabel(label));
+            }
+            whole = whole.saturating_add(light.growth);
+            shortest = lesser(shortest, light.range);
+            users = users.wrapping_add(usize::from(light.site.is_some()));
+            continue;
+        }
+        let Burden { extent, uses } = burden_of(item, frame, info);
+        if let Some(label) = missing_in(uses, bound) {
+            return Err(EmitError::UnboundLabel(label));
+        }
+        near |= near_in(uses);
+        users = users.wrapping_add(1);
+        whole = whole
+            .saturating_add(extent.size)
+            .saturating_add(extent.charge);
+        shortest = lesser(shortest, extent.range);
     }
     if exceeds(whole, shortest) {
         return Err(EmitError::TooLarge);
     }
-    Ok(whole)
+    Ok(Found {
+        size: whole,
+        near,
+        users,
+    })
 }

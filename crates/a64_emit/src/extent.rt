@@ -1,15 +1,21 @@
 //! How much an item adds to code.
 
-ghost use Rattle.std.specs.Prelude.{◌≡◌, [], length};
+ghost use Rattle.std.specs.Prelude.{◌≡◌, ◌+◌, [], ◌∷◌, None, length, option_and_then, IfSome};
+ghost use Rattle.std.specs.List.{cons_option};
 ghost use Rattle.a64_inst.specs.declared.group.Group.TheVariants.{Control};
 ghost use Rattle.a64_inst.specs.Groups.{group_of};
 ghost use Rattle.a64_emit.specs.Bounds as bounds;
-ghost use Rattle.a64_emit.specs.Bounds.{IsExtent, AreExtent, ranges_in, least, saturated, charge_of};
-ghost use Rattle.a64_emit.specs.Cells.{inst_cells};
+ghost use Rattle.a64_emit.specs.Bounds.{IsExtent, AreExtent, ranges_in, least, saturated, charge_of, growth_of, size_of};
+ghost use Rattle.a64_rows.specs.Forms.{Form};
+ghost use Rattle.a64_emit.specs.declared.label_use.LabelUse.TheVariants as uses;
+ghost use Rattle.a64_emit.specs.Cells.{branch, cells_of, inst_cells, inst_uses, two_uses, uses_of};
+ghost use Rattle.a64_emit.specs.Lights.{IsLight};
 
-use crate::site::Site;
-use crate::uses::nth_use;
+use crate::label_use::LabelUse;
+use crate::site::{Site, Uses};
+use crate::uses::{control_uses, memory_uses, only_use};
 use crate::word::memory::memory_count;
+use a64_base::BranchTarget;
 use a64_buffer::{MachInstLabelUse, Target};
 use a64_inst::{EmitInfo, FrameLayout, Group, Inst, Item};
 
@@ -22,6 +28,15 @@ pub struct Extent {
     pub charge: u64,
     /// The shortest forward range of its uses that may want veneers.
     pub range: Option<u32>,
+}
+
+/// How much an item may add to code, and the uses of its words.
+#[derive(Clone, Copy)]
+pub struct Burden {
+    /// How much it may add.
+    pub extent: Extent,
+    /// The uses.
+    pub uses: Uses,
 }
 
 /// The uses of an instruction that may want veneers.
@@ -57,25 +72,37 @@ fn veneer_range(site: Site) -> Option<u32>
     }
 }
 
-/// The uses of an instruction that may want veneers.
-fn wanting_in(inst: &Inst, frame: &FrameLayout, info: &EmitInfo) -> Wanting
-    ensures count { result.count ≡ length (ranges_in (inst_cells frame.now info.now inst.now)) }
-    ensures range { result.range ≡ least (ranges_in (inst_cells frame.now info.now inst.now)) }
+/// The forward range of a use in bytes, where there is one that may want a veneer.
+#[inline(always)]
+fn range_of(site: Option<Site>) -> Option<u32>
+    ensures { result ≡ option_and_then bounds.veneer_range site }
 {
-    let mut count: u64 = 0;
-    let mut shortest = None;
-    let mut n = 0;
-    while let Some(found) = nth_use(inst, n, frame, info) {
-        n += 1;
-        let Some(range) = veneer_range(found.site) else {
-            continue;
-        };
-        count += 1;
-        shortest = lesser(shortest, Some(range));
+    veneer_range(site?)
+}
+
+/// How many of two there are.
+#[inline(always)]
+fn count_of(first: Option<u32>, second: Option<u32>) -> u64
+    ensures { result ≡ length (cons_option first (cons_option second [])) }
+{
+    match (first, second) {
+        (None, None) => 0,
+        (Some(_), None) | (None, Some(_)) => 1,
+        (Some(_), Some(_)) => 2,
     }
+}
+
+/// Which of these uses may want veneers.
+#[inline(always)]
+fn wanting_in(uses: Uses) -> Wanting
+    ensures count { (cells : _) → uses_of 0 cells ≡ two_uses uses.first uses.second → result.count ≡ length (ranges_in cells) }
+    ensures range { (cells : _) → uses_of 0 cells ≡ two_uses uses.first uses.second → result.range ≡ least (ranges_in cells) }
+{
+    let first = range_of(uses.first);
+    let second = range_of(uses.second);
     Wanting {
-        count,
-        range: shortest,
+        count: count_of(first, second),
+        range: lesser(first, second),
     }
 }
 
@@ -115,14 +142,15 @@ fn quiet_extent(words: u64) -> Extent
     }
 }
 
-/// How much a branch, an address or data may add to code.
-#[inline(never)]
-fn control_extent(inst: &Inst, frame: &FrameLayout, info: &EmitInfo) -> Extent
-    requires { group_of inst.now ≡ Control }
+/// How much a branch, an address or data with these uses may add to code.
+#[inline(always)]
+fn control_extent(inst: &Inst, uses: Uses, frame: &FrameLayout, info: &EmitInfo) -> Extent
+    requires group { group_of inst.now ≡ Control }
+    requires uses { inst_uses frame.now info.now inst.now ≡ two_uses uses.first uses.second }
     ensures { AreExtent (inst_cells frame.now info.now inst.now) result.size result.charge result.range }
 {
     let words = control_count(inst, frame, info);
-    let wanting = wanting_in(inst, frame, info);
+    let wanting = wanting_in(uses);
     Extent {
         size: words.saturating_mul(4),
         charge: charge(words, wanting.count),
@@ -130,29 +158,121 @@ fn control_extent(inst: &Inst, frame: &FrameLayout, info: &EmitInfo) -> Extent
     }
 }
 
-/// How much an instruction may add to code.
+/// How much an instruction may add to code, and its uses.
 #[inline(always)]
-fn inst_extent(inst: &Inst, frame: &FrameLayout, info: &EmitInfo) -> Extent
-    ensures { AreExtent (inst_cells frame.now info.now inst.now) result.size result.charge result.range }
+fn inst_burden(inst: &Inst, frame: &FrameLayout, info: &EmitInfo) -> Burden
+    ensures extent { AreExtent (inst_cells frame.now info.now inst.now) result.extent.size result.extent.charge result.extent.range }
+    ensures uses { inst_uses frame.now info.now inst.now ≡ two_uses result.uses.first result.uses.second }
 {
     match inst.group() {
-        Group::Immediate | Group::Register => quiet_extent(1),
-        Group::Control => control_extent(inst, frame, info),
-        Group::Memory => quiet_extent(memory_count(inst, frame, info)),
+        Group::Immediate | Group::Register => Burden {
+            extent: quiet_extent(1),
+            uses: only_use(None),
+        },
+        Group::Control => {
+            let uses = control_uses(inst, frame, info);
+            Burden {
+                extent: control_extent(inst, uses, frame, info),
+                uses,
+            }
+        }
+        Group::Memory => Burden {
+            extent: quiet_extent(memory_count(inst, frame, info)),
+            uses: memory_uses(inst, frame, info),
+        },
     }
 }
 
-/// How much an item may add to code.
+/// What an item adds to code that has one use at most, and needs no label near.
+#[derive(Clone, Copy)]
+pub struct Light {
+    /// How many bytes it may add to code.
+    pub growth: u64,
+    /// Its use.
+    pub site: Option<Site>,
+    /// The forward range of the use in bytes, where it may want a veneer.
+    pub range: Option<u32>,
+}
+
+/// What an item adds that has no use.
 #[inline(always)]
-pub fn extent_of(item: &Item, frame: &FrameLayout, info: &EmitInfo) -> Extent
-    ensures { IsExtent frame.now info.now item.now result.size result.charge result.range }
+fn without_use(growth: u64) -> Light
+    ensures { result ≡ record { growth = growth; site = None; range = None } }
+{
+    Light {
+        growth,
+        site: None,
+        range: None,
+    }
+}
+
+/// What a jump adds: its word, and what an island may give it where it goes to a label.
+#[inline(always)]
+fn jump_light(dest: BranchTarget) -> Light
+    ensures { (form : Form) → IsLight (branch form uses.Branch26 dest ∷ []) (size_of (branch form uses.Branch26 dest ∷ []) + charge_of (branch form uses.Branch26 dest ∷ [])) result }
+{
+    match dest {
+        BranchTarget::Label(label) => Light {
+            growth: 36,
+            site: Some(Site {
+                kind: LabelUse::Branch26,
+                target: Target::Label(label),
+            }),
+            range: Some((1 << 27) - 1),
+        },
+        BranchTarget::ResolvedOffset(_) => without_use(8),
+    }
+}
+
+/// What an instruction adds that is a jump, or one word and no branch.
+#[inline(always)]
+fn control_light(inst: &Inst, _frame: &FrameLayout, _info: &EmitInfo) -> Option<Light>
+    requires { group_of inst.now ≡ Control }
+    ensures { IfSome result (IsLight (inst_cells _frame.now _info.now inst.now) (size_of (inst_cells _frame.now _info.now inst.now) + charge_of (inst_cells _frame.now _info.now inst.now))) }
+{
+    match inst {
+        Inst::Nop4
+        | Inst::MovToNZCV { .. }
+        | Inst::MovFromNZCV { .. }
+        | Inst::Ret
+        | Inst::IndirectBr { .. }
+        | Inst::Brk
+        | Inst::Word4 { .. } => Some(without_use(8)),
+        Inst::Jump { dest } => Some(jump_light(*dest)),
+        _ => None,
+    }
+}
+
+/// What an item adds, where a look at it says that it has one use at most and needs no label near.
+#[inline(always)]
+pub fn light_of(item: &Item, frame: &FrameLayout, info: &EmitInfo) -> Option<Light>
+    ensures { IfSome result (IsLight (cells_of frame.now info.now item.now) (growth_of frame.now info.now item.now)) }
 {
     match item {
-        Item::Bind(_) => Extent {
-            size: 0,
-            charge: 0,
-            range: None,
+        Item::Bind(_) => Some(without_use(0)),
+        Item::Emit { inst, map: _ } => match inst.group() {
+            Group::Immediate | Group::Register => Some(without_use(8)),
+            Group::Control => control_light(inst, frame, info),
+            Group::Memory => None,
         },
-        Item::Emit { inst, map: _ } => inst_extent(inst, frame, info),
+    }
+}
+
+/// How much an item may add to code, and its uses.
+#[inline(always)]
+pub fn burden_of(item: &Item, frame: &FrameLayout, info: &EmitInfo) -> Burden
+    ensures extent { IsExtent frame.now info.now item.now result.extent.size result.extent.charge result.extent.range }
+    ensures uses { uses_of 0 (cells_of frame.now info.now item.now) ≡ two_uses result.uses.first result.uses.second }
+{
+    match item {
+        Item::Bind(_) => Burden {
+            extent: Extent {
+                size: 0,
+                charge: 0,
+                range: None,
+            },
+            uses: only_use(None),
+        },
+        Item::Emit { inst, map: _ } => inst_burden(inst, frame, info),
     }
 }

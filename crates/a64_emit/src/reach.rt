@@ -1,6 +1,6 @@
 //! Whether the uses that can have no veneer reach their labels.
 
-ghost use Rattle.std.specs.Prelude.{◌≡◌, ◌⊎◌, ◌+◌, ◌^◌, ◌<◌, ◌≤◌, false, None, Some, IfOk, IfErr, MatchResult};
+ghost use Rattle.std.specs.Prelude.{◌≡◌, ◌⊎◌, ◌+◌, ◌^◌, ◌<◌, ◌≤◌, false, None, Some, option_and_then, IfOk, IfErr, MatchResult};
 ghost use Rattle.a64_buffer.specs.declared.force.ForceVeneers.TheVariants.{No};
 ghost use Rattle.a64_emit.specs.declared.error.EmitError.TheVariants.{OutOfMemory};
 ghost use Rattle.a64_emit.specs.Bounds.{saturated, whole, item_size};
@@ -11,10 +11,10 @@ ghost use Rattle.a64_emit.specs.Reach.{first_some, sizes, has_near, out_of_reach
 ghost use Rattle.a64_emit.specs.Starts.{HasStarts, far_from};
 
 use crate::error::EmitError;
-use crate::extent::extent_of;
+use crate::extent::burden_of;
 use crate::label_use::LabelUse;
 use crate::site::Site;
-use crate::uses::nth_use;
+use crate::uses::uses_in;
 use a64_base::MachLabel;
 use a64_buffer::Target;
 use a64_inst::{EmitInfo, FrameLayout, Inst, Item};
@@ -40,7 +40,7 @@ fn size_of(item: &Item, frame: &FrameLayout, info: &EmitInfo) -> u32
     requires { item_size frame.now info.now item.now < 2 ^ 31 }
     ensures { result ≡ item_size frame.now info.now item.now }
 {
-    extent_of(item, frame, info).size as u32
+    burden_of(item, frame, info).extent.size as u32
 }
 
 /// Where each bound label stands, if no island comes before it.
@@ -71,12 +71,12 @@ fn label_starts(
     Ok(starts)
 }
 
-/// The label of a use of an item between these places, where the use may be too far from it.
-fn far_label(site: Site, start: u32, end: u32, starts: &LabelMap<u32>) -> Option<MachLabel>
+/// The label of a use of an item between these places, where there is one that may be too far from it.
+fn far_label(site: Option<Site>, start: u32, end: u32, starts: &LabelMap<u32>) -> Option<MachLabel>
     requires { start ≤ end }
-    ensures { result ≡ far_from starts.now start end site }
+    ensures { result ≡ option_and_then (far_from starts.now start end) site }
 {
-    let label = near_label(site)?;
+    let label = near_label(site?)?;
     let place = starts.get(label.0)?;
     if end.max(place) - start.min(place) > NEAR_RANGE {
         Some(label)
@@ -97,15 +97,11 @@ fn far_in(
     requires { start ≤ end }
     ensures { result ≡ first_some (far_from starts.now start end) (sites_of (inst_cells frame.now info.now inst.now)) }
 {
-    let mut n = 0;
-    while let Some(found) = nth_use(inst, n, frame, info) {
-        let far = far_label(found.site, start, end, starts);
-        if far.is_some() {
-            return far;
-        }
-        n += 1;
+    let uses = uses_in(inst, frame, info);
+    match far_label(uses.first, start, end, starts) {
+        Some(label) => Some(label),
+        None => far_label(uses.second, start, end, starts),
     }
-    None
 }
 
 /// Whether each use that can have no veneer reaches its label, in code without islands.

@@ -20,3 +20,14 @@ pub struct CellUse {
     /// The use.
     pub site: Site,
 }
+
+/// The uses of the words of an instruction: no word behind the second is one.
+///
+/// An instruction with a table of targets, of which each entry is a use, is to have its list here too.
+#[derive(Clone, Copy)]
+pub struct Uses {
+    /// The use that the first word is, where it is one.
+    pub first: Option<Site>,
+    /// The use that the second word is, where it is one.
+    pub second: Option<Site>,
+}

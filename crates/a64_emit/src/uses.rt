@@ -1,14 +1,14 @@
 //! The uses of the words of instructions.
 
-ghost use Rattle.std.specs.Prelude.{◌≡◌, ◌+◌, ◌^◌, ◌<◌, ◌++◌, IfSome, slice_get};
-ghost use Rattle.a64_inst.specs.declared.group.Group.TheVariants.{Control};
+ghost use Rattle.std.specs.Prelude.{◌≡◌, None};
+ghost use Rattle.a64_inst.specs.declared.group.Group.TheVariants.{Control, Memory};
 ghost use Rattle.a64_inst.specs.Groups.{group_of};
 ghost use Rattle.a64_rows.specs.Forms.{Form};
 ghost use Rattle.a64_emit.specs.Cells as cells;
-ghost use Rattle.a64_emit.specs.Cells.{branches, use_of, uses_of, inst_uses};
+ghost use Rattle.a64_emit.specs.Cells.{branches, uses_of, two_uses, inst_uses};
 
 use crate::label_use::LabelUse;
-use crate::site::{CellUse, Site};
+use crate::site::{Site, Uses};
 use a64_base::BranchTarget;
 use a64_buffer::Target;
 use a64_inst::{AMode, EmitInfo, FrameLayout, Group, Inst, MemLabel};
@@ -27,74 +27,51 @@ pub fn branch_site(kind: LabelUse, dest: BranchTarget) -> Option<Site>
     }
 }
 
-/// The use number `n` of words of which one at most has a use.
+/// The uses of words of which only the first may be one.
 #[inline(always)]
-fn only_use(n: usize, cell: usize, site: Option<Site>) -> Option<CellUse>
-    ensures is { result ≡ slice_get (use_of cell site) n }
-    ensures few { IfSome result (λ _. n + 1 < 2 ^ 64) }
+pub fn only_use(first: Option<Site>) -> Uses
+    ensures { result ≡ record { first = first; second = None } }
 {
-    match site {
-        Some(site) if n == 0 => Some(CellUse { cell, site }),
-        _ => None,
+    Uses {
+        first,
+        second: None,
     }
 }
 
-/// The use number `n` of two words, of which each may have one.
+/// The uses of a conditional branch with a jump behind it.
 #[inline(always)]
-fn two_uses(n: usize, first: Option<Site>, second: Option<Site>) -> Option<CellUse>
-    ensures is { result ≡ slice_get (use_of 0 first ++ use_of 1 second) n }
-    ensures few { IfSome result (λ _. n + 1 < 2 ^ 64) }
+fn branches_uses(kind: LabelUse, taken: BranchTarget, not_taken: BranchTarget) -> Uses
+    ensures { (form : Form) → uses_of 0 (branches form kind taken not_taken) ≡ two_uses result.first result.second }
 {
-    match first {
-        None => only_use(n, 1, second),
-        Some(_) if n == 0 => only_use(0, 0, first),
-        Some(_) => only_use(n - 1, 1, second),
+    Uses {
+        first: branch_site(kind, taken),
+        second: branch_site(LabelUse::Branch26, not_taken),
     }
 }
 
-/// The use number `n` of a conditional branch with a jump behind it.
+/// The uses of the words of a branch, an address or data.
 #[inline(always)]
-fn branches_use(
-    n: usize,
-    kind: LabelUse,
-    taken: BranchTarget,
-    not_taken: BranchTarget,
-) -> Option<CellUse>
-    ensures is { (form : Form) → result ≡ slice_get (uses_of 0 (branches form kind taken not_taken)) n }
-    ensures few { IfSome result (λ _. n + 1 < 2 ^ 64) }
-{
-    two_uses(
-        n,
-        branch_site(kind, taken),
-        branch_site(LabelUse::Branch26, not_taken),
-    )
-}
-
-/// The use number `n` of the words of a branch, an address or data.
-#[inline(always)]
-fn nth_control(inst: &Inst, n: usize, _frame: &FrameLayout, _info: &EmitInfo) -> Option<CellUse>
+pub fn control_uses(inst: &Inst, _frame: &FrameLayout, _info: &EmitInfo) -> Uses
     requires { group_of inst.now ≡ Control }
-    ensures is { result ≡ slice_get (inst_uses _frame.now _info.now inst.now) n }
-    ensures few { IfSome result (λ _. n + 1 < 2 ^ 64) }
+    ensures { inst_uses _frame.now _info.now inst.now ≡ two_uses result.first result.second }
 {
     match inst {
-        Inst::Jump { dest } => only_use(n, 0, branch_site(LabelUse::Branch26, *dest)),
+        Inst::Jump { dest } => only_use(branch_site(LabelUse::Branch26, *dest)),
         Inst::CondBr {
             taken,
             not_taken,
             ..
-        } => branches_use(n, LabelUse::Branch19, *taken, *not_taken),
+        } => branches_uses(LabelUse::Branch19, *taken, *not_taken),
         Inst::TestBitAndBranch {
             taken,
             not_taken,
             ..
-        } => branches_use(n, LabelUse::Branch14, *taken, *not_taken),
-        Inst::LabelAddress { dst: _, label } => only_use(
-            n,
-            0,
-            branch_site(LabelUse::Adr21, BranchTarget::Label(*label)),
-        ),
-        _ => None,
+        } => branches_uses(LabelUse::Branch14, *taken, *not_taken),
+        Inst::LabelAddress { dst: _, label } => only_use(branch_site(
+            LabelUse::Adr21,
+            BranchTarget::Label(*label),
+        )),
+        _ => only_use(None),
     }
 }
 
@@ -152,15 +129,23 @@ fn memory_site(inst: &Inst) -> Option<Site>
     }
 }
 
-/// The use number `n` of the words of an instruction, counted from 0 in the order of the words.
+/// The uses of the words of a load or a store, or of an address.
 #[inline(always)]
-pub fn nth_use(inst: &Inst, n: usize, frame: &FrameLayout, info: &EmitInfo) -> Option<CellUse>
-    ensures is { result ≡ slice_get (inst_uses frame.now info.now inst.now) n }
-    ensures few { IfSome result (λ _. n + 1 < 2 ^ 64) }
+pub fn memory_uses(inst: &Inst, _frame: &FrameLayout, _info: &EmitInfo) -> Uses
+    requires { group_of inst.now ≡ Memory }
+    ensures { inst_uses _frame.now _info.now inst.now ≡ two_uses result.first result.second }
+{
+    only_use(memory_site(inst))
+}
+
+/// The uses of the words of an instruction.
+#[inline(always)]
+pub fn uses_in(inst: &Inst, frame: &FrameLayout, info: &EmitInfo) -> Uses
+    ensures { inst_uses frame.now info.now inst.now ≡ two_uses result.first result.second }
 {
     match inst.group() {
-        Group::Immediate | Group::Register => None,
-        Group::Control => nth_control(inst, n, frame, info),
-        Group::Memory => only_use(n, 0, memory_site(inst)),
+        Group::Immediate | Group::Register => only_use(None),
+        Group::Control => control_uses(inst, frame, info),
+        Group::Memory => memory_uses(inst, frame, info),
     }
 }

@@ -1,11 +1,11 @@
 //! The words of branches, returns and addresses of labels.
 
-ghost use Rattle.std.specs.Prelude.{◌≡◌, ◌<◌, true};
+ghost use Rattle.std.specs.Prelude.{◌≡◌, ◌<◌, ◌^◌, true};
 ghost use Rattle.a64_inst.specs.declared.group.Group.TheVariants.{Control};
 ghost use Rattle.a64_inst.specs.declared.virtuals.VirtualRegisters.TheVariants.{Refused};
 ghost use Rattle.a64_inst.specs.Groups.{group_of};
 ghost use Rattle.a64_inst.specs.Faults.{has_operands};
-ghost use Rattle.a64_inst.specs.ControlOperands.{are_jump_operands, is_target14, is_target19, is_test};
+ghost use Rattle.a64_inst.specs.ControlOperands.{are_jump_operands, is_target, is_test};
 ghost use Rattle.a64_inst.specs.Operands.{is_register_or_zero};
 ghost use Rattle.a64_rows.specs.Forms.{form_word};
 ghost use Rattle.a64_emit.specs.Cells.{shape_of, only_word};
@@ -64,9 +64,9 @@ pub fn jump_word(dest: BranchTarget) -> u32
 }
 
 /// The word of the conditional branch of a `CondBr`, whose offset is zero as long as it has a label.
-#[tactic(auto, using(a64_inst::proofs::Good::target19_fits, crate::proofs::Operands::test_general), unfolding(crate::specs::ControlForms::cond_br_form))]
+#[tactic(auto, using(a64_inst::proofs::Good::target_fits, crate::proofs::Operands::test_general), unfolding(crate::specs::ControlForms::cond_br_form))]
 pub fn cond_br_word(taken: BranchTarget, kind: CondBrKind) -> u32
-    requires taken { is_target19 taken ≡ true }
+    requires taken { is_target (2 ^ 20) taken ≡ true }
     requires kind { is_test Refused kind ≡ true }
     ensures { result ≡ form_word (forms.cond_br_form taken kind) }
 {
@@ -74,14 +74,14 @@ pub fn cond_br_word(taken: BranchTarget, kind: CondBrKind) -> u32
 }
 
 /// The word of the conditional branch of a `TestBitAndBranch`, whose offset is zero as long as it has a label.
-#[tactic(auto, using(a64_inst::proofs::Good::target14_fits, crate::proofs::Operands::general), unfolding(crate::specs::ControlForms::test_bit_and_branch_form))]
+#[tactic(auto, using(a64_inst::proofs::Good::target_fits, crate::proofs::Operands::general), unfolding(crate::specs::ControlForms::test_bit_and_branch_form))]
 pub fn test_bit_and_branch_word(
     kind: TestBitAndBranchKind,
     taken: BranchTarget,
     rn: Reg,
     bit: u8,
 ) -> u32
-    requires taken { is_target14 taken ≡ true }
+    requires taken { is_target (2 ^ 15) taken ≡ true }
     requires rn { is_register_or_zero Refused rn ≡ true }
     requires bit { bit < 64 }
     ensures { result ≡ form_word (forms.test_bit_and_branch_form kind taken rn bit) }

@@ -1,11 +1,12 @@
-use Rattle.std.proofs.Common.{◌≡◌, ◌∙◌, ap, sym, subst, inl, inr, Result, Ok, Err}
+use Rattle.std.proofs.Common.{◌≡◌, ◌∙◌, ap, sym, subst, inl, inr, None, Result, Ok, Err}
 use Rattle.std.specs.Prelude.{IfErr, IsErrAnd}
 use Rattle.a64_buffer.specs.declared.force.ForceVeneers.{ForceVeneers}
 use Rattle.a64_emit.specs.declared.error.EmitError.{EmitError}
 use Rattle.a64_emit.specs.Emission.{HasEmitted}
+use Rattle.a64_emit.specs.Faults.{too_large}
 use Rattle.a64_emit.specs.Assembled.{IsRefusal}
 use Rattle.a64_emit.specs.Reach.{out_of_reach}
-use Rattle.a64_emit.proofs.Checked.{fault_at_use, fault_at_size, fault_at_reach}
+use Rattle.a64_emit.proofs.Checked.{fault_at_code, fault_at_reach}
 use Rattle.a64_emit.proofs.Composed.{short_code, all_bound_uses, all_reached, plain_code, is_assembled}
 use Rattle.a64_emit.proofs.assembly.assemble.Goals as goal
 
@@ -14,15 +15,10 @@ passed_on : {T : Type 0} (P : EmitError → Type 0) (error : EmitError) (r : Res
 passed_on P error (Ok x) h p = absurd h
 passed_on P error (Err e) h p = subst P (sym h) p
 
-pub returns-in_err-near-clause-err : goal.returns-in_err-near-clause-err
-returns-in_err-near-clause-err c =
-    passed_on (IsRefusal c.args.frame.now c.args.info.now c.args.constants.now c.args.force c.args.items.now) c.in_err-near.field-0.0 c.from_residual-in_err-near.result c.from_residual-in_err-near.ensures.1
-    (inl (fault_at_use c.args.frame.now c.args.info.now c.args.constants.now c.args.force c.args.items.now c.in_err-near.field-0.0 c.in_ok-check_items.ensures c.in_ok-bound.ensures.ok.0 c.in_err-near.ensures))
-
-pub returns-in_err-size-clause-err : goal.returns-in_err-size-clause-err
-returns-in_err-size-clause-err c =
-    passed_on (IsRefusal c.args.frame.now c.args.info.now c.args.constants.now c.args.force c.args.items.now) c.in_err-size.field-0.0 c.from_residual-in_err-size.result c.from_residual-in_err-size.ensures.1
-    (inl (fault_at_size c.args.frame.now c.args.info.now c.args.constants.now c.args.force c.args.items.now c.in_err-size.field-0.0 c.in_ok-check_items.ensures c.in_ok-bound.ensures.ok.0 c.in_ok-near.ensures.0 c.in_err-size.ensures))
+pub returns-in_err-found-clause-err : goal.returns-in_err-found-clause-err
+returns-in_err-found-clause-err c =
+    passed_on (IsRefusal c.args.frame.now c.args.info.now c.args.constants.now c.args.force c.args.items.now) c.in_err-found.field-0.0 c.from_residual-in_err-found.result c.from_residual-in_err-found.ensures.1
+    (inl (fault_at_code c.args.frame.now c.args.info.now c.args.constants.now c.args.force c.args.items.now c.in_err-found.field-0.0 c.in_ok-check_items.ensures c.in_ok-bound.ensures.ok.0 c.in_err-found.ensures))
 
 pub returns-in_err-check_reach-clause-err : goal.returns-in_err-check_reach-clause-err
 returns-in_err-check_reach-clause-err c =
@@ -30,18 +26,23 @@ returns-in_err-check_reach-clause-err c =
     (elim c.in_err-check_reach.ensures.err [
       | inl memory ↦ inr (memory, c.in_ok-check_items.ensures)
       | inr far ↦
-          inl (fault_at_reach c.args.frame.now c.args.info.now c.args.constants.now c.args.force c.args.items.now c.in_ok-check_items.ensures c.in_ok-bound.ensures.ok.0 c.in_ok-near.ensures.0 c.in_ok-size.ensures.0
+          inl (fault_at_reach c.args.frame.now c.args.info.now c.args.constants.now c.args.force c.args.items.now c.in_ok-check_items.ensures c.in_ok-bound.ensures.ok.0 c.in_ok-found.ensures.0 c.in_ok-found.ensures.1
           ∙ ap (λ (f : ForceVeneers). out_of_reach c.args.frame.now c.args.info.now f c.args.items.now) c.requires.unforced ∙ far)
     ])
+
+pub emit_items-requires-clause-short : goal.emit_items-requires-clause-short
+emit_items-requires-clause-short c =
+    let frame_is : c.new-state.result.frame ≡ c.args.frame.now = ap (λ s. s.frame) c.new-state.ensures ∙ c.in_ok-try_clone.ensures in
+    subst (λ frame. too_large frame c.args.info.now c.args.items.now ≡ None) (sym frame_is) c.in_ok-found.ensures.1
 
 pub finish-requires : goal.finish-requires
 finish-requires c =
     let frame_is : c.new-state.result.frame ≡ c.args.frame.now = ap (λ s. s.frame) c.new-state.ensures ∙ c.in_ok-try_clone.ensures in
     let emitted = subst (λ frame. HasEmitted frame c.args.info.now c.args.items.now c.in_ok-places.places.items c.emit_items.new.buffer) frame_is c.in_ok-places.ensures in
     record {
-      short = short_code c.args.frame.now c.args.info.now c.args.items.now c.in_ok-places.places.items c.emit_items.new.buffer emitted c.in_ok-near.ensures.0 c.in_ok-size.ensures.0 c.in_ok-check_reach.ensures.ok;
-      bound = all_bound_uses c.args.frame.now c.args.info.now c.args.items.now c.in_ok-places.places.items c.emit_items.new.buffer emitted c.in_ok-near.ensures.0 c.in_ok-size.ensures.0 c.in_ok-check_reach.ensures.ok;
-      direct = λ k d within v. all_reached c.args.frame.now c.args.info.now c.args.items.now c.in_ok-places.places.items c.emit_items.new.buffer emitted c.in_ok-near.ensures.0 c.in_ok-size.ensures.0 c.in_ok-check_reach.ensures.ok k d within;
+      short = short_code c.args.frame.now c.args.info.now c.args.items.now c.in_ok-places.places.items c.emit_items.new.buffer emitted c.in_ok-found.ensures.0 c.in_ok-found.ensures.1 c.in_ok-check_reach.ensures.ok;
+      bound = all_bound_uses c.args.frame.now c.args.info.now c.args.items.now c.in_ok-places.places.items c.emit_items.new.buffer emitted c.in_ok-found.ensures.0 c.in_ok-found.ensures.1 c.in_ok-check_reach.ensures.ok;
+      direct = λ k d within v. all_reached c.args.frame.now c.args.info.now c.args.items.now c.in_ok-places.places.items c.emit_items.new.buffer emitted c.in_ok-found.ensures.0 c.in_ok-found.ensures.1 c.in_ok-check_reach.ensures.ok k d within;
     }
 
 pub returns-clause-ok : goal.returns-clause-ok
@@ -50,11 +51,11 @@ returns-clause-ok c =
     let out = c.code_of.ensures in
     is_assembled c.args.frame.now c.args.info.now c.args.items.now c.in_ok-places.places.items c.emit_items.new.buffer
     (subst (λ frame. HasEmitted frame c.args.info.now c.args.items.now c.in_ok-places.places.items c.emit_items.new.buffer) frame_is c.in_ok-places.ensures)
-    c.in_ok-near.ensures.0 c.in_ok-size.ensures.0 c.in_ok-check_reach.ensures.ok
+    c.in_ok-found.ensures.0 c.in_ok-found.ensures.1 c.in_ok-check_reach.ensures.ok
     c.in_ok-finished.finished
     (plain_code c.args.frame.now c.args.info.now c.args.items.now c.in_ok-places.places.items c.emit_items.new.buffer
     (subst (λ frame. HasEmitted frame c.args.info.now c.args.items.now c.in_ok-places.places.items c.emit_items.new.buffer) frame_is c.in_ok-places.ensures)
-    c.in_ok-near.ensures.0 c.in_ok-size.ensures.0 c.in_ok-check_reach.ensures.ok c.in_ok-finished.finished c.in_ok-finished.ensures)
+    c.in_ok-found.ensures.0 c.in_ok-found.ensures.1 c.in_ok-check_reach.ensures.ok c.in_ok-finished.finished c.in_ok-finished.ensures)
     c.code_of.result
     (ap (λ o. o.bytes.items) out) (ap (λ o. o.places.items) out) (ap (λ o. o.labels.items) out) (ap (λ o. o.islands.items) out) (ap (λ o. o.pool) out)
     c.args.constants.now c.args.force c.requires.unforced c.in_ok-check_items.ensures c.in_ok-bound.ensures.ok.0

@@ -8,7 +8,7 @@ ghost use Rattle.a64_base.specs.declared.ir_type.IrType.TheVariants.{I64};
 ghost use Rattle.a64_inst.specs.declared.virtuals.VirtualRegisters.TheVariants.{Refused};
 ghost use Rattle.a64_inst.specs.FinalModes.{parts_of};
 ghost use Rattle.a64_inst.specs.MemoryOperands.{is_data_register, are_pair_operands, is_simm7_of};
-ghost use Rattle.a64_inst.specs.Operands.{is_offset19, is_register_or_zero};
+ghost use Rattle.a64_inst.specs.Operands.{is_offset, is_register_or_zero};
 ghost use Rattle.a64_ops.specs.Accesses.{size_of, vector_of, opc_of, literal_of};
 ghost use Rattle.a64_rows.specs.Forms.{form_word};
 ghost use Rattle.a64_enc_int.specs.Operators.{bit_of, index_option, IsIndexExtend};
