@@ -1,5 +1,5 @@
 -- What streams and their code are.
-use Rattle.std.specs.Prelude.{ℕ, ◌+◌, ◌*◌, ◌/◌, ◌%◌, ◌^◌, List, length, slice_index, map, sum, None}
+use Rattle.std.specs.Prelude.{ℕ, ◌+◌, ◌*◌, ◌/◌, ◌%◌, ◌^◌, ◌<◌, List, length, slice_index, map, sum, None}
 use Rattle.std.specs.List.{range_with_len}
 use Rattle.a64_inst.specs.declared.item.Item.{Item}
 use Rattle.a64_inst.specs.declared.item.Item.TheVariants as items
@@ -7,6 +7,8 @@ use Rattle.a64_stream.specs.declared.stream.Step.{Step}
 use Rattle.a64_stream.specs.declared.stream.Step.TheVariants as steps
 use Rattle.a64_stream.specs.declared.command.Kind.{Kind}
 use Rattle.a64_stream.specs.declared.command.Kind.TheVariants.{Mixed, Branches}
+use Rattle.a64_stream.specs.declared.command.Command.{Command}
+use Rattle.a64_stream.specs.declared.command.Command.TheVariants.{Items, Uses}
 
 -- the item that a step is
 abbrev pub item_of : Step → Item
@@ -17,6 +19,11 @@ item_of (steps.Emit inst) = items.Emit inst None
 abbrev pub item_count : Kind → ℕ → ℕ
 item_count Mixed count = 8 * count
 item_count Branches count = 2 * count
+
+-- what a command asks for is small enough to be counted
+abbrev pub IsSmall : Command → Type 0
+IsSmall (Items kind count assembles) = count < 2 ^ 28
+IsSmall (Uses count) = count < 2 ^ 25
 
 -- the word of this index, whose least byte stands first
 abbrev pub word_at : List ℕ → ℕ → ℕ

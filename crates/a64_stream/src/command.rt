@@ -1,6 +1,7 @@
 //! The words of a command.
 
-ghost use Rattle.std.specs.Prelude.{◌<◌, ◌^◌, IfSome};
+ghost use Rattle.std.specs.Prelude.{◌<◌, ◌≤◌, ◌^◌, IfSome};
+ghost use Rattle.a64_stream.specs.Streams.{IsSmall};
 
 /// The kind of a stream.
 #[derive(Clone, Copy, Debug, PartialEq, Eq)]
@@ -13,13 +14,18 @@ pub enum Kind {
 
 /// What the program is to do.
 #[derive(Clone, Copy, Debug, PartialEq, Eq)]
-pub struct Command {
-    /// The kind of the stream.
-    pub kind: Kind,
-    /// How many groups or pairs it has: below 2^28.
-    pub count: u32,
-    /// Whether the items are assembled.
-    pub assembles: bool,
+pub enum Command {
+    /// Makes a stream of items.
+    Items {
+        /// The kind of the stream.
+        kind: Kind,
+        /// How many groups or pairs it has: below 2^28.
+        count: u32,
+        /// Whether the items are assembled.
+        assembles: bool,
+    },
+    /// Puts so many uses of labels into a buffer: below 2^25.
+    Uses(u32),
 }
 
 /// The number of groups of the mixed stream that is made without words.
@@ -34,38 +40,46 @@ fn kind_of(word: &str) -> Option<Kind> {
     }
 }
 
-/// The number that a word is, where it is below 2^28.
-fn count_of(word: &str) -> Option<u32>
-    ensures { IfSome result (λ count. count < 2 ^ 28) }
+/// The number that a word is, where it is below a limit.
+fn count_of(word: &str, limit: u32) -> Option<u32>
+    ensures { IfSome result (λ count. count < limit) }
 {
     match word.parse::<u32>() {
-        Ok(count) if count < 1 << 28 => Some(count),
+        Ok(count) if count < limit => Some(count),
         _ => None,
     }
 }
 
 /// The command of a kind of stream and a number.
 fn stream_command(kind: &str, count: &str, assembles: bool) -> Option<Command>
-    ensures { IfSome result (λ command. command.count < 2 ^ 28) }
+    ensures { IfSome result IsSmall }
 {
-    Some(Command {
+    Some(Command::Items {
         kind: kind_of(kind)?,
-        count: count_of(count)?,
+        count: count_of(count, 1 << 28)?,
         assembles,
     })
 }
 
+/// The command of a number of uses.
+fn uses_command(count: &str) -> Option<Command>
+    ensures { IfSome result IsSmall }
+{
+    Some(Command::Uses(count_of(count, 1 << 25)?))
+}
+
 /// The command that the words are: none of them, or a kind of stream and a number, perhaps behind
-/// the word `make`.
+/// the word `make`, or the word `uses` and a number.
 pub fn command_of(words: &[String]) -> Option<Command>
-    ensures { IfSome result (λ command. command.count < 2 ^ 28) }
+    ensures { IfSome result IsSmall }
 {
     match words {
-        [] => Some(Command {
+        [] => Some(Command::Items {
             kind: Kind::Mixed,
             count: SMALL,
             assembles: true,
         }),
+        [uses, count] if uses.as_str() == "uses" => uses_command(count.as_str()),
         [kind, count] => stream_command(kind.as_str(), count.as_str(), true),
         [make, kind, count] if make.as_str() == "make" => {
             stream_command(kind.as_str(), count.as_str(), false)

@@ -32,7 +32,7 @@ impl Fault {
 impl fmt::Display for Fault {
     fn fmt<W: fmt::Write>(&self, f: &mut fmt::Formatter<W>) -> fmt::Result {
         match self {
-            Fault::Usage => write!(f, "usage: stream [[make] mixed|branches N]"),
+            Fault::Usage => write!(f, "usage: stream [[make] mixed|branches N | uses N]"),
             Fault::Refused(error) => write!(f, "the items are refused: {error:?}"),
             Fault::Memory => write!(f, "out of memory"),
             Fault::Write => write!(f, "write fault"),
