@@ -96,7 +96,7 @@ has_none set e q = (λ yes. absurd (false≢true (rw e at yes)), λ c. absurd (o
 
 -- ---- a line
 
-at_answer : (old new : BTreeSet OnceName) (given name : Option OnceName) (answer want : Bool) → given ≡ name → answer ≡ want → AddsName old new given answer → AddsName old new name want
+pub at_answer : (old new : BTreeSet OnceName) (given name : Option OnceName) (answer want : Bool) → given ≡ name → answer ≡ want → AddsName old new given answer → AddsName old new name want
 at_answer old new given name answer want same is h = subst (λ (n : Option OnceName). AddsName old new n want) same (subst (λ (b : Bool). AddsName old new given b) is h)
 
 pub added : (old new : ReaderState) (line : List ℕ) (entry : Entry) (name : Option OnceName) (answer : Bool) → Reads IsEntry line_of line (Some entry) → name ≡ once_name entry → AddsName old.given new.given name answer → answer ≡ true → contents_of new.file ≡ said entry (contents_of old.file) → (e : Entry) × Added old new line e

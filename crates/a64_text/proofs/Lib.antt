@@ -1,4 +1,3 @@
-pub mod Hashes
 pub mod Headings
 pub mod Decimals
 pub mod Digits
@@ -25,5 +24,6 @@ pub mod CallReads
 pub mod Logics
 pub mod Sequences
 pub mod Givens
+pub mod Adds
 pub mod Lines
 pub mod Counts

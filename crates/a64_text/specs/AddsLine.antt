@@ -6,12 +6,15 @@ use Rattle.std.specs.List.{Contains, cons_option}
 use Rattle.std.specs.declared.cmp.Ordering.{Ordering}
 use Rattle.a64_text.specs.declared.entry.Entry.{Entry}
 use Rattle.a64_text.specs.declared.entry.OnceName.{OnceName}
+use Rattle.a64_text.specs.declared.name.Name.{Name}
 use Rattle.a64_text.specs.declared.state.ReaderState.{ReaderState}
+use Rattle.a64_text.specs.declared.value.Value.{Value}
 use Rattle.a64_text.specs.contracts.entry.OnceNameOrd.TheImpl as order
 use Rattle.a64_text.specs.Reads.{Reads}
 use Rattle.a64_text.specs.Splitting.{lines_of, first_line, lines_behind, of_text}
 use Rattle.a64_text.specs.Tokens.{line_of, IsEntry}
-use Rattle.a64_text.specs.States.{contents_of, State, MayStand, state_after}
+use Rattle.a64_text.specs.Makes.{Makes}
+use Rattle.a64_text.specs.States.{contents_of, once_name, said, State, MayStand, state_after}
 
 -- the order in which the reader keeps the names
 abbrev pub once_cmp : OnceName → OnceName → Ordering
@@ -40,6 +43,15 @@ pub record Added (old new : ReaderState) (line : List ℕ) (entry : Entry) : Typ
 -- no entry that the line is may stand there
 abbrev pub AddsNothing : ReaderState → List ℕ → Type 0
 AddsNothing old line = (e : Entry) → IsEntry e → line ≡ line_of e → (state : State) → Holds old state → ¬ MayStand state e
+
+-- the entry is taken into the state. True: it may stand there. False: it may not, or there is none
+abbrev pub AddsEntry : Option Entry → ReaderState → ReaderState → Bool → Type 0
+AddsEntry None old new made = made ≡ false
+AddsEntry (Some entry) old new made = AddsName old.given new.given (once_name entry) made × (made ≡ true → contents_of new.file ≡ said entry (contents_of old.file))
+
+-- so is the entry that the name makes of the fields, where it makes one
+abbrev pub AddsMade : Name → List Value → ReaderState → ReaderState → Bool → Type 0
+AddsMade name values old new made = (r : Option Entry) × Makes name values r × AddsEntry r old new made
 
 -- Some: the first line of the text is taken into the state, and these are the lines behind it. None: it
 -- is no entry that may stand there

@@ -1,13 +1,15 @@
 -- Where names stand in a table.
-use Rattle.std.specs.Prelude.{ℕ, List, [], ◌∷◌, length, ◌+◌, ◌*◌, ◌%◌, Option, None, slice_get, slice_index}
+use Rattle.std.specs.Prelude.{ℕ, List, [], ◌∷◌, length, ◌+◌, ◌-◌, ◌*◌, ◌/◌, ◌%◌, Option, None, slice_get, slice_index}
 
-abbrev pub hash_from : ℕ → List ℕ → ℕ
-hash_from h [] = h
-hash_from h (b ∷ token) = hash_from ((h * 33 + b) % 65536) token
+-- of a token of so many bytes: its first byte, those at a third and at a half, its last, and how many
+-- they are
+abbrev pub mixed : List ℕ → ℕ → ℕ
+mixed token n = slice_index token 0 * 47 + slice_index token (n / 3) * 27 + slice_index token (n / 2) * 85 + slice_index token (n - 1) * 33 + n % 64 * 89
 
 -- a number that a token has
 abbrev pub hash : List ℕ → ℕ
-hash token = hash_from 0 token
+hash [] = 0
+hash (b ∷ token) = mixed (b ∷ token) (length (b ∷ token))
 
 -- the row to which a token leads
 abbrev pub home : List ℕ → List ℕ → ℕ

@@ -28,6 +28,7 @@ pub mod Makes
 pub mod Makers
 pub mod Frames
 pub mod States
+pub mod Puts
 pub mod FileText
 pub mod AddsLine
 pub mod Reading

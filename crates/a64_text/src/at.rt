@@ -16,6 +16,7 @@ use a64_inst::{AMode, PairAMode};
 use a64_ops::{ALUOp, ALUOp3, BfmOp, BitOp, MoveWideOp};
 
 /// An integer operator.
+#[inline(always)]
 pub fn alu_op(values: &[Value], i: usize) -> ALUOp
     ensures { result ≡ alu_op_at values.now i }
 {
@@ -66,6 +67,7 @@ pub fn move_wide_op(values: &[Value], i: usize) -> MoveWideOp
 }
 
 /// The size of operands.
+#[inline(always)]
 pub fn size(values: &[Value], i: usize) -> OperandSize
     ensures { result ≡ size_at values.now i }
 {
@@ -76,6 +78,7 @@ pub fn size(values: &[Value], i: usize) -> OperandSize
 }
 
 /// A register.
+#[inline(always)]
 pub fn reg(values: &[Value], i: usize) -> Reg
     ensures { result ≡ reg_at values.now i }
 {
@@ -262,6 +265,7 @@ pub fn i32(values: &[Value], i: usize) -> i32
 }
 
 /// Where a branch goes.
+#[inline(always)]
 pub fn target(values: &[Value], i: usize) -> BranchTarget
     ensures { result ≡ target_at values.now i }
 {
@@ -272,6 +276,7 @@ pub fn target(values: &[Value], i: usize) -> BranchTarget
 }
 
 /// A label.
+#[inline(always)]
 pub fn label(values: &[Value], i: usize) -> MachLabel
     ensures { result ≡ label_at values.now i }
 {

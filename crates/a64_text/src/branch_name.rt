@@ -26,7 +26,7 @@ pub enum CondBrName {
 }
 
 /// For each remainder of a hash, the row of the name that has it.
-pub static COND_BR_HOMES: [u8; 3] = [0, 1, 2];
+pub static COND_BR_HOMES: [u8; 8] = [2, 0, 0, 0, 0, 0, 1, 0];
 
 /// What a conditional branch tests.
 pub static COND_BRS: [Row<CondBrName>; 3] = [
@@ -92,7 +92,7 @@ impl Call for CondBrName {
 }
 
 /// For each remainder of a hash, the row of the name that has it.
-pub static TEST_BIT_HOMES: [u8; 4] = [1, 0, 0, 0];
+pub static TEST_BIT_HOMES: [u8; 2] = [1, 0];
 
 /// What a branch on one bit tests.
 pub static TEST_BITS: [Row<TestBitAndBranchKind>; 2] = [

@@ -1,7 +1,26 @@
 //! Reads decimal numbers.
 
+ghost use Rattle.std.specs.Prelude.{◌≡◌, ◌<◌, ◌≤◌, ◌+◌, ◌*◌, ◌^◌, MatchOption};
 ghost use Rattle.std.specs.Fmt.{decimal};
 ghost use Rattle.a64_text.specs.Reads.{Reads, IsU8, IsU32, IsU64};
+
+/// The largest number that stays below 2^64 with any digit behind its digits.
+const NEVER_TOO_LARGE: u64 = 1_844_674_407_370_955_160;
+
+/// The number with one more digit behind its digits, where that is below 2^64.
+#[inline(always)]
+fn with_digit(value: u64, digit: u64) -> Option<u64>
+    requires { digit ≤ 9 }
+    ensures { MatchOption result (2 ^ 64 ≤ value * 10 + digit) (λ n. (n < 2 ^ 64) × (n ≡ value * 10 + digit)) }
+{
+    if value <= NEVER_TOO_LARGE {
+        return Some(value * 10 + digit);
+    }
+    if value > (u64::MAX - digit) / 10 {
+        return None;
+    }
+    Some(value * 10 + digit)
+}
 
 /// The number below 2^64 whose decimal text the token is. No text has a sign, or a needless `0` at
 /// its front.
@@ -18,15 +37,13 @@ pub fn read_u64(token: &[u8]) -> Option<u64>
             return None;
         }
         let digit = (byte - b'0') as u64;
-        if value > (u64::MAX - digit) / 10 {
-            return None;
-        }
-        value = value * 10 + digit;
+        value = with_digit(value, digit)?;
     }
     Some(value)
 }
 
 /// The number below 2^32 whose decimal text the token is.
+#[inline(always)]
 pub fn read_u32(token: &[u8]) -> Option<u32>
     ensures { Reads IsU32 decimal token.now result }
 {

@@ -33,6 +33,7 @@ pub enum Entry {
 
 impl Entry {
     /// The name that the entry gives, where a file gives it at most once.
+    #[inline(always)]
     pub fn once_name(&self) -> Option<OnceName>
         ensures { result ≡ once_name self.now }
     {

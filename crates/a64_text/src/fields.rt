@@ -39,6 +39,7 @@ pub trait FieldRow {
 
 /// Reads the fields of these kinds that the text is into `values`, and answers the lines behind them.
 /// None: it is no such fields.
+#[inline(always)]
 pub fn read_fields<'t, L: FieldRow, const N: usize>(
     kinds: &[Kind],
     text: Option<&'t [u8]>,

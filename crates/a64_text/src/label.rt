@@ -10,6 +10,7 @@ use crate::offset::{after, read_i32};
 use a64_base::{BranchTarget, MachLabel};
 
 /// The label whose text the token is: `L` and its number.
+#[inline(always)]
 pub fn read_label(token: &[u8]) -> Option<MachLabel>
     ensures { Reads IsLabel label_text token.now result }
 {
@@ -34,6 +35,7 @@ impl Listed for MachLabel {
 }
 
 /// The branch target whose text the token is: its label, or its distance in bytes.
+#[inline(always)]
 pub fn read_target(token: &[u8]) -> Option<BranchTarget>
     ensures { Reads IsTarget target_text token.now result }
 {

@@ -27,10 +27,12 @@ impl FieldRow for LineFields {
 
     ghost behind = { lines_behind };
 
+    #[inline(always)]
     fn cut(text: &[u8]) -> CutToken<'_> {
         cut_token(text)
     }
 
+    #[inline(always)]
     fn read(kind: Kind, token: &[u8]) -> Option<Value<'_>> {
         read_value(kind, token)
     }
@@ -42,6 +44,7 @@ impl FieldRow for LineFields {
 
 /// The name with which the first line begins, and the lines behind it. The fields are left in `values`.
 #[tactic(auto, using(crate::specs::Makers::few_kinds))]
+#[inline(always)]
 pub fn read_line<'t>(text: &'t [u8], values: &mut Fields<'t>) -> Option<(Name, Option<&'t [u8]>)>
     ensures read { Reads {X = Name × List Value} (λ p. AreFields IsValue (kinds_of p.0) p.1) (λ p. name_text p.0 ∷ texts p.1)
         (line_tokens text.now) (option_map (λ r. (r.0, values.new.items)) result) }

@@ -1,58 +1,57 @@
-//! Makes entries of their names and fields.
+//! Makes entries of their names and fields. An item is put where it is made, so that none is moved.
 
-mod control;
-mod integer;
-mod memory;
+pub mod control;
+pub mod integer;
+pub mod memory;
 pub mod mode;
 
-ghost use Rattle.std.specs.Prelude.{◌≡◌, IfOk};
-ghost use Rattle.a64_text.specs.Makes.{Makes};
-ghost use Rattle.a64_text.specs.Makes as makes;
+ghost use Rattle.std.specs.Prelude.{◌≡◌, ◌<◌, true, Some, option_map};
+ghost use Rattle.std.specs.Vec.{vec_len, vec_capacity};
+ghost use Rattle.a64_text.specs.declared.name.Name.TheVariants as names;
+ghost use Rattle.a64_text.specs.Makes.{emitted, entry_of};
+ghost use Rattle.a64_text.specs.Puts.{PutsEntry, Puts};
 
 use crate::at;
 use crate::entry::Entry;
-use crate::name::Name;
 use crate::value::Value;
 use a64_inst::{Inst, Item};
-use std::alloc::{AllocError, Global};
 
-/// The entry that is an instruction without a map of the stack.
-fn emitted(inst: Inst) -> Entry
-    ensures { result ≡ makes.emitted inst }
+/// Puts the instruction, without a map of the stack, behind the items. Always true.
+#[inline(always)]
+fn emit(items: &mut Vec<Item>, inst: Inst) -> bool
+    requires { vec_len items.old < vec_capacity items.old }
+    ensures { PutsEntry (Some (emitted inst)) items.old.items items.new.items result }
 {
-    Entry::Item(Item::Emit { inst, map: None })
+    items.push_reserved(Item::Emit { inst, map: None });
+    true
 }
 
-/// The binding of the label.
-#[tactic(auto, unfolding(crate::specs::Makes::Makes))]
-fn make_bind(values: &[Value]) -> Option<Entry>
-    ensures { Makes Name.Bind values.now result }
+/// Puts the instruction behind the items, where there is one.
+#[inline(always)]
+fn emit_some(items: &mut Vec<Item>, inst: Option<Inst>) -> bool
+    requires { vec_len items.old < vec_capacity items.old }
+    ensures { PutsEntry (option_map emitted inst) items.old.items items.new.items result }
 {
-    Some(Entry::Item(Item::Bind(at::label(values, 0))))
+    match inst {
+        Some(inst) => emit(items, inst),
+        None => false,
+    }
+}
+
+/// Puts the binding of the label behind the items. Always true.
+#[tactic(auto, unfolding(crate::specs::Puts::Puts))]
+#[inline(always)]
+pub fn put_bind(items: &mut Vec<Item>, values: &[Value]) -> bool
+    requires { vec_len items.old < vec_capacity items.old }
+    ensures { Puts names.Bind values.now items.old.items items.new.items result }
+{
+    items.push_reserved(Item::Bind(at::label(values, 0)));
+    true
 }
 
 /// The size of an area of the frame.
-#[tactic(auto, unfolding(crate::specs::Makes::Makes))]
-fn make_frame(values: &[Value]) -> Option<Entry>
-    ensures { Makes Name.Frame values.now result }
+pub fn make_frame(values: &[Value]) -> Entry
+    ensures { result ≡ entry_of names.Frame values.now }
 {
-    Some(Entry::Frame(at::frame_field(values, 0), at::u32(values, 1)))
-}
-
-/// The entry of this name with these fields.
-///
-/// # Errors
-///
-/// Want of memory, for what an item owns.
-pub fn make(alloc: Global, name: Name, values: &[Value]) -> Result<Option<Entry>, AllocError>
-    ensures { IfOk result (Makes name values.now) }
-{
-    match name {
-        Name::Integer(name) => Ok(integer::make_integer(name, values)),
-        Name::Control(name) => control::make_control(alloc, name, values),
-        Name::Memory(name) => Ok(memory::make_memory(name, values)),
-        Name::Access(op) => Ok(memory::make_access(op, values)),
-        Name::Bind => Ok(make_bind(values)),
-        Name::Frame => Ok(make_frame(values)),
-    }
+    Entry::Frame(at::frame_field(values, 0), at::u32(values, 1))
 }

@@ -48,9 +48,10 @@ pub enum ModeName {
 }
 
 /// For each remainder of a hash, the row of the name that has it.
-pub static MODE_HOMES: [u8; 43] = [
-    0, 4, 13, 0, 0, 0, 0, 0, 3, 12, 0, 0, 0, 2, 0, 0, 0, 0, 0, 0, 0, 8, 6, 0, 0, 10, 0, 0, 0, 0, 0,
-    0, 1, 9, 0, 0, 0, 0, 11, 5, 7, 0, 0,
+pub static MODE_HOMES: [u8; 64] = [
+    0, 0, 0, 0, 8, 12, 0, 0, 0, 9, 2, 0, 0, 0, 0, 0, 3, 0, 0, 11, 0, 0, 13, 0, 0, 0, 0, 0, 0, 4, 0,
+    0, 0, 0, 6, 0, 0, 0, 0, 0, 0, 0, 0, 0, 10, 0, 0, 0, 0, 0, 0, 1, 0, 0, 0, 0, 0, 0, 7, 0, 0, 0,
+    5, 0,
 ];
 
 /// The addressing modes.
@@ -139,7 +140,7 @@ pub enum PairModeName {
 }
 
 /// For each remainder of a hash, the row of the name that has it.
-pub static PAIR_MODE_HOMES: [u8; 4] = [0, 0, 2, 1];
+pub static PAIR_MODE_HOMES: [u8; 4] = [2, 0, 1, 0];
 
 /// The addressing modes of pairs.
 pub static PAIR_MODES: [Row<PairModeName>; 3] = [

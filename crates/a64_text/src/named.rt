@@ -1,6 +1,6 @@
 //! Reads names.
 
-ghost use Rattle.std.specs.Prelude.{◌≡◌, ℕ, List, map, option_map, Option, Some, IfSome};
+ghost use Rattle.std.specs.Prelude.{◌≡◌, ◌↔◌, true, ℕ, List, map, option_map, Option, Some, IfSome};
 ghost use Rattle.a64_text.specs.declared.value.Kind.{Kind};
 ghost use Rattle.a64_text.specs.Reads.{Reads, Always};
 ghost use Rattle.a64_text.specs.Hash.{hash, look_up};
@@ -35,18 +35,42 @@ pub trait Named: Copy + Drop + 'static {
     ghost found: { (x : Self) → look_up homes rows (text x) ≡ Some x };
 }
 
-/// A number below 2^16 that the token has.
+/// A number that the token has, of its length and four of its bytes.
+#[inline(always)]
 fn hash_of(token: &[u8]) -> usize
     ensures { result ≡ hash token.now }
 {
-    let mut hash: usize = 0;
-    for byte in token {
-        hash = (hash * 33 + *byte as usize) % 65536;
+    match token {
+        [] => 0,
+        [first, ..] => {
+            let len = token.len();
+            let third = token[len / 3] as usize;
+            let half = token[len / 2] as usize;
+            let last = token[len - 1] as usize;
+            *first as usize * 47 + third * 27 + half * 85 + last * 33 + len % 64 * 89
+        }
     }
-    hash
+}
+
+/// Whether the texts are the same. A name is short, so that a call of the comparison of slices, which
+/// is never inlined, would cost more.
+#[inline(always)]
+fn is_same(a: &[u8], b: &[u8]) -> bool
+    ensures { (result ≡ true) ↔ (a.now ≡ b.now) }
+{
+    if a.len() != b.len() {
+        return false;
+    }
+    for (i, byte) in a.iter().enumerate() {
+        if *byte != b[i] {
+            return false;
+        }
+    }
+    true
 }
 
 /// What the token names, and the kinds of the fields behind it.
+#[inline(always)]
 pub fn read_heading<T: Named>(token: &[u8]) -> Option<(&'static [Kind], T)>
     ensures read { Reads Always T.text token.now (option_map (λ r. r.1) result) }
     ensures kinds { IfSome result (λ r. r.0.now ≡ T.kinds_of r.1) }
@@ -57,7 +81,7 @@ pub fn read_heading<T: Named>(token: &[u8]) -> Option<(&'static [Kind], T)>
     }
     let home = homes[hash_of(token) % homes.len()];
     let (name, kinds, value) = rows.get(home as usize)?;
-    if *name == token {
+    if is_same(name, token) {
         Some((*kinds, *value))
     } else {
         None
@@ -65,6 +89,7 @@ pub fn read_heading<T: Named>(token: &[u8]) -> Option<(&'static [Kind], T)>
 }
 
 /// What the token names.
+#[inline(always)]
 pub fn read_named<T: Named>(token: &[u8]) -> Option<T>
     ensures { Reads Always T.text token.now result }
 {

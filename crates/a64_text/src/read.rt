@@ -1,25 +1,30 @@
 //! Reads files.
 
-ghost use Rattle.std.specs.Prelude.{◌≡◌, ◌≤◌, ◌+◌, [], ◌∷◌, ◌++◌, length, IfOk, OnOk};
+ghost use Rattle.std.specs.Prelude.{◌≡◌, ◌≤◌, ◌+◌, [], ◌∷◌, ◌++◌, length, Some, IfOk, OnOk};
 ghost use Rattle.a64_text.specs.States.{contents_of, item_in, said};
 ghost use Rattle.a64_text.specs.FileText as FileText;
 ghost use Rattle.a64_text.specs.Splitting.{first_line};
-ghost use Rattle.a64_text.specs.AddsLine.{AddsName, AddsLine};
+ghost use Rattle.a64_text.specs.AddsLine.{AddsName, AddsEntry, AddsMade, AddsLine};
 ghost use Rattle.a64_text.specs.Reading.{Answers};
 
 use crate::entry::{Entry, NewItem, OnceName};
 use crate::file::{File, FileError};
 use crate::frame_field::set_frame_field;
 use crate::line::read_line;
-use crate::make::make;
+use crate::make::control::put_control;
+use crate::make::integer::put_integer;
+use crate::make::memory::{put_access, put_memory};
+use crate::make::{make_frame, put_bind};
+use crate::name::Name;
 use crate::split::cut;
 use crate::state::{ReaderState, start_state};
-use crate::value::Fields;
+use crate::value::{Fields, Value};
 use a64_inst::Item;
 use std::alloc::{AllocError, Global};
 use std::collections::BTreeSet;
 
 /// Whether the first line means nothing.
+#[inline(always)]
 fn is_blank(text: &[u8]) -> bool
     ensures { result ≡ FileText.is_blank (first_line text.now) }
 {
@@ -30,6 +35,7 @@ fn is_blank(text: &[u8]) -> bool
 }
 
 /// Adds the name to those that were given. False: it was given before.
+#[inline(always)]
 fn add_name(given: &mut BTreeSet<OnceName>, name: Option<OnceName>) -> Result<bool, AllocError>
     ensures { IfOk result (AddsName given.old given.new name) }
 {
@@ -40,6 +46,7 @@ fn add_name(given: &mut BTreeSet<OnceName>, name: Option<OnceName>) -> Result<bo
 }
 
 /// Adds the item behind the others.
+#[inline(always)]
 fn add_item(items: &mut Vec<Item>, item: NewItem) -> Result<(), AllocError>
     ensures { OnOk result (items.new.items ≡ items.old.items ++ item_in item ∷ []) }
 {
@@ -53,6 +60,7 @@ fn add_item(items: &mut Vec<Item>, item: NewItem) -> Result<(), AllocError>
 }
 
 /// Adds what the entry says to the file.
+#[inline(always)]
 fn add_entry(file: &mut File, entry: Entry) -> Result<(), AllocError>
     ensures { OnOk result (contents_of file.new ≡ said entry (contents_of file.old)) }
 {
@@ -65,8 +73,42 @@ fn add_entry(file: &mut File, entry: Entry) -> Result<(), AllocError>
     }
 }
 
+/// Takes the entry into the state. False: its name was given before.
+fn add_once(state: &mut ReaderState, entry: Entry) -> Result<bool, AllocError>
+    ensures { IfOk result (AddsEntry (Some entry) state.old state.new) }
+{
+    if !add_name(&mut state.given, entry.once_name())? {
+        return Ok(false);
+    }
+    add_entry(&mut state.file, entry)?;
+    Ok(true)
+}
+
+/// Takes the entry of this name with these fields into the state. False: there is none, or none that
+/// may stand there.
+#[inline(always)]
+fn add_made(
+    alloc: Global,
+    state: &mut ReaderState,
+    name: Name,
+    values: &[Value],
+) -> Result<bool, AllocError>
+    ensures { IfOk result (AddsMade name values.now state.old state.new) }
+{
+    state.file.items.reserve(1)?;
+    match name {
+        Name::Integer(name) => Ok(put_integer(&mut state.file.items, name, values)),
+        Name::Control(name) => put_control(alloc, &mut state.file.items, name, values),
+        Name::Memory(name) => Ok(put_memory(&mut state.file.items, name, values)),
+        Name::Access(op) => Ok(put_access(&mut state.file.items, op, values)),
+        Name::Bind => Ok(put_bind(&mut state.file.items, values)),
+        Name::Frame => add_once(state, make_frame(values)),
+    }
+}
+
 /// Takes what the first line says into the state, and answers the lines behind it. None: it is no
 /// entry that may stand there. `values` is room for the fields.
+#[inline(always)]
 fn add_line<'t>(
     alloc: Global,
     state: &mut ReaderState,
@@ -78,14 +120,11 @@ fn add_line<'t>(
     let Some((name, lines)) = read_line(text, values) else {
         return Ok(None);
     };
-    let Some(entry) = make(alloc, name, values.as_slice())? else {
-        return Ok(None);
-    };
-    if !add_name(&mut state.given, entry.once_name())? {
-        return Ok(None);
+    if add_made(alloc, state, name, values.as_slice())? {
+        Ok(Some(lines))
+    } else {
+        Ok(None)
     }
-    add_entry(&mut state.file, entry)?;
-    Ok(Some(lines))
 }
 
 /// The file that the bytes are.

@@ -24,6 +24,7 @@ use a64_ops::{ALUOp, ALUOp3, BfmOp, BitOp, MoveWideOp};
 
 /// Reads an integer operator.
 #[tactic(auto, unfolding(crate::specs::Values::ReadsKind))]
+#[inline(always)]
 fn alu_op(token: &[u8]) -> Option<Value<'_>>
     ensures { ReadsKind Kind.AluOp token.now result }
 {
@@ -64,6 +65,7 @@ fn move_wide_op(token: &[u8]) -> Option<Value<'_>>
 
 /// Reads the size of operands.
 #[tactic(auto, unfolding(crate::specs::Values::ReadsKind))]
+#[inline(always)]
 fn size(token: &[u8]) -> Option<Value<'_>>
     ensures { ReadsKind Kind.Size token.now result }
 {
@@ -72,6 +74,7 @@ fn size(token: &[u8]) -> Option<Value<'_>>
 
 /// Reads a register.
 #[tactic(auto, unfolding(crate::specs::Values::ReadsKind))]
+#[inline(always)]
 fn reg(token: &[u8]) -> Option<Value<'_>>
     ensures { ReadsKind Kind.Reg token.now result }
 {
@@ -200,6 +203,7 @@ fn i32(token: &[u8]) -> Option<Value<'_>>
 
 /// Reads where a branch goes.
 #[tactic(auto, unfolding(crate::specs::Values::ReadsKind))]
+#[inline(always)]
 fn target(token: &[u8]) -> Option<Value<'_>>
     ensures { ReadsKind Kind.Target token.now result }
 {
@@ -208,6 +212,7 @@ fn target(token: &[u8]) -> Option<Value<'_>>
 
 /// Reads a label.
 #[tactic(auto, unfolding(crate::specs::Values::ReadsKind))]
+#[inline(always)]
 fn label(token: &[u8]) -> Option<Value<'_>>
     ensures { ReadsKind Kind.Label token.now result }
 {

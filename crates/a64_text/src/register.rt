@@ -9,12 +9,13 @@ use a64_base::{PReg, Reg, RegClass};
 /// The register that the token is: `x0` to `x30`, `xzr`, `sp`, `v0` to `v31`, `%i` and a number, or
 /// `%f` and a number.
 #[tactic(auto, using(crate::proofs::Decimals::decimal_first))]
+#[inline]
 pub fn read_reg(token: &[u8]) -> Option<Reg>
     ensures { Reads IsReg reg_text token.now result }
 {
     match token {
-        b"sp" => Some(Reg::Real(PReg::new(63, RegClass::Int))),
-        b"xzr" => Some(Reg::Real(PReg::new(31, RegClass::Int))),
+        [b's', b'p'] => Some(Reg::Real(PReg::new(63, RegClass::Int))),
+        [b'x', b'z', b'r'] => Some(Reg::Real(PReg::new(31, RegClass::Int))),
         [b'x', number @ ..] => {
             let n = read_u32(number)?;
             if n > 30 {

@@ -12,6 +12,7 @@ use crate::value::Value;
 use arrayvec::ArrayVec;
 
 /// The name, and the lines behind the fields in the text behind it. The fields are left in `values`.
+#[inline(always)]
 pub fn read_schema<'t, N: Named, L: FieldRow, const M: usize>(
     name: &[u8],
     text: Option<&'t [u8]>,

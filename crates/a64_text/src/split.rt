@@ -31,10 +31,14 @@ pub fn cut(text: &[u8], separator: u8) -> (&[u8], Option<&[u8]>)
 }
 
 /// The first token of the first line. It ends at a space or a line feed.
+#[inline(always)]
 pub fn cut_token(text: &[u8]) -> CutToken<'_>
     ensures { IsCut line_tokens lines_behind text.now result.token.now result.more result.lines }
 {
     for (i, byte) in text.iter().enumerate() {
+        if *byte > b' ' {
+            continue;
+        }
         if *byte == b' ' {
             return CutToken {
                 token: &text[..i],

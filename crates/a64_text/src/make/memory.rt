@@ -1,50 +1,63 @@
 //! Makes loads, stores and addresses of their fields.
 
+ghost use Rattle.std.specs.Prelude.{◌<◌};
+ghost use Rattle.std.specs.Vec.{vec_len, vec_capacity};
 ghost use Rattle.a64_text.specs.declared.name.Name.TheVariants as names;
-ghost use Rattle.a64_text.specs.Makes.{Makes};
+ghost use Rattle.a64_text.specs.Puts.{Puts};
 
 use crate::at;
-use crate::entry::Entry;
-use crate::make::emitted;
+use crate::make::emit;
 use crate::name::MemoryName;
 use crate::value::Value;
 use a64_base::Writable;
-use a64_inst::{Access, AccessOp, Inst};
+use a64_inst::{Access, AccessOp, Inst, Item};
 
-/// The load or store of one register with these fields.
-#[tactic(auto, unfolding(crate::specs::Makes::Makes))]
-pub fn make_access(op: AccessOp, values: &[Value]) -> Option<Entry>
-    ensures { Makes (names.Access op) values.now result }
+/// Puts the load or store of one register with these fields behind the items.
+#[tactic(auto, unfolding(crate::specs::Puts::Puts))]
+pub fn put_access(items: &mut Vec<Item>, op: AccessOp, values: &[Value]) -> bool
+    requires { vec_len items.old < vec_capacity items.old }
+    ensures { Puts (names.Access op) values.now items.old.items items.new.items result }
 {
-    Some(emitted(Inst::from_access(Access {
+    let access = Access {
         op,
         reg: at::reg(values, 0),
         mem: at::mode(values, 1),
         flags: at::flags(values, 2),
-    })))
+    };
+    emit(items, Inst::from_access(access))
 }
 
-/// The instruction of this name with these fields.
-#[tactic(auto, unfolding(crate::specs::Makes::Makes))]
-pub fn make_memory(name: MemoryName, values: &[Value]) -> Option<Entry>
-    ensures { Makes (names.Memory name) values.now result }
+/// Puts the instruction of this name with these fields behind the items.
+#[tactic(auto, unfolding(crate::specs::Puts::Puts))]
+pub fn put_memory(items: &mut Vec<Item>, name: MemoryName, values: &[Value]) -> bool
+    requires { vec_len items.old < vec_capacity items.old }
+    ensures { Puts (names.Memory name) values.now items.old.items items.new.items result }
 {
     match name {
-        MemoryName::LoadP64 => Some(emitted(Inst::LoadP64 {
-            rt: Writable::from_reg(at::reg(values, 0)),
-            rt2: Writable::from_reg(at::reg(values, 1)),
-            mem: at::pair_mode(values, 2),
-            flags: at::flags(values, 3),
-        })),
-        MemoryName::StoreP64 => Some(emitted(Inst::StoreP64 {
-            rt: at::reg(values, 0),
-            rt2: at::reg(values, 1),
-            mem: at::pair_mode(values, 2),
-            flags: at::flags(values, 3),
-        })),
-        MemoryName::LoadAddr => Some(emitted(Inst::LoadAddr {
-            rd: Writable::from_reg(at::reg(values, 0)),
-            mem: at::mode(values, 1),
-        })),
+        MemoryName::LoadP64 => emit(
+            items,
+            Inst::LoadP64 {
+                rt: Writable::from_reg(at::reg(values, 0)),
+                rt2: Writable::from_reg(at::reg(values, 1)),
+                mem: at::pair_mode(values, 2),
+                flags: at::flags(values, 3),
+            },
+        ),
+        MemoryName::StoreP64 => emit(
+            items,
+            Inst::StoreP64 {
+                rt: at::reg(values, 0),
+                rt2: at::reg(values, 1),
+                mem: at::pair_mode(values, 2),
+                flags: at::flags(values, 3),
+            },
+        ),
+        MemoryName::LoadAddr => emit(
+            items,
+            Inst::LoadAddr {
+                rd: Writable::from_reg(at::reg(values, 0)),
+                mem: at::mode(values, 1),
+            },
+        ),
     }
 }

@@ -1,0 +1,39 @@
+use Rattle.std.proofs.Common.{Bool, Some, refl}
+use Rattle.std.specs.Global.{Vec}
+use Rattle.a64_inst.specs.declared.item.Item.{Item}
+use Rattle.a64_text.specs.declared.name.Name.TheVariants as names
+use Rattle.a64_text.specs.declared.state.ReaderState.{ReaderState}
+use Rattle.a64_text.specs.AddsLine.{AddsEntry, AddsMade}
+use Rattle.a64_text.specs.Puts.{Puts}
+use Rattle.a64_text.proofs.Adds.{all_ok, put_adds, frame_adds}
+use Rattle.a64_text.proofs.read.add_made.Goals as goal
+
+-- the state with these items
+abbrev with_items : ReaderState → Vec Item → ReaderState
+with_items state items = record state { file = record state.file { items = items } }
+
+pub returns-in-Integer : goal.returns-in-Integer
+returns-in-Integer c = put_adds c.args.state.now (with_items c.args.state.now c.put_integer.new.items) refl refl c.args.name (names.Integer c.in-Integer.name) c.args.values.now c.reserve.new.self.items c.put_integer.result c.in-Integer.is c.reserve.ensures.items c.put_integer.ensures
+
+pub returns-in-Control : goal.returns-in-Control
+returns-in-Control c =
+    let new = with_items c.args.state.now c.put_control.new.items in
+    all_ok (Puts (names.Control c.in-Control.name) c.args.values.now c.reserve.new.self.items new.file.items.items) (AddsMade c.args.name c.args.values.now c.args.state.now new)
+    (λ made h. put_adds c.args.state.now new refl refl c.args.name (names.Control c.in-Control.name) c.args.values.now c.reserve.new.self.items made c.in-Control.is c.reserve.ensures.items h)
+    c.put_control.result c.put_control.ensures
+
+pub returns-in-Memory : goal.returns-in-Memory
+returns-in-Memory c = put_adds c.args.state.now (with_items c.args.state.now c.put_memory.new.items) refl refl c.args.name (names.Memory c.in-Memory.name) c.args.values.now c.reserve.new.self.items c.put_memory.result c.in-Memory.is c.reserve.ensures.items c.put_memory.ensures
+
+pub returns-in-Access : goal.returns-in-Access
+returns-in-Access c = put_adds c.args.state.now (with_items c.args.state.now c.put_access.new.items) refl refl c.args.name (names.Access c.in-Access.op) c.args.values.now c.reserve.new.self.items c.put_access.result c.in-Access.is c.reserve.ensures.items c.put_access.ensures
+
+pub returns-in-Bind : goal.returns-in-Bind
+returns-in-Bind c = put_adds c.args.state.now (with_items c.args.state.now c.put_bind.new.items) refl refl c.args.name names.Bind c.args.values.now c.reserve.new.self.items c.put_bind.result c.in-Bind.is c.reserve.ensures.items c.put_bind.ensures
+
+pub returns-in-Frame : goal.returns-in-Frame
+returns-in-Frame c =
+    let reserved = with_items c.args.state.now c.reserve.new.self in
+    all_ok (λ (made : Bool). AddsEntry (Some c.make_frame.result) reserved c.add_once.new.state made) (AddsMade c.args.name c.args.values.now c.args.state.now c.add_once.new.state)
+    (λ made h. frame_adds c.args.state.now c.add_once.new.state c.reserve.new.self c.args.name c.args.values.now c.make_frame.result made c.reserve.ensures.items c.in-Frame.is c.make_frame.ensures h)
+    c.add_once.result c.add_once.ensures
