@@ -3,6 +3,7 @@ pub mod Numbered
 pub mod Inputs
 pub mod Taking
 pub mod Gathering
+pub mod DigitPairs
 pub mod HexPairs
 pub mod SectionLists
 pub mod Overlaps

@@ -5,6 +5,7 @@
 mod adapter;
 mod assembling;
 mod command;
+mod counter;
 mod fault_lines;
 mod input;
 mod line;

@@ -6,11 +6,12 @@ ghost use Rattle.a64_cli.specs.Streams.{HasFailed, Takes, TakesPart, Puts, IsCut
 ghost use Rattle.a64_cli.specs.Report.{item_line, pool_line, word_line, words_in, report_of};
 ghost use Rattle.a64_cli.specs.Sections.{section_text};
 
+use crate::counter::Counter;
 use crate::line::{SIZE, text_from};
 use crate::piece::Piece;
 use crate::report_lines::{
     CallLines, IslandLines, LabelLines, LineKind, MapLines, PatchableLines, RelocLines, TrapLines,
-    compose_one, compose_two, compose_word,
+    compose_item, compose_one, compose_word,
 };
 use crate::stream::{Failed, Sink};
 use a64_emit::Code;
@@ -41,9 +42,12 @@ fn put_items<K: Sink>(sink: &mut K, piece: &mut Piece, places: &[u32]) -> Result
     ensures err { OnErr result (IsCut (K.taken sink.old) (K.faults sink.old) piece.old (K.taken sink.new) (K.faults sink.new) (flat_map item_line (enumerate_from 0 places.now))) }
 {
     let mut buffer = [0; SIZE];
-    for (index, place) in places.iter().enumerate() {
-        let start = compose_two(&mut buffer, b"item", index as u64, *place);
+    let mut index = Counter::new();
+    let mut shown = Counter::new();
+    for place in places {
+        let start = compose_item(&mut buffer, &index, &mut shown, *place);
         piece.put(sink, text_from(&buffer, start))?;
+        index.add(1);
     }
     Ok(())
 }
@@ -78,12 +82,12 @@ fn put_words<K: Sink>(sink: &mut K, piece: &mut Piece, bytes: &[u8]) -> Result<(
     ensures err { OnErr result (IsCut (K.taken sink.old) (K.faults sink.old) piece.old (K.taken sink.new) (K.faults sink.new) (flat_map word_line (enumerate_from 0 (words_in bytes.now)))) }
 {
     let mut buffer = [0; SIZE];
-    let mut index = 0;
+    let mut place = Counter::new();
     let mut rest = bytes;
     while let Some((word, tail)) = first_word(rest) {
-        let start = compose_word(&mut buffer, index, word);
+        let start = compose_word(&mut buffer, &place, word);
         piece.put(sink, text_from(&buffer, start))?;
-        index += 1;
+        place.add(4);
         rest = tail;
     }
     Ok(())
