@@ -26,7 +26,7 @@ use Rattle.a64_buffer.proofs.Growth.{Grows, use_inside}
 use Rattle.a64_buffer.proofs.Rooms.{open_wants, room_from, none_room, less_room}
 use Rattle.a64_buffer.proofs.Adding.{added_later, added_sound, old_use}
 use Rattle.a64_buffer.proofs.Laters.{same_use, later_trans}
-use Rattle.a64_buffer.proofs.Serving.{open_none, serves_none, served_behind, serves_join}
+use Rattle.a64_buffer.proofs.Serving.{open_none, serves_none, served_behind, serves_join, sites_stopped}
 use Rattle.a64_buffer.proofs.OwnTraps.{label_no_trap, own_later}
 use Rattle.a64_buffer.proofs.Writing.{part_none}
 use Rattle.a64_buffer.proofs.Traps.{same_traps, no_traps}
@@ -171,7 +171,7 @@ record LastPart {K : Type 0} (r : Kinds K) (w m : Buffer K) : Type 0 where
 
 last_part : {K : Type 0} (r : Kinds K) (distance : ℕ) (force : ForceVeneers) (w m : Buffer K) → All (λ u. is_open r u ≡ true → class r u ≡ Far) w.uses → WritesFar r distance force w m → LastPart r w m
 last_part r distance force w m only_far far = elim far [
-  | inl none ↦ subst (LastPart r w) (sym none.0) (record { served = []; serves = serves_none r w.labels w.constants w w refl refl (λ k d h o s. open_none r (get_or w.uses k d) o s); old = λ k d h. absurd (omega arith); part = part_none r w; sound_in = λ areas s h. s; given = λ k d h l. absurd (omega arith); direct = λ k d h n. refl })
+  | inl none ↦ subst (LastPart r w) (sym none.0) (record { served = []; serves = serves_none r w.labels w.constants w w refl refl refl (λ k d h o s. open_none r (get_or w.uses k d) o s); old = λ k d h. absurd (omega arith); part = part_none r w; sound_in = λ areas s h. s; given = λ k d h l. absurd (omega arith); direct = λ k d h n. refl })
   | inr all ↦ record {
     served = all.0.writing.served;
     serves = all.0.writing.serves;
@@ -404,7 +404,7 @@ module _ {K : Type 0} (r : Kinds K) (law : IsLawful r) (distance : ℕ) (force :
   serves_now : Serves r b.labels b.constants ((near.writing.served ++ last.served) ++ []) (begun r b) b'
   serves_now =
       serves_join r b.labels b.constants (begun r b) m b' (near.writing.served ++ last.served) [] serves_m
-      (serves_none r b.labels b.constants m b' refl refl ended_none)
+      (serves_none r b.labels b.constants m b' refl refl (sites_stopped (stands_at (end_of b)) (end_of m) m.uses) ended_none)
       (later_trans (begun r b) w m near.writing.part.later last.part.later) m_later
       (λ k d low high. absurd (omega (arith, low, high, length-map m.uses (stopped (stands_at (end_of b)) (end_of m)))))
       (λ j k d hj hk. absurd (omega arith))

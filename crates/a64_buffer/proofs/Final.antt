@@ -338,6 +338,7 @@ module _ {K : Type 0} (r : Kinds K) (law : IsLawful r) (b m : Buffer K) (whole :
       served = w.writing.served;
       serves = w.writing.serves;
       own_traps = own_later r b.constants b.labels w.writing.served b m w.writing.serves later sound.apart whole.own_traps (stops_below r b b.islands whole.sound) (λ k d low high trap. label_no_trap (get_or m.uses k d).target (w.writing.given k d low high).labelled trap);
+      final_sound = sound_islands r m m.islands (open_areas r law b) areas sound closes;
       jumps = subst (λ bs. All (JumpsOver r bs) b.islands) (sym bytes_are) jumps_over;
       labels = labels;
       islands = islands;

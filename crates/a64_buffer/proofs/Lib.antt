@@ -31,5 +31,5 @@ pub mod Loads
 pub mod Unbound
 pub mod Listed
 pub mod Final
-pub mod Plain
+pub mod Known
 pub mod Clients

@@ -1,28 +1,28 @@
 -- What one use gets in an island or the pool.
-use Rattle.std.proofs.Common.{ℕ, ◌≡◌, ◌⊎◌, ◌+◌, ◌-◌, ◌*◌, ◌<◌, ◌≤◌, Bool, true, false, cond, List, [], ◌∷◌, ◌++◌, All, Any, length, get_or, Option, None, Some, refl, sym, ap, ◌∙◌, subst, arith, inl, inr}
+use Rattle.std.proofs.Common.{ℕ, ◌≡◌, ◌⊎◌, ◌+◌, ◌-◌, ◌*◌, ◌<◌, ◌≤◌, Bool, true, false, cond, List, [], ◌∷◌, ◌++◌, All, Any, map, length, get_or, Option, None, Some, refl, sym, ap, ◌∙◌, subst, arith, inl, inr}
 use Rattle.std.specs.Prelude.{IsSome, MatchOption, ◌&&◌, is_none}
 use Rattle.std.specs.Option.{unwrap_or}
 use Rattle.std.specs.FinMap.{get}
 use Rattle.std.proofs.lemmas.Bool.{cases_lt, false≢true, eqb-true, eq-eqb}
-use Rattle.std.proofs.lemmas.List.{get_or_default}
+use Rattle.std.proofs.lemmas.List.{get_or_default, map-append}
 use Rattle.std.proofs.lemmas.List.Elements.{All-cons}
 use Rattle.a64_base.specs.declared.entity.TrapCode.{TrapCode}
 use Rattle.a64_base.specs.declared.entity.VCodeConstant.{VCodeConstant}
 use Rattle.a64_buffer.specs.declared.site.Use.{Use}
 use Rattle.a64_buffer.specs.declared.site.Target.{Target}
 use Rattle.a64_buffer.specs.declared.site.Target.TheVariants.{Label, Constant, Trap, IslandEnd}
-use Rattle.a64_buffer.specs.declared.class.Class.TheVariants.{Near, Middle, Far}
+use Rattle.a64_buffer.specs.declared.class.Class.TheVariants.{Near, Middle, Load, Far}
 use Rattle.a64_buffer.specs.Kinds.{Kinds, IsLawful}
 use Rattle.a64_buffer.specs.Buffer.{Buffer, end_of, label_of, made_use}
 use Rattle.a64_buffer.specs.Classes.{class, class_of, rank_of, is_open}
 use Rattle.a64_buffer.specs.Sound.{IsSound, IsStoppedOrOpen, IsStop, IsRightlyOpen}
-use Rattle.a64_buffer.specs.Pieces.{padding, constant_of, trap_at, copy_words, key_of, words_for, stop_for, piece_words, piece_traps, StopsAtPiece, IsServed, StopsWith}
+use Rattle.a64_buffer.specs.Pieces.{padding, constant_of, trap_at, copy_words, site_of, key_of, words_for, stop_for, sites_for, piece_words, piece_traps, piece_sites, StopsAtPiece, IsServed, IsFirst, StopsWith}
 use Rattle.a64_buffer.specs.Steps.{stopped, stands_at, is_load_of, waits_for, Adds, GivesJump, GivesFar, GivesTrap, GivesCopy, Within, ServesNext}
 use Rattle.a64_buffer.proofs.Rooms.{open_wants, open_stop}
 use Rattle.a64_buffer.proofs.Adding.{added_count, old_use, new_use}
 use Rattle.a64_buffer.proofs.Giving.{only_here}
 use Rattle.a64_buffer.proofs.Pays.{label_is}
-use Rattle.a64_buffer.proofs.Serving.{flat_one, label_no_constant}
+use Rattle.a64_buffer.proofs.Serving.{flat_one, label_no_constant, sites_stopped}
 
 -- a label is no constant, and no trap
 label_constant : (target : Target) (label : ℕ) → label_of target ≡ Some label → IsSome (constant_of target) → ⊥
@@ -55,7 +55,7 @@ module _ {K : Type 0} (r : Kinds K) (law : IsLawful r) (b b' : Buffer K) (areas 
       let h : IsStoppedOrOpen r b areas u = subst (IsStoppedOrOpen r b areas) (sym is) (s.stops index u within) in
       subst (λ o. MatchOption o (IsRightlyOpen r b areas u.target u.kind u.offset) (IsStop r b areas u.target u.kind u.offset)) (open_stop r u open') h
 
-  module _ (test : Use K → Bool) (place : ℕ) (added : List ℕ) (fresh : List (Use K)) (traps : List (ℕ × TrapCode)) (a : Adds test place added fresh traps b b') (passes : test u ≡ true) (words_are : words_for r b.constants (class r u) u.target (end_of b) ≡ added) (traps_are : trap_at u.target (end_of b) ≡ traps) (place_is : stop_for r b.constants (class r u) u.target (end_of b) ≡ place) (only : (k : ℕ) (d : Use K) → k < length b.uses → test (get_or b.uses k d) ≡ true → (get_or b.uses k d ≡ u) ⊎ (IsSome (constant_of u.target) × ((get_or b.uses k d).target ≡ u.target))) (alone : (v : Use K) → IsSome (constant_of u.target) → v.target ≡ u.target → IsSome (stopped test place v).stop) (labelled : All (λ v. IsSome (label_of v.target)) fresh) where
+  module _ (test : Use K → Bool) (place : ℕ) (added : List ℕ) (fresh : List (Use K)) (traps : List (ℕ × TrapCode)) (a : Adds test place added fresh traps b b') (passes : test u ≡ true) (words_are : words_for r b.constants (class r u) u.target (end_of b) ≡ added) (traps_are : trap_at u.target (end_of b) ≡ traps) (place_is : stop_for r b.constants (class r u) u.target (end_of b) ≡ place) (only : (k : ℕ) (d : Use K) → k < length b.uses → test (get_or b.uses k d) ≡ true → (get_or b.uses k d ≡ u) ⊎ (IsSome (constant_of u.target) × ((get_or b.uses k d).target ≡ u.target))) (alone : (v : Use K) → IsSome (constant_of u.target) → v.target ≡ u.target → IsSome (stopped test place v).stop) (labelled : All (λ v. IsSome (label_of v.target)) fresh) (sites_are : sites_for r (class r u) u.target (end_of b) ≡ map site_of fresh) where
     abbrev served : Use K
     served = record u { stop = Some place }
 
@@ -96,6 +96,21 @@ module _ {K : Type 0} (r : Kinds K) (law : IsLawful r) (b b' : Buffer K) (areas 
         tested true o e h = refl
         tested false o e h = absurd (false≢true (subst IsSome e h))
 
+    -- all loads of constants are of one class, so the first of all open uses is the first of its constant
+    load_class : (t : Target) (kind : K) → IsSome (constant_of t) → class_of r t kind ≡ Load
+    load_class (Label l) kind h = absurd (false≢true h)
+    load_class (Constant c) kind h = refl
+    load_class (Trap code) kind h = absurd (false≢true h)
+    load_class IslandEnd kind h = absurd (false≢true h)
+
+    is_first : IsFirst r b.uses served
+    is_first is_constant k d h o same =
+        let v : Use K = get_or b.uses k d in
+        let mine : class r u ≡ Load = load_class u.target u.kind is_constant in
+        let other : class r v ≡ Load = load_class v.target v.kind (subst (λ t. IsSome (constant_of t)) (sym same) is_constant) in
+        let less : key_of r u ≤ key_of r v = least k d h o in
+        omega (arith, less, ap rank_of mine, ap rank_of other)
+
     pub serve_next : ServesNext r (class r u) b b'
     serve_next = record {
       served = served;
@@ -108,6 +123,10 @@ module _ {K : Type 0} (r : Kinds K) (law : IsLawful r) (b b' : Buffer K) (areas 
       serves = record {
         words = a.words ∙ ap (λ ws. b.words ++ ws) (sym (flat_one (piece_words r b.constants) (end_of b, served) ∙ words_are));
         traps_are = a.traps_are ∙ ap (λ ts. b.traps ++ ts) (sym (flat_one (piece_traps r b.constants) (end_of b, served) ∙ traps_are));
+        uses_are =
+            ap (map site_of) a.uses ∙ (map-append site_of (map (stopped test place) b.uses) fresh
+            ∙ (ap (λ ss. ss ++ map site_of fresh) (sites_stopped test place b.uses) ∙ ap (λ ss. map site_of b.uses ++ ss) (sym (flat_one (piece_sites r b.constants) (end_of b, served) ∙ sites_are))));
+        first' = All-cons (IsFirst r b.uses) served [] is_first (λ k d h. absurd (omega arith));
         stops = All-cons (StopsAtPiece r b.constants) (end_of b, served) [] (ap (λ n. Some n) (sym place_is)) (λ k d h. absurd (omega arith));
         in_order = λ j k d lt h. absurd (omega arith);
         waited = All-cons (IsServed r b.labels b b') served [] (record {
@@ -143,6 +162,7 @@ module _ {K : Type 0} (r : Kinds K) (law : IsLawful r) (b b' : Buffer K) (areas 
         alike
         (λ v is_constant e. absurd (label_constant u.target label.0 label.1 is_constant))
         (All-cons (λ (v : Use K). IsSome (label_of v.target)) (made_use r b.labels (end_of b) u.target r.jump) [] (subst IsSome (sym label.1) refl) (λ k d h. absurd (omega arith)))
+        (elim c [ inl e ↦ ap (λ k. sites_for r k u.target (end_of b)) e | inr e ↦ ap (λ k. sites_for r k u.target (end_of b)) e ])
 
     pub far_next : class r u ≡ Far → GivesFar r u b b' → ServesNext r (class r u) b b'
     far_next c a =
@@ -154,6 +174,7 @@ module _ {K : Type 0} (r : Kinds K) (law : IsLawful r) (b b' : Buffer K) (areas 
         alike
         (λ v is_constant e. absurd (label_constant u.target label.0 label.1 is_constant))
         (All-cons (λ (v : Use K). IsSome (label_of v.target)) (made_use r b.labels (end_of b + 4 * length r.far_words) u.target r.far_use) [] (subst IsSome (sym label.1) refl) (λ k d h. absurd (omega arith)))
+        (ap (λ k. sites_for r k u.target (end_of b)) c)
 
     pub trap_next : (code : TrapCode) → u.target ≡ Trap code → GivesTrap r u code b b' → ServesNext r (class r u) b b'
     trap_next code e a =
@@ -164,6 +185,7 @@ module _ {K : Type 0} (r : Kinds K) (law : IsLawful r) (b b' : Buffer K) (areas 
         alike
         (λ v is_constant same. absurd (false≢true (subst (λ t. IsSome (constant_of t)) e is_constant)))
         (λ k d h. absurd (omega arith))
+        (ap (λ t. sites_for r (class_of r t u.kind) t (end_of b)) e)
 
   pub copy_next : (constant : VCodeConstant) (content : List ℕ) → u.target ≡ Constant constant → get b.constants constant.0 ≡ Some content → GivesCopy r constant.0 content b b' → ServesNext r (class r u) b b'
   copy_next constant content e known a =
@@ -175,6 +197,7 @@ module _ {K : Type 0} (r : Kinds K) (law : IsLawful r) (b b' : Buffer K) (areas 
       (λ k d h t. inr (subst (λ t. IsSome (constant_of t)) (sym e) refl, load_of constant (get_or b.uses k d).target (both (is_load_of constant.0 (get_or b.uses k d).target) (is_none (get_or b.uses k d).stop) t).0 ∙ sym e))
       (λ v is_constant same. stops (end_of b + 4 * padding (end_of b) (length content)) v.target v.stop (same ∙ e))
       (λ k d h. absurd (omega arith))
+      (ap (λ t. sites_for r (class_of r t u.kind) t (end_of b)) e)
     where
       waits : (t : Target) (o : Option ℕ) → t ≡ Constant constant → o ≡ None → (is_load_of constant.0 t && is_none o) ≡ true
       waits t o e n = ap (λ t. is_load_of constant.0 t && is_none o) e ∙ (ap (λ c. c && is_none o) (eq-eqb constant.0 constant.0 refl) ∙ ap (λ o. true && is_none o) n)

@@ -499,6 +499,20 @@ module _ {K : Type 0} (r : Kinds K) where
   pub all_closed_hold : (us us' : List (Use K)) (queues : List Queue) → Closes r us us' → AllHold r us queues → AllHold r us' queues
   all_closed_hold us us' queues c h k q l = closed_holds r k us us' _ _ _ c (h k q l)
 
+  -- a use that gets a stop leaves what the queues hold
+  pub stopped_hold : (us : List (Use K)) (queues : List Queue) (i : ℕ) (d : Use K) (stop : Option ℕ) → i < length us → is_none stop ≡ false → AllHold r us queues → AllHold r (set us i (record (get_or us i d) { stop = stop })) queues
+  stopped_hold us queues i d stop l some h =
+      let v : Use K = record (get_or us i d) { stop = stop } in
+      all_closed_hold us (set us i v) queues
+      (set_closes r us i v l (λ e. ap (limit_of r) (get_or_default us i d e l)) (λ e. ap (class r) (get_or_default us i d e l)) (stopped_closed r v some))
+      h
+
+  -- and it leaves the least limit of a rank, where that is not its own
+  pub stopped_limit : (rank : ℕ) (us : List (Use K)) (i : ℕ) (d : Use K) (stop : Option ℕ) (limit index : ℕ) → i < length us → is_none stop ≡ false → ((e : Use K) → is_open r (get_or us i e) ≡ true → rank_of (class r (get_or us i e)) ≡ rank → limit ≢ limit_of r (get_or us i e)) → IsLimit r rank us limit index → IsLimit r rank (set us i (record (get_or us i d) { stop = stop })) limit index
+  stopped_limit rank us i d stop limit index l some ne h =
+      let v : Use K = record (get_or us i d) { stop = stop } in
+      closed_limit r rank us (set us i v) i v limit index refl l (stopped_closed r v some) ne h
+
   -- queues that differ in their memory at most
   pub same_hold : (us : List (Use K)) (queues queues' : List Queue) → ((rank : ℕ) (q : Queue) → IsSameQueue (get_or queues rank q) (get_or queues' rank q)) → AllHold r us queues → AllHold r us queues'
   same_hold us queues queues' same h k q l =

@@ -52,7 +52,7 @@ module _ {K : Type 0} (r : Kinds K) where
   pub writing_none : (limit : ℕ) (b : Buffer K) → MayWrite r b → IsWriting r limit b b
   writing_none limit b m = record {
     served = [];
-    serves = serves_none r b.labels b.constants b b refl refl (λ k d h o s. open_none r (get_or b.uses k d) o s);
+    serves = serves_none r b.labels b.constants b b refl refl refl (λ k d h o s. open_none r (get_or b.uses k d) o s);
     ahead = λ k d h. absurd (omega arith);
     part = part_none b;
     sound = m.sound;

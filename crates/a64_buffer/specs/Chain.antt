@@ -31,17 +31,18 @@ load_of u = if is_none u.stop then constant_of u.target else None
 abbrev pub loads_of : {K : Type 0} → List (Use K) → List (Option ℕ)
 loads_of uses = map (λ u. load_of u) uses
 
--- no use from one index up to another is of the label
+-- no use from one index up to another is of the number
 abbrev pub NoneBetween : List (Option ℕ) → ℕ → ℕ → ℕ → Type 0
 NoneBetween labels label from to = (j : ℕ) → from ≤ j → j < to → slice_index_or labels j None ≢ Some label
 
--- one more than the index of the last use of a label among the first so many, or 0
+-- one more than the index of the last use of a number among the first so many, or 0
 pub record IsLast (labels : List (Option ℕ)) (label to last : ℕ) : Type 0 where
   pub within : last ≤ to
   pub none : NoneBetween labels label last to
   pub here : 0 < last → slice_index_or labels (last - 1) None ≡ Some label
 
--- each use of a label knows the one before it of its label, and the heads know the last of each label
+-- each use of a number knows the one before it of its number, and the heads know the last of each: the
+-- numbers are those of labels, or those of constants for a copy of which uses wait
 pub record IsChained (labels : List (Option ℕ)) (earlier : List ℕ) (heads : FinMap nat_cmp ℕ) : Type 0 where
   pub same_length : length earlier ≡ length labels
   pub links : (k label : ℕ) → k < length labels → slice_index_or labels k None ≡ Some label → IsLast labels label k (slice_index earlier k)

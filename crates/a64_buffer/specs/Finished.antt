@@ -42,6 +42,7 @@ module _ {K : Type 0} (r : Kinds K) where
     pub served : List (Use K)
     pub serves : Serves r b.labels b.constants served b final
     pub own_traps : HaveOwnTraps final.uses
+    pub final_sound : IsSound r final (b.islands ++ (end_of b, end_of final) ∷ [])
     pub jumps : All (JumpsOver code.bytes.items) b.islands
     pub labels : Lists b.labels code.labels.items
     pub islands : code.islands.items ≡ b.islands

@@ -1,5 +1,5 @@
 -- What stands in islands and in the pool, and in which order.
-use Rattle.std.specs.Prelude.{ℕ, ◌≡◌, ◌≢◌, ◌⊎◌, ◌+◌, ◌*◌, ◌-◌, ◌/◌, ◌%◌, ◌^◌, ◌<◌, true, false, List, [], ◌∷◌, ◌++◌, All, Any, length, slice_index_or, replicate, Option, None, Some, IfSome, IsSome}
+use Rattle.std.specs.Prelude.{ℕ, ◌≡◌, ◌≢◌, ◌⊎◌, ◌+◌, ◌*◌, ◌-◌, ◌/◌, ◌%◌, ◌^◌, ◌<◌, ◌≤◌, true, false, List, [], ◌∷◌, ◌++◌, All, Any, map, length, slice_index_or, replicate, Option, None, Some, IfSome, IsSome}
 use Rattle.std.specs.Option.{unwrap_or}
 use Rattle.std.specs.List.{AllPairs, flat_map}
 use Rattle.std.specs.Ordering.{nat_cmp}
@@ -49,6 +49,10 @@ copy_words content place = replicate (padding place (length content)) 0 ++ words
 abbrev pub StopsWith : {K : Type 0} → Use K → Use K → Type 0
 StopsWith v u = (v ≡ u) ⊎ (IsSome (constant_of u.target) × (v.target ≡ u.target) × (v.stop ≡ u.stop))
 
+-- a use, but for its stop
+abbrev pub site_of : {K : Type 0} → Use K → ℕ × Target × K
+site_of u = (u.offset, u.target, u.kind)
+
 module _ {K : Type 0} (r : Kinds K) where
   -- uses in the order of islands: by rank, then by place
   abbrev pub key_of : Use K → ℕ
@@ -66,6 +70,15 @@ module _ {K : Type 0} (r : Kinds K) where
   -- copied twice
   abbrev pub ComesBefore : Use K → Use K → Type 0
   ComesBefore u v = (key_of u < key_of v) × (IsSome (constant_of u.target) → u.target ≢ v.target)
+
+  -- the uses that the words are which a use of a class gets: a jump word, and the last word of a far veneer
+  abbrev pub sites_for : Class → Target → ℕ → List (ℕ × Target × K)
+  sites_for Near target place = (place, target, r.jump) ∷ []
+  sites_for Middle target place = (place, target, r.jump) ∷ []
+  sites_for Load target place = []
+  sites_for Trapping target place = []
+  sites_for Far target place = (place + 4 * length r.far_words, target, r.far_use) ∷ []
+  sites_for Direct target place = []
 
   module _ (constants : FinMap nat_cmp (List ℕ)) where
     -- the words that a use of a class gets from a place on
@@ -93,6 +106,9 @@ module _ {K : Type 0} (r : Kinds K) where
     abbrev pub piece_traps : ℕ × Use K → List (ℕ × TrapCode)
     piece_traps piece = trap_at piece.1.target piece.0
 
+    abbrev pub piece_sites : ℕ × Use K → List (ℕ × Target × K)
+    piece_sites piece = sites_for (class r piece.1) piece.1.target piece.0
+
     -- the use of a piece stops there
     abbrev pub StopsAtPiece : ℕ × Use K → Type 0
     StopsAtPiece piece = piece.1.stop ≡ Some (stop_for (class r piece.1) piece.1.target piece.0)
@@ -113,14 +129,21 @@ module _ {K : Type 0} (r : Kinds K) where
     pub far_off : IfSome (goal_of labels u.target) (λ place. is_within r u.kind u.offset place ≡ false)
     pub stops : IsSome u.stop
 
+  -- no use of the same constant that waited stands before a use
+  abbrev pub IsFirst : List (Use K) → Use K → Type 0
+  IsFirst uses u = IsSome (constant_of u.target) → All (λ v. is_open r v ≡ true → v.target ≡ u.target → u.offset ≤ v.offset) uses
+
   -- the words that were added are the pieces of some uses, in the order of islands, and nothing else:
-  -- each of these uses had waited and stops at its piece, each trap word is recorded, each constant has
-  -- one copy, and what had waited and has a stop now has it by one of these pieces
+  -- each of these uses had waited and stops at its piece, the new uses are those of these words, each
+  -- trap word is recorded, each constant has one copy, at its first use, and what had waited and has a
+  -- stop now has it by one of these pieces
   pub record Serves (labels : FinMap nat_cmp ℕ) (constants : FinMap nat_cmp (List ℕ)) (served : List (Use K)) (b b' : Buffer K) : Type 0 where
     pub words : b'.words ≡ b.words ++ flat_map (piece_words constants) (pieces constants (end_of b) served)
     pub traps_are : b'.traps ≡ b.traps ++ flat_map (piece_traps constants) (pieces constants (end_of b) served)
+    pub uses_are : map site_of b'.uses ≡ map site_of b.uses ++ flat_map (piece_sites constants) (pieces constants (end_of b) served)
     pub stops : All (StopsAtPiece constants) (pieces constants (end_of b) served)
     pub in_order : AllPairs ComesBefore served
+    pub first' : All (IsFirst b.uses) served
     pub waited : All (IsServed labels b b') served
     pub copied : All (λ u. IsSome (constant_of u.target) → All (λ v. v.target ≡ u.target → IsSome v.stop) b'.uses) served
     pub answered : (k : ℕ) (d : Use K) → k < length b.uses → is_open r (slice_index_or b.uses k d) ≡ true → IsSome (slice_index_or b'.uses k d).stop → Any (StopsWith (slice_index_or b'.uses k d)) served

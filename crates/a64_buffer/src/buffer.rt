@@ -4,7 +4,7 @@ ghost use Rattle.std.specs.Prelude.{◌≡◌, ◌+◌, ◌/◌, ◌%◌, ◌^�
 ghost use Rattle.std.specs.FinMap as finmap;
 ghost use Rattle.a64_buffer.specs.declared.site.Target.TheVariants.{Label, Constant, Trap};
 ghost use Rattle.a64_buffer.specs.Word.{words_of};
-ghost use Rattle.a64_buffer.specs.Constants.{IsConstant};
+ghost use Rattle.a64_buffer.specs.Constants.{IsConstant, AreConstants};
 ghost use Rattle.a64_buffer.specs.Classes.{owed, Fits};
 
 use crate::constants::Constants;
@@ -71,14 +71,16 @@ impl<'c, K: MachInstLabelUse> MachBuffer<'c, K> {
 
     /// Where the next word will stand, in bytes from the start of the code. What is true of every buffer
     /// is told here: uses stand before the end, islands end at it at most, each open use still reaches
-    /// what it gets in an island at the end, and a use that has a stop has it before the end, or at its
-    /// label.
+    /// what it gets in an island at the end, a use that has a stop has it before the end, or at its label,
+    /// and the constants have their sizes.
     #[inline(always)]
     pub fn cur_offset(&self) -> u32
         ensures value { result ≡ end_of self.now }
         ensures whole { IsWhole K.kinds self.now }
         ensures stops { All (HasStopBelow (end_of self.now) self.now.labels) self.now.uses }
+        ensures constants { AreConstants self.now.constants }
     {
+        self.parts.constants.are_sized();
         self.parts.end()
     }
 

@@ -58,8 +58,11 @@ fn close_use<K: MachInstLabelUse>(
     ensures burdens { AreBurdens K.kinds uses.new burdens.new }
 {
     let site = uses[index];
+    if site.stop.is_some() {
+        return;
+    }
     let stop = reached(site.kind, site.offset, place);
-    if site.stop.is_some() || stop.is_none() {
+    if stop.is_none() {
         return;
     }
     uses[index].stop = stop;
@@ -71,6 +74,7 @@ fn close_use<K: MachInstLabelUse>(
 }
 
 /// Lets each use of a label that has no stop stop at the label's place, where it reaches that.
+#[inline(always)]
 pub fn close_label<K: MachInstLabelUse>(
     uses: &mut [Use<K>],
     earlier: &[usize],

@@ -2,6 +2,7 @@
 
 ghost use Rattle.std.specs.Prelude.{◌≡◌, ◌^◌, ◌<◌, ◌⊎◌, length, option_map, IfSome, IsSome, is_some, not, IfOk, OnOk, OnErr, if◌then◌else◌};
 ghost use Rattle.std.specs.FinMap as map;
+ghost use Rattle.a64_buffer.specs.Constants as constants;
 ghost use Rattle.a64_buffer.specs.Constants.{IsConstant, inserted};
 
 use a64_base::VCodeConstant;
@@ -75,6 +76,14 @@ impl Constants {
             Some(bytes) => Some(bytes.as_slice()),
             None => None,
         }
+    }
+
+    /// That each constant has 4, 8 or 16 bytes. The call does nothing else.
+    #[inline(always)]
+    pub fn are_sized(&self)
+        ensures { constants.AreConstants self.now }
+    {
+        let _ = &self.bytes;
     }
 
     /// How many bytes a constant has; `None` where its number has none.

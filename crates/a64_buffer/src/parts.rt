@@ -72,6 +72,18 @@ fn lesser(first: Option<MachLabel>, label: MachLabel) -> MachLabel
     }
 }
 
+/// Takes the memory for one item more, where there is none yet.
+#[inline(always)]
+fn reserve_one<T>(list: &mut Vec<T>) -> Result<(), AllocError>
+    ensures items { list.new.items ≡ list.old.items }
+    ensures ok { OnOk result (vec_len list.new + 1 ≤ vec_capacity list.new) }
+{
+    if list.len() < list.capacity() {
+        return Ok(());
+    }
+    list.reserve(1)
+}
+
 impl<'c, K: MachInstLabelUse> Parts<'c, K> {
     ghost use Rattle.a64_buffer.specs.Buffer.{new_buffer, end_of, stop_of, IsFree, IsOutside, IsBound, IsUnboundOf, IsFirstUnbound, made_use, closed_at, IsReached};
     ghost use Rattle.a64_buffer.specs.Classes.{owed, Fits};
@@ -137,7 +149,8 @@ impl<'c, K: MachInstLabelUse> Parts<'c, K> {
         ensures err { OnErr result (seen self.new ≡ seen self.old) }
         ensures later { OnOk result (IsLater (seen self.old) (seen self.new)) }
     {
-        self.words.push(word)?;
+        reserve_one(&mut self.words)?;
+        self.words.push_reserved(word);
         Ok(())
     }
 
@@ -218,6 +231,7 @@ impl<'c, K: MachInstLabelUse> Parts<'c, K> {
     }
 
     /// Adds a use.
+    #[inline(always)]
     pub fn add_use(&mut self, offset: u32, target: Target, kind: K) -> Result<(), AllocError>
         requires sound { AreSound K.kinds self.old }
         requires aligned { offset % 4 ≡ 0 }
@@ -243,8 +257,8 @@ impl<'c, K: MachInstLabelUse> Parts<'c, K> {
             kind,
             stop,
         };
-        self.uses.reserve(1)?;
-        self.earlier.reserve(1)?;
+        reserve_one(&mut self.uses)?;
+        reserve_one(&mut self.earlier)?;
         let class = site.waiting_class();
         let limit = site.limit();
         reserve_queue(&mut self.queues, class, limit)?;
@@ -256,6 +270,7 @@ impl<'c, K: MachInstLabelUse> Parts<'c, K> {
     }
 
     /// Binds a label to the end.
+    #[inline(always)]
     pub fn bind(&mut self, label: MachLabel) -> Result<(), AllocError>
         requires sound { AreSound K.kinds self.old }
         requires unbound { finmap.get (seen self.old).labels label.0 ≡ None }

@@ -130,6 +130,7 @@ impl Queue {
     }
 
     /// The first stray.
+    #[inline(always)]
     fn first_stray(&self) -> Option<usize>
         ensures is { IsFirstStray (entries self.now) result }
         ensures greatest { IfSome result (λ i. IsHeap entry_cmp (entries self.now) → All (λ e. e.0 ≤ (slice_index_or (entries self.now) 0 (0, 0)).0) (entries self.now)) }
@@ -155,7 +156,7 @@ impl Queue {
     }
 
     /// Leaves closed uses behind, until open ones are first, and finds the least limit.
-    #[inline(never)]
+    #[inline(always)]
     pub fn settle<K: MachInstLabelUse>(&mut self, uses: &[Use<K>], rank: u64)
         requires rank { rank < 5 }
         requires holds { HoldsIn K.kinds rank uses.now self.old }
@@ -171,6 +172,7 @@ impl Queue {
     }
 
     /// The open use of the least limit, once open uses are first.
+    #[inline(always)]
     fn least<K: MachInstLabelUse>(&self, uses: &[Use<K>], rank: u64) -> Option<usize>
         requires holds { HoldsIn K.kinds rank uses.now self.now }
         requires next { WaitsAt K.kinds rank uses.now self.now.next }
@@ -191,6 +193,7 @@ impl Queue {
     }
 
     /// Goes on to the next open use among those that were added at rising limits.
+    #[inline(always)]
     fn skip_closed<K: MachInstLabelUse>(&mut self, uses: &[Use<K>], rank: u64)
         requires rank { rank < 5 }
         requires holds { HoldsIn K.kinds rank uses.now self.old }
@@ -205,6 +208,7 @@ impl Queue {
     }
 
     /// Takes closed uses from the front of the strays, until an open one is first.
+    #[inline(always)]
     fn drop_closed<K: MachInstLabelUse>(&mut self, uses: &[Use<K>], rank: u64)
         requires holds { HoldsIn K.kinds rank uses.now self.old }
         ensures holds { HoldsIn K.kinds rank uses.now self.new }
@@ -221,6 +225,7 @@ impl Queue {
     }
 
     /// Takes the first stray away.
+    #[inline(never)]
     fn drop_first(&mut self)
         requires some { 0 < length (entries self.old) }
         ensures dropped { IsPermutation (entries self.old) (slice_index_or (entries self.old) 0 (0, 0) ∷ entries self.new) }

@@ -51,8 +51,8 @@ fn counted<V: Copy>(count: u64, old: Option<V>) -> u64
     }
 }
 
-/// The length of a table that gets at least another length, and no more than a bound: twice its own
-/// where it may, so that it seldom grows.
+/// The length of a table that gets at least another length, and no more than a bound: an eighth and
+/// eight more than its own where it may, so that it seldom grows and has few numbers without a value.
 fn grown(len: usize, least: usize, bound: u64) -> usize
     requires short { least ≤ 2 ^ 32 }
     requires within { least ≤ bound }
@@ -61,7 +61,7 @@ fn grown(len: usize, least: usize, bound: u64) -> usize
     ensures short { result ≤ 2 ^ 32 }
 {
     let most = bound.min(1 << 32) as usize;
-    len.saturating_mul(2).min(most).max(least)
+    len.saturating_add(len / 8 + 8).min(most).max(least)
 }
 
 impl<V: Copy> LabelMap<V> {

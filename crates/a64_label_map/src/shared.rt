@@ -85,7 +85,7 @@ pub fn list_table<V: Copy>(alloc: Global, table: &[Option<V>]) -> Result<Vec<(u3
     requires { length table.now ≤ 2 ^ 32 }
     ensures { IfOk result (λ list. list.items ≡ numbered 0 table.now) }
 {
-    let mut list = Vec::new(alloc);
+    let mut list = Vec::with_capacity(alloc, table.len())?;
     for number in 0..table.len() {
         let value = table[number];
         let Some(value) = value else {

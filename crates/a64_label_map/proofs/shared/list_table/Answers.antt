@@ -6,3 +6,6 @@ loop-number-preserved-in_default g c = listed_none c.args.table.now c.loop-numbe
 
 pub loop-number-preserved : goal.loop-number-preserved
 loop-number-preserved g c = listed_some c.args.table.now c.loop-number.list.items c.push.new.self.items c.loop-number.number c.index-table-number.result c.in-Some.value c.loop-number-test.true c.index-table-number.is c.in-Some.is c.loop-number.invariant c.in_ok-push.ensures.items
+
+pub loop-number-init : goal.loop-number-init
+loop-number-init g c = c.in_ok-list.ensures.items

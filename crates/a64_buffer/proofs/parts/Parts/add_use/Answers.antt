@@ -13,19 +13,19 @@ use Rattle.a64_buffer.proofs.Stops.{with_head, chained_more}
 use Rattle.a64_buffer.proofs.parts.Parts.add_use.Goals as goal
 
 pub await_use-requires-clause-few : goal.await_use-requires-clause-few
-await_use-requires-clause-few g c = omega (arith, ap (burden g.K.MachInstLabelUse.kinds third) (ap (λ p. p.uses.items) c.link_new.ensures.rest ∙ c.reserve.ensures.items), owed_short g.K.MachInstLabelUse.kinds g.met.K.MachInstLabelUse.lawful (seen c.args.self.now) c.requires.sound.whole)
+await_use-requires-clause-few g c = omega (arith, ap (burden g.K.MachInstLabelUse.kinds third) (ap (λ p. p.uses.items) c.link_new.ensures.rest ∙ c.reserve_one.ensures.items), owed_short g.K.MachInstLabelUse.kinds g.met.K.MachInstLabelUse.lawful (seen c.args.self.now) c.requires.sound.whole)
 
 pub returns-clause-sound : goal.returns-clause-sound
 returns-clause-sound g c =
-    let linked : c.link_new.new.self.uses.items ≡ c.args.self.now.uses.items = ap (λ p. p.uses.items) c.link_new.ensures.rest ∙ c.reserve.ensures.items in
+    let linked : c.link_new.new.self.uses.items ≡ c.args.self.now.uses.items = ap (λ p. p.uses.items) c.link_new.ensures.rest ∙ c.reserve_one.ensures.items in
     let awaited : c.await_use.new.self.uses.items ≡ c.args.self.now.uses.items = ap (λ p. p.uses.items) c.await_use.ensures.rest ∙ linked in
     let pushed : c.push_reserved-2.new.self.items ≡ c.args.self.now.uses.items ++ made_use g.K.MachInstLabelUse.kinds c.args.self.now.labels c.args.offset c.args.target c.args.kind ∷ [] =
     c.push_reserved-2.ensures.items
     ∙ ap (λ us. us ++ record { offset = c.args.offset; target = c.args.target; kind = c.args.kind; stop = c.stop_of-stop.result } ∷ []) awaited
     ∙ ap (λ s. c.args.self.now.uses.items ++ record { offset = c.args.offset; target = c.args.target; kind = c.args.kind; stop = s } ∷ []) c.stop_of-stop.ensures in
-    let heads = ap (λ p. p.heads) c.await_use.ensures.rest ∙ (c.in_ok-earlier.ensures.heads ∙ ap (λ (n : ℕ). with_head (label_of c.args.target) c.args.self.now.heads (n + 1)) (ap length c.reserve.ensures.items)) in
-    let loads = ap (λ p. p.loads) c.await_use.ensures.rest ∙ (c.in_ok-earlier.ensures.loads ∙ ap (λ (n : ℕ). with_head (constant_of c.args.target) c.args.self.now.loads (n + 1)) (ap length c.reserve.ensures.items)) in
-    let earlier = ap (λ p. p.earlier.items) c.await_use.ensures.rest ∙ (c.push_reserved.ensures.items ∙ ap (λ p. p.earlier.items ++ c.in_ok-earlier.earlier ∷ []) c.link_new.ensures.rest ∙ ap (λ es. es ++ c.in_ok-earlier.earlier ∷ []) c.reserve-2.ensures.items) in
+    let heads = ap (λ p. p.heads) c.await_use.ensures.rest ∙ (c.in_ok-earlier.ensures.heads ∙ ap (λ (n : ℕ). with_head (label_of c.args.target) c.args.self.now.heads (n + 1)) (ap length c.reserve_one.ensures.items)) in
+    let loads = ap (λ p. p.loads) c.await_use.ensures.rest ∙ (c.in_ok-earlier.ensures.loads ∙ ap (λ (n : ℕ). with_head (constant_of c.args.target) c.args.self.now.loads (n + 1)) (ap length c.reserve_one.ensures.items)) in
+    let earlier = ap (λ p. p.earlier.items) c.await_use.ensures.rest ∙ (c.push_reserved.ensures.items ∙ ap (λ p. p.earlier.items ++ c.in_ok-earlier.earlier ∷ []) c.link_new.ensures.rest ∙ ap (λ es. es ++ c.in_ok-earlier.earlier ∷ []) c.reserve_one-2.ensures.items) in
     record {
       whole = subst (IsWhole g.K.MachInstLabelUse.kinds)
           (sym (same_buffer _ _ _ _ _ _ _ _ _ _ _ _
@@ -43,7 +43,7 @@ returns-clause-sound g c =
 
 pub returns-clause-later : goal.returns-clause-later
 returns-clause-later g c =
-    let linked : c.link_new.new.self.uses.items ≡ c.args.self.now.uses.items = ap (λ p. p.uses.items) c.link_new.ensures.rest ∙ c.reserve.ensures.items in
+    let linked : c.link_new.new.self.uses.items ≡ c.args.self.now.uses.items = ap (λ p. p.uses.items) c.link_new.ensures.rest ∙ c.reserve_one.ensures.items in
     let awaited : c.await_use.new.self.uses.items ≡ c.args.self.now.uses.items = ap (λ p. p.uses.items) c.await_use.ensures.rest ∙ linked in
     let pushed : c.push_reserved-2.new.self.items ≡ c.args.self.now.uses.items ++ made_use g.K.MachInstLabelUse.kinds c.args.self.now.labels c.args.offset c.args.target c.args.kind ∷ [] =
     c.push_reserved-2.ensures.items
