@@ -14,7 +14,7 @@ use Rattle.a64_plan.specs.Shapes.{Leave}
 use Rattle.a64_plan.specs.Plans.{plan_of}
 use Rattle.a64_plan.proofs.Shortest.{plan_shortest}
 use Rattle.a64_inst.specs.declared.mode.AMode.{AMode}
-use Rattle.a64_inst.specs.declared.mode.AMode.TheVariants.{RegReg, RegScaled, RegScaledExtended, RegExtended, Unscaled, UnsignedOffset, Label, SPPreIndexed, SPPostIndexed, FPOffset, SPOffset, IncomingArg, SlotOffset, RegOffset}
+use Rattle.a64_inst.specs.declared.mode.AMode.TheVariants.{RegReg, RegScaled, RegScaledExtended, RegExtended, Unscaled, UnsignedOffset, Label, SPPreIndexed, SPPostIndexed, FPOffset, SPOffset, IncomingArg, SlotOffset, RegOffset, Const}
 use Rattle.a64_inst.specs.Modes.{BaseOffset, is_far, steps_to, StandsFor}
 use Rattle.a64_inst.specs.Addresses.{is_numbered, index_in, extended, displaced, indexed, after_steps, Reaches}
 
@@ -84,3 +84,4 @@ reaches access_ty place (SPOffset off) is = elim is [ ]
 reaches access_ty place (IncomingArg off) is = elim is [ ]
 reaches access_ty place (SlotOffset off) is = elim is [ ]
 reaches access_ty place (RegOffset rn off) is = elim is [ ]
+reaches access_ty place (Const addr) is = elim is [ ]

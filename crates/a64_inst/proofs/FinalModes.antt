@@ -5,7 +5,7 @@ use Rattle.a64_base.specs.declared.ir_type.IrType.{IrType}
 use Rattle.a64_base.specs.Registers.{integer_register}
 use Rattle.a64_imms.specs.ScaledOffsets.{uimm12_value}
 use Rattle.a64_inst.specs.declared.mode.AMode.{AMode}
-use Rattle.a64_inst.specs.declared.mode.AMode.TheVariants.{RegReg, RegScaled, RegScaledExtended, RegExtended, Unscaled, UnsignedOffset, Label, SPPreIndexed, SPPostIndexed, FPOffset, SPOffset, IncomingArg, SlotOffset, RegOffset}
+use Rattle.a64_inst.specs.declared.mode.AMode.TheVariants.{RegReg, RegScaled, RegScaledExtended, RegExtended, Unscaled, UnsignedOffset, Label, SPPreIndexed, SPPostIndexed, FPOffset, SPOffset, IncomingArg, SlotOffset, RegOffset, Const}
 use Rattle.a64_inst.specs.Modes.{BaseOffset, is_offset9, is_scaled_offset, StandsFor}
 use Rattle.a64_inst.specs.FinalModes.{FinalMode, SignedOffset, ScaledOffset, Other, parts_of, placed_mode}
 
@@ -49,3 +49,4 @@ stands_parts access_ty place (SPOffset off) is = elim is [ ]
 stands_parts access_ty place (IncomingArg off) is = elim is [ ]
 stands_parts access_ty place (SlotOffset off) is = elim is [ ]
 stands_parts access_ty place (RegOffset rn off) is = elim is [ ]
+stands_parts access_ty place (Const addr) is = elim is [ ]

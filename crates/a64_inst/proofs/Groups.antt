@@ -1,5 +1,5 @@
 -- Which tests of faults an instruction of a group can fail.
-use Rattle.std.proofs.Common.{ℕ, ◌≡◌, Bool, true, false, ◌&&◌, List, [], ◌∷◌, Option, refl, ap₂, ◌∙◌}
+use Rattle.std.proofs.Common.{ℕ, ◌≡◌, Bool, true, false, ◌&&◌, List, [], ◌∷◌, Option, None, refl, ap₂, ◌∙◌}
 use Rattle.a64_inst.specs.declared.emission.EmitFlags.{EmitFlags}
 use Rattle.a64_inst.specs.declared.frame.FrameLayout.{FrameLayout}
 use Rattle.a64_inst.specs.declared.virtuals.VirtualRegisters.{VirtualRegisters}
@@ -10,7 +10,8 @@ use Rattle.a64_inst.specs.declared.fault.OwnFault.TheVariants as own
 use Rattle.a64_inst.specs.declared.group.Group.{Group}
 use Rattle.a64_inst.specs.declared.group.Group.TheVariants.{Memory}
 use Rattle.a64_inst.specs.Groups.{group_of}
-use Rattle.a64_inst.specs.Faults.{first_of, fault_with, has_operands, has_mode, has_scratch}
+use Rattle.a64_inst.specs.Accesses.{access_of}
+use Rattle.a64_inst.specs.Faults.{first_of, fault_with, has_operands, is_within_constant, has_mode, has_scratch, named_constant, has_constant}
 
 -- a group whose instructions have no addressing mode
 abbrev pub has_no_modes : Group → Bool
@@ -18,6 +19,10 @@ has_no_modes Memory = false
 has_no_modes _ = true
 
 -- ---- tests that pass
+
+no_access : (inst : Inst) → has_no_modes (group_of inst) ≡ true → access_of inst ≡ None
+no_access insts.Nop0 e = refl
+no_access _ e = cc
 
 with_mode : (inst : Inst) → has_no_modes (group_of inst) ≡ true → has_mode inst ≡ true
 with_mode (insts.LoadAddr rd mem) e = absurd cc
@@ -44,15 +49,19 @@ only_first true = refl
 only_first false = refl
 
 module _ (frame : FrameLayout) (flags : EmitFlags) (size : Option ℕ) (virtuals : VirtualRegisters) where
-  -- no instruction that exists loads a constant
-  pub three_tests : (inst : Inst) → fault_with frame flags size virtuals inst ≡ first_of (tests_of (has_operands frame flags virtuals inst) (has_mode inst) (has_scratch frame inst))
-  three_tests inst = with_constant (has_operands frame flags virtuals inst) (has_mode inst) (has_scratch frame inst)
+  -- only a load of one register loads a constant
+  pub three_tests : (inst : Inst) → access_of inst ≡ None → fault_with frame flags size virtuals inst ≡ first_of (tests_of (has_operands frame flags virtuals inst) (has_mode inst) (has_scratch frame inst))
+  three_tests inst other =
+      let within : is_within_constant size inst ≡ true = rw (other, is_within_constant) refl in
+      let known : has_constant size inst ≡ true = rw (other, named_constant) refl in
+      ap₂ (λ w k. first_of ((has_operands frame flags virtuals inst && w, own.BadOperand) ∷ (has_mode inst, own.BadMode) ∷ (has_scratch frame inst, own.ScratchConflict) ∷ (k, own.UnknownConstant) ∷ [])) within known
+      ∙ with_constant (has_operands frame flags virtuals inst) (has_mode inst) (has_scratch frame inst)
 
   -- without an addressing mode, only the operands can be wrong
   pub one_test : (inst : Inst) (group : Group) → group_of inst ≡ group → has_no_modes group ≡ true
       → fault_with frame flags size virtuals inst ≡ first_of ((has_operands frame flags virtuals inst, own.BadOperand) ∷ [])
   one_test inst group is none =
       let e : has_no_modes (group_of inst) ≡ true = rw is none in
-      three_tests inst
+      three_tests inst (no_access inst e)
       ∙ ap₂ (λ m s. first_of (tests_of (has_operands frame flags virtuals inst) m s)) (with_mode inst e) (with_scratch frame inst e)
       ∙ only_first (has_operands frame flags virtuals inst)

@@ -2,6 +2,7 @@
 use Rattle.std.specs.Prelude.{ℕ, Bool, true, false, ◌&&◌, ◌||◌, List, [], ◌∷◌, length, Option, None, Some, is_none, is_some, option_map, option_and_then}
 use Rattle.std.specs.Ordering.{nat_cmp}
 use Rattle.std.specs.FinMap.{FinMap, get}
+use Rattle.a64_base.specs.declared.entity.VCodeConstant.{VCodeConstant}
 use Rattle.a64_inst.specs.declared.emission.EmitFlags.{EmitFlags}
 use Rattle.a64_inst.specs.declared.frame.FrameLayout.{FrameLayout}
 use Rattle.a64_inst.specs.declared.virtuals.VirtualRegisters.{VirtualRegisters}
@@ -14,14 +15,15 @@ use Rattle.a64_inst.specs.IntegerOperands as integer
 use Rattle.a64_inst.specs.ControlOperands as control
 use Rattle.a64_inst.specs.MemoryOperands as memory
 use Rattle.a64_inst.specs.Accesses.{access_of}
+use Rattle.a64_inst.specs.Modes.{constant_in}
 
--- the number of the constant that an instruction loads, where it loads one; none that exists does
-abbrev pub named_constant : Inst → Option ℕ
-named_constant _ = None
+-- the constant that an instruction loads, where it loads one
+abbrev pub named_constant : Inst → Option VCodeConstant
+named_constant inst = elim (access_of inst) [ None ↦ None | Some access ↦ constant_in access.mem ]
 
 -- the size in bytes of that constant, where it is among these: the bytes of constants by their numbers
 abbrev pub constant_size : FinMap nat_cmp (List ℕ) → Inst → Option ℕ
-constant_size constants inst = option_and_then (λ number. option_map length (get constants number)) (named_constant inst)
+constant_size constants inst = option_and_then (λ addr. option_map length (get constants addr.0)) (named_constant inst)
 
 -- the fault of the first test that fails
 abbrev pub first_of : List (Bool × OwnFault) → Option OwnFault
@@ -65,11 +67,13 @@ module _ (frame : FrameLayout) (flags : EmitFlags) (virtuals : VirtualRegisters)
   has_other_operands (insts.Jump dest) = control.are_jump_operands dest
   has_other_operands (insts.CondBr taken not_taken kind) = control.are_cond_br_operands virtuals taken not_taken kind
   has_other_operands (insts.TestBitAndBranch kind taken not_taken rn bit) = control.are_test_bit_operands virtuals taken not_taken rn bit
+  has_other_operands (insts.TrapIf kind trap_code) = control.is_test virtuals kind
   has_other_operands (insts.IndirectBr rn targets) = is_register_or_zero virtuals rn
   has_other_operands insts.Brk = true
   has_other_operands (insts.Udf trap_code) = true
   has_other_operands (insts.Word4 value) = true
   has_other_operands (insts.Word8 value) = true
+  has_other_operands (insts.EmitIsland needed_space) = true
   has_other_operands (insts.LabelAddress dst label) = is_register_or_zero virtuals dst
   has_other_operands (insts.LoadP64 rt rt2 mem flags) = memory.are_pair_operands virtuals rt rt2 mem
   has_other_operands (insts.StoreP64 rt rt2 mem flags) = memory.are_pair_operands virtuals rt rt2 mem
@@ -80,9 +84,9 @@ module _ (frame : FrameLayout) (flags : EmitFlags) (virtuals : VirtualRegisters)
   abbrev pub has_operands : Inst → Bool
   has_operands inst = elim (access_of inst) [ None ↦ has_other_operands inst | Some access ↦ memory.are_access_operands frame virtuals access ]
 
--- it loads no more than its constant, which has this size; none that exists loads one
+-- it loads no more than its constant, where it loads one and that has this size
 abbrev pub is_within_constant : Option ℕ → Inst → Bool
-is_within_constant size _ = true
+is_within_constant size inst = elim (access_of inst) [ None ↦ true | Some access ↦ memory.is_within size access ]
 
 -- the addressing mode of an instruction that is no load or store of one register exists, where it has one
 abbrev pub has_other_mode : Inst → Bool

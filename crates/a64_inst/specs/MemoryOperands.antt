@@ -1,6 +1,6 @@
 -- Which operands and addressing modes loads and stores may have, and which scratch registers they leave alone (Arm Architecture
 -- Reference Manual, C3.2: loads and stores).
-use Rattle.std.specs.Prelude.{ℕ, ℤ, pos, negsuc, ◌+◌, ◌*◌, ◌%◌, ◌^◌, Bool, true, false, not, ◌&&◌, ◌||◌, nat_lt, nat_le, nat_eq, if◌then◌else◌, Some, None, is_some}
+use Rattle.std.specs.Prelude.{ℕ, ℤ, pos, negsuc, ◌+◌, ◌*◌, ◌%◌, ◌^◌, Bool, true, false, not, ◌&&◌, ◌||◌, nat_lt, nat_le, nat_eq, if◌then◌else◌, Option, Some, None, is_none, is_some}
 use Rattle.std.specs.Int.RustNames.{unsigned_abs}
 use Rattle.a64_base.specs.declared.reg.Reg.{Reg}
 use Rattle.a64_base.specs.declared.ir_type.IrType.{IrType}
@@ -18,13 +18,13 @@ use Rattle.a64_inst.specs.declared.frame.FrameLayout.{FrameLayout}
 use Rattle.a64_inst.specs.declared.mode.AMode.{AMode}
 use Rattle.a64_inst.specs.declared.mode.AMode.TheVariants as modes
 use Rattle.a64_inst.specs.declared.mode.MemLabel.{MemLabel}
-use Rattle.a64_inst.specs.declared.mode.MemLabel.TheVariants.{PCRel, Mach}
+use Rattle.a64_inst.specs.declared.mode.MemLabel.TheVariants.{PCRel, Mach, Pool}
 use Rattle.a64_inst.specs.declared.mode.PairAMode.{PairAMode}
 use Rattle.a64_inst.specs.declared.mode.PairAMode.TheVariants as pairs
 use Rattle.a64_inst.specs.declared.virtuals.VirtualRegisters.{VirtualRegisters}
 use Rattle.a64_inst.specs.Operands.{is_register, is_register_or_zero, is_register_or_stack, is_vector_register, is_offset}
 use Rattle.a64_inst.specs.Accesses.{access_type}
-use Rattle.a64_inst.specs.Modes.{frame_size, base_offset_of, is_offset9}
+use Rattle.a64_inst.specs.Modes.{frame_size, constant_in, base_offset_of, is_offset9}
 use Rattle.a64_inst.specs.Addresses.{is_numbered}
 use Rattle.a64_inst.specs.FinalModes.{FinalMode, SignedOffset, ScaledOffset, Other, final_mode, needs_x16}
 
@@ -43,10 +43,11 @@ fits_frame frame _ = true
 abbrev pub has_offset : FrameLayout → AMode → Bool
 has_offset frame mem = elim (base_offset_of frame mem) [ None ↦ true | Some place ↦ is_signed_64 place.offset ]
 
--- a label's place is known later
+-- the place of a label or of a constant is known later
 abbrev pub is_literal : MemLabel → Bool
 is_literal (PCRel offset) = is_offset (2 ^ 20) offset
 is_literal (Mach label) = true
+is_literal (Pool addr) = true
 
 -- the registers and the immediate that stand in a mode: a base may be the stack pointer, and an index the zero register
 abbrev pub are_mode_parts : VirtualRegisters → AMode → Bool
@@ -64,6 +65,7 @@ are_mode_parts virtuals (modes.SPOffset off) = true
 are_mode_parts virtuals (modes.IncomingArg off) = true
 are_mode_parts virtuals (modes.SlotOffset off) = true
 are_mode_parts virtuals (modes.RegOffset rn off) = is_register_or_stack virtuals rn
+are_mode_parts virtuals (modes.Const addr) = true
 
 unfoldable pub are_mode_operands : FrameLayout → VirtualRegisters → AMode → Bool
 are_mode_operands frame virtuals mem = are_mode_parts virtuals mem && (fits_frame frame mem && has_offset frame mem)
@@ -93,11 +95,13 @@ is_index_extend SXTW = true
 is_index_extend SXTX = true
 is_index_extend _ = false
 
--- the modes of an access: a literal where the operator has such a form, and an index with one of these extensions
+-- the modes of an access: a literal or a constant where the operator has a form with a literal, and an index with one of these
+-- extensions
 abbrev pub has_access_mode : AccessOp → AMode → Bool
 has_access_mode op (modes.RegScaledExtended rn rm extendop) = is_index_extend extendop
 has_access_mode op (modes.RegExtended rn rm extendop) = is_index_extend extendop
 has_access_mode op (modes.Label label) = is_some (literal_of op)
+has_access_mode op (modes.Const addr) = is_some (literal_of op)
 has_access_mode op _ = true
 
 -- the base of a mode with an offset of 64 bits is the integer register with this number
@@ -109,6 +113,13 @@ unfoldable pub has_access_scratch : FrameLayout → Access → Bool
 has_access_scratch frame access =
     not (needs_x16 frame (access_type access.op) access.mem
     && (has_base 16 frame access.mem || (not (loads access.op) && is_numbered 16 access.reg)))
+
+-- the load of a literal is no longer than the constant, where it loads one and that has this size
+abbrev pub is_within_size : Option ℕ → Access → Bool
+is_within_size size access = elim size [ None ↦ true | Some bytes ↦ nat_le (type_bytes (access_type access.op)) bytes ]
+
+abbrev pub is_within : Option ℕ → Access → Bool
+is_within size access = is_none (constant_in access.mem) || is_none (literal_of access.op) || is_within_size size access
 
 -- ---- pairs
 
@@ -145,6 +156,7 @@ has_address_mode (modes.RegReg rn rm) = false
 has_address_mode (modes.RegScaled rn rm) = false
 has_address_mode (modes.RegScaledExtended rn rm extendop) = false
 has_address_mode (modes.Label label) = false
+has_address_mode (modes.Const addr) = false
 has_address_mode (modes.SPPreIndexed simm9) = false
 has_address_mode (modes.SPPostIndexed simm9) = false
 has_address_mode _ = true

@@ -1,5 +1,6 @@
 -- Addressing modes: the base and the offset of those that no instruction holds, and what stands for them.
 use Rattle.std.specs.Prelude.{ℕ, ℤ, pos, negsuc, ◌≡◌, ◌<◌, ◌+◌, ◌*◌, ◌%◌, ◌^◌, ◌⊎◌, ◌+ℤ◌, ◌-ℤ◌, Bool, true, false, not, ◌&&◌, ◌||◌, nat_lt, nat_le, nat_eq, if◌then◌else◌, Option, Some, None, List, [], ⊤}
+use Rattle.a64_base.specs.declared.entity.VCodeConstant.{VCodeConstant}
 use Rattle.a64_base.specs.declared.reg.Reg.{Reg}
 use Rattle.a64_base.specs.declared.ir_type.IrType.{IrType}
 use Rattle.a64_base.specs.declared.ir_type.IrType.TheVariants.{I64}
@@ -12,12 +13,19 @@ use Rattle.a64_plan.specs.declared.step.ConstStep.{ConstStep}
 use Rattle.a64_plan.specs.Plans.{plan_of}
 use Rattle.a64_inst.specs.declared.frame.FrameLayout.{FrameLayout}
 use Rattle.a64_inst.specs.declared.mode.AMode.{AMode}
-use Rattle.a64_inst.specs.declared.mode.AMode.TheVariants.{RegExtended, Unscaled, UnsignedOffset, FPOffset, SPOffset, IncomingArg, SlotOffset, RegOffset}
+use Rattle.a64_inst.specs.declared.mode.AMode.TheVariants.{RegExtended, Unscaled, UnsignedOffset, Label, FPOffset, SPOffset, IncomingArg, SlotOffset, RegOffset, Const}
+use Rattle.a64_inst.specs.declared.mode.MemLabel.TheVariants.{Pool}
 
 -- the mode of a register alone: an unsigned offset of 0, in units of 8 bytes
 abbrev pub IsRegisterAlone : Reg → AMode → Type 0
 IsRegisterAlone reg (UnsignedOffset rn uimm12) = (rn ≡ reg) × (uimm12_value uimm12 ≡ 0) × (uimm12_scale uimm12 ≡ I64)
 IsRegisterAlone reg _ = ⊥
+
+-- the constant that a load in a mode loads
+abbrev pub constant_in : AMode → Option VCodeConstant
+constant_in (Const addr) = Some addr
+constant_in (Label (Pool addr)) = Some addr
+constant_in _ = None
 
 -- ---- base and offset
 

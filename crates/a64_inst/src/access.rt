@@ -2,10 +2,11 @@
 
 ghost use Rattle.std.specs.Prelude.{◌≡◌, true, Some, option_map};
 ghost use Rattle.a64_inst.specs.Accesses.{type_has_load_form, inst_with, load_op, store_op};
+ghost use Rattle.a64_inst.specs.Faults.{named_constant};
 
 use crate::inst::Inst;
 use crate::mode::AMode;
-use a64_base::{IrType, MemFlagsData, Reg, Writable};
+use a64_base::{IrType, MemFlagsData, Reg, VCodeConstant, Writable};
 use a64_ops::AccessOp;
 
 /// A load or a store of one register, as data.
@@ -236,6 +237,16 @@ impl Inst {
     {
         match self.access() {
             Some(access) => Some(access.ty()),
+            None => None,
+        }
+    }
+
+    /// The constant that the instruction loads, where it loads one.
+    pub fn constant(&self) -> Option<VCodeConstant>
+        ensures { result ≡ named_constant self.now }
+    {
+        match self.access() {
+            Some(access) => access.mem.constant(),
             None => None,
         }
     }

@@ -80,10 +80,12 @@ fn copied_control(alloc: Global, inst: &Inst) -> Result<Inst, AllocError>
         Jump { dest },
         CondBr { taken, not_taken, kind },
         TestBitAndBranch { kind, taken, not_taken, rn, bit },
+        TrapIf { kind, trap_code },
         Brk {},
         Udf { trap_code },
         Word4 { value },
         Word8 { value },
+        EmitIsland { needed_space },
         LabelAddress { dst, label }
     )
 }

@@ -10,13 +10,13 @@ ghost use Rattle.a64_base.specs.declared.shift.ExtendOp.TheVariants.{SXTX};
 ghost use Rattle.a64_inst.specs.declared.mode.AMode.TheVariants.{RegExtended};
 ghost use Rattle.a64_inst.specs.Constants.{step_into, HaveNoFault};
 ghost use Rattle.a64_inst.specs.Modes.{base_offset_of, frame_size, is_far, steps_to, FrameFits, IsAccessSize, StandsFor};
-ghost use Rattle.a64_inst.specs.FinalModes.{parts_of, placed_mode, final_mode, final_steps};
+ghost use Rattle.a64_inst.specs.FinalModes.{parts_of, placed_mode, held_mode, mode_for, final_steps};
 ghost use Rattle.a64_inst.specs.Addresses.{Reaches};
 
 use crate::emission::EmitState;
 use crate::frame::FrameLayout;
 use crate::inst::Inst;
-use crate::mode::AMode;
+use crate::mode::{AMode, MemLabel};
 use crate::place::place_of;
 use a64_base::{ExtendOp, IrType, Reg, spilltmp_reg, writable_spilltmp_reg};
 use a64_imms::{SImm9, UImm12Scaled};
@@ -112,21 +112,32 @@ fn finalized(
     finalized_far(alloc, base, offset, access_ty)
 }
 
+/// What stands for a mode without an offset of 64 bits.
+fn held(for_code: bool, mem: &AMode) -> AMode
+    ensures { result ≡ held_mode for_code mem.now }
+{
+    match *mem {
+        AMode::Const { addr } if for_code => AMode::Label {
+            label: MemLabel::Pool(addr),
+        },
+        mode => mode,
+    }
+}
+
 /// The mode that stands in the instruction of a load or a store, and the instructions before it,
 /// which leave in x16 an offset that no instruction holds. A mode without an offset of 64 bits
-/// stays as it is.
+/// stays as it is, but in code a constant is a literal in the pool.
 ///
 /// The type of the access has 1, 2, 4, 8 or 16 bytes. The offset from the base, once the frame is
-/// counted in, is an `i64`. For `IncomingArg` the frame has fewer than 2^32 bytes. `_for_code`
-/// tells whether the mode is to be emitted and not only shown. It has no effect so far: only a
-/// constant's mode will be another one then.
+/// counted in, is an `i64`. For `IncomingArg` the frame has fewer than 2^32 bytes. `for_code`
+/// tells whether the mode is to be emitted and not only shown.
 ///
 /// # Errors
 ///
 /// None: at most four instructions have room in the answer itself, and no memory is asked for.
 pub fn mem_finalize(
     alloc: Global,
-    _for_code: bool,
+    for_code: bool,
     mem: &AMode,
     access_ty: IrType,
     state: &EmitState,
@@ -136,7 +147,7 @@ pub fn mem_finalize(
     requires offset { IfSome (base_offset_of state.now.frame mem.now) (λ place. FitsSigned w64 place.offset) }
     ensures succeeds { IsOk result }
     ensures others { base_offset_of state.now.frame mem.now ≡ None
-        → IfOk result (λ final. (final.0.items ≡ []) × (final.1 ≡ mem.now)) }
+        → IfOk result (λ final. (final.0.items ≡ []) × (final.1 ≡ held_mode for_code mem.now)) }
     ensures insts { IfSome (base_offset_of state.now.frame mem.now)
         (λ place. IfOk result (λ final. final.0.items ≡ map (step_into (integer_register 16)) (steps_to access_ty place.offset))) }
     ensures mode { IfSome (base_offset_of state.now.frame mem.now)
@@ -148,19 +159,18 @@ pub fn mem_finalize(
     // Both at once, for any mode.
     ensures steps { IfOk result
         (λ final. final.0.items ≡ map (step_into (integer_register 16)) (final_steps state.now.frame access_ty mem.now)) }
-    ensures parts { IfOk result (λ final. parts_of final.1 ≡ final_mode state.now.frame access_ty mem.now) }
+    ensures parts { IfOk result (λ final. parts_of final.1 ≡ mode_for for_code state.now.frame access_ty mem.now) }
 {
     match base_offset(mem, state.frame_layout()) {
         Some(place) => finalized(alloc, place.base, place.offset, access_ty),
-        None => Ok((SmallVec::new(alloc), *mem)),
+        None => Ok((SmallVec::new(alloc), held(for_code, mem))),
     }
 }
 
 #[cfg(test)]
 mod tests {
     use super::*;
-    use crate::mode::MemLabel;
-    use a64_base::{show_ireg_sized, xreg};
+    use a64_base::{VCodeConstant, show_ireg_sized, xreg};
     use a64_list::ListVec;
     use a64_ops::MoveWideOp;
     use std::test::Fail;
@@ -344,6 +354,34 @@ mod tests {
         assert!(rt; stays(alloc, &AMode::Label { label }, &state)?);
         assert!(rt; stays(alloc, &AMode::SPPreIndexed { simm9 }, &state)?);
         assert!(rt; stays(alloc, &AMode::SPPostIndexed { simm9 }, &state)?);
+        Ok(())
+    }
+
+    #[test]
+    fn constants(rt: HostRuntime) -> Result<(), Fail> {
+        let alloc = rt.alloc();
+        let state = state(alloc);
+        let addr = VCodeConstant(7);
+        let mem = AMode::Const { addr };
+        let (before, in_code) = mem_finalize(alloc, true, &mem, IrType::F64, &state)?;
+        assert!(rt; before.is_empty());
+        assert!(rt;
+            matches!(
+                in_code,
+                AMode::Label {
+                    label: MemLabel::Pool(VCodeConstant(7))
+                }
+            )
+        );
+        let (_, shown) = mem_finalize(alloc, false, &mem, IrType::F64, &state)?;
+        assert!(rt;
+            matches!(
+                shown,
+                AMode::Const {
+                    addr: VCodeConstant(7)
+                }
+            )
+        );
         Ok(())
     }
 

@@ -331,6 +331,14 @@ pub enum Inst {
         /// The bit's number, below 64.
         bit: u8,
     },
+    /// A trap if a test succeeds: a conditional branch to a word that traps, which stands in an
+    /// island or behind the code.
+    TrapIf {
+        /// The test.
+        kind: CondBrKind,
+        /// Why it traps.
+        trap_code: TrapCode,
+    },
     /// `br`: a branch to the address in a register.
     IndirectBr {
         /// The address.
@@ -354,6 +362,11 @@ pub enum Inst {
     Word8 {
         /// The words, the low one first.
         value: u64,
+    },
+    /// A place for an island, which has no words of its own.
+    EmitIsland {
+        /// How many bytes behind it must not need an island of their own.
+        needed_space: u32,
     },
     /// `adr` of a label: an address near the code.
     LabelAddress {
@@ -615,11 +628,13 @@ impl Inst {
             | Inst::Jump { .. }
             | Inst::CondBr { .. }
             | Inst::TestBitAndBranch { .. }
+            | Inst::TrapIf { .. }
             | Inst::IndirectBr { .. }
             | Inst::Brk
             | Inst::Udf { .. }
             | Inst::Word4 { .. }
             | Inst::Word8 { .. }
+            | Inst::EmitIsland { .. }
             | Inst::LabelAddress { .. } => Group::Control,
             Inst::LoadP64 { .. }
             | Inst::StoreP64 { .. }

@@ -1,9 +1,9 @@
 //! Addressing modes of loads and stores.
 
 ghost use Rattle.std.specs.Prelude.{◌≡◌};
-ghost use Rattle.a64_inst.specs.Modes.{IsRegisterAlone};
+ghost use Rattle.a64_inst.specs.Modes.{IsRegisterAlone, constant_in};
 
-use a64_base::{ExtendOp, IrType, MachLabel, Reg};
+use a64_base::{ExtendOp, IrType, MachLabel, Reg, VCodeConstant};
 use a64_imms::{SImm7Scaled, SImm9, UImm12Scaled};
 
 /// An address in the code, of a load from a literal (Cranelift's `MemLabel`).
@@ -14,9 +14,11 @@ pub enum MemLabel {
     PCRel(i32),
     /// Where a label is bound.
     Mach(MachLabel),
+    /// Where a constant stands in the pool, or in an island.
+    Pool(VCodeConstant),
 }
 
-/// Where a load or a store finds its address (Cranelift's `AMode`, so far without its constants).
+/// Where a load or a store finds its address (Cranelift's `AMode`).
 ///
 /// The base is x0 to x30 or the stack pointer, and an index x0 to x30 or the zero register. Five
 /// modes have an offset of 64 bits, which no instruction holds: `mem_finalize` gives the mode
@@ -111,6 +113,11 @@ pub enum AMode {
         /// The offset in bytes.
         off: i64,
     },
+    /// A constant, for those loads that have a form with a literal. In code it stands as `Label`.
+    Const {
+        /// The constant.
+        addr: VCodeConstant,
+    },
 }
 
 impl AMode {
@@ -134,6 +141,19 @@ impl AMode {
             rn: reg1,
             rm: reg2,
             extendop: op,
+        }
+    }
+
+    /// The constant that a load in this mode loads, where it loads one.
+    pub fn constant(&self) -> Option<VCodeConstant>
+        ensures { result ≡ constant_in self.now }
+    {
+        match *self {
+            AMode::Const { addr }
+            | AMode::Label {
+                label: MemLabel::Pool(addr),
+            } => Some(addr),
+            _ => None,
         }
     }
 }

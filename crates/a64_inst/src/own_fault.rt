@@ -46,7 +46,7 @@ impl Inst {
             }
             Group::Register => operand_fault(has_register_operands(self, frame, info, virtuals)),
             Group::Control => operand_fault(has_control_operands(self, frame, info, virtuals)),
-            Group::Memory => memory_fault(self, frame, info, virtuals),
+            Group::Memory => memory_fault(self, frame, info, constant, virtuals),
         }
     }
 }

@@ -99,8 +99,10 @@ pub fn has_control_operands(
             rn,
             bit,
         } => test_bit(virtuals, *taken, *not_taken, *rn, *bit),
+        Inst::TrapIf { kind, trap_code: _ } => is_test(virtuals, *kind),
         Inst::IndirectBr { rn, targets: _ } => is_register_or_zero(virtuals, *rn),
         Inst::Brk | Inst::Udf { .. } | Inst::Word4 { .. } | Inst::Word8 { .. } => true,
+        Inst::EmitIsland { needed_space: _ } => true,
         Inst::LabelAddress { dst, label: _ } => is_register_or_zero(virtuals, dst.to_reg()),
         _ => unreachable!(),
     }

@@ -1,17 +1,19 @@
 //! What is wrong with loads and stores by themselves.
 
+mod constant;
 mod mode;
 mod operand;
 mod scratch;
 #[cfg(test)]
 mod tests;
 
-ghost use Rattle.std.specs.Prelude.{◌≡◌, None, [], ◌∷◌};
+ghost use Rattle.std.specs.Prelude.{◌≡◌, ◌&&◌, ◌||◌, None, is_none, is_some, [], ◌∷◌};
 ghost use Rattle.a64_inst.specs.declared.fault.OwnFault.TheVariants as own;
 ghost use Rattle.a64_inst.specs.declared.group.Group.TheVariants.{Memory};
 ghost use Rattle.a64_inst.specs.Accesses.{access_of};
 ghost use Rattle.a64_inst.specs.Groups.{group_of};
-ghost use Rattle.a64_inst.specs.Faults.{first_of, has_operands, has_mode, has_scratch};
+ghost use Rattle.a64_inst.specs.Faults.{first_of, fault_with, has_operands, has_mode, has_scratch};
+ghost use Rattle.a64_inst.specs.Modes.{constant_in};
 ghost use Rattle.a64_inst.specs.MemoryOperands as sets;
 
 use crate::access::Access;
@@ -25,14 +27,16 @@ use crate::virtuals::VirtualRegisters;
 fn access_fault(
     access: &Access,
     frame: &FrameLayout,
+    constant: Option<u32>,
     virtuals: VirtualRegisters,
 ) -> Option<OwnFault>
     ensures { result ≡ first_of (
-        (sets.are_access_operands frame.now virtuals access.now, own.BadOperand)
+        (sets.are_access_operands frame.now virtuals access.now && sets.is_within constant access.now, own.BadOperand)
         ∷ (sets.has_access_mode access.now.op access.now.mem, own.BadMode)
-        ∷ (sets.has_access_scratch frame.now access.now, own.ScratchConflict) ∷ []) }
+        ∷ (sets.has_access_scratch frame.now access.now, own.ScratchConflict)
+        ∷ (is_none (constant_in access.now.mem) || is_some constant, own.UnknownConstant) ∷ []) }
 {
-    if !operand::access(frame, virtuals, access) {
+    if !operand::access(frame, virtuals, access) || !constant::is_within(constant, access) {
         return Some(OwnFault::BadOperand);
     }
     if !mode::has_access_mode(access.op, &access.mem) {
@@ -40,6 +44,9 @@ fn access_fault(
     }
     if !scratch::access(frame, access) {
         return Some(OwnFault::ScratchConflict);
+    }
+    if !constant::is_known(constant, &access.mem) {
+        return Some(OwnFault::UnknownConstant);
     }
     None
 }
@@ -120,21 +127,20 @@ fn other_fault(
     }
 }
 
-/// What is wrong with a load or a store by itself. None that exists loads a constant.
+/// What is wrong with a load or a store by itself, where the constant that it loads has such a size.
+#[tactic(auto, using(crate::proofs::Groups::three_tests))]
 pub fn memory_fault(
     inst: &Inst,
     frame: &FrameLayout,
     info: &EmitInfo,
+    constant: Option<u32>,
     virtuals: VirtualRegisters,
 ) -> Option<OwnFault>
     requires { group_of inst.now ≡ Memory }
-    ensures { result ≡ first_of (
-        (has_operands frame.now info.now virtuals inst.now, own.BadOperand)
-        ∷ (has_mode inst.now, own.BadMode)
-        ∷ (has_scratch frame.now inst.now, own.ScratchConflict) ∷ []) }
+    ensures { result ≡ fault_with frame.now info.now constant virtuals inst.now }
 {
     match inst.access() {
-        Some(access) => access_fault(&access, frame, virtuals),
+        Some(access) => access_fault(&access, frame, constant, virtuals),
         None => other_fault(inst, frame, info, virtuals),
     }
 }

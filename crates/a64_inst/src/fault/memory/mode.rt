@@ -36,7 +36,7 @@ fn is_literal(label: MemLabel) -> bool
 {
     match label {
         MemLabel::PCRel(offset) => is_offset(1 << 20, offset),
-        MemLabel::Mach(_) => true,
+        MemLabel::Mach(_) | MemLabel::Pool(_) => true,
     }
 }
 
@@ -108,7 +108,7 @@ pub fn has_access_mode(op: AccessOp, mem: &AMode) -> bool
         AMode::RegScaledExtended { extendop, .. } | AMode::RegExtended { extendop, .. } => {
             is_index_extend(extendop)
         }
-        AMode::Label { label: _ } => op.literal_field().is_some(),
+        AMode::Label { label: _ } | AMode::Const { addr: _ } => op.literal_field().is_some(),
         _ => true,
     }
 }
@@ -125,6 +125,7 @@ pub fn has_address_mode(mem: &AMode) -> bool
             | AMode::Label { .. }
             | AMode::SPPreIndexed { .. }
             | AMode::SPPostIndexed { .. }
+            | AMode::Const { .. }
     )
 }
 

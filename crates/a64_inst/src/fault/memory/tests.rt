@@ -10,8 +10,8 @@ use crate::inst::Inst;
 use crate::mode::{AMode, MemLabel, PairAMode};
 use crate::virtuals::VirtualRegisters;
 use a64_base::{
-    ExtendOp, IrType, MachLabel, MemFlagsData, Reg, Writable, fp_reg, link_reg, spilltmp_reg,
-    stack_reg, tmp2_reg, xreg, zero_reg,
+    ExtendOp, IrType, MachLabel, MemFlagsData, Reg, VCodeConstant, Writable, fp_reg, link_reg,
+    spilltmp_reg, stack_reg, tmp2_reg, vreg, xreg, zero_reg,
 };
 use a64_imms::{SImm7Scaled, UImm12Scaled};
 use a64_list::ListVec;
@@ -32,12 +32,17 @@ fn frame(alloc: Global, tail_args_size: u32) -> FrameLayout {
 
 /// What is wrong with an instruction that is to be emitted.
 fn fault_in(inst: &Inst, frame: &FrameLayout) -> Option<OwnFault> {
+    fault_beside(inst, frame, None)
+}
+
+/// What is wrong with an instruction that is to be emitted, whose constant has such a size.
+fn fault_beside(inst: &Inst, frame: &FrameLayout, constant: Option<u32>) -> Option<OwnFault> {
     let info = EmitInfo::new(EmitFlags {
         enable_probestack: false,
         enable_table_access_spectre_mitigation: false,
         use_csdb: false,
     });
-    inst.own_fault(frame, &info, None, VirtualRegisters::Refused)
+    inst.own_fault(frame, &info, constant, VirtualRegisters::Refused)
 }
 
 /// A load of a byte into x0.
@@ -86,6 +91,29 @@ fn literal(distance: i32) -> AMode {
 fn labelled(number: u32) -> AMode {
     AMode::Label {
         label: MemLabel::Mach(MachLabel(number)),
+    }
+}
+
+/// The constant with the number 9.
+fn constant() -> AMode {
+    AMode::Const {
+        addr: VCodeConstant(9),
+    }
+}
+
+/// The same as a literal in the pool.
+fn pooled() -> AMode {
+    AMode::Label {
+        label: MemLabel::Pool(VCodeConstant(9)),
+    }
+}
+
+/// A load of 16 bytes into v0.
+fn quad(mem: AMode) -> Inst {
+    Inst::FpuLoad128 {
+        rd: Writable::from_reg(vreg(0)),
+        mem,
+        flags: MemFlagsData::trusted(),
     }
 }
 
@@ -162,6 +190,36 @@ fn literals(rt: HostRuntime) -> Result<(), Fail> {
     assert!(rt; has(alloc, &double(xreg(0), literal(2)), OwnFault::BadOperand));
     assert!(rt; passes(alloc, &double(xreg(0), labelled(1))));
     assert!(rt; has(alloc, &byte(labelled(1)), OwnFault::BadMode));
+    Ok(())
+}
+
+/// Whether that is what is wrong with an instruction, whose constant has such a size.
+fn has_beside(alloc: Global, inst: &Inst, constant: Option<u32>, fault: Option<OwnFault>) -> bool {
+    fault_beside(inst, &frame(alloc, 0), constant) == fault
+}
+
+#[test]
+fn constants(rt: HostRuntime) -> Result<(), Fail> {
+    let alloc = rt.alloc();
+    let bad = Some(OwnFault::BadOperand);
+    let unknown = Some(OwnFault::UnknownConstant);
+    let mode = Some(OwnFault::BadMode);
+    assert!(rt; has_beside(alloc, &double(xreg(0), constant()), Some(16), None));
+    assert!(rt; has_beside(alloc, &double(xreg(0), pooled()), Some(8), None));
+    assert!(rt; has_beside(alloc, &double(xreg(0), constant()), Some(4), bad));
+    assert!(rt; has_beside(alloc, &double(xreg(0), pooled()), None, unknown));
+    assert!(rt; has_beside(alloc, &quad(constant()), Some(8), bad));
+    assert!(rt; has_beside(alloc, &byte(pooled()), Some(8), mode));
+    assert!(rt; has_beside(alloc, &byte(constant()), None, mode));
+    assert!(rt; has_beside(alloc, &address(xreg(0), pooled()), Some(8), mode));
+    Ok(())
+}
+
+#[test]
+fn constants_are_told(rt: HostRuntime) -> Result<(), Fail> {
+    assert!(rt; double(xreg(0), constant()).constant() == Some(VCodeConstant(9)));
+    assert!(rt; byte(pooled()).constant() == Some(VCodeConstant(9)));
+    assert!(rt; double(xreg(0), labelled(9)).constant().is_none());
     Ok(())
 }
 

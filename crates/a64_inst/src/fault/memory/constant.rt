@@ -1,0 +1,29 @@
+//! Of the constants that loads load.
+
+ghost use Rattle.std.specs.Prelude.{◌≡◌, ◌||◌, is_none, is_some};
+ghost use Rattle.a64_inst.specs.Modes.{constant_in};
+ghost use Rattle.a64_inst.specs.MemoryOperands as sets;
+
+use crate::access::Access;
+use crate::mode::AMode;
+
+/// Whether the load of a literal is no longer than its constant, where it loads one and that has a
+/// size.
+pub fn is_within(constant: Option<u32>, access: &Access) -> bool
+    ensures { result ≡ sets.is_within constant access.now }
+{
+    if access.mem.constant().is_none() || access.op.literal_field().is_none() {
+        return true;
+    }
+    match constant {
+        Some(bytes) => access.ty().bytes() <= bytes,
+        None => true,
+    }
+}
+
+/// Whether the constant of a mode, where it loads one, has a size.
+pub fn is_known(constant: Option<u32>, mem: &AMode) -> bool
+    ensures { result ≡ (is_none (constant_in mem.now) || is_some constant) }
+{
+    mem.constant().is_none() || constant.is_some()
+}
