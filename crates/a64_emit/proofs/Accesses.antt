@@ -1,10 +1,11 @@
 -- What is known of the modes and the steps of loads and stores without a fault.
 use Rattle.std.proofs.Common.{ℕ, ℤ, pos, negsuc, ◌≡◌, ◌/◌, ◌%◌, ◌^◌, ◌⊎◌, inl, inr, Bool, true, false, List, [], ◌∷◌, length, get_or, map, Option, None, Some, refl, sym, ap, ◌∙◌, subst, arith, rules, suc, nat_cmp}
-use Rattle.std.specs.Prelude.{All, ◌&&◌, ◌||◌, nat_eq, nat_lt, if◌then◌else◌}
-use Rattle.std.specs.FinMap.{FinMap, empty}
-use Rattle.std.proofs.lemmas.Bool.{and_parts, and_from, eq-eqb, or_right, or_left, or_cases, ltb-true, ltb-false, lt-ltb}
+use Rattle.std.specs.Prelude.{All, ◌&&◌, ◌||◌, nat_eq, nat_lt, if◌then◌else◌, is_none, is_some, option_map, option_and_then, IfSome, IsSome}
+use Rattle.std.specs.FinMap.{FinMap, empty, get}
+use Rattle.std.proofs.lemmas.Bool.{false≢true, and_parts, and_from, eq-eqb, or_right, or_left, or_cases, ltb-true, ltb-false, lt-ltb}
 use Rattle.std.proofs.lemmas.Int.{ints}
 use Rattle.std.proofs.lemmas.List.{get_or-map}
+use Rattle.a64_base.specs.declared.entity.VCodeConstant.{VCodeConstant}
 use Rattle.a64_base.specs.declared.reg.Reg.{Reg}
 use Rattle.std.specs.Int.RustNames.{unsigned_abs}
 use Rattle.a64_base.specs.declared.reg.Reg.TheVariants.{Real, Virtual}
@@ -16,6 +17,7 @@ use Rattle.a64_ops.specs.declared.operator.ALUOp.TheVariants.{Add}
 use Rattle.a64_base.specs.declared.ir_type.IrType.TheVariants.{I8}
 use Rattle.a64_imms.specs.Offsets.{IsOffset9}
 use Rattle.a64_imms.specs.Scales.{type_bytes}
+use Rattle.a64_ops.specs.Accesses.{literal_of}
 use Rattle.a64_ops.specs.declared.access.AccessOp.{AccessOp}
 use Rattle.a64_plan.specs.declared.step.ConstStep.{ConstStep}
 use Rattle.a64_plan.specs.declared.step.ConstStep.TheVariants as steps
@@ -30,8 +32,8 @@ use Rattle.a64_inst.specs.declared.mode.AMode.{AMode}
 use Rattle.a64_inst.specs.declared.mode.AMode.TheVariants as modes
 use Rattle.a64_inst.specs.Accesses.{access_type}
 use Rattle.a64_inst.specs.Constants.{step_into}
-use Rattle.a64_inst.specs.Faults.{first_of, constant_size, has_operands, is_within_constant, has_mode, has_scratch, has_constant, inst_fault}
-use Rattle.a64_inst.specs.FinalModes.{FinalMode, SignedOffset, ScaledOffset, Other, parts_of, placed_mode, final_mode}
+use Rattle.a64_inst.specs.Faults.{first_of, named_constant, constant_size, has_operands, is_within_constant, has_mode, has_scratch, has_constant, inst_fault}
+use Rattle.a64_inst.specs.FinalModes.{FinalMode, SignedOffset, ScaledOffset, Other, held_mode, parts_of, placed_mode, final_mode}
 use Rattle.a64_inst.specs.Modes.{BaseOffset, base_offset_of, is_offset9, is_scaled_offset, IsAccessSize}
 use Rattle.a64_inst.specs.MemoryOperands.{is_addend, are_mode_parts, are_mode_operands, has_units, has_access_mode}
 use Rattle.a64_inst.specs.Operands.{is_int, is_imm12, is_register, is_register_or_stack, is_register_or_zero}
@@ -39,7 +41,7 @@ use Rattle.a64_inst.specs.IntegerOperands.{is_add_sub_result, are_alu_rrr_operan
 use Rattle.a64_inst.proofs.Constants.{steps_good}
 use Rattle.a64_inst.proofs.Good.{first_passed, operands_good}
 use Rattle.a64_emit.specs.MemoryForms.{sum_op, addend}
-use Rattle.a64_emit.specs.Words.{CanStep, are_held_parts}
+use Rattle.a64_emit.specs.Words.{CanStep, IsThere, are_held_parts}
 
 -- ---- the mode of an instruction without a fault exists
 
@@ -52,6 +54,24 @@ mode_good frame flags constants inst e =
     let size : Option ℕ = constant_size constants inst in
     first_passed (has_mode inst) own.BadMode ((has_scratch frame inst, own.ScratchConflict) ∷ (has_constant size inst, own.UnknownConstant) ∷ [])
     (rest_passed (has_operands frame flags Refused inst && is_within_constant size inst) own.BadOperand ((has_mode inst, own.BadMode) ∷ (has_scratch frame inst, own.ScratchConflict) ∷ (has_constant size inst, own.UnknownConstant) ∷ []) e)
+
+-- the constant that such an instruction loads is there
+pub constant_there : (frame : FrameLayout) (flags : EmitFlags) (constants : FinMap nat_cmp (List ℕ)) (inst : Inst) → inst_fault frame flags constants Refused inst ≡ None → IsThere constants inst
+constant_there frame flags constants inst e =
+    let size : Option ℕ = constant_size constants inst in
+    there (named_constant inst)
+    (first_passed (has_constant size inst) own.UnknownConstant []
+    (rest_passed (has_scratch frame inst) own.ScratchConflict ((has_constant size inst, own.UnknownConstant) ∷ [])
+    (rest_passed (has_mode inst) own.BadMode ((has_scratch frame inst, own.ScratchConflict) ∷ (has_constant size inst, own.UnknownConstant) ∷ [])
+    (rest_passed (has_operands frame flags Refused inst && is_within_constant size inst) own.BadOperand ((has_mode inst, own.BadMode) ∷ (has_scratch frame inst, own.ScratchConflict) ∷ (has_constant size inst, own.UnknownConstant) ∷ []) e))))
+  where
+    is_there : (content : Option (List ℕ)) → is_some (option_map length content) ≡ true → IsSome content
+    is_there None h = absurd (false≢true h)
+    is_there (Some bytes) h = refl
+
+    there : (o : Option VCodeConstant) → (is_none o || is_some (option_and_then (λ addr. option_map length (get constants addr.0)) o)) ≡ true → IfSome o (λ addr. IsSome (get constants addr.0))
+    there None h = tt
+    there (Some addr) h = is_there (get constants addr.0) h
 
 -- ---- the sizes of accesses
 
@@ -90,7 +110,7 @@ base_good frame (modes.SlotOffset off) place e good = subst (λ (p : BaseOffset)
     some_eq f = cc
 base_good frame _ place e good = absurd cc
 
-kept_good : (op : AccessOp) (mem : AMode) → are_mode_parts Refused mem ≡ true → has_units (type_bytes (access_type op)) mem ≡ true → has_access_mode op mem ≡ true → are_held_parts op (parts_of mem) ≡ true
+kept_good : (op : AccessOp) (mem : AMode) → are_mode_parts Refused mem ≡ true → has_units (type_bytes (access_type op)) mem ≡ true → has_access_mode op mem ≡ true → are_held_parts op (parts_of (held_mode true mem)) ≡ true
 kept_good op (modes.Unscaled rn simm9) a b c = a
 kept_good op (modes.UnsignedOffset rn uimm12) a b c = and_from (is_register_or_stack Refused rn) _ a b
 kept_good op (modes.RegReg rn rm) a b c = and_from _ _ a c
@@ -98,6 +118,7 @@ kept_good op (modes.RegScaled rn rm) a b c = and_from _ _ a c
 kept_good op (modes.RegScaledExtended rn rm extendop) a b c = and_from _ _ a c
 kept_good op (modes.RegExtended rn rm extendop) a b c = and_from _ _ a c
 kept_good op (modes.Label label) a b c = and_from _ _ a c
+kept_good op (modes.Const addr) a b c = and_from true (is_some (literal_of op)) refl c
 kept_good op (modes.SPPreIndexed simm9) a b c = and_from _ _ a c
 kept_good op (modes.SPPostIndexed simm9) a b c = and_from _ _ a c
 kept_good op (modes.FPOffset off) a b c = and_from _ _ a c
@@ -122,9 +143,9 @@ held_good op frame mem operands units mode = go (base_offset_of frame mem) refl
     parts = (and_parts (are_mode_parts Refused mem) _ operands).0
 
     go : (o : Option BaseOffset) → base_offset_of frame mem ≡ o → are_held_parts op (final_mode frame (access_type op) mem) ≡ true
-    go None e = subst (λ o. are_held_parts op (elim o [ None ↦ parts_of mem | Some place ↦ placed_mode (access_type op) place ]) ≡ true) (sym e) (kept_good op mem parts units mode)
+    go None e = subst (λ o. are_held_parts op (elim o [ None ↦ parts_of (held_mode true mem) | Some place ↦ placed_mode (access_type op) place ]) ≡ true) (sym e) (kept_good op mem parts units mode)
     go (Some place) e =
-        subst (λ o. are_held_parts op (elim o [ None ↦ parts_of mem | Some p ↦ placed_mode (access_type op) p ]) ≡ true) (sym e)
+        subst (λ o. are_held_parts op (elim o [ None ↦ parts_of (held_mode true mem) | Some p ↦ placed_mode (access_type op) p ]) ≡ true) (sym e)
         (placed_good op place (base_good frame mem place e parts))
 
 -- ---- the steps of a plan can be made
@@ -163,7 +184,7 @@ are_address_parts (ScaledOffset rn offset ty) = is_register_or_stack Refused rn
 are_address_parts (Other (modes.RegExtended rn rm extendop)) = is_register_or_stack Refused rn && is_register_or_zero Refused rm
 are_address_parts (Other _) = true
 
-kept_address : (mem : AMode) → are_mode_parts Refused mem ≡ true → are_address_parts (parts_of mem) ≡ true
+kept_address : (mem : AMode) → are_mode_parts Refused mem ≡ true → are_address_parts (parts_of (held_mode true mem)) ≡ true
 kept_address (modes.Unscaled rn simm9) a = (and_parts (is_register_or_stack Refused rn) _ a).0
 kept_address (modes.UnsignedOffset rn uimm12) a = a
 kept_address (modes.RegExtended rn rm extendop) a = a
@@ -185,8 +206,8 @@ address_good frame mem operands = go (base_offset_of frame mem) refl
     parts = (and_parts (are_mode_parts Refused mem) _ operands).0
 
     go : (o : Option BaseOffset) → base_offset_of frame mem ≡ o → are_address_parts (final_mode frame I8 mem) ≡ true
-    go None e = subst (λ o. are_address_parts (elim o [ None ↦ parts_of mem | Some place ↦ placed_mode I8 place ]) ≡ true) (sym e) (kept_address mem parts)
-    go (Some place) e = subst (λ o. are_address_parts (elim o [ None ↦ parts_of mem | Some p ↦ placed_mode I8 p ]) ≡ true) (sym e) (placed_address place (base_good frame mem place e parts))
+    go None e = subst (λ o. are_address_parts (elim o [ None ↦ parts_of (held_mode true mem) | Some place ↦ placed_mode I8 place ]) ≡ true) (sym e) (kept_address mem parts)
+    go (Some place) e = subst (λ o. are_address_parts (elim o [ None ↦ parts_of (held_mode true mem) | Some p ↦ placed_mode I8 p ]) ≡ true) (sym e) (placed_address place (base_good frame mem place e parts))
 
 -- ---- the operands of additions
 

@@ -17,7 +17,7 @@ use Rattle.a64_emit.specs.LabelUses.{label_kinds}
 use Rattle.a64_emit.specs.Cells.{Cell, Shape, OneWord, Several, Words, body_word, cell_word, plain, last_cell, branch_site, other_cells}
 use Rattle.a64_emit.specs.Layout.{placed, trap_at, traps_in}
 use Rattle.a64_emit.specs.Emission.{use_at, uses_from, appended, IsAppendedInPart, HasRoom, CellsFit}
-use Rattle.a64_emit.specs.Words.{AreSeveral, IsOfLabel, put_cell, put_cells, as_put}
+use Rattle.a64_emit.specs.Words.{AreSeveral, MayBePut, put_cell, put_cells, as_put}
 
 -- ---- nothing that emission makes of cells depends on their rows
 
@@ -69,9 +69,9 @@ module _ (b : Buffer LabelUse) (cells : List Cell) where
 
 -- ---- the word of a branch
 
-pub branch_labelled : (kind : LabelUse) (dest : BranchTarget) → IfSome (branch_site kind dest) IsOfLabel
-branch_labelled kind (branch_targets.Label label) = (label, refl)
-branch_labelled kind (branch_targets.ResolvedOffset offset) = tt
+pub branch_puttable : (constants : FinMap nat_cmp (List ℕ)) (kind : LabelUse) (dest : BranchTarget) → IfSome (branch_site kind dest) (MayBePut constants)
+branch_puttable constants kind (branch_targets.Label label) = tt
+branch_puttable constants kind (branch_targets.ResolvedOffset offset) = tt
 
 -- ---- the words of several cells
 

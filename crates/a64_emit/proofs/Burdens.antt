@@ -1,5 +1,5 @@
 -- What uses may want of islands, by what the items with these uses may want.
-use Rattle.std.proofs.Common.{ℕ, ◌≡◌, ◌+◌, ◌*◌, ◌≤◌, ◌⊎◌, inl, inr, Bool, true, false, cond, List, [], ◌∷◌, ◌++◌, length, Option, None, Some, refl, sym, subst, arith, nat_cmp}
+use Rattle.std.proofs.Common.{ℕ, ◌≡◌, ◌+◌, ◌*◌, ◌≤◌, ◌⊎◌, inl, inr, Bool, true, false, cond, List, [], ◌∷◌, ◌++◌, length, Option, None, Some, refl, sym, ap, subst, arith, nat_cmp}
 use Rattle.std.specs.Prelude.{All, ◌&&◌, is_none}
 use Rattle.std.specs.List.{cons_option}
 use Rattle.std.specs.FinMap.{FinMap}
@@ -11,17 +11,17 @@ use Rattle.a64_inst.specs.declared.item.Item.TheVariants.{Bind, Emit}
 use Rattle.a64_buffer.specs.declared.site.Use.{Use}
 use Rattle.a64_buffer.specs.declared.site.Target.{Target}
 use Rattle.a64_buffer.specs.declared.site.Target.TheVariants.{Label, Constant, Trap, IslandEnd}
-use Rattle.a64_buffer.specs.Buffer.{label_of, made_use}
+use Rattle.a64_buffer.specs.Buffer.{made_use}
 use Rattle.a64_buffer.specs.Sound.{IsKinded}
 use Rattle.a64_buffer.specs.Classes.{third, cost, wants, class_of, is_open, weigh, burden}
 use Rattle.a64_buffer.proofs.Costs.{weight-cons}
 use Rattle.a64_emit.specs.declared.label_use.LabelUse.{LabelUse}
 use Rattle.a64_emit.specs.declared.label_use.LabelUse.TheVariants as uses
 use Rattle.a64_emit.specs.declared.site.Site.{Site}
-use Rattle.a64_emit.specs.LabelUses.{label_kinds, forward_range}
+use Rattle.a64_emit.specs.LabelUses.{label_kinds, urgency_of, forward_range}
 use Rattle.a64_emit.specs.Cells.{Cell, cells_of, all_cells, sites_of}
 use Rattle.a64_emit.specs.Bounds.{veneer_range, ranges_in, charge_of}
-use Rattle.a64_emit.proofs.Labelled.{IsLabelSite, inst_labels}
+use Rattle.a64_emit.proofs.Targets.{IsCodeTarget, IsCodeSite, inst_targets}
 use Rattle.a64_emit.specs.Emission.{use_at, uses_from, site_of, IsOneOf}
 
 -- ---- what a use may want
@@ -79,31 +79,28 @@ open_range u = go u.target u.kind (is_none u.stop)
     go (Trap code) kind o e = refl
     go IslandEnd kind o e = absurd (let z : false ≡ true = e in cc)
 
--- ---- the uses that exist are of labels
+-- ---- the uses that exist
 
 module _ (frame : FrameLayout) (flags : EmitFlags) where
-  no_sites : All IsLabelSite []
+  no_sites : All IsCodeSite []
   no_sites k d w = absurd (omega arith)
 
-  item_labels : (item : Item) → All IsLabelSite (sites_of (cells_of frame flags item))
-  item_labels (Bind label) = no_sites
-  item_labels (Emit inst kept) = inst_labels frame flags inst
+  item_targets : (item : Item) → All IsCodeSite (sites_of (cells_of frame flags item))
+  item_targets (Bind label) = no_sites
+  item_targets (Emit inst kept) = inst_targets frame flags inst
 
-  pub all_labels : (items : List Item) → All IsLabelSite (sites_of (all_cells frame flags items))
-  all_labels [] = no_sites
-  all_labels (x ∷ xs) = subst (All IsLabelSite) (sym (filter_map-append (λ cell. cell.site) (cells_of frame flags x) (all_cells frame flags xs)))
-      (All-append IsLabelSite (sites_of (cells_of frame flags x)) (sites_of (all_cells frame flags xs)) (item_labels x) (all_labels xs))
+  pub all_targets : (items : List Item) → All IsCodeSite (sites_of (all_cells frame flags items))
+  all_targets [] = no_sites
+  all_targets (x ∷ xs) = subst (All IsCodeSite) (sym (filter_map-append (λ cell. cell.site) (cells_of frame flags x) (all_cells frame flags xs)))
+      (All-append IsCodeSite (sites_of (cells_of frame flags x)) (sites_of (all_cells frame flags xs)) (item_targets x) (all_targets xs))
 
-  -- and so are those of a buffer
-  buffer_label : (items : List Item) (end : ℕ) (u : Use LabelUse) → IsOneOf end (sites_of (all_cells frame flags items)) u → IsLabelSite (site_of u).1
-  buffer_label items end u one = subst IsLabelSite (one.is (site_of u).1) (all_labels items one.index (site_of u).1 one.within)
+  -- and those of a buffer
+  pub use_target : (items : List Item) (end : ℕ) (u : Use LabelUse) → IsOneOf end (sites_of (all_cells frame flags items)) u → IsCodeTarget u.target u.kind
+  use_target items end u one = subst IsCodeSite (one.is (site_of u).1) (all_targets items one.index (site_of u).1 one.within)
 
-  pub use_labelled : (items : List Item) (end : ℕ) (u : Use LabelUse) → IsOneOf end (sites_of (all_cells frame flags items)) u → (label : ℕ) × (label_of u.target ≡ Some label)
-  use_labelled items end u one = buffer_label items end u one
-
--- a use of a label may be of any kind
-pub label_kinded : (t : Target) (kind : LabelUse) → (label : ℕ) × (label_of t ≡ Some label) → IsKinded label_kinds t kind
-label_kinded (Label l) kind p = tt
-label_kinded (Constant n) kind p = absurd (let z : None ≡ Some p.0 = p.1 in cc)
-label_kinded (Trap code) kind p = absurd (let z : None ≡ Some p.0 = p.1 in cc)
-label_kinded IslandEnd kind p = absurd (let z : None ≡ Some p.0 = p.1 in cc)
+-- are of the kinds that the buffer asks for
+pub target_kinded : (t : Target) (kind : LabelUse) → IsCodeTarget t kind → IsKinded label_kinds t kind
+target_kinded (Label l) kind p = tt
+target_kinded (Constant n) kind p = ap urgency_of p
+target_kinded (Trap code) kind p = ap urgency_of p
+target_kinded IslandEnd kind p = absurd p

@@ -24,7 +24,7 @@ use Rattle.a64_buffer.specs.Kinds.{IsWithin, GoesTo}
 use Rattle.a64_buffer.specs.Buffer.{Buffer, end_of, label_of, goal_of, IsFree, IsBound, IsReached}
 use Rattle.a64_buffer.specs.Classes.{owed}
 use Rattle.a64_buffer.specs.Finished.{IsFinished}
-use Rattle.a64_buffer.proofs.Plain.{IsStraight, IsPlain, is_plain}
+use Rattle.a64_buffer.specs.Constants.{AreConstants}
 use Rattle.a64_emit.specs.declared.label_use.LabelUse.{LabelUse}
 use Rattle.a64_emit.specs.declared.label_use.LabelUse.TheVariants as uses
 use Rattle.a64_emit.specs.declared.error.EmitError.TheVariants.{OutOfReach}
@@ -33,27 +33,24 @@ use Rattle.a64_emit.specs.declared.code.Code.{Code}
 use Rattle.a64_emit.specs.LabelUses.{label_kinds, mask_for, forward_range, backward_range, has_veneer}
 use Rattle.a64_emit.specs.Cells.{Cell, cell_word, cells_of, all_cells, sites_of}
 use Rattle.a64_emit.specs.Emission.{site_of, HasUse, IsPut, IsOneOf, IsUseOf, HasEmitted}
-use Rattle.a64_emit.specs.Layout.{standing, traps_in, site_mask, Stands, IsBoundAt, Laid, Leads, SiteLeads, IsFollowed}
-use Rattle.a64_emit.specs.Records.{reloc_from, number_from, map_from, relocs_of, calls_of, patchable_of, maps_of, IsTrapOf}
-use Rattle.a64_emit.proofs.Recorded.{all_from-nothing, traps_exact}
+use Rattle.a64_emit.specs.Layout.{standing, Stands, IsBoundAt, Laid, IsFollowed}
+use Rattle.a64_emit.specs.Leads.{SiteLeads, Leads, HaveOwnTraps}
+use Rattle.a64_emit.specs.Contents.{IsPool}
+use Rattle.a64_emit.specs.Records.{reloc_from, number_from, map_from, relocs_of, calls_of, patchable_of, maps_of}
+use Rattle.a64_emit.proofs.Recorded.{all_from-nothing}
+use Rattle.a64_emit.proofs.Arrivals.{IsOutput, end_is, pool_is, cell_stands, site_leads}
+use Rattle.a64_emit.proofs.TrapWords.{cell_no_end, own_traps, traps_ordered, traps_exactly}
+use Rattle.a64_emit.proofs.Pooled.{is_pool}
 use Rattle.a64_emit.specs.Bounds.{veneer_range}
 use Rattle.a64_emit.specs.Faults.{own_fault, used_label, unbound_use, second_binding, too_large}
 use Rattle.a64_emit.specs.Assembled.{IsAssembled}
 use Rattle.a64_emit.specs.LabelLaws.{label_kinds_lawful}
 use Rattle.a64_emit.specs.Reach.{needs_near, near_label, first_far_from, out_of_reach}
-use Rattle.a64_emit.proofs.Burdens.{use_labelled}
 use Rattle.a64_emit.proofs.Checked.{IsBinding, mapped_none, uses_bound, addressable, within_ranges, fault_at_reach}
 use Rattle.a64_emit.proofs.Reached.{kind_case, near_place}
 use Rattle.a64_emit.proofs.Sites.{found_in}
 
 -- ---- the labels that are used, and their ranges
-
-abbrev no_use : Use LabelUse
-no_use = record { offset = 0; target = Label (record { 0 = 0 }); kind = uses.Branch26; stop = None }
-
--- what is of no label is not of one
-no_label : {o : Option ℕ} → None ≡ o → (label : ℕ) × (o ≡ Some label) → ⊥
-no_label none p = let z : None ≡ Some p.0 = none ∙ p.1 in cc
 
 module _ (frame : FrameLayout) (flags : EmitFlags) (items : List Item) (places : List ℕ) (b : Buffer LabelUse) (h : HasEmitted frame flags items places b) where
   sites : List Site
@@ -124,9 +121,9 @@ module _ (frame : FrameLayout) (flags : EmitFlags) (items : List Item) (places :
             let within = in_range u one owner label e found.0 found.1 in
             subst (λ (t : Target). IfSome (label_of t) (λ l. IsSomeAnd (get b.labels l) (λ place. IsWithin (forward_range u.kind) (backward_range u.kind) u.offset place))) (sym e)
             (subst (λ o. IsSomeAnd o (λ place. IsWithin (forward_range u.kind) (backward_range u.kind) u.offset place)) (sym found.1) within)
-        go (Constant n) e = absurd (no_label (ap label_of (sym e)) (use_labelled frame flags items (end_of b) u one))
-        go (Trap code) e = absurd (no_label (ap label_of (sym e)) (use_labelled frame flags items (end_of b) u one))
-        go IslandEnd e = absurd (no_label (ap label_of (sym e)) (use_labelled frame flags items (end_of b) u one))
+        go (Constant n) e = subst (λ (t : Target). IfSome (label_of t) (λ l. IsSomeAnd (get b.labels l) (λ place. IsWithin (forward_range u.kind) (backward_range u.kind) u.offset place))) (sym e) tt
+        go (Trap code) e = subst (λ (t : Target). IfSome (label_of t) (λ l. IsSomeAnd (get b.labels l) (λ place. IsWithin (forward_range u.kind) (backward_range u.kind) u.offset place))) (sym e) tt
+        go IslandEnd e = subst (λ (t : Target). IfSome (label_of t) (λ l. IsSomeAnd (get b.labels l) (λ place. IsWithin (forward_range u.kind) (backward_range u.kind) u.offset place))) (sym e) tt
 
     pub all_reached : All (IsReached label_kinds b.labels) b.uses
     all_reached k d within = use_reached (get_or b.uses k d) (h.uses k d within) (h.owners k d within)
@@ -147,142 +144,74 @@ module _ (frame : FrameLayout) (flags : EmitFlags) (items : List Item) (places :
         bound_of (Some l) x = bound (get b.labels l) x
 
     -- ---- the finished code
-    pub plain_code : (code : Finished) → IsFinished label_kinds b code → IsPlain label_kinds b code
-    plain_code code finished = is_plain label_kinds b code finished h.islands (λ k d within. use_labelled frame flags items (end_of b) (get_or b.uses k d) (h.uses k d within)) all_reached
 
-    module _ (code : Finished) (f : IsPlain label_kinds b code) where
-      -- the use of a cell, as the buffer has it and as it is finished
-      record SettledUse (s : ℕ × Cell) (site : Site) : Type 0 where
-        site_use : Use LabelUse
-        offset_is : site_use.offset ≡ s.0
-        site_is : record { kind = site_use.kind; target = site_use.target } ≡ site
-        one : IsOneOf (end_of b) (sites_of (all_cells frame flags items)) site_use
-        settled : IsStraight label_kinds b.labels (cell_word s.1) site_use (word_at code.bytes.items s.0)
+    module _ (code : Finished) (f : IsFinished label_kinds b code) (out : Code) (o : IsOutput code out) (places_are : out.places.items ≡ places) where
+      stations_are : out.places.items ++ out.pool ∷ [] ≡ places ++ end_of b ∷ []
+      stations_are = ap (λ (ps : List ℕ). ps ++ out.pool ∷ []) places_are ∙ ap (λ n. places ++ n ∷ []) (pool_is b code f out o)
 
-      settled_use : (s : ℕ × Cell) → IsPut b s → (site : Site) → HasUse b.uses s.0 site → SettledUse s site
-      settled_use s put site r =
-          let u : Use LabelUse = get_or b.uses r.index no_use in
-          let is = r.is no_use in
-          let place : u.offset ≡ s.0 = ap (λ (t : ℕ × Site). t.0) is in
-          let settled = f.settled r.index no_use r.within in
+      -- what holds of each cell that was put holds of all that stand
+      standing_all : (P : ℕ × Cell → Type 0) → ((s : ℕ × Cell) → IsPut b s → P s) → All P (standing (map (cells_of frame flags) items) out.places.items)
+      standing_all P each = subst (λ ps. All P (standing (map (cells_of frame flags) items) ps)) (sym places_are) (λ k d within. each (get_or (standing (map (cells_of frame flags) items) places) k d) (h.cells k d within))
+
+      all_stand : All (Stands out.bytes.items) (standing (map (cells_of frame flags) items) out.places.items)
+      all_stand = standing_all (Stands out.bytes.items) (λ s put. cell_stands b code f out o s put s.1.site put.site)
+
+      cell_leads : (s : ℕ × Cell) → IsPut b s → (site : Option Site) → MatchOption site (IsFree b.uses s.0) (HasUse b.uses s.0) → IfSome site (SiteLeads out b.constants s.0 (cell_word s.1))
+      cell_leads s put None free = tt
+      cell_leads s put (Some site) r = site_leads b code f out o s put site (cell_no_end frame flags items places b h code f out o s site r) r
+
+      all_lead : Leads out b.constants (standing (map (cells_of frame flags) items) out.places.items)
+      all_lead = standing_all (λ s. IfSome s.1.site (SiteLeads out b.constants s.0 (cell_word s.1))) (λ s put. cell_leads s put s.1.site put.site)
+
+      followed : (i : ℕ) → i < length items → IsFollowed frame flags items out i
+      followed i within =
+          let start : get_or (places ++ end_of b ∷ []) i 0 ≡ get_or places i 0 = get_or_append_left places (end_of b ∷ []) 0 i (omega (arith, h.count)) in
+          inl (ap (λ (t : List ℕ). get_or t (i + 1) 0) stations_are ∙ h.next i within
+          ∙ ap (λ n. n + 4 * length (get_or (map (cells_of frame flags) items) i [])) (sym (ap (λ (t : List ℕ). get_or t i 0) stations_are ∙ start)))
+
+      labels_bound : (label : MachLabel) (place : ℕ) → Contains out.labels.items (label, place) ↔ IsBoundAt items out.places.items label place
+      labels_bound label place = (
+        λ listed.
+            let r = h.only label.0 place ((f.labels.listed label place).0 (subst (λ (ls : List (MachLabel × ℕ)). Contains ls (label, place)) o.labels listed)) in
+            (r.0, r.1, ap (λ (ps : List ℕ). slice_get ps r.0) places_are ∙ r.2),
+        λ bound.
+            subst (λ (ls : List (MachLabel × ℕ)). Contains ls (label, place)) (sym o.labels)
+            ((f.labels.listed label place).1 (h.bound bound.0 label bound.1 ∙ sym (ap (λ (ps : List ℕ). slice_get ps bound.0) places_are) ∙ bound.2)),
+      )
+
+      no_islands : out.islands.items ≡ []
+      no_islands = o.islands ∙ (f.islands ∙ h.islands)
+
+      is_laid : Laid frame flags items out
+      is_laid = record {
+        count = ap length places_are ∙ h.count;
+        first = ap (λ (t : List ℕ). get_or t 0 0) stations_are ∙ h.first;
+        next = followed;
+        islands = λ k d within. absurd (omega (arith, ap length no_islands));
+        islands_ordered = λ k within. absurd (omega (arith, ap (λ is. length (map (λ (island : ℕ × ℕ). island.0) is)) no_islands));
+        cells = all_stand;
+        labels_ordered = subst (λ (ls : List (MachLabel × ℕ)). IsStrictlyIncreasing (map (λ e. e.0.0) ls)) (sym o.labels) f.labels.ordered;
+        labels = labels_bound;
+        whole_words = omega (arith, end_is b code f out o);
+        pool = omega (arith, end_is b code f out o, pool_is b code f out o, f.later.end);
+      }
+
+      -- the code of items without a fault
+      pub is_assembled : (constants : FinMap nat_cmp (List ℕ)) (force : ForceVeneers) → force ≡ No → b.constants ≡ constants → AreConstants b.constants → own_fault frame flags constants items ≡ None → second_binding items ≡ None → out.relocs.items ≡ code.relocs.items → out.calls.items ≡ code.calls.items → out.patchable.items ≡ code.patchable.items → out.maps.items ≡ code.maps.items → IsAssembled frame flags constants force items out
+      is_assembled constants force unforced constants_are sized own once relocs calls patchable maps =
           record {
-            site_use = get_or b.uses r.index no_use;
-            offset_is = place;
-            site_is = ap (λ (t : ℕ × Site). t.1) is;
-            one = h.uses r.index no_use r.within;
-            settled =
-                subst (λ w. IsStraight label_kinds b.labels w (get_or b.uses r.index no_use) (word_at code.bytes.items s.0)) put.word
-                (subst (λ n. IsStraight label_kinds b.labels (get_or b.words (n / 4) 0) (get_or b.uses r.index no_use) (word_at code.bytes.items n)) place settled);
+            no_fault = fault_at_reach frame flags constants force items own once all_bound short ∙ ap (λ (f : ForceVeneers). out_of_reach frame flags f items) unforced ∙ near;
+            laid = is_laid;
+            leads = subst (λ cs. Leads out cs (standing (map (cells_of frame flags) items) out.places.items)) constants_are all_lead;
+            own_traps = subst (λ ps. HaveOwnTraps out (standing (map (cells_of frame flags) items) ps)) (sym places_are) (own_traps frame flags items places b h code f out o);
+            records = record {
+              relocs = relocs ∙ f.relocs ∙ sym (all_from-nothing reloc_from (relocs_of frame flags) (λ item. refl) out.places.items items);
+              traps_ordered = traps_ordered frame flags items places b h code f out o places_are;
+              traps = traps_exactly frame flags items places b h code f out o places_are;
+              calls = calls ∙ f.calls ∙ sym (all_from-nothing ◌+◌ (calls_of frame flags) (λ item. refl) out.places.items items);
+              patchable = patchable ∙ f.patchable ∙ sym (all_from-nothing number_from (patchable_of frame flags) (λ item. refl) out.places.items items);
+              maps = maps ∙ f.maps ∙ sym (all_from-nothing map_from (maps_of frame flags) (λ item. refl) out.places.items items);
+            };
+            pool = subst (λ cs. IsPool cs out (standing (map (cells_of frame flags) items) out.places.items)) constants_are (is_pool frame flags items places b h code f out o sized all_bound_uses places_are);
+            no_islands = no_islands;
           }
-
-      -- a cell's word stands at its place, but for the field of its use
-      cell_stands : (s : ℕ × Cell) → IsPut b s → (o : Option Site) → MatchOption o (IsFree b.uses s.0) (HasUse b.uses s.0) → outside (site_mask o) (word_at code.bytes.items s.0) ≡ outside (site_mask o) (cell_word s.1)
-      cell_stands s put None free =
-          let place : 4 * (s.0 / 4) ≡ s.0 = omega (arith, put.aligned) in
-          let inside : s.0 / 4 < length b.words = omega (arith, put.inside) in
-          ap (outside 0) (ap (word_at code.bytes.items) (sym place) ∙ f.free (s.0 / 4) inside (subst (IsFree b.uses) (sym place) free) ∙ put.word)
-      cell_stands s put (Some site) r =
-          let u = settled_use s put site r in
-          subst (λ (t : Site). outside (mask_for t.kind) (word_at code.bytes.items s.0) ≡ outside (mask_for t.kind) (cell_word s.1)) u.site_is u.settled.rest
-
-      -- a cell's use leads to its label
-      cell_leads : (s : ℕ × Cell) → IsPut b s → (kind : LabelUse) (label : MachLabel) → HasUse b.uses s.0 (record { kind = kind; target = Label label }) → (goal : ℕ) × Contains code.labels.items (label, goal) × GoesTo label_kinds kind (cell_word s.1) (word_at code.bytes.items s.0) s.0 goal
-      cell_leads s put kind label r =
-          let u = settled_use s put (record { kind = kind; target = Label label }) r in
-          let found = label_place u.one.index (site_of u.site_use).1 kind label u.one.within (u.one.is (site_of u.site_use).1 ∙ u.site_is) in
-          let there : goal_of b.labels u.site_use.target ≡ Some found.0 = ap (λ (t : Site). goal_of b.labels t.target) u.site_is ∙ found.1 in
-          let goes : GoesTo label_kinds u.site_use.kind (cell_word s.1) (word_at code.bytes.items s.0) u.site_use.offset found.0 =
-          subst (λ o. IfSome o (λ place. GoesTo label_kinds u.site_use.kind (cell_word s.1) (word_at code.bytes.items s.0) u.site_use.offset place)) there u.settled.leads in (
-            found.0,
-            (f.labels.listed label found.0).1 found.1,
-            subst (λ n. GoesTo label_kinds kind (cell_word s.1) (word_at code.bytes.items s.0) n found.0) u.offset_is
-                (subst (λ (t : Site). GoesTo label_kinds t.kind (cell_word s.1) (word_at code.bytes.items s.0) u.site_use.offset found.0) u.site_is goes),
-          )
-
-      -- ---- the code that is handed out
-      module _ (out : Code) (bytes_are : out.bytes.items ≡ code.bytes.items) (places_are : out.places.items ≡ places) (labels_are : out.labels.items ≡ code.labels.items) (islands_are : out.islands.items ≡ code.islands.items) (pool_is : out.pool ≡ code.pool) where
-        stations_are : out.places.items ++ out.pool ∷ [] ≡ places ++ end_of b ∷ []
-        stations_are = ap (λ (ps : List ℕ). ps ++ out.pool ∷ []) places_are ∙ ap (λ n. places ++ n ∷ []) (pool_is ∙ f.pool)
-
-        -- what holds of each cell that was put holds of all that stand
-        standing_all : (P : ℕ × Cell → Type 0) → ((s : ℕ × Cell) → IsPut b s → P s) → All P (standing (map (cells_of frame flags) items) out.places.items)
-        standing_all P each = subst (λ ps. All P (standing (map (cells_of frame flags) items) ps)) (sym places_are) (λ k d within. each (get_or (standing (map (cells_of frame flags) items) places) k d) (h.cells k d within))
-
-        all_stand : All (Stands out.bytes.items) (standing (map (cells_of frame flags) items) out.places.items)
-        all_stand = standing_all (Stands out.bytes.items) (λ s put. subst (λ (bytes : List ℕ). Stands bytes s) (sym bytes_are) (cell_stands s put s.1.site put.site))
-
-        site_leads : (s : ℕ × Cell) → IsPut b s → (o : Option Site) → MatchOption o (IsFree b.uses s.0) (HasUse b.uses s.0) → IfSome o (SiteLeads frame flags items out s.0 (cell_word s.1))
-        site_leads s put None free = tt
-        site_leads s put (Some site) r = go site.target refl
-          where
-            labelled : (label : ℕ) × (label_of site.target ≡ Some label)
-            labelled =
-                let u = settled_use s put site r in
-                subst (λ (t : Site). (label : ℕ) × (label_of t.target ≡ Some label)) u.site_is (use_labelled frame flags items (end_of b) u.site_use u.one)
-
-            go : (t : Target) → site.target ≡ t → SiteLeads frame flags items out s.0 (cell_word s.1) (record { kind = site.kind; target = t })
-            go (Label label) target =
-                let r = cell_leads s put site.kind label (subst (λ (t : Target). HasUse b.uses s.0 (record { kind = site.kind; target = t })) target r) in (
-                  r.0,
-                  subst (λ (ls : List (MachLabel × ℕ)). Contains ls (label, r.0)) (sym labels_are) r.1,
-                  subst (λ (bytes : List ℕ). GoesTo label_kinds site.kind (cell_word s.1) (word_at bytes s.0) s.0 r.0) (sym bytes_are) r.2,
-                )
-            go (Constant n) target = absurd (no_label (ap label_of (sym target)) labelled)
-            go (Trap code) target = absurd (no_label (ap label_of (sym target)) labelled)
-            go IslandEnd target = absurd (no_label (ap label_of (sym target)) labelled)
-
-        all_lead : Leads frame flags items out
-        all_lead = standing_all (λ s. IfSome s.1.site (SiteLeads frame flags items out s.0 (cell_word s.1))) (λ s put. site_leads s put s.1.site put.site)
-
-        followed : (i : ℕ) → i < length items → IsFollowed frame flags items out i
-        followed i within =
-            let start : get_or (places ++ end_of b ∷ []) i 0 ≡ get_or places i 0 = get_or_append_left places (end_of b ∷ []) 0 i (omega (arith, h.count)) in
-            inl (ap (λ (t : List ℕ). get_or t (i + 1) 0) stations_are ∙ h.next i within
-            ∙ ap (λ n. n + 4 * length (get_or (map (cells_of frame flags) items) i [])) (sym (ap (λ (t : List ℕ). get_or t i 0) stations_are ∙ start)))
-
-        labels_bound : (label : MachLabel) (place : ℕ) → Contains out.labels.items (label, place) ↔ IsBoundAt items out.places.items label place
-        labels_bound label place = (
-          λ listed.
-              let r = h.only label.0 place ((f.labels.listed label place).0 (subst (λ (ls : List (MachLabel × ℕ)). Contains ls (label, place)) labels_are listed)) in
-              (r.0, r.1, ap (λ (ps : List ℕ). slice_get ps r.0) places_are ∙ r.2),
-          λ bound.
-              subst (λ (ls : List (MachLabel × ℕ)). Contains ls (label, place)) (sym labels_are)
-              ((f.labels.listed label place).1 (h.bound bound.0 label bound.1 ∙ sym (ap (λ (ps : List ℕ). slice_get ps bound.0) places_are) ∙ bound.2)),
-        )
-
-        no_islands : out.islands.items ≡ []
-        no_islands = islands_are ∙ f.islands
-
-        is_laid : Laid frame flags items out
-        is_laid = record {
-          count = ap length places_are ∙ h.count;
-          first = ap (λ (t : List ℕ). get_or t 0 0) stations_are ∙ h.first;
-          next = followed;
-          islands = λ k d within. absurd (omega (arith, ap length no_islands));
-          islands_ordered = λ k within. absurd (omega (arith, ap (λ is. length (map (λ (island : ℕ × ℕ). island.0) is)) no_islands));
-          cells = all_stand;
-          labels_ordered = subst (λ (ls : List (MachLabel × ℕ)). IsStrictlyIncreasing (map (λ e. e.0.0) ls)) (sym labels_are) f.labels.ordered;
-          labels = labels_bound;
-          whole_words = omega (arith, ap length bytes_are, f.same_length);
-          pool = omega (arith, ap length bytes_are, f.same_length, pool_is, f.pool);
-        }
-
-        -- the code of items without a fault
-        pub is_assembled : (constants : FinMap nat_cmp (List ℕ)) (force : ForceVeneers) → force ≡ No → own_fault frame flags constants items ≡ None → second_binding items ≡ None → out.relocs.items ≡ code.relocs.items → out.traps.items ≡ code.traps.items → out.calls.items ≡ code.calls.items → out.patchable.items ≡ code.patchable.items → out.maps.items ≡ code.maps.items → IsAssembled frame flags constants force items out
-        is_assembled constants force unforced own once relocs traps calls patchable maps =
-            let traps_are : out.traps.items ≡ traps_in (standing (map (cells_of frame flags) items) out.places.items) = traps ∙ f.traps ∙ h.traps ∙ ap (λ ps. traps_in (standing (map (cells_of frame flags) items) ps)) (sym places_are) in
-            record {
-              no_fault = fault_at_reach frame flags constants force items own once all_bound short ∙ ap (λ (f : ForceVeneers). out_of_reach frame flags f items) unforced ∙ near;
-              laid = is_laid;
-              leads = all_lead;
-              records = record {
-                relocs = relocs ∙ f.relocs ∙ sym (all_from-nothing reloc_from (relocs_of frame flags) (λ item. refl) out.places.items items);
-                traps_ordered = subst (λ (ts : List (ℕ × TrapCode)). IsStrictlyIncreasing (map (λ t. t.0) ts)) (sym (traps ∙ f.traps)) h.traps_ordered;
-                traps = λ place trap. subst (λ (ts : List (ℕ × TrapCode)). Contains ts (place, trap) ↔ IsTrapOf frame flags items out.places.items place trap) (sym traps_are) (traps_exact frame flags out.places.items items place trap);
-                calls = calls ∙ f.calls ∙ sym (all_from-nothing ◌+◌ (calls_of frame flags) (λ item. refl) out.places.items items);
-                patchable = patchable ∙ f.patchable ∙ sym (all_from-nothing number_from (patchable_of frame flags) (λ item. refl) out.places.items items);
-                maps = maps ∙ f.maps ∙ sym (all_from-nothing map_from (maps_of frame flags) (λ item. refl) out.places.items items);
-              };
-              no_islands = no_islands;
-              no_pool = pool_is ∙ f.pool ∙ sym (ap length bytes_are ∙ f.same_length);
-            }

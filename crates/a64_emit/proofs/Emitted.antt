@@ -1,6 +1,6 @@
 -- What a buffer holds once items are emitted into it, one after another.
 use Rattle.std.proofs.Common.{ℕ, ◌≡◌, ◌≢◌, ◌+◌, ◌-◌, ◌*◌, ◌<◌, ◌≤◌, cond, List, [], ◌∷◌, ◌++◌, length, get_or, take, map, Option, None, Some, refl, sym, ap, ◌∙◌, subst, arith, inl, inr, nat_cmp, eqb}
-use Rattle.std.specs.Prelude.{All}
+use Rattle.std.specs.Prelude.{All, IfSome}
 use Rattle.std.specs.Cmp.{nat_cmp_total, unsigned_tied}
 use Rattle.std.specs.FinMap.{get, insert, empty, get-insert, get-empty}
 use Rattle.std.specs.List.{slice_get}
@@ -21,17 +21,18 @@ use Rattle.a64_inst.specs.declared.item.Item.{Item}
 use Rattle.a64_inst.specs.declared.item.Item.TheVariants.{Bind, Emit}
 use Rattle.a64_buffer.specs.declared.site.Use.{Use}
 use Rattle.a64_buffer.specs.Buffer.{Buffer, end_of, closed_at}
-use Rattle.a64_buffer.specs.Classes.{third, cost, burden, owed}
+use Rattle.a64_buffer.specs.Classes.{third, cost, burden, owed, Fits}
 use Rattle.a64_buffer.proofs.Costs.{weight-append}
 use Rattle.a64_buffer.proofs.Sounds.{bind_weight}
 use Rattle.a64_emit.specs.declared.label_use.LabelUse.{LabelUse}
 use Rattle.a64_emit.specs.declared.site.Site.{Site}
 use Rattle.a64_emit.specs.LabelUses.{label_kinds}
 use Rattle.a64_emit.specs.Cells.{Cell, Data, no_marks, cells_of, all_cells, inst_cells, sites_of}
-use Rattle.a64_emit.specs.Bounds.{growth_of, ranges_in}
+use Rattle.a64_emit.specs.Bounds.{asked, growth_of, ranges_in}
 use Rattle.a64_emit.specs.Emission.{uses_from, appended, site_of, IsPut, IsOneOf, IsUseOf, HasEmitted, IsUnbound, Binds, Steps}
 use Rattle.a64_emit.specs.Layout.{placed, standing, trap_at, traps_in}
-use Rattle.a64_emit.proofs.Burdens.{new_burden, charge_least}
+use Rattle.a64_emit.proofs.Burdens.{new_burden}
+use Rattle.a64_emit.proofs.Asked.{item_least, emitted_words}
 use Rattle.a64_emit.proofs.Lists.{slice_get-append_left, slice_get-push, slice_get_pushed}
 use Rattle.a64_emit.proofs.Sites.{ComesFrom, standing-push, found_in}
 use Rattle.a64_emit.proofs.Marked.{ordered_more, below_more}
@@ -286,7 +287,7 @@ module _ (frame : FrameLayout) (flags : EmitFlags) where
       first = get_or_append_left (places ++ end_of b ∷ []) (end_of b' ∷ []) 0 0 (omega (arith, places_count)) ∙ h.first;
       next = λ i lt. next_all i (omega (arith, lt, length-append items (x ∷ [])));
       below = λ i lt. below_all i (omega (arith, lt, length-append items (x ∷ [])));
-      bounded = omega (arith, h.bounded, s.long, s.owes, charge_least (cells_of frame flags x), sum_by-append (growth_of frame flags) items (x ∷ []));
+      bounded = omega (arith, h.bounded, s.long, s.owes, item_least frame flags x, sum_by-append (growth_of frame flags) items (x ∷ []));
       islands = s.islands_are ∙ h.islands;
       traps =
           s.traps_are ∙ ap (λ ts. ts ++ traps_in (placed (end_of b) (cells_of frame flags x))) h.traps
@@ -306,22 +307,18 @@ module _ (frame : FrameLayout) (flags : EmitFlags) where
   before_end items places b h k d within = (h.uses k d within).inside
 
   -- an item's step, as `Steps` says it
-  emitted_push : (items : List Item) (places : List ℕ) (b b' : Buffer LabelUse) → HasEmitted frame flags items places b → (x : Item) → IsUnbound b x → Steps frame flags x b b' → HasEmitted frame flags (items ++ x ∷ []) (places ++ end_of b ∷ []) b'
-  emitted_push items places b b' h (Bind label) fresh e =
+  emitted_push : (items : List Item) (places : List ℕ) (b b' : Buffer LabelUse) → HasEmitted frame flags items places b → (x : Item) → IsUnbound b x → IfSome (asked x) (Fits label_kinds b) → Steps frame flags x b b' → HasEmitted frame flags (items ++ x ∷ []) (places ++ end_of b ∷ []) b'
+  emitted_push items places b b' h (Bind label) fresh fits e =
       emitted_more items places b h (Bind label) b' (bind_step label b b' e)
       (bound_label items places b (record { bound = h.bound; only = h.only }) h.count label fresh b' (ap (λ (c : Buffer LabelUse). c.labels) e))
-  emitted_push items places b b' h (Emit inst kept) fresh e =
+  emitted_push items places b b' h (Emit inst kept) fresh fits e =
+      let is : b' ≡ appended b (inst_cells frame flags inst) = emitted_words frame flags inst kept b b' fits e in
       emitted_more items places b h (Emit inst kept) b'
-      (subst (IsStep (inst_cells frame flags inst) b) (sym e) (append_step b (inst_cells frame flags inst) (before_end items places b h)))
-      (bound_inst items places b (record { bound = h.bound; only = h.only }) h.count inst kept b' (ap (λ (c : Buffer LabelUse). c.labels) e))
+      (subst (IsStep (inst_cells frame flags inst) b) (sym is) (append_step b (inst_cells frame flags inst) (before_end items places b h)))
+      (bound_inst items places b (record { bound = h.bound; only = h.only }) h.count inst kept b' (ap (λ (c : Buffer LabelUse). c.labels) is))
 
   -- one more item, as the loop reads it
-  pub emitted_step : (items : List Item) (i : ℕ) (d x : Item) → i < length items → get_or items i d ≡ x → (places : List ℕ) (b b' : Buffer LabelUse) → HasEmitted frame flags (take i items) places b → IsUnbound b x → Steps frame flags x b b' → HasEmitted frame flags (take (i + 1) items) (places ++ end_of b ∷ []) b'
-  emitted_step items i d x within is places b b' h unbound e =
+  pub emitted_step : (items : List Item) (i : ℕ) (d x : Item) → i < length items → get_or items i d ≡ x → (places : List ℕ) (b b' : Buffer LabelUse) → HasEmitted frame flags (take i items) places b → IsUnbound b x → IfSome (asked x) (Fits label_kinds b) → Steps frame flags x b b' → HasEmitted frame flags (take (i + 1) items) (places ++ end_of b ∷ []) b'
+  emitted_step items i d x within is places b b' h unbound fits e =
       subst (λ (t : List Item). HasEmitted frame flags t (places ++ end_of b ∷ []) b') (sym (take_more items i d within ∙ ap (λ (y : Item). take i items ++ y ∷ []) is))
-      (emitted_push (take i items) places b b' h x unbound e)
-
--- an item leaves the constants
-pub steps_constants : (frame : FrameLayout) (flags : EmitFlags) (x : Item) (b b' : Buffer LabelUse) → Steps frame flags x b b' → b'.constants ≡ b.constants
-steps_constants frame flags (Bind label) b b' e = ap (λ (c : Buffer LabelUse). c.constants) e
-steps_constants frame flags (Emit inst kept) b b' e = ap (λ (c : Buffer LabelUse). c.constants) e
+      (emitted_push (take i items) places b b' h x unbound fits e)

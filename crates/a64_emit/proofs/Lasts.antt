@@ -3,9 +3,7 @@ use Rattle.std.proofs.Common.{ℕ, ◌≡◌, ◌+◌, ◌*◌, ◌^◌, ◌<◌
 use Rattle.std.specs.FinMap.{FinMap}
 use Rattle.std.proofs.lemmas.List.{append-nil, length-append, length-map}
 use Rattle.a64_base.specs.declared.entity.TrapCode.{TrapCode}
-use Rattle.a64_base.specs.declared.entity.MachLabel.{MachLabel}
 use Rattle.a64_buffer.specs.declared.site.Target.{Target}
-use Rattle.a64_buffer.specs.declared.site.Target.TheVariants.{Label}
 use Rattle.a64_buffer.specs.declared.site.Use.{Use}
 use Rattle.a64_buffer.specs.Buffer.{Buffer, end_of, made_use}
 use Rattle.a64_buffer.specs.Classes as classes
@@ -147,22 +145,26 @@ module _ (b : Buffer LabelUse) (word : ℕ) (trap : Option TrapCode) where
           constants = ap (λ (c : Buffer LabelUse). c.constants) is;
         }
 
-    module _ (offset : ℕ) (label : MachLabel) (at : offset ≡ end_of b) (of : site.target ≡ Label label) where
-      same_use : made_use label_kinds b.labels offset (Label label) site.kind ≡ made_use label_kinds b.labels (end_of b) site.target site.kind
+    -- the constants are as they were
+    pub same_constants : b1.constants ≡ b.constants
+    same_constants = ap (λ (c : Buffer LabelUse). c.constants) there
+
+    module _ (offset : ℕ) (target : Target) (at : offset ≡ end_of b) (of : site.target ≡ target) where
+      same_use : made_use label_kinds b.labels offset target site.kind ≡ made_use label_kinds b.labels (end_of b) site.target site.kind
       same_use =
-          ap (λ n. made_use label_kinds b.labels n (Label label) site.kind) at
+          ap (λ n. made_use label_kinds b.labels n target site.kind) at
           ∙ ap (λ (t : Target). made_use label_kinds b.labels (end_of b) t site.kind) (sym of)
 
-      with_use : record b1 { uses = b1.uses ++ made_use label_kinds b1.labels offset (Label label) site.kind ∷ [] } ≡ appended b (put_cell word (Some site) trap ∷ [])
+      with_use : record b1 { uses = b1.uses ++ made_use label_kinds b1.labels offset target site.kind ∷ [] } ≡ appended b (put_cell word (Some site) trap ∷ [])
       with_use =
-          ap (λ (c : Buffer LabelUse). record c { uses = c.uses ++ made_use label_kinds c.labels offset (Label label) site.kind ∷ [] }) there
+          ap (λ (c : Buffer LabelUse). record c { uses = c.uses ++ made_use label_kinds c.labels offset target site.kind ∷ [] }) there
           ∙ ap (λ u. record b { words = b.words ++ word ∷ []; uses = b.uses ++ u ∷ []; traps = b.traps ++ traps_in (placed (end_of b) (put_cell word (Some site) trap ∷ [])) }) same_use
 
-      pub word_used : b2 ≡ record b1 { uses = b1.uses ++ made_use label_kinds b1.labels offset (Label label) site.kind ∷ [] } → b2 ≡ appended b (put_cell word (Some site) trap ∷ [])
+      pub word_used : b2 ≡ record b1 { uses = b1.uses ++ made_use label_kinds b1.labels offset target site.kind ∷ [] } → b2 ≡ appended b (put_cell word (Some site) trap ∷ [])
       word_used e = e ∙ with_use
 
       -- there is room for the use
-      pub use_fits : CellsFit b (put_cell word (Some site) trap ∷ []) → Fits label_kinds (record b1 { uses = b1.uses ++ made_use label_kinds b1.labels offset (Label label) site.kind ∷ [] }) 0
+      pub use_fits : CellsFit b (put_cell word (Some site) trap ∷ []) → Fits label_kinds (record b1 { uses = b1.uses ++ made_use label_kinds b1.labels offset target site.kind ∷ [] }) 0
       use_fits h =
           subst (λ (c : Buffer LabelUse). Fits label_kinds c 0) (sym with_use)
           (record { rooms = λ k d w o. let y = h.rooms k d w o in omega (arith, y, length-append b.words (word ∷ [])) })

@@ -2,6 +2,8 @@ pub mod Bindings
 pub mod Sizes
 pub mod Lists
 pub mod Burdens
+pub mod Asked
+pub mod Constants
 pub mod Fitting
 pub mod Emitted
 pub mod Checked
@@ -11,6 +13,11 @@ pub mod Starting
 pub mod Sites
 pub mod Later
 pub mod UseLists
+pub mod Arrivals
+pub mod Filled
+pub mod Rising
+pub mod TrapWords
+pub mod Pooled
 pub mod Composed
 pub mod Recorded
 pub mod Marked
@@ -19,7 +26,7 @@ pub mod Joined
 pub mod AsPut
 pub mod Lasts
 pub mod Several
-pub mod Labelled
+pub mod Targets
 pub mod Accesses
 pub mod Steps
 pub mod Owns

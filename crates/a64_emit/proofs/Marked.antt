@@ -15,7 +15,7 @@ pub record AreBetween (from to : ℕ) (traps : List (ℕ × TrapCode)) : Type 0 
   pub inside : (k : ℕ) (d : ℕ × TrapCode) → k < length traps → (from ≤ (get_or traps k d).0) × ((get_or traps k d).0 < to)
   pub rising : (k : ℕ) (d : ℕ × TrapCode) → k + 1 < length traps → (get_or traps k d).0 < (get_or traps (k + 1) d).0
 
-one_more : (from to : ℕ) (o : Option TrapCode) (traps : List (ℕ × TrapCode)) → AreBetween (from + 4) to traps → from + 4 ≤ to → AreBetween from to (cons_option (option_map (λ code. (from, code)) o) traps)
+pub one_more : (from to : ℕ) (o : Option TrapCode) (traps : List (ℕ × TrapCode)) → AreBetween (from + 4) to traps → from + 4 ≤ to → AreBetween from to (cons_option (option_map (λ code. (from, code)) o) traps)
 one_more from to None traps h l = record {
   inside = λ k d w. let i = h.inside k d w in (omega (arith, i.0), i.1);
   rising = h.rising;
@@ -41,35 +41,26 @@ between place (c ∷ cs) = one_more place (place + 4 * length (c ∷ cs)) c.mark
     wider : AreBetween (place + 4) (place + 4 + 4 * length cs) (traps_in (placed (place + 4) cs)) → AreBetween (place + 4) (place + 4 * length (c ∷ cs)) (traps_in (placed (place + 4) cs))
     wider h = record { inside = λ k d w. let i = h.inside k d w in (i.0, omega (arith, i.1)); rising = h.rising }
 
-module _ (traps : List (ℕ × TrapCode)) (end : ℕ) (cells : List Cell) where
-  new : List (ℕ × TrapCode)
-  new = traps_in (placed end cells)
-
-  -- with the traps of cells at the end all are still before the end
-  pub below_more : (end' : ℕ) → All (λ t. t.0 < end) traps → end' ≡ end + 4 * length cells → All (λ t. t.0 < end') (traps ++ traps_in (placed end cells))
-  below_more end' below long = All-append (λ t. t.0 < end') traps (traps_in (placed end cells))
-      (λ k d w. let b = below k d w in omega (arith, b, long))
-      (λ k d w. let i = (between end cells).inside k d w in omega (arith, i.1, long))
-
-  -- and by place
-  pub ordered_more : IsStrictlyIncreasing (map (λ t. t.0) traps) → All (λ t. t.0 < end) traps → IsStrictlyIncreasing (map (λ t. t.0) (traps ++ traps_in (placed end cells)))
-  ordered_more ordered below k w =
-      let inside : k + 1 < length (traps ++ traps_in (placed end cells)) = omega (arith, w, length-map (traps ++ traps_in (placed end cells)) (λ (t : ℕ × TrapCode). t.0)) in
-      let here : get_or (map (λ (t : ℕ × TrapCode). t.0) (traps ++ traps_in (placed end cells))) k 0 ≡ (get_or (traps ++ traps_in (placed end cells)) k d).0 = get_or-map (λ (t : ℕ × TrapCode). t.0) (traps ++ traps_in (placed end cells)) k d 0 (omega (arith, inside)) in
-      let next : get_or (map (λ (t : ℕ × TrapCode). t.0) (traps ++ traps_in (placed end cells))) (k + 1) 0 ≡ (get_or (traps ++ traps_in (placed end cells)) (k + 1) d).0 = get_or-map (λ (t : ℕ × TrapCode). t.0) (traps ++ traps_in (placed end cells)) (k + 1) d 0 inside in
+-- traps behind others are by place, where both are
+module _ (traps new : List (ℕ × TrapCode)) (end to : ℕ) (behind_all : AreBetween end to new) where
+  pub ordered_behind : IsStrictlyIncreasing (map (λ t. t.0) traps) → All (λ t. t.0 < end) traps → IsStrictlyIncreasing (map (λ t. t.0) (traps ++ new))
+  ordered_behind ordered below k w =
+      let inside : k + 1 < length (traps ++ new) = omega (arith, w, length-map (traps ++ new) (λ (t : ℕ × TrapCode). t.0)) in
+      let here : get_or (map (λ (t : ℕ × TrapCode). t.0) (traps ++ new)) k 0 ≡ (get_or (traps ++ new) k d).0 = get_or-map (λ (t : ℕ × TrapCode). t.0) (traps ++ new) k d 0 (omega (arith, inside)) in
+      let next : get_or (map (λ (t : ℕ × TrapCode). t.0) (traps ++ new)) (k + 1) 0 ≡ (get_or (traps ++ new) (k + 1) d).0 = get_or-map (λ (t : ℕ × TrapCode). t.0) (traps ++ new) (k + 1) d 0 inside in
       let less = at inside (cases_lt (k + 1) (length traps)) in
       omega (arith, here, next, less)
     where
       d : ℕ × TrapCode
       d = (0, record { 0 = 0 })
 
-      old_place : (j : ℕ) → j < length traps → (get_or (traps ++ traps_in (placed end cells)) j d).0 ≡ (get_or traps j d).0
-      old_place j l = ap (λ (t : ℕ × TrapCode). t.0) (get_or_append_left traps (traps_in (placed end cells)) d j l)
+      old_place : (j : ℕ) → j < length traps → (get_or (traps ++ new) j d).0 ≡ (get_or traps j d).0
+      old_place j l = ap (λ (t : ℕ × TrapCode). t.0) (get_or_append_left traps new d j l)
 
-      new_place : (j : ℕ) → length traps ≤ j → (get_or (traps ++ traps_in (placed end cells)) j d).0 ≡ (get_or (traps_in (placed end cells)) (j - length traps) d).0
-      new_place j l = ap (λ (t : ℕ × TrapCode). t.0) (get_or-append_right traps (traps_in (placed end cells)) (length traps) j d refl l)
+      new_place : (j : ℕ) → length traps ≤ j → (get_or (traps ++ new) j d).0 ≡ (get_or new (j - length traps) d).0
+      new_place j l = ap (λ (t : ℕ × TrapCode). t.0) (get_or-append_right traps new (length traps) j d refl l)
 
-      at : k + 1 < length (traps ++ traps_in (placed end cells)) → (k + 1 < length traps) ⊎ (length traps ≤ k + 1) → (get_or (traps ++ traps_in (placed end cells)) k d).0 < (get_or (traps ++ traps_in (placed end cells)) (k + 1) d).0
+      at : k + 1 < length (traps ++ new) → (k + 1 < length traps) ⊎ (length traps ≤ k + 1) → (get_or (traps ++ new) k d).0 < (get_or (traps ++ new) (k + 1) d).0
       at inside (inl old) =
           let a = get_or-map (λ (t : ℕ × TrapCode). t.0) traps k d 0 (omega arith) in
           let b = get_or-map (λ (t : ℕ × TrapCode). t.0) traps (k + 1) d 0 old in
@@ -78,10 +69,21 @@ module _ (traps : List (ℕ × TrapCode)) (end : ℕ) (cells : List Cell) where
       at inside (inr ge) = elim (cases_lt k (length traps)) [
         | inl last ↦
             let b = below k d last in
-            let i = (between end cells).inside (k + 1 - length traps) d (omega (arith, inside, length-append traps (traps_in (placed end cells)))) in
+            let i = behind_all.inside (k + 1 - length traps) d (omega (arith, inside, length-append traps new)) in
             omega (arith, b, i.0, old_place k last, new_place (k + 1) ge)
         | inr behind ↦
             let step : k + 1 - length traps ≡ k - length traps + 1 = omega arith in
-            let r = (between end cells).rising (k - length traps) d (omega (arith, inside, length-append traps (traps_in (placed end cells)))) in
-            omega (arith, r, new_place k behind, new_place (k + 1) ge, ap (λ n. (get_or (traps_in (placed end cells)) n d).0) step)
+            let r = behind_all.rising (k - length traps) d (omega (arith, inside, length-append traps new)) in
+            omega (arith, r, new_place k behind, new_place (k + 1) ge, ap (λ n. (get_or new n d).0) step)
       ]
+
+module _ (traps : List (ℕ × TrapCode)) (end : ℕ) (cells : List Cell) where
+  -- with the traps of cells at the end all are still before the end
+  pub below_more : (end' : ℕ) → All (λ t. t.0 < end) traps → end' ≡ end + 4 * length cells → All (λ t. t.0 < end') (traps ++ traps_in (placed end cells))
+  below_more end' below long = All-append (λ t. t.0 < end') traps (traps_in (placed end cells))
+      (λ k d w. let b = below k d w in omega (arith, b, long))
+      (λ k d w. let i = (between end cells).inside k d w in omega (arith, i.1, long))
+
+  -- and by place
+  pub ordered_more : IsStrictlyIncreasing (map (λ t. t.0) traps) → All (λ t. t.0 < end) traps → IsStrictlyIncreasing (map (λ t. t.0) (traps ++ traps_in (placed end cells)))
+  ordered_more = ordered_behind traps (traps_in (placed end cells)) end (end + 4 * length cells) (between end cells)

@@ -44,7 +44,7 @@ none_first f (x ∷ xs) e (suc k) d h = none_first f xs (neither_some (f x) (fir
 
 module _ (frame : FrameLayout) (flags : EmitFlags) (force : ForceVeneers) (all : List Item) where
   -- where no use may be too far, each is near
-  none_far : (items : List Item) (n : ℕ) → first_far_from frame flags force all n items ≡ None → (i k : ℕ) (d : Item) (s : Site) → i < length items → k < length (sites_of (cells_of frame flags (get_or items i d))) → far_label frame flags force all (n + i) (get_or (sites_of (cells_of frame flags (get_or items i d))) k s) ≡ None
+  pub none_far : (items : List Item) (n : ℕ) → first_far_from frame flags force all n items ≡ None → (i k : ℕ) (d : Item) (s : Site) → i < length items → k < length (sites_of (cells_of frame flags (get_or items i d))) → far_label frame flags force all (n + i) (get_or (sites_of (cells_of frame flags (get_or items i d))) k s) ≡ None
   none_far [] n e i k d s h w = absurd (omega arith)
   none_far (x ∷ items) n e zero k d s h w =
       let same : n ≡ n + 0 = omega arith in
@@ -56,7 +56,7 @@ module _ (frame : FrameLayout) (flags : EmitFlags) (force : ForceVeneers) (all :
       subst (λ m. far_label frame flags force all m (get_or (sites_of (cells_of frame flags (get_or items i d))) k s) ≡ None) same (none_far items (n + 1) later.1 i k d s (omega arith) w)
 
   -- a use that is not too far is within its reach
-  within_reach : (i j : ℕ) (site : Site) (label : MachLabel) → far_label frame flags force all i site ≡ None → near_label site ≡ Some label → binding_index all label ≡ Some j → reach frame flags force all i j < 2 ^ 20
+  pub within_reach : (i j : ℕ) (site : Site) (label : MachLabel) → far_label frame flags force all i site ≡ None → near_label site ≡ Some label → binding_index all label ≡ Some j → reach frame flags force all i j < 2 ^ 20
   within_reach i j site label none near bound =
       let here : cond (is_far frame flags force all i label) (Some label) None ≡ None = sym (ap (option_and_then (λ l. cond (is_far frame flags force all i l) (Some l) None)) near) ∙ none in
       let not_far : nat_lt (2 ^ 20 - 1) (reach frame flags force all i j) ≡ false = sym (ap (λ o. option_map_or (λ m. nat_lt (2 ^ 20 - 1) (reach frame flags force all i m)) o false) bound) ∙ case (is_far frame flags force all i label) here in

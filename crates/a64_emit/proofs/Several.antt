@@ -1,7 +1,8 @@
 -- The uses of the words of loads, stores and addresses.
 use Rattle.std.proofs.Common.{ℕ, ℤ, pos, ◌≡◌, ◌+◌, Bool, true, false, List, [], ◌∷◌, ◌++◌, length, Option, None, Some, refl, sym, ap, ◌∙◌, subst, arith, if◌then◌else◌}
-use Rattle.std.specs.Prelude.{IfSome}
-use Rattle.std.specs.Ordering.{int_eq}
+use Rattle.std.specs.Prelude.{IfSome, IsSome}
+use Rattle.std.specs.Ordering.{nat_cmp, int_eq}
+use Rattle.std.specs.FinMap.{FinMap, get}
 use Rattle.std.specs.Int.RustNames.{unsigned_abs}
 use Rattle.std.specs.List.{cons_option, filter_map}
 use Rattle.std.proofs.lemmas.List.{append-nil}
@@ -18,11 +19,12 @@ use Rattle.a64_inst.specs.declared.inst.Inst.{Inst}
 use Rattle.a64_inst.specs.declared.inst.Inst.TheVariants as insts
 use Rattle.a64_inst.specs.declared.mode.AMode.{AMode}
 use Rattle.a64_inst.specs.declared.mode.AMode.TheVariants as modes
-use Rattle.a64_inst.specs.declared.mode.MemLabel.TheVariants.{PCRel, Mach}
+use Rattle.a64_inst.specs.declared.mode.MemLabel.TheVariants.{PCRel, Mach, Pool}
 use Rattle.a64_inst.specs.declared.group.Group.TheVariants.{Memory}
 use Rattle.a64_inst.specs.Accesses.{access_of, access_type}
 use Rattle.a64_inst.specs.FinalModes.{FinalMode, SignedOffset, ScaledOffset, Other, final_mode, final_steps}
 use Rattle.a64_inst.specs.Groups.{group_of}
+use Rattle.a64_inst.specs.Modes.{constant_in}
 use Rattle.a64_inst.specs.MemoryOperands.{is_addend}
 use Rattle.a64_inst.specs.Operands.{is_same_register}
 use Rattle.a64_rows.specs.Forms.{Form}
@@ -31,7 +33,7 @@ use Rattle.a64_emit.specs.MemoryForms.{step_forms, addend_form, addend_register,
 use Rattle.a64_emit.specs.declared.site.Site.{Site}
 use Rattle.a64_emit.specs.Bounds.{veneer_range, ranges_in}
 use Rattle.a64_emit.specs.Cells.{Body, FormOf, Cell, Shape, OneWord, Several, Words, quiet, several, literal_site, mode_site, memory_site, sum_shape, address_shape, access_shape, other_shape, shape_of, shape_cells, inst_cells, sites_of, use_of, uses_of}
-use Rattle.a64_emit.specs.Words.{AreSeveral, IsOfLabel}
+use Rattle.a64_emit.specs.Words.{AreSeveral, MayBePut, IsThere}
 
 -- ---- the uses of several words
 
@@ -87,6 +89,7 @@ address_sites rd before (Other _) = refl
 -- a literal has no steps before it
 literal_first : (frame : FrameLayout) (access : Access) (mem : AMode) → access.mem ≡ mem → use_of (length (access_steps frame access)) (mode_site mem) ≡ use_of 0 (mode_site mem)
 literal_first frame access (modes.Label label) e = ap (λ m. use_of (length (step_forms offset_register (final_steps frame (access_type access.op) m))) (literal_site label)) e
+literal_first frame access (modes.Const addr) e = ap (λ m. use_of (length (step_forms offset_register (final_steps frame (access_type access.op) m))) (literal_site (Pool addr))) e
 literal_first frame access _ e = refl
 
 module _ (frame : FrameLayout) (flags : EmitFlags) where
@@ -95,6 +98,7 @@ module _ (frame : FrameLayout) (flags : EmitFlags) where
   other_sites (insts.Jump dest) e = absurd cc
   other_sites (insts.CondBr taken not_taken kind) e = absurd cc
   other_sites (insts.TestBitAndBranch kind taken not_taken rn bit) e = absurd cc
+  other_sites (insts.TrapIf kind trap_code) e = absurd cc
   other_sites (insts.LabelAddress dst label) e = absurd cc
   other_sites _ e = refl
 
@@ -116,69 +120,55 @@ module _ (frame : FrameLayout) (flags : EmitFlags) where
           subst (λ o. uses_of 0 (shape_cells (elim o [ None ↦ other_shape frame flags inst | Some a ↦ access_shape frame a ])) ≡ use_of 0 (elim o [ None ↦ None | Some a ↦ mode_site a.mem ])) (sym e)
           (access_uses access)
 
-  -- none of which wants a veneer
-  mode_ranges : (mem : AMode) → filter_map veneer_range (cons_option (mode_site mem) []) ≡ []
-  mode_ranges (modes.Label (PCRel offset)) = refl
-  mode_ranges (modes.Label (Mach label)) = refl
-  mode_ranges _ = refl
+  -- ---- the uses are of labels, and of constants that are there
 
-  pub memory_ranges : (inst : Inst) → group_of inst ≡ Memory → ranges_in (inst_cells frame flags inst) ≡ []
-  memory_ranges inst g = go (access_of inst) refl
-    where
-      go : (o : Option Access) → access_of inst ≡ o → ranges_in (inst_cells frame flags inst) ≡ []
-      go None e =
-          subst (λ o. ranges_in (shape_cells (elim o [ None ↦ other_shape frame flags inst | Some access ↦ access_shape frame access ])) ≡ []) (sym e)
-          (ap (filter_map veneer_range) (other_sites inst g))
-      go (Some access) e =
-          subst (λ o. ranges_in (shape_cells (elim o [ None ↦ other_shape frame flags inst | Some a ↦ access_shape frame a ])) ≡ []) (sym e)
-          (ap (filter_map veneer_range) (several_sites (access_steps frame access) (FormOf (access_form frame access)) (mode_site access.mem) access.flags) ∙ mode_ranges access.mem)
+  module _ (constants : FinMap nat_cmp (List ℕ)) where
+    abbrev pub IsPuttable : Shape → Type 0
+    IsPuttable (OneWord form) = Unit {0}
+    IsPuttable (Several forms body site trap) = IfSome site (MayBePut constants)
+    IsPuttable (Words cells) = Unit {0}
 
-  -- ---- the uses are of labels
+    mode_puttable : (mem : AMode) → IfSome (constant_in mem) (λ addr. IsSome (get constants addr.0)) → IfSome (mode_site mem) (MayBePut constants)
+    mode_puttable (modes.Label (PCRel offset)) there = tt
+    mode_puttable (modes.Label (Mach label)) there = tt
+    mode_puttable (modes.Label (Pool addr)) there = (refl, there)
+    mode_puttable (modes.Const addr) there = (refl, there)
+    mode_puttable _ there = tt
 
-  abbrev pub IsLabelled : Shape → Type 0
-  IsLabelled (OneWord form) = Unit {0}
-  IsLabelled (Several forms body site trap) = IfSome site IsOfLabel
-  IsLabelled (Words cells) = Unit {0}
+    chosen_puttable : (nothing same near : Bool) (move near_sum far_sum : Shape) → IsPuttable move → IsPuttable near_sum → IsPuttable far_sum → IsPuttable (chosen nothing same near move near_sum far_sum)
+    chosen_puttable true true near move near_sum far_sum a b c = tt
+    chosen_puttable true false near move near_sum far_sum a b c = a
+    chosen_puttable false same true move near_sum far_sum a b c = b
+    chosen_puttable false same false move near_sum far_sum a b c = c
 
-  mode_labelled : (mem : AMode) → IfSome (mode_site mem) IsOfLabel
-  mode_labelled (modes.Label (PCRel offset)) = tt
-  mode_labelled (modes.Label (Mach label)) = (label, refl)
-  mode_labelled _ = tt
+    sum_puttable : (rd rn : Reg) (offset : ℤ) → IsPuttable (sum_shape rd rn offset)
+    sum_puttable rd rn offset =
+        chosen_puttable (int_eq offset (pos 0)) (is_same_register rd rn) (is_addend (unsigned_abs offset))
+        (quiet [] (mov_form Size64 rd rn)) (quiet [] (addend_form rd rn offset)) (quiet (step_forms addend_register (plan_of (unsigned_abs offset))) (sum_form rd rn offset))
+        tt tt tt
 
-  chosen_labelled : (nothing same near : Bool) (move near_sum far_sum : Shape) → IsLabelled move → IsLabelled near_sum → IsLabelled far_sum → IsLabelled (chosen nothing same near move near_sum far_sum)
-  chosen_labelled true true near move near_sum far_sum a b c = tt
-  chosen_labelled true false near move near_sum far_sum a b c = a
-  chosen_labelled false same true move near_sum far_sum a b c = b
-  chosen_labelled false same false move near_sum far_sum a b c = c
+    address_puttable : (rd : Reg) (before : List Form) (mode : FinalMode) → IsPuttable (address_shape rd before mode)
+    address_puttable rd before (SignedOffset rn offset) = sum_puttable rd rn offset
+    address_puttable rd before (ScaledOffset rn offset ty) = sum_puttable rd rn (pos offset)
+    address_puttable rd before (Other (modes.RegExtended rn rm extendop)) = tt
+    address_puttable rd before (Other _) = tt
 
-  sum_labelled : (rd rn : Reg) (offset : ℤ) → IsLabelled (sum_shape rd rn offset)
-  sum_labelled rd rn offset =
-      chosen_labelled (int_eq offset (pos 0)) (is_same_register rd rn) (is_addend (unsigned_abs offset))
-      (quiet [] (mov_form Size64 rd rn)) (quiet [] (addend_form rd rn offset)) (quiet (step_forms addend_register (plan_of (unsigned_abs offset))) (sum_form rd rn offset))
-      tt tt tt
+    other_puttable : (inst : Inst) → IsPuttable (other_shape frame flags inst)
+    other_puttable (insts.LoadAddr rd mem) = address_puttable rd (step_forms offset_register (final_steps frame I8 mem)) (final_mode frame I8 mem)
+    other_puttable _ = tt
 
-  address_labelled : (rd : Reg) (before : List Form) (mode : FinalMode) → IsLabelled (address_shape rd before mode)
-  address_labelled rd before (SignedOffset rn offset) = sum_labelled rd rn offset
-  address_labelled rd before (ScaledOffset rn offset ty) = sum_labelled rd rn (pos offset)
-  address_labelled rd before (Other (modes.RegExtended rn rm extendop)) = tt
-  address_labelled rd before (Other _) = tt
+    inst_puttable : (inst : Inst) → IsThere constants inst → IsPuttable (shape_of frame flags inst)
+    inst_puttable inst there = go (access_of inst) refl there
+      where
+        go : (o : Option Access) → access_of inst ≡ o → IfSome (elim o [ None ↦ None | Some access ↦ constant_in access.mem ]) (λ addr. IsSome (get constants addr.0)) → IsPuttable (shape_of frame flags inst)
+        go None e there = subst (λ o. IsPuttable (elim o [ None ↦ other_shape frame flags inst | Some access ↦ access_shape frame access ])) (sym e) (other_puttable inst)
+        go (Some access) e there = subst (λ o. IsPuttable (elim o [ None ↦ other_shape frame flags inst | Some a ↦ access_shape frame a ])) (sym e) (mode_puttable access.mem there)
 
-  other_labelled : (inst : Inst) → IsLabelled (other_shape frame flags inst)
-  other_labelled (insts.LoadAddr rd mem) = address_labelled rd (step_forms offset_register (final_steps frame I8 mem)) (final_mode frame I8 mem)
-  other_labelled _ = tt
+    words_puttable : (first : List ℕ) (last : ℕ) (site : Option Site) (trap : Option TrapCode) (shape : Shape) → AreSeveral first last site trap shape → IsPuttable shape → IfSome site (MayBePut constants)
+    words_puttable first last site trap (Several forms body own code) are h = subst (λ o. IfSome o (MayBePut constants)) (sym are.2) h
+    words_puttable first last site trap (OneWord form) are h = elim are [ ]
+    words_puttable first last site trap (Words cells) are h = elim are [ ]
 
-  inst_labelled : (inst : Inst) → IsLabelled (shape_of frame flags inst)
-  inst_labelled inst = go (access_of inst) refl
-    where
-      go : (o : Option Access) → access_of inst ≡ o → IsLabelled (shape_of frame flags inst)
-      go None e = subst (λ o. IsLabelled (elim o [ None ↦ other_shape frame flags inst | Some access ↦ access_shape frame access ])) (sym e) (other_labelled inst)
-      go (Some access) e = subst (λ o. IsLabelled (elim o [ None ↦ other_shape frame flags inst | Some a ↦ access_shape frame a ])) (sym e) (mode_labelled access.mem)
-
-  words_labelled : (first : List ℕ) (last : ℕ) (site : Option Site) (trap : Option TrapCode) (shape : Shape) → AreSeveral first last site trap shape → IsLabelled shape → IfSome site IsOfLabel
-  words_labelled first last site trap (Several forms body own code) are h = subst (λ o. IfSome o IsOfLabel) (sym are.2) h
-  words_labelled first last site trap (OneWord form) are h = elim are [ ]
-  words_labelled first last site trap (Words cells) are h = elim are [ ]
-
-  -- the use of an instruction's words, where these are several
-  pub several_labelled : (inst : Inst) (first : List ℕ) (last : ℕ) (site : Option Site) (trap : Option TrapCode) → AreSeveral first last site trap (shape_of frame flags inst) → IfSome site IsOfLabel
-  several_labelled inst first last site trap are = words_labelled first last site trap (shape_of frame flags inst) are (inst_labelled inst)
+    -- the use of an instruction's words, where these are several
+    pub several_puttable : (inst : Inst) (first : List ℕ) (last : ℕ) (site : Option Site) (trap : Option TrapCode) → IsThere constants inst → AreSeveral first last site trap (shape_of frame flags inst) → IfSome site (MayBePut constants)
+    several_puttable inst first last site trap there are = words_puttable first last site trap (shape_of frame flags inst) are (inst_puttable inst there)

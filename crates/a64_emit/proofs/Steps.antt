@@ -1,8 +1,10 @@
 -- What emission asks of the buffer, one item after another.
 use Rattle.std.proofs.Common.{ℕ, ◌≡◌, ◌+◌, ◌*◌, ◌<◌, ◌≤◌, inl, inr, true, List, [], ◌∷◌, ◌++◌, length, get_or, take, drop, Option, None, Some, refl, sym, ap, subst, ◌∙◌, arith}
-use Rattle.std.specs.Prelude.{All}
+use Rattle.std.specs.Prelude.{All, IfSome, IsSome}
+use Rattle.std.specs.Option.{unwrap_or}
 use Rattle.std.proofs.lemmas.List.{take_more, take-append-drop, get_or_append_left, length-append, append-nil}
 use Rattle.std.proofs.lemmas.List.Concat.{flat_map-append}
+use Rattle.std.proofs.lemmas.List.Elements.{filter_map-append}
 use Rattle.std.specs.FinMap.{get}
 use Rattle.std.proofs.lemmas.Bool.{false≢true}
 use Rattle.a64_base.specs.declared.entity.MachLabel.{MachLabel}
@@ -22,19 +24,32 @@ use Rattle.a64_inst.specs.declared.item.Item.TheVariants.{Bind, Emit}
 use Rattle.a64_emit.specs.LabelUses.{label_kinds, forward_range}
 use Rattle.a64_emit.specs.LabelLaws.{label_kinds_lawful}
 use Rattle.a64_emit.specs.Cells.{Cell, inst_cells, cells_of, all_cells, sites_of}
-use Rattle.a64_emit.specs.Emission.{uses_from, appended, site_of, HasRoom, CellsFit, ItemFits, IsUnbound, IsOneOf, HasEmitted}
-use Rattle.a64_emit.specs.Bounds.{whole, veneer_range, ranges_in}
+use Rattle.a64_emit.specs.Emission.{uses_from, appended, site_of, HasRoom, HasIslandRoom, CellsFit, ItemFits, IsUnbound, IsOneOf, HasEmitted}
+use Rattle.a64_emit.specs.Bounds.{asked, charge_of, growth_of, whole, veneer_range, ranges_in}
 use Rattle.a64_emit.specs.Faults.{second_binding, too_large}
-use Rattle.a64_emit.proofs.Sizes.{whole_more, ranges_in-append}
+use Rattle.a64_emit.proofs.Sizes.{whole_more, cells_more, ranges_in-append}
 use Rattle.a64_emit.proofs.Sites.{found_in}
-use Rattle.a64_emit.proofs.Burdens.{new_burden, charge_some, none_or_some, open_range, use_labelled, label_kinded}
+use Rattle.a64_emit.proofs.Burdens.{new_burden, none_or_some, open_range, use_target, target_kinded}
+use Rattle.a64_emit.proofs.Asked.{item_some}
 use Rattle.a64_emit.proofs.Emitted.{uses_all, append_step, before_end}
 use Rattle.a64_emit.proofs.Checked.{addressable, within_ranges, first_in_whole, among_bindings, not_bound_before}
+
+-- what a place for an island adds to the code at most
+asked_growth : (frame : FrameLayout) (flags : EmitFlags) (x : Item) (space : ℕ) → asked x ≡ Some space → 4 + space ≤ growth_of frame flags x
+asked_growth frame flags x space e = omega (arith, ap (λ o. elim o [ None ↦ charge_of (cells_of frame flags x) | Some s ↦ 4 ] + unwrap_or o 0) e)
 
 module _ (frame : FrameLayout) (flags : EmitFlags) (items : List Item) (i : ℕ) (d : Item) (within : i < length items) (places : List ℕ) (b : Buffer LabelUse) (h : HasEmitted frame flags (take i items) places b) where
   -- there is room for the next item
   pub next_room : too_large frame flags items ≡ None → HasRoom b (cells_of frame flags (get_or items i d))
   next_room small = omega (arith, addressable frame flags items small, h.bounded, whole_more frame flags items i d (get_or items i d) within refl, first_in_whole frame flags items (i + 1))
+
+  -- and for an island at it
+  pub next_island : too_large frame flags items ≡ None → IsSome (asked (get_or items i d)) → HasIslandRoom b
+  next_island small = go (asked (get_or items i d)) refl
+    where
+      go : (o : Option ℕ) → asked (get_or items i d) ≡ o → IsSome o → HasIslandRoom b
+      go None e some = absurd (false≢true some)
+      go (Some space) e some = omega (arith, addressable frame flags items small, h.bounded, asked_growth frame flags (get_or items i d) space e, whole_more frame flags items i d (get_or items i d) within refl, first_in_whole frame flags items (i + 1))
 
   module _ (small : too_large frame flags items ≡ None) where
     -- a use of the items so far that wants something reaches further than all items are long
@@ -61,9 +76,9 @@ module _ (frame : FrameLayout) (flags : EmitFlags) (items : List Item) (i : ℕ)
             subst (λ (t : List Item). All (IsOneOf (end_of (appended b (inst_cells frame flags inst))) (sites_of (all_cells frame flags t))) (b.uses ++ uses_from b.labels (end_of b) (inst_cells frame flags inst))) (sym next)
             (uses_all frame flags (take i items) places b h (Emit inst kept) (appended b (inst_cells frame flags inst)) (append_step b (inst_cells frame flags inst) (before_end frame flags (take i items) places b h))) in
             let long : end_of b + 4 * length (inst_cells frame flags inst) + 4 + burden label_kinds third (b.uses ++ uses_from b.labels (end_of b) (inst_cells frame flags inst)) ≤ whole frame flags items =
-            omega (arith, h.bounded, weight-append label_kinds (cost third) b.uses (uses_from b.labels (end_of b) (inst_cells frame flags inst)), new_burden b.labels (end_of b) (inst_cells frame flags inst), charge_some (inst_cells frame flags inst) some, whole_more frame flags items i d (Emit inst kept) within is, first_in_whole frame flags items (i + 1)) in
+            omega (arith, h.bounded, weight-append label_kinds (cost third) b.uses (uses_from b.labels (end_of b) (inst_cells frame flags inst)), new_burden b.labels (end_of b) (inst_cells frame flags inst), item_some frame flags inst kept some, whole_more frame flags items i d (Emit inst kept) within is, first_in_whole frame flags items (i + 1)) in
             wide_room label_kinds label_kinds_lawful (end_of b) (4 * length (inst_cells frame flags inst)) (b.uses ++ uses_from b.labels (end_of b) (inst_cells frame flags inst))
-            (λ k e w. label_kinded (get_or (b.uses ++ uses_from b.labels (end_of b) (inst_cells frame flags inst)) k e).target (get_or (b.uses ++ uses_from b.labels (end_of b) (inst_cells frame flags inst)) k e).kind (use_labelled frame flags (take (i + 1) items) (end_of (appended b (inst_cells frame flags inst))) (get_or (b.uses ++ uses_from b.labels (end_of b) (inst_cells frame flags inst)) k e) (ones k e w)))
+            (λ k e w. target_kinded (get_or (b.uses ++ uses_from b.labels (end_of b) (inst_cells frame flags inst)) k e).target (get_or (b.uses ++ uses_from b.labels (end_of b) (inst_cells frame flags inst)) k e).kind (use_target frame flags (take (i + 1) items) (end_of (appended b (inst_cells frame flags inst))) (get_or (b.uses ++ uses_from b.labels (end_of b) (inst_cells frame flags inst)) k e) (ones k e w)))
             (λ k e w o. let far = far_enough (get_or (b.uses ++ uses_from b.labels (end_of b) (inst_cells frame flags inst)) k e) (end_of (appended b (inst_cells frame flags inst))) (ones k e w) o in omega (arith, far, long))
 
         go : (x : Item) → get_or items i d ≡ x → ItemFits frame flags b x
@@ -72,6 +87,31 @@ module _ (frame : FrameLayout) (flags : EmitFlags) (items : List Item) (i : ℕ)
           | inl none ↦ subst (λ (cells : List Cell). CellsFit b cells) (sym none) (subst (λ (us : List (Use LabelUse)). classes.HasRoom label_kinds (end_of b) us 0) (sym (append-nil b.uses)) here)
           | inr some ↦ over inst kept is some
         ]
+
+    -- and none is needed for the space that it asks for
+    pub next_asked : IfSome (asked (get_or items i d)) (Fits label_kinds b)
+    next_asked = go (asked (get_or items i d)) refl
+      where
+        earlier : (u : Use LabelUse) → IsOneOf (end_of b) (sites_of (all_cells frame flags (take i items))) u → IsOneOf (end_of b) (sites_of (all_cells frame flags (take (i + 1) items))) u
+        earlier u one =
+            let more : sites_of (all_cells frame flags (take (i + 1) items)) ≡ sites_of (all_cells frame flags (take i items)) ++ sites_of (cells_of frame flags (get_or items i d)) =
+            ap sites_of (cells_more frame flags items i d (get_or items i d) within refl) ∙ filter_map-append (λ cell. cell.site) (all_cells frame flags (take i items)) (cells_of frame flags (get_or items i d)) in
+            record {
+              inside = one.inside;
+              index = one.index;
+              within = omega (arith, one.within, ap length more, length-append (sites_of (all_cells frame flags (take i items))) (sites_of (cells_of frame flags (get_or items i d))));
+              is = λ s. ap (λ ss. get_or ss one.index s) more ∙ (get_or_append_left (sites_of (all_cells frame flags (take i items))) (sites_of (cells_of frame flags (get_or items i d))) s one.index one.within ∙ one.is s);
+            }
+
+        go : (o : Option ℕ) → asked (get_or items i d) ≡ o → IfSome o (Fits label_kinds b)
+        go None e = tt
+        go (Some space) e =
+            let ones : All (IsOneOf (end_of b) (sites_of (all_cells frame flags (take i items)))) b.uses = h.uses in
+            let long : end_of b + space + 4 + burden label_kinds third b.uses ≤ whole frame flags items =
+            omega (arith, h.bounded, asked_growth frame flags (get_or items i d) space e, whole_more frame flags items i d (get_or items i d) within refl, first_in_whole frame flags items (i + 1)) in
+            wide_room label_kinds label_kinds_lawful (end_of b) space b.uses
+            (λ k e w. target_kinded (get_or b.uses k e).target (get_or b.uses k e).kind (use_target frame flags (take i items) (end_of b) (get_or b.uses k e) (ones k e w)))
+            (λ k e w o. let far = far_enough (get_or b.uses k e) (end_of b) (earlier (get_or b.uses k e) (ones k e w)) o in omega (arith, far, long))
 
   -- the label that the next item binds is not bound yet
   pub next_unbound : second_binding items ≡ None → IsUnbound b (get_or items i d)

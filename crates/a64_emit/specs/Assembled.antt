@@ -1,5 +1,5 @@
 -- What `assemble` answers.
-use Rattle.std.specs.Prelude.{◌≡◌, ◌⊎◌, ℕ, List, [], length, None, Some}
+use Rattle.std.specs.Prelude.{◌≡◌, ◌⊎◌, ℕ, List, [], map, None, Some}
 use Rattle.std.specs.Ordering.{nat_cmp}
 use Rattle.std.specs.FinMap.{FinMap}
 use Rattle.a64_inst.specs.declared.emission.EmitFlags.{EmitFlags}
@@ -9,7 +9,10 @@ use Rattle.a64_buffer.specs.declared.force.ForceVeneers.{ForceVeneers}
 use Rattle.a64_emit.specs.declared.code.Code.{Code}
 use Rattle.a64_emit.specs.declared.error.EmitError.{EmitError}
 use Rattle.a64_emit.specs.declared.error.EmitError.TheVariants.{OutOfMemory}
-use Rattle.a64_emit.specs.Layout.{Laid, Leads}
+use Rattle.a64_emit.specs.Cells.{cells_of}
+use Rattle.a64_emit.specs.Leads.{Leads, HaveOwnTraps}
+use Rattle.a64_emit.specs.Layout.{standing, Laid}
+use Rattle.a64_emit.specs.Contents.{IsPool}
 use Rattle.a64_emit.specs.Records.{HasRecords}
 use Rattle.a64_emit.specs.Faults.{own_fault, fault_of}
 
@@ -18,11 +21,12 @@ module _ (frame : FrameLayout) (flags : EmitFlags) (constants : FinMap nat_cmp (
   pub record IsAssembled (code : Code) : Type 0 where
     pub no_fault : fault_of frame flags constants force items ≡ None
     pub laid : Laid frame flags items code
-    pub leads : Leads frame flags items code
+    pub leads : Leads code constants (standing (map (cells_of frame flags) items) code.places.items)
+    pub own_traps : HaveOwnTraps code (standing (map (cells_of frame flags) items) code.places.items)
     pub records : HasRecords frame flags items code
-    -- no use wants a veneer or a constant, so no island is written, and nothing behind the last item
+    pub pool : IsPool constants code (standing (map (cells_of frame flags) items) code.places.items)
+    -- each use that may want a veneer reaches all of the code, so no island is written
     pub no_islands : code.islands.items ≡ []
-    pub no_pool : code.pool ≡ length code.bytes.items
 
   -- a refusal: the first fault, or want of memory, which comes only where each item is right by itself
   abbrev pub IsRefusal : EmitError → Type 0

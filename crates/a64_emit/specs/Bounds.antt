@@ -1,10 +1,13 @@
 -- How long code can become, and how far its uses reach: sums over the items.
 use Rattle.std.specs.Prelude.{ℕ, ◌≡◌, ◌+◌, ◌-◌, ◌*◌, ◌^◌, if◌then◌else◌, List, [], ◌∷◌, length, min, sum_by, Option, None, Some}
 use Rattle.std.specs.List.{filter_map}
-use Rattle.std.specs.Option.{option_map_or}
+use Rattle.std.specs.Option.{option_map_or, unwrap_or}
 use Rattle.a64_inst.specs.declared.emission.EmitFlags.{EmitFlags}
 use Rattle.a64_inst.specs.declared.frame.FrameLayout.{FrameLayout}
+use Rattle.a64_inst.specs.declared.inst.Inst.{Inst}
+use Rattle.a64_inst.specs.declared.inst.Inst.TheVariants as insts
 use Rattle.a64_inst.specs.declared.item.Item.{Item}
+use Rattle.a64_inst.specs.declared.item.Item.TheVariants.{Bind, Emit}
 use Rattle.a64_buffer.specs.declared.site.Target.TheVariants.{Label, Constant, Trap, IslandEnd}
 use Rattle.a64_emit.specs.declared.site.Site.{Site}
 use Rattle.a64_emit.specs.LabelUses.{forward_range, has_veneer}
@@ -43,6 +46,16 @@ abbrev pub least : List ℕ → Option ℕ
 least [] = None
 least (x ∷ xs) = lesser (Some x) (least xs)
 
+-- the space that an instruction asks for, where it is a place for an island
+abbrev pub asked_of : Inst → Option ℕ
+asked_of (insts.EmitIsland needed_space) = Some needed_space
+asked_of _ = None
+
+-- the space that an item asks for
+abbrev pub asked : Item → Option ℕ
+asked (Bind label) = None
+asked (Emit inst map) = asked_of inst
+
 module _ (frame : FrameLayout) (flags : EmitFlags) where
   -- the bytes of an item's own words
   abbrev pub item_size : Item → ℕ
@@ -50,15 +63,11 @@ module _ (frame : FrameLayout) (flags : EmitFlags) where
 
   -- what islands may add to the code because of an item
   abbrev pub item_charge : Item → ℕ
-  item_charge item = charge_of (cells_of frame flags item)
-
-  -- the space that an item asks for; none that exists asks for any
-  abbrev pub asked_space : Item → ℕ
-  asked_space _ = 0
+  item_charge item = elim (asked item) [ None ↦ charge_of (cells_of frame flags item) | Some space ↦ 4 ]
 
   -- the most that an item adds to the code
   abbrev pub growth_of : Item → ℕ
-  growth_of item = item_size item + (item_charge item + asked_space item)
+  growth_of item = item_size item + (item_charge item + unwrap_or (asked item) 0)
 
   -- the sum of sizes, charges and asked spaces
   abbrev pub whole : List Item → ℕ
@@ -81,5 +90,5 @@ pub record AreExtent (cells : List Cell) (size charge : ℕ) (range : Option ℕ
 -- what an item adds to the sums, up to the greatest number of 64 bits, and its shortest range
 pub record IsExtent (frame : FrameLayout) (flags : EmitFlags) (item : Item) (size charge : ℕ) (range : Option ℕ) : Type 0 where
   pub size_is : size ≡ saturated (item_size frame flags item)
-  pub charge_is : charge ≡ saturated (item_charge frame flags item + asked_space frame flags item)
+  pub charge_is : charge ≡ saturated (item_charge frame flags item + unwrap_or (asked item) 0)
   pub range_is : range ≡ least (ranges_in (cells_of frame flags item))

@@ -11,7 +11,7 @@ use Rattle.a64_inst.specs.declared.access.Access.{Access}
 use Rattle.a64_inst.specs.declared.mode.AMode.{AMode}
 use Rattle.a64_inst.specs.declared.mode.AMode.TheVariants as modes
 use Rattle.a64_inst.specs.declared.mode.MemLabel.{MemLabel}
-use Rattle.a64_inst.specs.declared.mode.MemLabel.TheVariants.{PCRel, Mach}
+use Rattle.a64_inst.specs.declared.mode.MemLabel.TheVariants.{PCRel, Mach, Pool}
 use Rattle.a64_inst.specs.Accesses.{access_of}
 use Rattle.a64_inst.specs.FinalModes.{FinalMode, SignedOffset, ScaledOffset, Other, final_mode, final_steps}
 use Rattle.a64_inst.specs.MemoryOperands.{is_addend}
@@ -25,7 +25,7 @@ use Rattle.a64_inst.specs.declared.emission.EmitFlags.{EmitFlags}
 use Rattle.a64_inst.specs.declared.frame.FrameLayout.{FrameLayout}
 use Rattle.a64_inst.specs.declared.inst.Inst.{Inst}
 use Rattle.a64_inst.specs.declared.inst.Inst.TheVariants as insts
-use Rattle.a64_buffer.specs.declared.site.Target.TheVariants.{Label}
+use Rattle.a64_buffer.specs.declared.site.Target.TheVariants.{Label, Constant, Trap}
 use Rattle.a64_emit.specs.declared.label_use.LabelUse.{LabelUse}
 use Rattle.a64_emit.specs.declared.label_use.LabelUse.TheVariants as uses
 use Rattle.a64_emit.specs.declared.site.Site.{Site}
@@ -85,6 +85,10 @@ branch_site kind (branch_targets.ResolvedOffset offset) = None
 abbrev pub branch : Form → LabelUse → BranchTarget → Cell
 branch form kind dest = record { body = FormOf form; site = branch_site kind dest; marks = no_marks }
 
+-- a branch to a trap word, which is still to come
+abbrev pub trap_site : TrapCode → Site
+trap_site code = record { kind = uses.Branch19; target = Trap code }
+
 -- a conditional branch, and behind it a jump
 abbrev pub branches : Form → LabelUse → BranchTarget → BranchTarget → List Cell
 branches form kind taken not_taken = branch form kind taken ∷ branch (control.jump_form not_taken) uses.Branch26 not_taken ∷ []
@@ -119,13 +123,15 @@ address_shape rd before (ScaledOffset rn offset ty) = sum_shape rd rn (pos offse
 address_shape rd before (Other (modes.RegExtended rn rm extendop)) = quiet before (integer.alu_rrr_extend_form alu.Add Size64 rd rn rm extendop)
 address_shape rd before (Other _) = Words []
 
--- the use that a load of a literal is, where a label says its place
+-- the use that a load of a literal is, where a label says its place, or the literal is a constant
 abbrev pub literal_site : MemLabel → Option Site
 literal_site (PCRel offset) = None
 literal_site (Mach label) = Some (record { kind = uses.Ldr19; target = Label label })
+literal_site (Pool addr) = Some (record { kind = uses.Ldr19; target = Constant addr })
 
 abbrev pub mode_site : AMode → Option Site
 mode_site (modes.Label label) = literal_site label
+mode_site (modes.Const addr) = literal_site (Pool addr)
 mode_site _ = None
 
 -- the use that a load or a store of one register is, where it is one
@@ -170,6 +176,8 @@ other_shape frame flags insts.Ret = OneWord control.ret_form
 other_shape frame flags (insts.Jump dest) = Words (branch (control.jump_form dest) uses.Branch26 dest ∷ [])
 other_shape frame flags (insts.CondBr taken not_taken kind) = Words (branches (control.cond_br_form taken kind) uses.Branch19 taken not_taken)
 other_shape frame flags (insts.TestBitAndBranch kind taken not_taken rn bit) = Words (branches (control.test_bit_and_branch_form kind taken rn bit) uses.Branch14 taken not_taken)
+other_shape frame flags (insts.TrapIf kind trap_code) = Words (last_cell (FormOf (control.trap_if_form kind)) (Some (trap_site trap_code)) None ∷ [])
+other_shape frame flags (insts.EmitIsland needed_space) = Words []
 other_shape frame flags (insts.IndirectBr rn targets) = OneWord (control.indirect_br_form rn)
 other_shape frame flags insts.Brk = OneWord control.brk_form
 other_shape frame flags (insts.Udf trap_code) = Words (last_cell (Data control.udf_word) None (Some trap_code) ∷ [])

@@ -5,6 +5,7 @@ use Rattle.a64_base.specs.declared.cond.CondBrKind.{CondBrKind}
 use Rattle.a64_base.specs.declared.cond.TestBitAndBranchKind.{TestBitAndBranchKind}
 use Rattle.a64_base.specs.declared.reg.Reg.{Reg}
 use Rattle.a64_base.specs.declared.target.BranchTarget.{BranchTarget}
+use Rattle.a64_base.specs.declared.target.BranchTarget.TheVariants.{ResolvedOffset}
 use Rattle.a64_base.specs.Target.{offset_field}
 use Rattle.a64_enc_int.specs.Branches.{conditional_form, nonzero_of}
 use Rattle.a64_enc_int.specs.Registers.{register_field}
@@ -23,6 +24,10 @@ jump_form dest = branch26 (record { link = 0; imm26 = offset_field 26 dest })
 -- a branch on a register (Compare and branch (immediate), CBZ and CBNZ) or on the flags (Conditional branch (immediate), B.cond)
 unfoldable pub cond_br_form : BranchTarget → CondBrKind → Form
 cond_br_form taken kind = conditional_form (offset_field 19 taken) kind
+
+-- the same to a trap, over no offset as long as that has no place
+unfoldable pub trap_if_form : CondBrKind → Form
+trap_if_form kind = cond_br_form (ResolvedOffset (pos 0)) kind
 
 -- a branch on one bit of a register, of which the word has the highest bit of its number apart (Test and branch (immediate),
 -- TBZ and TBNZ)

@@ -1,5 +1,5 @@
 -- What emission does to a buffer.
-use Rattle.std.specs.Prelude.{ℕ, ◌≡◌, ◌⊎◌, ◌+◌, ◌*◌, ◌/◌, ◌%◌, ◌^◌, ◌<◌, ◌≤◌, List, [], ◌∷◌, ◌++◌, All, map, take, length, slice_get, slice_index, slice_index_or, Option, None, Some, MatchOption}
+use Rattle.std.specs.Prelude.{ℕ, ◌≡◌, ◌⊎◌, ◌+◌, ◌*◌, ◌/◌, ◌%◌, ◌^◌, ◌<◌, ◌≤◌, List, [], ◌∷◌, ◌++◌, All, map, take, length, slice_get, slice_index, slice_index_or, Option, None, Some, IsSome, MatchOption}
 use Rattle.std.specs.List.Sorted.{IsStrictlyIncreasing}
 use Rattle.std.specs.Ordering.{nat_cmp}
 use Rattle.std.specs.FinMap.{FinMap, get, insert}
@@ -16,11 +16,13 @@ use Rattle.a64_inst.specs.State.{State}
 use Rattle.a64_buffer.specs.declared.site.Use.{Use}
 use Rattle.a64_buffer.specs.Buffer.{Buffer, end_of, made_use, closed_at, IsFree}
 use Rattle.a64_buffer.specs.Classes as classes
+use Rattle.a64_buffer.specs.Islands.{HasIsland}
+use Rattle.a64_buffer.specs.declared.force.ForceVeneers.TheVariants.{No}
 use Rattle.a64_emit.specs.declared.label_use.LabelUse.{LabelUse}
 use Rattle.a64_emit.specs.declared.site.Site.{Site}
 use Rattle.a64_emit.specs.LabelUses.{label_kinds}
 use Rattle.a64_emit.specs.Cells.{Cell, cell_word, inst_cells, cells_of, all_cells, sites_of}
-use Rattle.a64_emit.specs.Bounds.{whole}
+use Rattle.a64_emit.specs.Bounds.{asked_of, whole}
 use Rattle.a64_emit.specs.Layout.{placed, standing, traps_in}
 
 -- ---- what emitting an instruction does
@@ -68,9 +70,20 @@ pub record IsAppendedInPart (b b' : Buffer LabelUse) (cells : List Cell) : Type 
   pub labels : b'.labels ≡ b.labels
   pub constants : b'.constants ≡ b.constants
 
--- an instruction was emitted: its cells stand at the end
+-- an island was written where the space needed one, and else nothing
+abbrev pub IslandsIfNeeded : ℕ → Buffer LabelUse → Buffer LabelUse → Type 0
+IslandsIfNeeded space b b' =
+    (classes.Fits label_kinds b space × (b' ≡ b))
+    ⊎ ((classes.Fits label_kinds b space → ⊥) × HasIsland label_kinds space No b b')
+
+-- cells were put at the end; or an island where one is needed, at a place for one
+abbrev pub Puts : Option ℕ → List Cell → Buffer LabelUse → Buffer LabelUse → Type 0
+Puts None cells b b' = b' ≡ appended b cells
+Puts (Some space) cells b b' = IslandsIfNeeded space b b'
+
+-- an instruction was emitted: its cells stand at the end; or, where it is a place for an island, one that is needed
 abbrev pub Emits : EmitFlags → State → Inst → Buffer LabelUse → Buffer LabelUse → Type 0
-Emits flags state inst b b' = b' ≡ appended b (inst_cells state.frame flags inst)
+Emits flags state inst b b' = Puts (asked_of inst) (inst_cells state.frame flags inst) b b'
 
 -- an instruction was emitted in part
 abbrev pub EmitsInPart : EmitFlags → State → Inst → Buffer LabelUse → Buffer LabelUse → Type 0
@@ -84,9 +97,14 @@ HasRoom b cells = end_of b + 4 * length cells < 2 ^ 31
 abbrev pub CellsFit : Buffer LabelUse → List Cell → Type 0
 CellsFit b cells = classes.HasRoom label_kinds (end_of b) (b.uses ++ uses_from b.labels (end_of b) cells) (4 * length cells)
 
--- an instruction without a fault of its own, and room for its cells
+-- there is room for an island
+abbrev pub HasIslandRoom : Buffer LabelUse → Type 0
+HasIslandRoom b = end_of b + classes.owed label_kinds b + 4 < 2 ^ 31
+
+-- an instruction without a fault of its own, and room for its cells, or for its island
 pub record IsReady (b : Buffer LabelUse) (frame : FrameLayout) (flags : EmitFlags) (inst : Inst) : Type 0 where
   pub room : HasRoom b (inst_cells frame flags inst)
+  pub island : IsSome (asked_of inst) → HasIslandRoom b
   pub fits : CellsFit b (inst_cells frame flags inst)
   pub good : inst_fault frame flags b.constants Refused inst ≡ None
 

@@ -1,22 +1,20 @@
--- Where the items of finished code stand, and where their uses lead.
-use Rattle.std.specs.Prelude.{ℕ, pos, ◌+ℤ◌, ◌≡◌, ◌≢◌, ◌⊎◌, ◌↔◌, ◌+◌, ◌*◌, ◌%◌, ◌<◌, ◌≤◌, List, [], ◌∷◌, ◌++◌, All, Contains, map, length, slice_index, slice_index_or, slice_get, Option, None, Some, IfSome, option_map}
+-- Where the items of finished code stand.
+use Rattle.std.specs.Prelude.{ℕ, ◌≡◌, ◌≢◌, ◌⊎◌, ◌↔◌, ◌+◌, ◌*◌, ◌%◌, ◌<◌, ◌≤◌, List, [], ◌∷◌, ◌++◌, All, Contains, map, length, slice_index, slice_index_or, slice_get, Option, None, Some, IsSome, option_map, option_and_then}
 use Rattle.std.specs.List.{filter_map}
 use Rattle.std.specs.List.Sorted.{IsStrictlyIncreasing}
 use Rattle.a64_base.specs.declared.entity.TrapCode.{TrapCode}
 use Rattle.a64_base.specs.declared.entity.MachLabel.{MachLabel}
 use Rattle.a64_inst.specs.declared.emission.EmitFlags.{EmitFlags}
 use Rattle.a64_inst.specs.declared.frame.FrameLayout.{FrameLayout}
-use Rattle.a64_buffer.specs.declared.site.Target.TheVariants.{Label, Constant, Trap, IslandEnd}
 use Rattle.a64_buffer.specs.Word.{outside, word_at}
-use Rattle.a64_buffer.specs.Kinds.{GoesTo}
-use Rattle.a64_emit.specs.declared.label_use.LabelUse.{LabelUse}
-use Rattle.a64_emit.specs.declared.label_use.LabelUse.TheVariants as uses
 use Rattle.a64_inst.specs.declared.item.Item.{Item}
 use Rattle.a64_inst.specs.declared.item.Item.TheVariants.{Bind}
 use Rattle.a64_emit.specs.declared.code.Code.{Code}
-use Rattle.a64_emit.specs.LabelUses.{label_kinds, mask_for, distance_in}
+use Rattle.a64_emit.specs.LabelUses.{mask_for}
 use Rattle.a64_emit.specs.declared.site.Site.{Site}
 use Rattle.a64_emit.specs.Cells.{Cell, cell_word, cells_of}
+use Rattle.a64_emit.specs.Leads.{JumpsTo}
+use Rattle.a64_emit.specs.Bounds.{asked}
 
 -- cells that stand one behind another from a place on, each with its own place
 abbrev pub placed : ℕ → List Cell → List (ℕ × Cell)
@@ -62,21 +60,15 @@ module _ (frame : FrameLayout) (flags : EmitFlags) (items : List Item) (code : C
   abbrev pub end_of_item : ℕ → ℕ
   end_of_item i = slice_index stations i + 4 * length (slice_index_or item_cells i [])
 
-  -- a jump from a place over all that stands before the other
-  abbrev pub JumpsOver : ℕ → ℕ → Type 0
-  JumpsOver from to =
-      (outside (mask_for uses.Branch26) (word_at code.bytes.items from) ≡ 0x14000000)
-      × (pos from +ℤ distance_in uses.Branch26 (word_at code.bytes.items from) ≡ pos to)
-
-  -- a listed island stands behind item i, which has words. It has at least its first word, which
-  -- jumps over it
+  -- a listed island stands behind item i, which has words or is a place for an island. It has at least its
+  -- first word, which jumps over it
   pub record IsIslandAfter (i : ℕ) (island : ℕ × ℕ) : Type 0 where
     pub listed : Contains code.islands.items island
     pub long : island.0 + 4 ≤ island.1
     pub begins : island.0 ≡ end_of_item i
     pub ends : island.1 ≡ slice_index stations (i + 1)
-    pub has_words : slice_index_or item_cells i [] ≢ []
-    pub jumped : JumpsOver island.0 island.1
+    pub has_words : (slice_index_or item_cells i [] ≢ []) ⊎ IsSome (option_and_then asked (slice_get items i))
+    pub jumped : JumpsTo code island.0 island.1
 
   -- the next item, or the pool, stands at the end of item i, or behind an island there
   abbrev pub IsFollowed : ℕ → Type 0
@@ -104,21 +96,3 @@ module _ (frame : FrameLayout) (flags : EmitFlags) (items : List Item) (code : C
     pub labels : (label : MachLabel) (place : ℕ) → Contains code.labels.items (label, place) ↔ IsBoundAt items code.places.items label place
     pub whole_words : length code.bytes.items % 4 ≡ 0
     pub pool : code.pool ≤ length code.bytes.items
-
-  -- the use of a label leads there: its word says the distance
-  abbrev pub LeadsTo : LabelUse → ℕ → ℕ → ℕ → Type 0
-  LeadsTo kind put place goal = GoesTo label_kinds kind put (word_at code.bytes.items place) place goal
-
-  -- a use leads to its target; no item that exists has a use of a constant or a trap
-  abbrev pub SiteLeads : ℕ → ℕ → Site → Type 0
-  SiteLeads place put site =
-      elim site.target [
-        | Label label ↦ (goal : ℕ) × Contains code.labels.items (label, goal) × LeadsTo site.kind put place goal
-        | Constant constant ↦ ⊥
-        | Trap code ↦ ⊥
-        | IslandEnd ↦ ⊥
-      ]
-
-  -- each use of each cell leads to its target
-  abbrev pub Leads : Type 0
-  Leads = All (λ s. IfSome s.1.site (SiteLeads s.0 (cell_word s.1))) (standing item_cells code.places.items)

@@ -10,7 +10,9 @@ pub mod Bounds
 pub mod Reach
 pub mod Lights
 pub mod Starts
+pub mod Leads
 pub mod Layout
+pub mod Contents
 pub mod Emission
 pub mod Records
 pub mod Faults

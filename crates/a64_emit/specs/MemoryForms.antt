@@ -20,7 +20,7 @@ use Rattle.a64_inst.specs.declared.access.Access.{Access}
 use Rattle.a64_inst.specs.declared.frame.FrameLayout.{FrameLayout}
 use Rattle.a64_inst.specs.declared.mode.AMode.TheVariants as modes
 use Rattle.a64_inst.specs.declared.mode.MemLabel.{MemLabel}
-use Rattle.a64_inst.specs.declared.mode.MemLabel.TheVariants.{PCRel, Mach}
+use Rattle.a64_inst.specs.declared.mode.MemLabel.TheVariants.{PCRel, Mach, Pool}
 use Rattle.a64_inst.specs.declared.mode.PairAMode.{PairAMode}
 use Rattle.a64_inst.specs.declared.mode.PairAMode.TheVariants as pairs
 use Rattle.a64_inst.specs.Accesses.{access_type}
@@ -91,10 +91,11 @@ option_or_zero (Some n) = n
 unfoldable pub literal_form : AccessOp → Reg → ℕ → Form
 literal_form op rt words = ld_literal (record { opc = option_or_zero (literal_of op); v = vector_of op; imm19 = words; rt = register_field rt })
 
--- which is zero as long as it is that of a label
+-- which is zero as long as it is that of a label or of a constant
 abbrev pub literal_words : MemLabel → ℕ
 literal_words (PCRel offset) = residue (2 ^ 21) offset / 4
 literal_words (Mach label) = 0
+literal_words (Pool addr) = 0
 
 -- the extension bits of an index that is not extended
 abbrev pub not_extended : ℕ

@@ -1,5 +1,5 @@
 -- What is recorded of finished code.
-use Rattle.std.specs.Prelude.{ℕ, ℤ, ◌≡◌, ◌↔◌, ◌+◌, List, [], ◌∷◌, ◌++◌, Contains, map, slice_get, Some}
+use Rattle.std.specs.Prelude.{ℕ, ℤ, ◌≡◌, ◌⊎◌, ◌↔◌, ◌+◌, List, [], ◌∷◌, ◌++◌, Contains, map, slice_get, Some}
 use Rattle.std.specs.List.Sorted.{IsStrictlyIncreasing}
 use Rattle.a64_base.specs.declared.entity.Reloc.{Reloc}
 use Rattle.a64_base.specs.declared.entity.ExternalName.{ExternalName}
@@ -8,11 +8,15 @@ use Rattle.a64_base.specs.declared.entity.UserStackMap.{UserStackMap}
 use Rattle.a64_inst.specs.declared.emission.EmitFlags.{EmitFlags}
 use Rattle.a64_inst.specs.declared.frame.FrameLayout.{FrameLayout}
 use Rattle.a64_inst.specs.declared.item.Item.{Item}
+use Rattle.a64_buffer.specs.declared.site.Target.TheVariants.{Trap}
 use Rattle.a64_emit.specs.declared.code.Code.{Code}
-use Rattle.a64_emit.specs.Cells.{cells_of}
-use Rattle.a64_emit.specs.Layout.{placed, traps_in}
+use Rattle.a64_emit.specs.declared.label_use.LabelUse.{LabelUse}
+use Rattle.a64_emit.specs.Cells.{Cell, cell_word, cells_of}
+use Rattle.a64_emit.specs.Leads.{StopsAt}
+use Rattle.a64_emit.specs.Layout.{placed, standing, traps_in}
 
--- the records of an item, by their offsets from the item's place; none that exists makes any but traps
+-- the records of an item, by their offsets from the item's place; none that exists makes any but traps, and those of deferred
+-- traps are where these stop
 module _ (frame : FrameLayout) (flags : EmitFlags) where
   abbrev pub relocs_of : Item → List (ℕ × Reloc × ExternalName × ℤ)
   relocs_of item = []
@@ -56,11 +60,20 @@ module _ (frame : FrameLayout) (flags : EmitFlags) (items : List Item) where
     pub listed : Contains (traps_of frame flags item) (offset, code)
     pub place_is : place ≡ start + offset
 
-  -- the code has the records of its items, and no others, by place
+  -- the use of a cell is a deferred trap, which stops at this place of the code
+  pub record IsDeferredTrap (code : Code) (place : ℕ) (trap : TrapCode) : Type 0 where
+    pub from : ℕ
+    pub cell : Cell
+    pub kind : LabelUse
+    pub stands : Contains (standing (map (cells_of frame flags) items) code.places.items) (from, cell)
+    pub site_is : cell.site ≡ Some (record { kind = kind; target = Trap trap })
+    pub stops : StopsAt code kind (cell_word cell) from place
+
+  -- the code has the records of its items, and no others, by place: a deferred trap has its own at its trap word
   pub record HasRecords (code : Code) : Type 0 where
     pub relocs : code.relocs.items ≡ all_from reloc_from (relocs_of frame flags) code.places.items items
     pub traps_ordered : IsStrictlyIncreasing (map (λ t. t.0) code.traps.items)
-    pub traps : (place : ℕ) (trap : TrapCode) → Contains code.traps.items (place, trap) ↔ IsTrapOf code.places.items place trap
+    pub traps : (place : ℕ) (trap : TrapCode) → Contains code.traps.items (place, trap) ↔ (IsTrapOf code.places.items place trap ⊎ IsDeferredTrap code place trap)
     pub calls : code.calls.items ≡ all_from ◌+◌ (calls_of frame flags) code.places.items items
     pub patchable : code.patchable.items ≡ all_from number_from (patchable_of frame flags) code.places.items items
     pub maps : code.maps.items ≡ all_from map_from (maps_of frame flags) code.places.items items

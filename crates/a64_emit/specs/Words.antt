@@ -1,6 +1,7 @@
 -- What the words of instructions are asked for, and how they are put.
-use Rattle.std.specs.Prelude.{ℕ, ◌≡◌, Bool, true, ◌&&◌, ◌||◌, nat_eq, List, [], ◌∷◌, ◌++◌, map, Option, None}
-use Rattle.a64_base.specs.declared.entity.MachLabel.{MachLabel}
+use Rattle.std.specs.Prelude.{ℕ, ◌≡◌, Bool, true, ◌&&◌, ◌||◌, nat_eq, List, [], ◌∷◌, ◌++◌, map, Option, None, IfSome, IsSome}
+use Rattle.std.specs.Ordering.{nat_cmp}
+use Rattle.std.specs.FinMap.{FinMap, get}
 use Rattle.a64_base.specs.declared.entity.TrapCode.{TrapCode}
 use Rattle.a64_base.specs.declared.reg.Reg.{Reg}
 use Rattle.a64_base.specs.declared.target.BranchTarget.{BranchTarget}
@@ -15,16 +16,18 @@ use Rattle.a64_inst.specs.declared.frame.FrameLayout.{FrameLayout}
 use Rattle.a64_inst.specs.declared.inst.Inst.{Inst}
 use Rattle.a64_inst.specs.declared.virtuals.VirtualRegisters.TheVariants.{Refused}
 use Rattle.a64_inst.specs.Accesses.{access_type}
+use Rattle.a64_inst.specs.Faults.{named_constant}
 use Rattle.a64_inst.specs.FinalModes.{FinalMode, SignedOffset, ScaledOffset, Other}
 use Rattle.a64_inst.specs.IntegerOperands as integer
 use Rattle.a64_inst.specs.MemoryOperands as memory
 use Rattle.a64_inst.specs.Modes.{is_offset9}
 use Rattle.a64_inst.specs.Operands.{is_register_or_stack}
 use Rattle.a64_rows.specs.Forms.{form_word}
-use Rattle.a64_buffer.specs.declared.site.Target.TheVariants.{Label}
+use Rattle.a64_buffer.specs.declared.site.Target.TheVariants.{Label, Constant, Trap, IslandEnd}
 use Rattle.a64_emit.specs.declared.label_use.LabelUse.{LabelUse}
 use Rattle.a64_emit.specs.declared.label_use.LabelUse.TheVariants.{Branch26}
 use Rattle.a64_emit.specs.declared.site.Site.{Site}
+use Rattle.a64_emit.specs.LabelUses.{urgency_of}
 use Rattle.a64_emit.specs.ControlForms.{jump_form}
 use Rattle.a64_emit.specs.Cells.{Data, Cell, Shape, OneWord, Several, Words, body_word, cell_word, last_cell, branch_site, shape_of, other_cells}
 
@@ -49,9 +52,19 @@ AreSeveral first last site trap (Several forms body own code) =
 AreSeveral first last site trap (OneWord form) = ⊥
 AreSeveral first last site trap (Words cells) = ⊥
 
--- a use leads to a label
-abbrev pub IsOfLabel : Site → Type 0
-IsOfLabel site = (label : MachLabel) × (site.target ≡ Label label)
+-- a use may be put: it is of a label, of a constant that is there, or of a trap. Those that are not of a label are of
+-- urgency 2.
+abbrev pub MayBePut : FinMap nat_cmp (List ℕ) → Site → Type 0
+MayBePut constants site = elim site.target [
+  | Label label ↦ Unit {0}
+  | Constant constant ↦ (urgency_of site.kind ≡ 2) × IsSome (get constants constant.0)
+  | Trap code ↦ urgency_of site.kind ≡ 2
+  | IslandEnd ↦ ⊥
+]
+
+-- the constant that an instruction loads, where it loads one, is there
+abbrev pub IsThere : FinMap nat_cmp (List ℕ) → Inst → Type 0
+IsThere constants inst = IfSome (named_constant inst) (λ addr. IsSome (get constants addr.0))
 
 -- a word as it is put, which may be a use and may trap
 abbrev pub put_cell : ℕ → Option Site → Option TrapCode → Cell

@@ -1,11 +1,12 @@
 //! The assembly of whole lists of items.
 
-ghost use Rattle.std.specs.Prelude.{◌≡◌, None, [], ◌^◌, ◌<◌, length, IfOk, IfErr, OnOk};
+ghost use Rattle.std.specs.Prelude.{◌≡◌, None, [], ◌^◌, ◌<◌, length, IfOk, IfErr, IsSome, OnOk};
 ghost use Rattle.std.specs.FinMap.{empty};
 ghost use Rattle.a64_buffer.specs.Buffer.{new_buffer};
 ghost use Rattle.a64_buffer.specs.declared.force.ForceVeneers.TheVariants.{No};
+ghost use Rattle.a64_emit.specs.Bounds.{asked};
 ghost use Rattle.a64_emit.specs.Cells.{cells_of};
-ghost use Rattle.a64_emit.specs.Emission.{HasRoom, ItemFits, IsUnbound, Steps, HasEmitted};
+ghost use Rattle.a64_emit.specs.Emission.{HasRoom, HasIslandRoom, ItemFits, IsUnbound, Steps, HasEmitted};
 ghost use Rattle.a64_emit.specs.Faults.{item_fault, own_fault, second_binding, too_large};
 ghost use Rattle.a64_emit.specs.Assembled.{IsAssembled, IsRefusal};
 
@@ -20,6 +21,7 @@ use a64_inst::{EmitInfo, EmitState, FrameLayout, Item};
 use std::alloc::{AllocError, Global};
 
 /// Emits one item at the end of a buffer.
+#[inline(always)]
 fn emit_item(
     item: &Item,
     buffer: &mut MachBuffer<'_, LabelUse>,
@@ -30,6 +32,7 @@ fn emit_item(
     requires room { HasRoom buffer.old (cells_of state.old.frame info.now item.now) }
     requires fits { ItemFits state.old.frame info.now buffer.old item.now }
     requires unbound { IsUnbound buffer.old item.now }
+    requires island { IsSome (asked item.now) → HasIslandRoom buffer.old }
     ensures buffer { OnOk result (Steps state.old.frame info.now item.now buffer.old buffer.new) }
     ensures frame { OnOk result (state.new.frame ≡ state.old.frame) }
 {
@@ -58,7 +61,8 @@ fn emit_items(
     requires islands { buffer.old.islands ≡ [] }
     requires traps { buffer.old.traps ≡ [] }
     requires short { too_large state.old.frame info.now items.now ≡ None }
-    ensures { IfOk result (λ places. HasEmitted state.old.frame info.now items.now places.items buffer.new) }
+    ensures emitted { IfOk result (λ places. HasEmitted state.old.frame info.now items.now places.items buffer.new) }
+    ensures constants { OnOk result (buffer.new.constants ≡ buffer.old.constants) }
 {
     let mut places = Vec::with_capacity(alloc, items.len())?;
     for item in items {
@@ -110,6 +114,7 @@ pub fn assemble(
     let mut state = EmitState::new(frame.try_clone(alloc)?);
     let mut buffer = buffer_for(alloc, constants, items.len(), found.users)?;
     let places = emit_items(alloc, items, &mut buffer, info, &mut state)?;
+    constants.are_sized();
     let finished = buffer.finish()?;
     Ok(code_of(places, finished))
 }

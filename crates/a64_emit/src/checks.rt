@@ -4,6 +4,7 @@ ghost use Rattle.std.specs.Prelude.{◌≡◌, ◌⊎◌, None, Some, IfOk, IfEr
 ghost use Rattle.std.specs.List.{cons_option, filter_map, list_any};
 ghost use Rattle.a64_emit.specs.declared.error.EmitError.TheVariants.{OutOfMemory};
 ghost use Rattle.a64_emit.specs.Cells.{sites_of, two_uses, uses_of};
+ghost use Rattle.a64_inst.specs.Faults as inst_faults;
 ghost use Rattle.a64_emit.specs.Faults as Faults;
 ghost use Rattle.a64_emit.specs.Faults.{own_fault, HasLabels, bindings, second_binding, first_missing, used_label, unbound_use, is_too_long, or_else, too_large};
 ghost use Rattle.a64_emit.specs.Bounds.{saturated, whole};
@@ -15,9 +16,22 @@ use crate::reach::near_label;
 use crate::site::{Site, Uses};
 use a64_base::MachLabel;
 use a64_buffer::{Constants, Target};
-use a64_inst::{EmitInfo, FrameLayout, Item, OwnFault, VirtualRegisters};
+use a64_inst::{EmitInfo, FrameLayout, Group, Inst, Item, OwnFault, VirtualRegisters};
 use a64_label_map::LabelMap;
 use std::alloc::Global;
+
+/// How many bytes the constant has that an instruction loads; `None` where it loads none, or that is not
+/// there.
+#[inline(always)]
+#[tactic(auto, using(crate::proofs::Constants::no_constant))]
+fn constant_size(inst: &Inst, constants: &Constants) -> Option<u32>
+    ensures { result ≡ inst_faults.constant_size constants.now inst.now }
+{
+    match inst.group() {
+        Group::Memory => constants.size_of(inst.constant()?),
+        Group::Immediate | Group::Register | Group::Control => None,
+    }
+}
 
 /// What is wrong with an item by itself.
 fn item_fault(
@@ -30,9 +44,9 @@ fn item_fault(
 {
     match item {
         Item::Bind(_) => None,
-        // No instruction that exists loads a constant.
         Item::Emit { inst, map: _ } => {
-            inst.own_fault(frame, info, None, VirtualRegisters::Refused)
+            let size = constant_size(inst, constants);
+            inst.own_fault(frame, info, size, VirtualRegisters::Refused)
         }
     }
 }

@@ -14,21 +14,22 @@ ghost use Rattle.a64_emit.specs.declared.label_use.LabelUse.{LabelUse};
 ghost use Rattle.a64_rows.specs.Forms.{Form, form_word};
 ghost use Rattle.a64_emit.specs.Cells as cells;
 ghost use Rattle.a64_emit.specs.Cells.{plain, data_cell, shape_of, only_word};
-ghost use Rattle.a64_emit.specs.Words.{IsOfLabel, put_cell, put_cells, put_branches, put_for};
+ghost use Rattle.a64_emit.specs.Words.{MayBePut, IsThere, put_cell, put_cells, put_branches, put_for};
 ghost use Rattle.a64_emit.specs.LabelUses.{label_kinds};
-ghost use Rattle.a64_emit.specs.Emission.{trapped, PutsInPart, appended, Emits, EmitsInPart, IsAppendedInPart, HasRoom, CellsFit, IsReady};
+ghost use Rattle.a64_emit.specs.Emission.{trapped, PutsInPart, appended, IslandsIfNeeded, Emits, EmitsInPart, IsAppendedInPart, HasRoom, CellsFit, HasIslandRoom, IsReady};
 
+use crate::extent::asked_space;
 use crate::label_use::LabelUse;
 use crate::site::Site;
-use crate::uses::branch_site;
+use crate::uses::{branch_site, trap_site};
 use crate::word::control::{
     UDF_WORD, cond_br_word, jump_word, label_address_word, only_control_word,
-    test_bit_and_branch_word,
+    test_bit_and_branch_word, trap_if_word,
 };
 use crate::word::integer::{only_immediate_word, only_register_word};
 use crate::word::memory::{SeveralWords, memory_words};
 use a64_base::{BranchTarget, TrapCode};
-use a64_buffer::{MachBuffer, Target};
+use a64_buffer::{ForceVeneers, MachBuffer, Target};
 use a64_inst::{EmitInfo, EmitState, FrameLayout, Group, Inst};
 use std::alloc::AllocError;
 
@@ -43,7 +44,8 @@ pub trait MachInstEmit {
     /// What emitting only a first part of it does.
     ghost emits_in_part: { Self → EmitFlags → State → Buffer LabelUse → Buffer LabelUse → Type 0 };
 
-    /// Adds the words at the end of the buffer, with their uses.
+    /// Adds the words at the end of the buffer, with their uses; at a place for an island, the island, where
+    /// the space behind it needs one.
     ///
     /// # Errors
     ///
@@ -97,6 +99,7 @@ fn put_words(sink: &mut MachBuffer<'_, LabelUse>, words: &[u32]) -> Result<(), A
 }
 
 /// One word without a use, at which a trap is recorded where it may trap.
+#[inline(always)]
 fn put_trapping(
     sink: &mut MachBuffer<'_, LabelUse>,
     word: u32,
@@ -114,7 +117,7 @@ fn put_trapping(
 }
 
 /// One word with its use, at which a trap is recorded where it may trap.
-#[inline(never)]
+#[inline(always)]
 fn put_using(
     sink: &mut MachBuffer<'_, LabelUse>,
     word: u32,
@@ -122,7 +125,7 @@ fn put_using(
     trap: Option<TrapCode>,
 ) -> Result<(), AllocError>
     requires short { end_of sink.old + 4 < 2 ^ 31 }
-    requires labelled { IsOfLabel site }
+    requires lawful { MayBePut sink.old.constants site }
     requires fits { CellsFit sink.old (put_cell word (Some site) trap ∷ []) }
     ensures ok { OnOk result (sink.new ≡ appended sink.old (put_cell word (Some site) trap ∷ [])) }
     ensures err { OnErr result (IsAppendedInPart sink.old sink.new (put_cell word (Some site) trap ∷ [])) }
@@ -131,11 +134,13 @@ fn put_using(
     put_trapping(sink, word, trap)?;
     match site.target {
         Target::Label(label) => sink.use_label_at_offset(offset, label, site.kind),
-        _ => unreachable!(),
+        Target::Constant(constant) => sink.use_constant(offset, constant, site.kind),
+        Target::Trap(code) => sink.defer_trap(offset, code, site.kind),
+        Target::IslandEnd => unreachable!(),
     }
 }
 
-/// One word that may be a use of a label, and may trap.
+/// One word that may be a use, and may trap.
 #[inline(always)]
 fn emit_last(
     sink: &mut MachBuffer<'_, LabelUse>,
@@ -144,7 +149,7 @@ fn emit_last(
     trap: Option<TrapCode>,
 ) -> Result<(), AllocError>
     requires short { end_of sink.old + 4 < 2 ^ 31 }
-    requires labelled { IfSome site IsOfLabel }
+    requires lawful { IfSome site (MayBePut sink.old.constants) }
     requires fits { CellsFit sink.old (put_cell word site trap ∷ []) }
     ensures ok { OnOk result (sink.new ≡ appended sink.old (put_cell word site trap ∷ [])) }
     ensures err { OnErr result (IsAppendedInPart sink.old sink.new (put_cell word site trap ∷ [])) }
@@ -155,9 +160,9 @@ fn emit_last(
     }
 }
 
-/// Words of which only the last may be a use of a label, and may trap.
+/// Words of which only the last may be a use, and may trap.
 fn emit_several(sink: &mut MachBuffer<'_, LabelUse>, words: &SeveralWords) -> Result<(), AllocError>
-    requires labelled { IfSome words.now.site IsOfLabel }
+    requires lawful { IfSome words.now.site (MayBePut sink.old.constants) }
     requires room { HasRoom sink.old (put_cells words.now.first.items words.now.last words.now.site words.now.trap) }
     requires fits { CellsFit sink.old (put_cells words.now.first.items words.now.last words.now.site words.now.trap) }
     ensures ok { OnOk result (sink.new ≡ appended sink.old (put_cells words.now.first.items words.now.last words.now.site words.now.trap)) }
@@ -184,6 +189,7 @@ fn emit_branch(
 }
 
 /// A load or a store, or an address.
+#[inline(never)]
 fn emit_memory(
     inst: &Inst,
     sink: &mut MachBuffer<'_, LabelUse>,
@@ -195,6 +201,7 @@ fn emit_memory(
     requires fits { CellsFit sink.old (put_for state.old.frame info.now inst.now) }
     requires good { has_operands state.old.frame info.now Refused inst.now ≡ true }
     requires mode { has_mode inst.now ≡ true }
+    requires there { IsThere sink.old.constants inst.now }
     ensures ok { OnOk result (sink.new ≡ appended sink.old (put_for state.old.frame info.now inst.now)) }
     ensures state { OnOk result (state.new ≡ state.old) }
     ensures err { OnErr result (IsAppendedInPart sink.old sink.new (put_for state.old.frame info.now inst.now)) }
@@ -268,6 +275,9 @@ fn emit_control(
             let word = test_bit_and_branch_word(*kind, *taken, *rn, *bit);
             emit_conditional(sink, word, LabelUse::Branch14, *taken, *not_taken)
         }
+        Inst::TrapIf { kind, trap_code } => {
+            emit_last(sink, trap_if_word(*kind), Some(trap_site(*trap_code)), None)
+        }
         Inst::LabelAddress { dst, label } => emit_branch(
             sink,
             label_address_word(*dst),
@@ -278,6 +288,20 @@ fn emit_control(
         Inst::Word4 { value } => emit_last(sink, *value, None, None),
         Inst::Word8 { value } => emit_word8(sink, *value),
         _ => Ok(()),
+    }
+}
+
+/// An island, where so many bytes more need one.
+#[inline(never)]
+fn emit_asked(sink: &mut MachBuffer<'_, LabelUse>, space: u32) -> Result<(), AllocError>
+    requires { HasIslandRoom sink.old }
+    ensures ok { OnOk result (IslandsIfNeeded space sink.old sink.new) }
+    ensures err { OnErr result (sink.new ≡ sink.old) }
+{
+    if sink.island_needed(space) {
+        sink.emit_island(space, ForceVeneers::No)
+    } else {
+        Ok(())
     }
 }
 
@@ -292,6 +316,7 @@ fn emit_other(
     requires fits { CellsFit sink.old (put_for state.old.frame info.now inst.now) }
     requires good { has_operands state.old.frame info.now Refused inst.now ≡ true }
     requires mode { has_mode inst.now ≡ true }
+    requires there { IsThere sink.old.constants inst.now }
     ensures ok { OnOk result (sink.new ≡ appended sink.old (put_for state.old.frame info.now inst.now)) }
     ensures state { OnOk result (state.new ≡ state.old) }
     ensures err { OnErr result (IsAppendedInPart sink.old sink.new (put_for state.old.frame info.now inst.now)) }
@@ -319,7 +344,10 @@ impl MachInstEmit for Inst {
         let _map = state.take_stack_map();
         match only_word(self, state.frame_layout(), info) {
             Some(word) => emit_plain(sink, word),
-            None => emit_other(self, sink, info, state),
+            None => match asked_space(self) {
+                Some(space) => emit_asked(sink, space),
+                None => emit_other(self, sink, info, state),
+            },
         }
     }
 }

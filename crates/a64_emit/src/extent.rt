@@ -3,9 +3,10 @@
 ghost use Rattle.std.specs.Prelude.{◌≡◌, ◌+◌, [], ◌∷◌, None, length, option_and_then, IfSome};
 ghost use Rattle.std.specs.List.{cons_option};
 ghost use Rattle.a64_inst.specs.declared.group.Group.TheVariants.{Control};
+ghost use Rattle.a64_inst.specs.declared.item.Item.TheVariants.{Emit};
 ghost use Rattle.a64_inst.specs.Groups.{group_of};
 ghost use Rattle.a64_emit.specs.Bounds as bounds;
-ghost use Rattle.a64_emit.specs.Bounds.{IsExtent, AreExtent, ranges_in, least, saturated, charge_of, growth_of, size_of};
+ghost use Rattle.a64_emit.specs.Bounds.{IsExtent, AreExtent, ranges_in, least, saturated, charge_of, growth_of, size_of, asked_of};
 ghost use Rattle.a64_rows.specs.Forms.{Form};
 ghost use Rattle.a64_emit.specs.declared.label_use.LabelUse.TheVariants as uses;
 ghost use Rattle.a64_emit.specs.Cells.{branch, cells_of, inst_cells, inst_uses, two_uses, uses_of};
@@ -106,13 +107,24 @@ fn wanting_in(uses: Uses) -> Wanting
     }
 }
 
+/// The space that an instruction asks for, where it is a place for an island.
+#[inline(always)]
+pub fn asked_space(inst: &Inst) -> Option<u32>
+    ensures { result ≡ bounds.asked_of inst.now }
+{
+    match inst {
+        Inst::EmitIsland { needed_space } => Some(*needed_space),
+        _ => None,
+    }
+}
+
 /// How many words a branch, an address or data has.
 fn control_count(inst: &Inst, _frame: &FrameLayout, _info: &EmitInfo) -> u64
     requires { group_of inst.now ≡ Control }
     ensures { result ≡ length (inst_cells _frame.now _info.now inst.now) }
 {
     match inst {
-        Inst::Nop0 => 0,
+        Inst::Nop0 | Inst::EmitIsland { .. } => 0,
         Inst::CondBr { .. } | Inst::TestBitAndBranch { .. } | Inst::Word8 { .. } => 2,
         _ => 1,
     }
@@ -142,14 +154,11 @@ fn quiet_extent(words: u64) -> Extent
     }
 }
 
-/// How much a branch, an address or data with these uses may add to code.
+/// How much an instruction of so many words may add to code, which have these uses.
 #[inline(always)]
-fn control_extent(inst: &Inst, uses: Uses, frame: &FrameLayout, info: &EmitInfo) -> Extent
-    requires group { group_of inst.now ≡ Control }
-    requires uses { inst_uses frame.now info.now inst.now ≡ two_uses uses.first uses.second }
-    ensures { AreExtent (inst_cells frame.now info.now inst.now) result.size result.charge result.range }
+fn using_extent(words: u64, uses: Uses) -> Extent
+    ensures { (cells : _) → words ≡ length cells → uses_of 0 cells ≡ two_uses uses.first uses.second → AreExtent cells result.size result.charge result.range }
 {
-    let words = control_count(inst, frame, info);
     let wanting = wanting_in(uses);
     Extent {
         size: words.saturating_mul(4),
@@ -158,9 +167,9 @@ fn control_extent(inst: &Inst, uses: Uses, frame: &FrameLayout, info: &EmitInfo)
     }
 }
 
-/// How much an instruction may add to code, and its uses.
+/// How much the words of an instruction may add to code, and their uses.
 #[inline(always)]
-fn inst_burden(inst: &Inst, frame: &FrameLayout, info: &EmitInfo) -> Burden
+fn words_burden(inst: &Inst, frame: &FrameLayout, info: &EmitInfo) -> Burden
     ensures extent { AreExtent (inst_cells frame.now info.now inst.now) result.extent.size result.extent.charge result.extent.range }
     ensures uses { inst_uses frame.now info.now inst.now ≡ two_uses result.uses.first result.uses.second }
 {
@@ -172,14 +181,36 @@ fn inst_burden(inst: &Inst, frame: &FrameLayout, info: &EmitInfo) -> Burden
         Group::Control => {
             let uses = control_uses(inst, frame, info);
             Burden {
-                extent: control_extent(inst, uses, frame, info),
+                extent: using_extent(control_count(inst, frame, info), uses),
                 uses,
             }
         }
-        Group::Memory => Burden {
-            extent: quiet_extent(memory_count(inst, frame, info)),
-            uses: memory_uses(inst, frame, info),
+        Group::Memory => {
+            let uses = memory_uses(inst, frame, info);
+            Burden {
+                extent: using_extent(memory_count(inst, frame, info), uses),
+                uses,
+            }
+        }
+    }
+}
+
+/// How much an instruction may add to code, and its uses.
+#[inline(always)]
+fn inst_burden(inst: &Inst, frame: &FrameLayout, info: &EmitInfo) -> Burden
+    ensures extent { (kept : _) → IsExtent frame.now info.now (Emit inst.now kept) result.extent.size result.extent.charge result.extent.range }
+    ensures uses { inst_uses frame.now info.now inst.now ≡ two_uses result.uses.first result.uses.second }
+{
+    match asked_space(inst) {
+        Some(space) => Burden {
+            extent: Extent {
+                size: 0,
+                charge: 4 + u64::from(space),
+                range: None,
+            },
+            uses: only_use(None),
         },
+        None => words_burden(inst, frame, info),
     }
 }
 
@@ -228,7 +259,7 @@ fn jump_light(dest: BranchTarget) -> Light
 #[inline(always)]
 fn control_light(inst: &Inst, _frame: &FrameLayout, _info: &EmitInfo) -> Option<Light>
     requires { group_of inst.now ≡ Control }
-    ensures { IfSome result (IsLight (inst_cells _frame.now _info.now inst.now) (size_of (inst_cells _frame.now _info.now inst.now) + charge_of (inst_cells _frame.now _info.now inst.now))) }
+    ensures { IfSome result (λ light. (asked_of inst.now ≡ None) × IsLight (inst_cells _frame.now _info.now inst.now) (size_of (inst_cells _frame.now _info.now inst.now) + charge_of (inst_cells _frame.now _info.now inst.now)) light) }
 {
     match inst {
         Inst::Nop4

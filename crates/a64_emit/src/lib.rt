@@ -26,5 +26,7 @@ pub use a64_inst::Item;
 pub use assembly::assemble;
 pub use emit::MachInstEmit;
 pub use error::EmitError;
+pub use extent::{Burden, Extent, burden_of};
 pub use label_use::LabelUse;
+pub use site::{Site, Uses};
 pub use state::MachInstEmitState;

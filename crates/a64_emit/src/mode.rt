@@ -1,6 +1,6 @@
 //! The addressing modes that stand in instructions, and the steps before them.
 
-ghost use Rattle.std.specs.Prelude.{◌≡◌, ◌≤◌, ◌^◌, ◌⊎◌, [], length};
+ghost use Rattle.std.specs.Prelude.{◌≡◌, ◌≤◌, ◌^◌, ◌⊎◌, true, [], length};
 ghost use Rattle.a64_base.specs.declared.shift.ExtendOp.TheVariants.{SXTX};
 ghost use Rattle.a64_base.specs.Registers.{integer_register};
 ghost use Rattle.a64_imms.specs.Offsets.{residue};
@@ -13,7 +13,7 @@ ghost use Rattle.a64_inst.specs.FinalModes.{parts_of};
 
 use a64_base::{ExtendOp, IrType, Reg, spilltmp_reg};
 use a64_imms::{SImm9, UImm12Scaled};
-use a64_inst::{AMode, ConstStep, FrameLayout, const_plan, is_far, place_of};
+use a64_inst::{AMode, ConstStep, FrameLayout, MemLabel, const_plan, is_far, place_of};
 use arrayvec::ArrayVec;
 
 /// An offset modulo 2^64.
@@ -48,13 +48,25 @@ fn placed_mode(ty: IrType, base: Reg, offset: i64) -> AMode
     }
 }
 
+/// What stands for a mode without an offset of 64 bits: a constant is a literal in the pool.
+fn held_mode(mem: &AMode) -> AMode
+    ensures { result ≡ finals.held_mode true mem.now }
+{
+    match *mem {
+        AMode::Const { addr } => AMode::Label {
+            label: MemLabel::Pool(addr),
+        },
+        mode => mode,
+    }
+}
+
 /// The mode that stands in the instruction of an access.
 pub fn final_mode(frame: &FrameLayout, ty: IrType, mem: &AMode) -> AMode
     requires { IsAccessSize (type_bytes ty) }
     ensures { parts_of result ≡ finals.final_mode frame.now ty mem.now }
 {
     let Some(place) = place_of(frame, mem) else {
-        return *mem;
+        return held_mode(mem);
     };
     if place.offset < -(1 << 63) || place.offset >= 1 << 63 {
         far_mode(place.base)

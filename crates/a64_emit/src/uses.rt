@@ -9,7 +9,7 @@ ghost use Rattle.a64_emit.specs.Cells.{branches, uses_of, two_uses, inst_uses};
 
 use crate::label_use::LabelUse;
 use crate::site::{Site, Uses};
-use a64_base::BranchTarget;
+use a64_base::{BranchTarget, TrapCode};
 use a64_buffer::Target;
 use a64_inst::{AMode, EmitInfo, FrameLayout, Group, Inst, MemLabel};
 
@@ -24,6 +24,17 @@ pub fn branch_site(kind: LabelUse, dest: BranchTarget) -> Option<Site>
             target: Target::Label(label),
         }),
         BranchTarget::ResolvedOffset(_) => None,
+    }
+}
+
+/// The use that a branch to a trap word is.
+#[inline(always)]
+pub fn trap_site(code: TrapCode) -> Site
+    ensures { result ≡ cells.trap_site code }
+{
+    Site {
+        kind: LabelUse::Branch19,
+        target: Target::Trap(code),
     }
 }
 
@@ -67,6 +78,7 @@ pub fn control_uses(inst: &Inst, _frame: &FrameLayout, _info: &EmitInfo) -> Uses
             not_taken,
             ..
         } => branches_uses(LabelUse::Branch14, *taken, *not_taken),
+        Inst::TrapIf { kind: _, trap_code } => only_use(Some(trap_site(*trap_code))),
         Inst::LabelAddress { dst: _, label } => only_use(branch_site(
             LabelUse::Adr21,
             BranchTarget::Label(*label),
@@ -75,18 +87,20 @@ pub fn control_uses(inst: &Inst, _frame: &FrameLayout, _info: &EmitInfo) -> Uses
     }
 }
 
-/// The use that a load of a literal is, where a label says its place.
+/// The use that a load of a literal is, where a label says its place, or the literal is a constant.
 #[inline(always)]
 fn literal_site(label: MemLabel) -> Option<Site>
     ensures { result ≡ cells.literal_site label }
 {
-    match label {
-        MemLabel::PCRel(_) => None,
-        MemLabel::Mach(label) => Some(Site {
-            kind: LabelUse::Ldr19,
-            target: Target::Label(label),
-        }),
-    }
+    let target = match label {
+        MemLabel::PCRel(_) => return None,
+        MemLabel::Mach(label) => Target::Label(label),
+        MemLabel::Pool(addr) => Target::Constant(addr),
+    };
+    Some(Site {
+        kind: LabelUse::Ldr19,
+        target,
+    })
 }
 
 /// The use that an access in a mode is, where it is one.
@@ -96,6 +110,7 @@ pub fn mode_site(mem: &AMode) -> Option<Site>
 {
     match *mem {
         AMode::Label { label } => literal_site(label),
+        AMode::Const { addr } => literal_site(MemLabel::Pool(addr)),
         _ => None,
     }
 }

@@ -38,6 +38,8 @@ pub fn only_control_word(inst: &Inst, frame: &FrameLayout, info: &EmitInfo) -> O
         Inst::Jump { .. }
         | Inst::CondBr { .. }
         | Inst::TestBitAndBranch { .. }
+        | Inst::TrapIf { .. }
+        | Inst::EmitIsland { .. }
         | Inst::Udf { .. }
         | Inst::Word4 { .. }
         | Inst::Word8 { .. }
@@ -71,6 +73,15 @@ pub fn cond_br_word(taken: BranchTarget, kind: CondBrKind) -> u32
     ensures { result ≡ form_word (forms.cond_br_form taken kind) }
 {
     enc_conditional_br(taken, kind)
+}
+
+/// The word of a `TrapIf`, whose offset is zero as long as its trap has no place.
+#[tactic(auto, unfolding(crate::specs::ControlForms::trap_if_form))]
+pub fn trap_if_word(kind: CondBrKind) -> u32
+    requires { is_test Refused kind ≡ true }
+    ensures { result ≡ form_word (forms.trap_if_form kind) }
+{
+    cond_br_word(BranchTarget::ResolvedOffset(0), kind)
 }
 
 /// The word of the conditional branch of a `TestBitAndBranch`, whose offset is zero as long as it has a label.

@@ -3,13 +3,18 @@ use Rattle.std.specs.Ordering.{nat_cmp}
 use Rattle.std.specs.FinMap.{FinMap}
 use Rattle.a64_inst.specs.declared.frame.FrameLayout.{FrameLayout}
 use Rattle.a64_inst.specs.declared.item.Item.{Item}
+use Rattle.std.specs.Prelude.{IfSome, IsSome}
 use Rattle.a64_buffer.specs.Buffer.{end_of}
+use Rattle.a64_buffer.specs.Classes.{Fits}
+use Rattle.a64_emit.specs.Bounds.{asked}
+use Rattle.a64_emit.specs.LabelUses.{label_kinds}
 use Rattle.a64_emit.specs.Cells.{cells_of}
-use Rattle.a64_emit.specs.Emission.{HasRoom, ItemFits, IsUnbound, HasEmitted, Steps}
-use Rattle.a64_emit.proofs.Emitted.{emitted_none, emitted_step, steps_constants}
+use Rattle.a64_emit.specs.Emission.{HasRoom, HasIslandRoom, ItemFits, IsUnbound, HasEmitted, Steps}
+use Rattle.a64_emit.proofs.Asked.{steps_constants}
+use Rattle.a64_emit.proofs.Emitted.{emitted_none, emitted_step}
 use Rattle.a64_emit.specs.Faults.{item_fault}
 use Rattle.a64_emit.proofs.Owns.{none_at}
-use Rattle.a64_emit.proofs.Steps.{next_room, next_fits, next_unbound}
+use Rattle.a64_emit.proofs.Steps.{next_room, next_fits, next_asked, next_island, next_unbound}
 use Rattle.a64_emit.proofs.assembly.emit_items.Goals as goal
 
 pub loop-item-init : goal.loop-item-init
@@ -43,6 +48,11 @@ emit_item-requires-clause-unbound c =
     subst (IsUnbound c.loop-item.buffer) (sym c.item-item.is)
     (next_unbound c.args.state.now.frame c.args.info.now c.args.items.now c.loop-item.item-index c.item-item.result c.loop-item-test.true c.loop-item.places.items c.loop-item.buffer c.loop-item.invariant.emitted c.requires.once)
 
+pub emit_item-requires-clause-island : goal.emit_item-requires-clause-island
+emit_item-requires-clause-island c =
+    subst (λ (item : Item). IsSome (asked item) → HasIslandRoom c.loop-item.buffer) (sym c.item-item.is)
+    (next_island c.args.state.now.frame c.args.info.now c.args.items.now c.loop-item.item-index c.item-item.result c.loop-item-test.true c.loop-item.places.items c.loop-item.buffer c.loop-item.invariant.emitted c.requires.short)
+
 pub loop-item-preserved : goal.loop-item-preserved
 loop-item-preserved c =
     let item : Item = c.item-item.result in
@@ -56,5 +66,7 @@ loop-item-preserved c =
           (emitted_step c.args.state.now.frame c.args.info.now c.args.items.now c.loop-item.item-index c.item-item.result c.item-item.result c.loop-item-test.true (sym c.item-item.is) c.loop-item.places.items c.loop-item.buffer c.emit_item.new.buffer c.loop-item.invariant.emitted
           (subst (IsUnbound c.loop-item.buffer) (sym c.item-item.is)
           (next_unbound c.args.state.now.frame c.args.info.now c.args.items.now c.loop-item.item-index c.item-item.result c.loop-item-test.true c.loop-item.places.items c.loop-item.buffer c.loop-item.invariant.emitted c.requires.once))
+          (subst (λ (x : Item). IfSome (asked x) (Fits label_kinds c.loop-item.buffer)) (sym c.item-item.is)
+          (next_asked c.args.state.now.frame c.args.info.now c.args.items.now c.loop-item.item-index c.item-item.result c.loop-item-test.true c.loop-item.places.items c.loop-item.buffer c.loop-item.invariant.emitted c.requires.short))
           stepped);
     }

@@ -1,10 +1,11 @@
 use Rattle.std.proofs.Common.{◌≡◌, ◌∙◌, ◌+◌, ap, sym, cond, take, option_map, None, Some, true, false}
 use Rattle.std.specs.Prelude.{◌||◌}
 use Rattle.std.specs.List.{filter_map}
+use Rattle.std.specs.Option.{unwrap_or}
 use Rattle.std.proofs.lemmas.List.{take_all}
 use Rattle.a64_emit.specs.declared.error.EmitError.TheVariants.{UnboundLabel, TooLarge}
 use Rattle.a64_emit.specs.Cells.{cells_of}
-use Rattle.a64_emit.specs.Bounds.{lesser, saturated, whole, item_size, item_charge, asked_space}
+use Rattle.a64_emit.specs.Bounds.{lesser, saturated, whole, item_size, item_charge, asked}
 use Rattle.a64_emit.specs.Faults.{bindings, first_missing, used_label, or_else, too_large, unbound_use}
 use Rattle.a64_emit.specs.Reach.{has_near}
 use Rattle.a64_emit.proofs.Bindings.{missing_skip, missing_found, missing_end}
@@ -33,8 +34,8 @@ loop-item-preserved c =
           c.saturating_add-whole-in-loop-item.ensures ∙ ap (λ n. saturated (n + extent.charge)) c.saturating_add.ensures
           ∙ ap (λ n. saturated (saturated (c.loop-item.whole + n) + extent.charge)) e.size_is
           ∙ ap (λ n. saturated (saturated (c.loop-item.whole + saturated (item_size frame flags item)) + n)) e.charge_is
-          ∙ ap (λ n. saturated (saturated (n + saturated (item_size frame flags item)) + saturated (item_charge frame flags item + asked_space frame flags item))) c.loop-item.invariant.whole_is
-          ∙ saturated_more _ (item_size frame flags item) (item_charge frame flags item + asked_space frame flags item)
+          ∙ ap (λ n. saturated (saturated (n + saturated (item_size frame flags item)) + saturated (item_charge frame flags item + unwrap_or (asked item) 0))) c.loop-item.invariant.whole_is
+          ∙ saturated_more _ (item_size frame flags item) (item_charge frame flags item + unwrap_or (asked item) 0)
           ∙ ap saturated (sym (whole_more frame flags c.args.items.now c.loop-item.item-index c.item-item.result c.item-item.result c.loop-item-test.true (sym c.item-item.is)));
       shortest_is =
           c.lesser-shortest-in-loop-item.ensures ∙ ap (λ o. lesser o extent.range) c.loop-item.invariant.shortest_is

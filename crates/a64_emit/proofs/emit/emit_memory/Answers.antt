@@ -5,7 +5,7 @@ use Rattle.a64_emit.specs.Cells.{shape_of}
 use Rattle.a64_emit.specs.Emission.{appended, IsAppendedInPart, HasRoom, CellsFit}
 use Rattle.a64_emit.specs.Words.{AreSeveral}
 use Rattle.a64_emit.proofs.AsPut.{several_put}
-use Rattle.a64_emit.proofs.Several.{several_labelled}
+use Rattle.a64_emit.proofs.Several.{several_puttable}
 use Rattle.a64_emit.proofs.emit.emit_memory.Goals as goal
 
 pub emit_several-requires : goal.emit_several-requires
@@ -14,7 +14,7 @@ emit_several-requires c =
     let are = subst (λ (frame : FrameLayout). AreSeveral words.first.items words.last words.site words.trap (shape_of frame c.args.info.now c.args.inst.now)) c.frame_layout.ensures c.in-Some.ensures in
     let put = several_put words.first.items words.last words.site words.trap (shape_of c.args.state.now.frame c.args.info.now c.args.inst.now) are in
     record {
-      labelled = several_labelled c.args.state.now.frame c.args.info.now c.args.inst.now words.first.items words.last words.site words.trap are;
+      lawful = several_puttable c.args.state.now.frame c.args.info.now c.args.sink.now.constants c.args.inst.now words.first.items words.last words.site words.trap c.requires.there are;
       room = subst (HasRoom c.args.sink.now) (sym put) c.requires.room;
       fits = subst (CellsFit c.args.sink.now) (sym put) c.requires.fits;
     }

@@ -1,10 +1,12 @@
 use Rattle.std.proofs.Common.{ℕ, ◌+◌, ◌*◌, ◌<◌, ◌^◌, List, [], ◌∷◌, ◌++◌, length, ◌∙◌, sym, ap, subst}
 use Rattle.std.proofs.lemmas.Result.{on_ok_weaker, on_err_weaker}
-use Rattle.a64_buffer.specs.Buffer.{end_of}
+use Rattle.a64_buffer.specs.Buffer.{Buffer, end_of}
 use Rattle.a64_buffer.specs.Classes.{Fits}
 use Rattle.a64_emit.specs.LabelUses.{label_kinds}
 use Rattle.a64_emit.specs.Emission.{PutsInPart, IsAppendedInPart}
-use Rattle.a64_emit.specs.Words.{put_cell, put_cells}
+use Rattle.a64_emit.specs.Words.{MayBePut, put_cell, put_cells}
+use Rattle.std.specs.Prelude.{IfSome}
+use Rattle.a64_emit.specs.declared.label_use.LabelUse.{LabelUse}
 use Rattle.a64_emit.proofs.Fitting.{of_error}
 use Rattle.a64_emit.proofs.Joined.{joined, part_first, part_second, room_first, room_second, fits_first, fits_second}
 use Rattle.a64_emit.proofs.Lasts.{silent, silent_appended, silent_part, silent_room, silent_fits}
@@ -33,7 +35,7 @@ emit_last-requires c =
     let put = silent_appended c.args.sink.now c.put_words.new.sink words.first.items (c.in_ok-put_words.ensures.ok ∙ ap (λ (ws : List ℕ). record c.args.sink.now { words = c.args.sink.now.words ++ ws }) c.as_slice.ensures.value) in
     record {
       short = room_second c.args.sink.now (silent words.first.items) (put_cell words.last words.site words.trap ∷ []) c.put_words.new.sink put c.requires.room;
-      labelled = c.requires.labelled;
+      lawful = subst (λ cs. IfSome words.site (MayBePut cs)) (sym (ap (λ (b : Buffer LabelUse). b.constants) put)) c.requires.lawful;
       fits = fits_second c.args.sink.now (silent words.first.items) (put_cell words.last words.site words.trap ∷ []) c.put_words.new.sink put c.requires.fits;
     }
 

@@ -70,14 +70,14 @@ fn indexed_word(
     enc_ldst_reg(access_bits(op), rn, rm, scaled, extendop, rt)
 }
 
-/// How many words a literal is ahead, modulo 2^19; none as long as it has a label.
+/// How many words a literal is ahead, modulo 2^19; none as long as it is a label's or a constant's.
 fn literal_words(label: MemLabel) -> u32
     ensures is { result ≡ forms.literal_words label }
     ensures fits { result < 2 ^ 19 }
 {
     match label {
         MemLabel::PCRel(offset) => offset.rem_euclid(1 << 21) as u32 / 4,
-        MemLabel::Mach(_) => 0,
+        MemLabel::Mach(_) | MemLabel::Pool(_) => 0,
     }
 }
 
@@ -117,8 +117,13 @@ pub fn held_word(op: AccessOp, rt: Reg, mode: &AMode) -> u32
         AMode::Label { label } => literal_word(op, rt, literal_words(label)),
         AMode::SPPreIndexed { simm9 } => imm9_word(op, rt, 3, stack_reg(), simm9),
         AMode::SPPostIndexed { simm9 } => imm9_word(op, rt, 1, stack_reg(), simm9),
-        // No mode that stands in an instruction.
-        _ => nop4_word(),
+        // No modes that stand in instructions.
+        AMode::FPOffset { .. }
+        | AMode::SPOffset { .. }
+        | AMode::IncomingArg { .. }
+        | AMode::SlotOffset { .. }
+        | AMode::RegOffset { .. }
+        | AMode::Const { .. } => nop4_word(),
     }
 }
 

@@ -1,0 +1,101 @@
+-- Places for islands: items without words that ask for space.
+use Rattle.std.proofs.Common.{ℕ, ◌≡◌, ◌+◌, ◌*◌, ◌≤◌, ◌⊎◌, inl, inr, List, [], ◌∷◌, ◌++◌, length, take, map, Option, None, Some, IfSome, refl, sym, ap, ◌∙◌, subst, arith}
+use Rattle.std.proofs.lemmas.List.{append-nil}
+use Rattle.a64_base.specs.declared.entity.UserStackMap.{UserStackMap}
+use Rattle.a64_inst.specs.declared.emission.EmitFlags.{EmitFlags}
+use Rattle.a64_inst.specs.declared.frame.FrameLayout.{FrameLayout}
+use Rattle.a64_inst.specs.declared.inst.Inst.{Inst}
+use Rattle.a64_inst.specs.declared.inst.Inst.TheVariants as insts
+use Rattle.a64_inst.specs.declared.item.Item.{Item}
+use Rattle.a64_inst.specs.declared.item.Item.TheVariants.{Bind, Emit}
+use Rattle.a64_inst.specs.State.{State}
+use Rattle.a64_buffer.specs.Buffer.{Buffer}
+use Rattle.a64_buffer.specs.Classes.{Fits}
+use Rattle.a64_emit.specs.declared.label_use.LabelUse.{LabelUse}
+use Rattle.a64_emit.specs.LabelUses.{label_kinds}
+use Rattle.a64_emit.specs.Cells.{Cell, shape_of, only_word, inst_cells, cells_of}
+use Rattle.a64_emit.specs.Bounds.{ranges_in, charge_of, asked_of, asked, item_charge}
+use Rattle.a64_emit.specs.Emission.{appended, IsAppendedInPart, IslandsIfNeeded, Puts, Emits, Steps}
+use Rattle.a64_emit.proofs.Burdens.{charge_least, charge_some}
+
+module _ (frame : FrameLayout) (flags : EmitFlags) where
+  -- a place for an island has no words
+  pub asked_words : (inst : Inst) (space : ℕ) → asked_of inst ≡ Some space → inst_cells frame flags inst ≡ []
+  asked_words (insts.EmitIsland needed_space) space e = refl
+  asked_words _ space e = absurd cc
+
+  -- so one word is no such place
+  pub plain_asked : (inst : Inst) (word : ℕ) → Some word ≡ only_word (shape_of frame flags inst) → asked_of inst ≡ None
+  plain_asked (insts.EmitIsland needed_space) word e = absurd cc
+  plain_asked _ word e = refl
+
+  -- what an instruction that is none is charged for
+  pub words_charge : (inst : Inst) (kept : Option UserStackMap) → asked_of inst ≡ None → item_charge frame flags (Emit inst kept) ≡ charge_of (inst_cells frame flags inst)
+  words_charge inst kept e = ap (λ o. elim o [ None ↦ charge_of (inst_cells frame flags inst) | Some space ↦ 4 ]) e
+
+  -- an item is charged for each use that may want something
+  pub item_least : (x : Item) → 28 * length (ranges_in (cells_of frame flags x)) ≤ item_charge frame flags x
+  item_least (Bind label) = omega arith
+  item_least (Emit inst kept) = go (asked_of inst) refl
+    where
+      go : (o : Option ℕ) → asked_of inst ≡ o → 28 * length (ranges_in (inst_cells frame flags inst)) ≤ item_charge frame flags (Emit inst kept)
+      go None e = omega (arith, charge_least (inst_cells frame flags inst), words_charge inst kept e)
+      go (Some space) e = omega (arith, ap (λ cells. length (ranges_in cells)) (asked_words inst space e))
+
+  -- and for a jump around an island, where it has words
+  pub item_some : (inst : Inst) (kept : Option UserStackMap) → 1 ≤ length (inst_cells frame flags inst) → 4 + 28 * length (ranges_in (inst_cells frame flags inst)) ≤ item_charge frame flags (Emit inst kept)
+  item_some inst kept some = go (asked_of inst) refl
+    where
+      go : (o : Option ℕ) → asked_of inst ≡ o → 4 + 28 * length (ranges_in (inst_cells frame flags inst)) ≤ item_charge frame flags (Emit inst kept)
+      go None e = omega (arith, charge_some (inst_cells frame flags inst) some, words_charge inst kept e)
+      go (Some space) e = absurd (omega (arith, some, ap length (asked_words inst space e)))
+
+  -- ---- what is emitted
+
+  no_words : (b : Buffer LabelUse) → b ≡ appended b []
+  no_words b =
+      ap (λ ws. record b { words = ws }) (sym (append-nil b.words))
+      ∙ (ap (λ us. record b { words = b.words ++ []; uses = us }) (sym (append-nil b.uses))
+      ∙ ap (λ ts. record b { words = b.words ++ []; uses = b.uses ++ []; traps = ts }) (sym (append-nil b.traps)))
+
+  -- where the space fits, an instruction's cells stand at the end
+  pub emitted_words : (inst : Inst) (kept : Option UserStackMap) (b b' : Buffer LabelUse) → IfSome (asked_of inst) (Fits label_kinds b) → Steps frame flags (Emit inst kept) b b' → b' ≡ appended b (inst_cells frame flags inst)
+  emitted_words inst kept b b' = go (asked_of inst) refl
+    where
+      go : (o : Option ℕ) → asked_of inst ≡ o → IfSome o (Fits label_kinds b) → Puts o (inst_cells frame flags inst) b b' → b' ≡ appended b (inst_cells frame flags inst)
+      go None e fits s = s
+      go (Some space) e fits (inl s) = s.1 ∙ (no_words b ∙ ap (appended b) (sym (asked_words inst space e)))
+      go (Some space) e fits (inr s) = absurd (s.0 fits)
+
+  -- an item leaves the constants
+  pub steps_constants : (x : Item) (b b' : Buffer LabelUse) → Steps frame flags x b b' → b'.constants ≡ b.constants
+  steps_constants (Bind label) b b' = λ e. ap (λ (c : Buffer LabelUse). c.constants) e
+  steps_constants (Emit inst kept) b b' = go (asked_of inst)
+    where
+      go : (o : Option ℕ) → Puts o (inst_cells frame flags inst) b b' → b'.constants ≡ b.constants
+      go None s = ap (λ (c : Buffer LabelUse). c.constants) s
+      go (Some space) (inl s) = ap (λ (c : Buffer LabelUse). c.constants) s.1
+      go (Some space) (inr s) = s.1.later.constants
+
+module _ (flags : EmitFlags) (state : State) (inst : Inst) (b b' : Buffer LabelUse) where
+  -- emission of words, and of an island where one is needed
+  pub emits_words : asked_of inst ≡ None → b' ≡ appended b (inst_cells state.frame flags inst) → Emits flags state inst b b'
+  emits_words none e = subst (λ o. Puts o (inst_cells state.frame flags inst) b b') (sym none) e
+
+  pub emits_island : (space : ℕ) → asked_of inst ≡ Some space → IslandsIfNeeded space b b' → Emits flags state inst b b'
+  emits_island space is e = subst (λ o. Puts o (inst_cells state.frame flags inst) b b') (sym is) e
+
+  -- nothing was emitted
+  pub none_emitted : b' ≡ b → IsAppendedInPart b b' (inst_cells state.frame flags inst)
+  none_emitted e = record {
+    count = 0;
+    used = 0;
+    last = inl refl;
+    marked = 0;
+    next = inl refl;
+    words = ap (λ (c : Buffer LabelUse). c.words) e ∙ sym (append-nil b.words);
+    uses = ap (λ (c : Buffer LabelUse). c.uses) e ∙ sym (append-nil b.uses);
+    traps = ap (λ (c : Buffer LabelUse). c.traps) e ∙ sym (append-nil b.traps);
+    labels = ap (λ (c : Buffer LabelUse). c.labels) e;
+    constants = ap (λ (c : Buffer LabelUse). c.constants) e;
+  }
