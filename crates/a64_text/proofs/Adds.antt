@@ -29,6 +29,7 @@ puts_made : (name : Name) (values : List Value) (old new : List Item) (made : Bo
 unfolding Makes Puts
 puts_made (names.Integer integer.AluRRImmLogic) values old new made h = h
 puts_made (names.Control control.IndirectBr) values old new made h = h
+puts_made names.Const values old new made h = absurd h
 puts_made name values old new made h = (Some (entry_of name values), refl, h)
 
 -- the states differ in their items at most
@@ -39,6 +40,7 @@ module _ (old new : ReaderState) (given : new.given ≡ old.given) (same : conte
   adds_put : (r : Option Entry) (made : Bool) → PutsEntry r old.file.items.items new.file.items.items made → AddsEntry r old new made
   adds_put None made h = h.0
   adds_put (Some (entries.Item item)) made h = (nothing_given made h.0, λ is. same ∙ ap (λ (items : List Item). record (contents_of old.file) { items = items }) h.1)
+  adds_put (Some (entries.Constant addr bytes)) made h = absurd h
   adds_put (Some (entries.Frame field bytes)) made h = absurd h
 
   pub put_adds : (name its_name : Name) (values : List Value) (items : List Item) (made : Bool) → name ≡ its_name → items ≡ old.file.items.items → Puts its_name values items new.file.items.items made → AddsMade name values old new made
@@ -46,10 +48,19 @@ module _ (old new : ReaderState) (given : new.given ≡ old.given) (same : conte
       let puts = puts_made its_name values old.file.items.items new.file.items.items made (subst (λ (l : List Item). Puts its_name values l new.file.items.items made) stay h) in
       subst (λ (n : Name). AddsMade n values old new made) (sym is) (puts.0, puts.1, adds_put puts.0 made puts.2)
 
+-- so is what a name adds, where room was made for an item that did not come
+module _ (old new : ReaderState) (items : Vec Item) (made : Bool) (stay : items.items ≡ old.file.items.items) where
+  room_made : (r : Option Entry) → AddsEntry r (record old { file = record old.file { items = items } }) new made → AddsEntry r old new made
+  room_made None h = h
+  room_made (Some entry) h = (h.0, λ yes. h.1 yes ∙ ap (λ (l : List Item). said entry (record (contents_of old.file) { items = l })) stay)
+
+  pub others_add : (name its_name : Name) (values : List Value) → name ≡ its_name → AddsMade its_name values (record old { file = record old.file { items = items } }) new made → AddsMade name values old new made
+  others_add name its_name values is h = subst (λ (n : Name). AddsMade n values old new made) (sym is) (h.0, h.1, room_made h.0 h.2)
+
 -- so is a size of the frame, where room was made for an item that did not come
 pub frame_adds : (old new : ReaderState) (items : Vec Item) (name : Name) (values : List Value) (entry : Entry) (made : Bool) → items.items ≡ old.file.items.items → name ≡ names.Frame → entry ≡ entry_of names.Frame values → AddsEntry (Some entry) (record old { file = record old.file { items = items } }) new made → AddsMade name values old new made
 unfolding Makes
-frame_adds old new items name values entry made stay is entry_is h = subst (λ (n : Name). AddsMade n values old new made) (sym is) (Some entry, ap (λ (e : Entry). Some e) entry_is, (h.0, λ yes. h.1 yes ∙ ap (λ (l : List Item). said entry (record (contents_of old.file) { items = l })) stay))
+frame_adds old new items name values entry made stay is entry_is h = others_add old new items made stay name names.Frame values is (Some entry, ap (λ (e : Entry). Some e) entry_is, h)
 
 -- ---- a line
 

@@ -14,6 +14,7 @@ use Rattle.a64_text.specs.Tokens.{line_of}
 -- an entry is one item at most
 said_few : (e : Entry) (file : Contents) → length (said e file).items ≤ length file.items + 1
 said_few (entries.Item item) file = omega (arith, length-append file.items (item ∷ []))
+said_few (entries.Constant addr bytes) file = omega arith
 said_few (entries.Frame field bytes) file = omega arith
 
 chain_few : (old : State) (es : List Entry) (new : State) → Chain old es new → length new.file.items ≤ length old.file.items + length es

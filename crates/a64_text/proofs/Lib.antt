@@ -18,6 +18,7 @@ pub mod Rest
 pub mod Schemas
 pub mod Joined
 pub mod Lists
+pub mod Bytes
 pub mod LineReads
 pub mod Wides
 pub mod CallReads

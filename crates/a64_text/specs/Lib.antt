@@ -5,6 +5,7 @@ pub mod Found
 pub mod Types
 pub mod Fields
 pub mod Lists
+pub mod Hex
 pub mod Parts
 pub mod Names
 pub mod Modes

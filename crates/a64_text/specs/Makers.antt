@@ -17,12 +17,13 @@ use Rattle.a64_text.specs.declared.name.Name.TheVariants as names
 use Rattle.a64_text.specs.declared.name_table.TheConstants.{NAME_HOMES, NAMES}
 use Rattle.a64_text.specs.declared.value.Value.{Value}
 use Rattle.a64_text.specs.declared.value.Value.TheVariants as values
-use Rattle.a64_text.specs.At.{list_at, reg_at}
+use Rattle.a64_text.specs.At.{list_at, reg_at, u32_at}
 use Rattle.a64_text.specs.Fields.{HasNo, label_text, IsLabel}
 use Rattle.a64_text.specs.Hash.{look_up}
+use Rattle.a64_text.specs.Hex.{hex_text, HasHex}
 use Rattle.a64_text.specs.Lists.{list_text}
 use Rattle.a64_text.specs.ModeLaws.{made_of}
-use Rattle.a64_text.specs.Makes.{emitted, entry_of, Makes}
+use Rattle.a64_text.specs.Makes.{emitted, constant_of, entry_of, Makes}
 use Rattle.a64_text.specs.Names.{name_text, kinds_of}
 use Rattle.a64_text.specs.Same.{at_their_places}
 use Rattle.a64_text.specs.Tokens.{inst_parts, name_of, fields_of, IsOwnInst, IsOwn}
@@ -51,6 +52,10 @@ made_some (names.Memory name) values r h are = made (IsMade (names.Memory name) 
 made_some (names.Access ops.ULoad8) values r h are = made (IsMade (names.Access ops.ULoad8) values) r (entry_of (names.Access ops.ULoad8) values) h (refl, at_their_places (kinds_of (names.Access ops.ULoad8)) values are, (tt, refl))
 made_some (names.Access op) values r h are = made (IsMade (names.Access op) values) r (entry_of (names.Access op) values) h (refl, at_their_places (kinds_of (names.Access op)) values are, (tt, refl))
 made_some names.Bind values r h are = made (IsMade names.Bind values) r (entry_of names.Bind values) h (refl, at_their_places (kinds_of names.Bind) values are, tt)
+made_some names.Const vs r h are =
+    made_of HasHex hex_text (list_at vs 1) (constant_of vs) (IsMade names.Const vs)
+    (λ bytes own is. (refl, ap (λ (t : List ℕ). values.U32 (u32_at vs 0) ∷ values.List t ∷ []) (sym is) ∙ at_their_places (kinds_of names.Const) vs are, own))
+    h.0 h.1 r h.2
 made_some names.Frame values r h are = made (IsMade names.Frame values) r (entry_of names.Frame values) h (refl, at_their_places (kinds_of names.Frame) values are, tt)
 
 without_map : (inst : Inst) (map : Option UserStackMap) (r : Option Entry) → map ≡ None → r ≡ Some (emitted inst) → r ≡ Some (entries.Item (Emit inst map))
@@ -69,6 +74,10 @@ pub made_only : (entry : Entry) (values : List Value) (r : Option Entry) → Mak
 unfolding Makes
 made_only (entries.Item (Bind label)) values r h fits own e = h ∙ ap (λ (t : List Value). Some (entry_of names.Bind t)) (sym e)
 made_only (entries.Item (Emit inst map)) values r h fits own e = without_map inst map r own.1 (inst_only inst values r h fits own.0 e)
+made_only (entries.Constant addr bytes) vs r h fits own e =
+    h.2
+    ∙ ap (λ o. option_map (constant_of vs) o) (h.1.only bytes own (ap (λ (t : List Value). list_at t 1) (sym e)))
+    ∙ ap (λ (t : List Value). Some (constant_of t bytes)) (sym e)
 made_only (entries.Frame field bytes) values r h fits own e = h ∙ ap (λ (t : List Value). Some (entry_of names.Frame t)) (sym e)
 
 inst_kinds : (inst : Inst) → map kind_of (inst_parts inst).fields ≡ kinds_of (inst_parts inst).name
@@ -78,6 +87,7 @@ inst_kinds inst = refl
 pub fields_kinds : (entry : Entry) → map kind_of (fields_of entry) ≡ kinds_of (name_of entry)
 fields_kinds (entries.Item (Bind label)) = refl
 fields_kinds (entries.Item (Emit inst map)) = inst_kinds inst
+fields_kinds (entries.Constant addr bytes) = refl
 fields_kinds (entries.Frame field bytes) = refl
 
 pub few_kinds : (name : Name) → length (kinds_of name) ≤ 12

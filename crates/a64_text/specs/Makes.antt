@@ -1,5 +1,5 @@
 -- What a name makes of the fields behind it.
-use Rattle.std.specs.Prelude.{◌≡◌, map, List, Option, Some, None, IfSome}
+use Rattle.std.specs.Prelude.{◌≡◌, ℕ, map, List, Option, Some, None, IfSome}
 use Rattle.std.specs.List.{AllByRecursion}
 use Rattle.a64_base.specs.declared.reg.Reg.{Reg}
 use Rattle.a64_base.specs.declared.size.OperandSize.{OperandSize}
@@ -22,6 +22,7 @@ use Rattle.a64_text.specs.declared.name.Name.TheVariants as names
 use Rattle.a64_text.specs.declared.value.Value.{Value}
 use Rattle.a64_text.specs.At.{alu_op3_at, alu_op_at, bfm_op_at, bit_op_at, cond_at, cond_br_kind_at, extend_at, flags_at, frame_field_at, i32_at, imm12_at, imm_shift_at, label_at, list_at, mode_at, move_wide_op_at, nzcv_at, pair_mode_at, preg_at, reg_at, shift_at, size_at, target_at, test_bit_kind_at, truth_at, u32_at, u64_at, u8_at, uimm5_at, uimm6_at, wide_at}
 use Rattle.a64_text.specs.Fields.{label_text, IsLabel}
+use Rattle.a64_text.specs.Hex.{hex_text, HasHex}
 use Rattle.a64_text.specs.Lists.{list_text}
 use Rattle.a64_text.specs.ModeMakes.{MakesOf}
 use Rattle.a64_text.specs.Names.{kinds_of}
@@ -67,9 +68,11 @@ control_of control.Ret values = insts.Ret
 control_of control.Jump values = insts.Jump (target_at values 0)
 control_of control.CondBr values = insts.CondBr (target_at values 0) (target_at values 1) (cond_br_kind_at values 2)
 control_of control.TestBitAndBranch values = insts.TestBitAndBranch (test_bit_kind_at values 0) (target_at values 1) (target_at values 2) (reg_at values 3) (u8_at values 4)
+control_of control.TrapIf values = insts.TrapIf (cond_br_kind_at values 0) (record { 0 = u8_at values 1 })
 control_of control.Udf values = insts.Udf (record { 0 = u8_at values 0 })
 control_of control.Word4 values = insts.Word4 (u32_at values 0)
 control_of control.Word8 values = insts.Word8 (u64_at values 0)
+control_of control.EmitIsland values = insts.EmitIsland (u32_at values 0)
 control_of control.LabelAddress values = insts.LabelAddress (reg_at values 0) (label_at values 1)
 control_of _ values = insts.Brk
 
@@ -78,6 +81,10 @@ memory_of memory.LoadP64 values = insts.LoadP64 (reg_at values 0) (reg_at values
 memory_of memory.StoreP64 values = insts.StoreP64 (reg_at values 0) (reg_at values 1) (pair_mode_at values 2) (flags_at values 3)
 memory_of memory.LoadAddr values = insts.LoadAddr (reg_at values 0) (mode_at values 1)
 
+-- the constant of these fields, with these bytes
+abbrev pub constant_of : List Value → List ℕ → Entry
+constant_of values bytes = entries.Constant (record { 0 = u32_at values 0 }) bytes
+
 -- the entry of this name with these fields, where it needs nothing but these
 abbrev pub entry_of : Name → List Value → Entry
 entry_of (names.Integer name) values = emitted (integer_of name values)
@@ -85,6 +92,7 @@ entry_of (names.Control name) values = emitted (control_of name values)
 entry_of (names.Memory name) values = emitted (memory_of name values)
 entry_of (names.Access op) values = emitted (inst_with op (reg_at values 0) (mode_at values 1) (flags_at values 2))
 entry_of names.Bind values = entries.Item (Bind (label_at values 0))
+entry_of names.Const values = constant_of values (list_at values 1)
 entry_of names.Frame values = entries.Frame (frame_field_at values 0) (u32_at values 1)
 
 -- some entry of this name with these fields, exactly where there is one. `make` makes all entries of the name
@@ -95,4 +103,5 @@ pub record MakesOwn {X : Type 0} (name : Name) (make : X → Entry) (values : Li
 unfoldable pub Makes : Name → List Value → Option Entry → Type 0
 Makes (names.Integer integer.AluRRImmLogic) values result = MakesOwn (names.Integer integer.AluRRImmLogic) (λ (x : ALUOp × OperandSize × Reg × Reg × ImmLogic). emitted (insts.AluRRImmLogic x.0 x.1 x.2 x.3 x.4)) values result
 Makes (names.Control control.IndirectBr) values result = MakesOf (AllByRecursion IsLabel) (list_text label_text) (list_at values 1) (λ targets. emitted (insts.IndirectBr (reg_at values 0) targets)) result
+Makes names.Const values result = MakesOf HasHex hex_text (list_at values 1) (constant_of values) result
 Makes name values result = result ≡ Some (entry_of name values)

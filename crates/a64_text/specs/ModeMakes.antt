@@ -9,7 +9,7 @@ use Rattle.a64_text.specs.declared.mode_name.ModeName.TheVariants as mode_names
 use Rattle.a64_text.specs.declared.mode_name.PairModeName.{PairModeName}
 use Rattle.a64_text.specs.declared.mode_name.PairModeName.TheVariants as pair_names
 use Rattle.a64_text.specs.declared.value.Value.{Value}
-use Rattle.a64_text.specs.At.{extend_at, i64_at, mem_label_name_at, offset9_at, pair_offset_at, reg_at, type_at}
+use Rattle.a64_text.specs.At.{extend_at, i64_at, mem_label_name_at, offset9_at, pair_offset_at, reg_at, type_at, u32_at}
 use Rattle.a64_text.specs.Modes.{IsScaled, scaled_parts, IsMemLabel, mem_label_parts}
 use Rattle.a64_text.specs.Reads.{Reads}
 
@@ -30,6 +30,7 @@ mode_of mode_names.FPOffset values = modes.FPOffset (i64_at values 0)
 mode_of mode_names.IncomingArg values = modes.IncomingArg (i64_at values 0)
 mode_of mode_names.SlotOffset values = modes.SlotOffset (i64_at values 0)
 mode_of mode_names.RegOffset values = modes.RegOffset (reg_at values 0) (i64_at values 1)
+mode_of mode_names.Const values = modes.Const (record { 0 = u32_at values 0 })
 mode_of _ values = modes.SPOffset (i64_at values 0)
 
 unfoldable pub MakesMode : ModeName → List Value → Option AMode → Type 0

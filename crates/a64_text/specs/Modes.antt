@@ -23,7 +23,7 @@ use Rattle.a64_text.specs.declared.value.Value.TheVariants as values
 use Rattle.a64_text.specs.Fields.{call_text, IsLabel}
 use Rattle.a64_text.specs.Names.{Heading}
 use Rattle.a64_text.specs.Parts.{part_texts, IsPart}
-use Rattle.a64_text.specs.Reads.{IsI32}
+use Rattle.a64_text.specs.Reads.{IsI32, IsU32}
 use Rattle.a64_text.specs.Types.{is_scale}
 
 -- ---- modes of one register
@@ -43,6 +43,7 @@ mode_heading mode_names.SPOffset = record { text = codes "SPOffset"; kinds = kin
 mode_heading mode_names.IncomingArg = record { text = codes "IncomingArg"; kinds = kinds.I64 ∷ [] }
 mode_heading mode_names.SlotOffset = record { text = codes "SlotOffset"; kinds = kinds.I64 ∷ [] }
 mode_heading mode_names.RegOffset = record { text = codes "RegOffset"; kinds = kinds.Reg ∷ kinds.I64 ∷ [] }
+mode_heading mode_names.Const = record { text = codes "Const"; kinds = kinds.U32 ∷ [] }
 
 abbrev pub mode_name_text : ModeName → List ℕ
 mode_name_text name = (mode_heading name).text
@@ -61,10 +62,12 @@ IsScaled imm = is_scale (uimm12_scale imm) ≡ true
 abbrev pub mem_label_parts : MemLabel → MemLabelName × ℤ
 mem_label_parts (mem_labels.PCRel offset) = (label_names.PCRel, offset)
 mem_label_parts (mem_labels.Mach label) = (label_names.Mach, pos label.0)
+mem_label_parts (mem_labels.Pool addr) = (label_names.Pool, pos addr.0)
 
 abbrev pub IsMemLabel : MemLabel → Type 0
 IsMemLabel (mem_labels.PCRel offset) = IsI32 offset
 IsMemLabel (mem_labels.Mach label) = IsLabel label
+IsMemLabel (mem_labels.Pool addr) = IsU32 addr.0
 
 -- the name of a mode, and its fields
 pub record ModeParts : Type 0 where
@@ -86,6 +89,7 @@ mode_parts (modes.SPOffset off) = record { name = mode_names.SPOffset; fields = 
 mode_parts (modes.IncomingArg off) = record { name = mode_names.IncomingArg; fields = values.I64 off ∷ [] }
 mode_parts (modes.SlotOffset off) = record { name = mode_names.SlotOffset; fields = values.I64 off ∷ [] }
 mode_parts (modes.RegOffset rn off) = record { name = mode_names.RegOffset; fields = values.Reg rn ∷ values.I64 off ∷ [] }
+mode_parts (modes.Const addr) = record { name = mode_names.Const; fields = values.U32 addr.0 ∷ [] }
 
 abbrev pub mode_name_of : AMode → ModeName
 mode_name_of mode = (mode_parts mode).name

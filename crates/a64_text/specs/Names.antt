@@ -9,7 +9,7 @@ use Rattle.a64_text.specs.declared.name.MemoryName.TheVariants as memory
 use Rattle.a64_ops.specs.declared.access.AccessOp.{AccessOp}
 use Rattle.a64_ops.specs.declared.access.AccessOp.TheVariants as ops
 use Rattle.a64_text.specs.declared.name.Name.{Name}
-use Rattle.a64_text.specs.declared.name.Name.TheVariants.{Integer, Control, Memory, Access, Bind, Frame}
+use Rattle.a64_text.specs.declared.name.Name.TheVariants.{Integer, Control, Memory, Access, Bind, Const, Frame}
 use Rattle.a64_text.specs.declared.value.Kind.{Kind}
 use Rattle.a64_text.specs.declared.value.Kind.TheVariants as kinds
 
@@ -53,11 +53,13 @@ control_heading control.Ret = record { text = codes "Ret"; kinds = [] }
 control_heading control.Jump = record { text = codes "Jump"; kinds = kinds.Target ∷ [] }
 control_heading control.CondBr = record { text = codes "CondBr"; kinds = kinds.Target ∷ kinds.Target ∷ kinds.CondBrKind ∷ [] }
 control_heading control.TestBitAndBranch = record { text = codes "TestBitAndBranch"; kinds = kinds.TestBitAndBranchKind ∷ kinds.Target ∷ kinds.Target ∷ kinds.Reg ∷ kinds.U8 ∷ [] }
+control_heading control.TrapIf = record { text = codes "TrapIf"; kinds = kinds.CondBrKind ∷ kinds.U8 ∷ [] }
 control_heading control.IndirectBr = record { text = codes "IndirectBr"; kinds = kinds.Reg ∷ kinds.List ∷ [] }
 control_heading control.Brk = record { text = codes "Brk"; kinds = [] }
 control_heading control.Udf = record { text = codes "Udf"; kinds = kinds.U8 ∷ [] }
 control_heading control.Word4 = record { text = codes "Word4"; kinds = kinds.U32 ∷ [] }
 control_heading control.Word8 = record { text = codes "Word8"; kinds = kinds.U64 ∷ [] }
+control_heading control.EmitIsland = record { text = codes "EmitIsland"; kinds = kinds.U32 ∷ [] }
 control_heading control.LabelAddress = record { text = codes "LabelAddress"; kinds = kinds.Reg ∷ kinds.Label ∷ [] }
 
 abbrev pub memory_heading : MemoryName → Heading
@@ -96,6 +98,7 @@ heading (Control name) = control_heading name
 heading (Memory name) = memory_heading name
 heading (Access op) = access_heading op
 heading Bind = record { text = codes "bind"; kinds = kinds.Label ∷ [] }
+heading Const = record { text = codes "const"; kinds = kinds.U32 ∷ kinds.List ∷ [] }
 heading Frame = record { text = codes "frame"; kinds = kinds.FrameField ∷ kinds.U32 ∷ [] }
 
 abbrev pub name_text : Name → List ℕ

@@ -118,6 +118,7 @@ frame_field_text frame_fields.OutgoingArgsSize = codes "outgoing_args_size"
 abbrev pub mem_label_name_text : MemLabelName → List ℕ
 mem_label_name_text label_names.PCRel = codes "PCRel"
 mem_label_name_text label_names.Mach = codes "Mach"
+mem_label_name_text label_names.Pool = codes "Pool"
 
 abbrev pub bool_text : Bool → List ℕ
 bool_text false = codes "false"

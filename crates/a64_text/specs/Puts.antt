@@ -14,6 +14,7 @@ use Rattle.a64_text.specs.Makes.{entry_of, Makes}
 abbrev pub PutsEntry : Option Entry → List Item → List Item → Bool → Type 0
 PutsEntry None old new made = (made ≡ false) × (new ≡ old)
 PutsEntry (Some (entries.Item item)) old new made = (made ≡ true) × (new ≡ old ++ item ∷ [])
+PutsEntry (Some (entries.Constant addr bytes)) old new made = ⊥
 PutsEntry (Some (entries.Frame field bytes)) old new made = ⊥
 
 -- the entry that the name makes of the fields, where it makes one, is an item and is put behind the others

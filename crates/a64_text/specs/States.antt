@@ -3,13 +3,12 @@ use Rattle.std.specs.Prelude.{◌≡◌, ℕ, false, List, [], ◌∷◌, ◌++�
 use Rattle.std.specs.List.{Contains, cons_option}
 use Rattle.std.specs.FinMap.{FinMap, empty}
 use Rattle.std.specs.Ordering.{nat_cmp}
+use Rattle.a64_buffer.specs.Constants.{IsConstant, inserted}
 use Rattle.a64_inst.specs.declared.emission.EmitFlags.{EmitFlags}
 use Rattle.a64_inst.specs.declared.frame.FrameLayout.{FrameLayout}
 use Rattle.a64_inst.specs.declared.item.Item.{Item}
 use Rattle.a64_text.specs.declared.entry.Entry.{Entry}
 use Rattle.a64_text.specs.declared.entry.Entry.TheVariants as entries
-use Rattle.a64_text.specs.declared.entry.NewItem.{NewItem}
-use Rattle.a64_text.specs.declared.entry.NewItem.TheVariants as new_items
 use Rattle.a64_text.specs.declared.entry.OnceName.{OnceName}
 use Rattle.a64_text.specs.declared.entry.OnceName.TheVariants as once_names
 use Rattle.a64_text.specs.declared.file.File.{File}
@@ -59,16 +58,19 @@ start = record { file = default_contents; given = [] }
 -- the name that an entry gives, where a file gives it at most once. Items may come as often as they like.
 abbrev pub once_name : Entry → Option OnceName
 once_name (entries.Item item) = None
+once_name (entries.Constant addr bytes) = Some (once_names.Constant addr.0)
 once_name (entries.Frame field bytes) = Some (once_names.Frame field)
-
--- the item that a file gets
-abbrev pub item_in : NewItem → Item
-item_in (new_items.Item item) = item
 
 -- what the file says with the entry too
 abbrev pub said : Entry → Contents → Contents
 said (entries.Item item) file = record file { items = file.items ++ item ∷ [] }
+said (entries.Constant addr bytes) file = record file { constants = inserted file.constants addr.0 bytes }
 said (entries.Frame field bytes) file = record file { frame = frame_with field bytes file.frame }
+
+-- a constant has as many bytes as constants have
+abbrev pub IsSized : Entry → Type 0
+IsSized (entries.Constant addr bytes) = IsConstant bytes
+IsSized _ = Unit {0}
 
 -- an entry may stand where its name was not given yet
 abbrev pub MayStand : State → Entry → Type 0

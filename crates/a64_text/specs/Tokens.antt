@@ -22,6 +22,7 @@ use Rattle.a64_text.specs.declared.name.Name.TheVariants as names
 use Rattle.a64_text.specs.declared.value.Value.{Value}
 use Rattle.a64_text.specs.declared.value.Value.TheVariants as values
 use Rattle.a64_text.specs.Fields.{label_text, IsLabel}
+use Rattle.a64_text.specs.Hex.{hex_text, HasHex}
 use Rattle.a64_text.specs.Lists.{list_text}
 use Rattle.a64_text.specs.Names.{name_text}
 use Rattle.a64_text.specs.Values.{value_text, IsValue}
@@ -67,11 +68,13 @@ inst_parts insts.Ret = record { name = names.Control control.Ret; fields = [] }
 inst_parts (insts.Jump dest) = record { name = names.Control control.Jump; fields = values.Target dest ∷ [] }
 inst_parts (insts.CondBr taken not_taken kind) = record { name = names.Control control.CondBr; fields = values.Target taken ∷ values.Target not_taken ∷ values.CondBrKind kind ∷ [] }
 inst_parts (insts.TestBitAndBranch kind taken not_taken rn bit) = record { name = names.Control control.TestBitAndBranch; fields = values.TestBitAndBranchKind kind ∷ values.Target taken ∷ values.Target not_taken ∷ values.Reg rn ∷ values.U8 bit ∷ [] }
+inst_parts (insts.TrapIf kind trap_code) = record { name = names.Control control.TrapIf; fields = values.CondBrKind kind ∷ values.U8 trap_code.0 ∷ [] }
 inst_parts (insts.IndirectBr rn targets) = record { name = names.Control control.IndirectBr; fields = values.Reg rn ∷ values.List (list_text label_text targets) ∷ [] }
 inst_parts insts.Brk = record { name = names.Control control.Brk; fields = [] }
 inst_parts (insts.Udf trap_code) = record { name = names.Control control.Udf; fields = values.U8 trap_code.0 ∷ [] }
 inst_parts (insts.Word4 value) = record { name = names.Control control.Word4; fields = values.U32 value ∷ [] }
 inst_parts (insts.Word8 value) = record { name = names.Control control.Word8; fields = values.U64 value ∷ [] }
+inst_parts (insts.EmitIsland needed_space) = record { name = names.Control control.EmitIsland; fields = values.U32 needed_space ∷ [] }
 inst_parts (insts.LabelAddress dst label) = record { name = names.Control control.LabelAddress; fields = values.Reg dst ∷ values.Label label ∷ [] }
 inst_parts (insts.LoadP64 rt rt2 mem flags) = record { name = names.Memory memory.LoadP64; fields = values.Reg rt ∷ values.Reg rt2 ∷ values.PairMode mem ∷ values.Flags flags ∷ [] }
 inst_parts (insts.StoreP64 rt rt2 mem flags) = record { name = names.Memory memory.StoreP64; fields = values.Reg rt ∷ values.Reg rt2 ∷ values.PairMode mem ∷ values.Flags flags ∷ [] }
@@ -102,6 +105,7 @@ item_parts (Emit inst map) = inst_parts inst
 
 abbrev pub parts : Entry → Parts
 parts (entries.Item item) = item_parts item
+parts (entries.Constant addr bytes) = record { name = names.Const; fields = values.U32 addr.0 ∷ values.List (hex_text bytes) ∷ [] }
 parts (entries.Frame field bytes) = record { name = names.Frame; fields = values.FrameField field ∷ values.U32 bytes ∷ [] }
 
 abbrev pub name_of : Entry → Name
@@ -126,6 +130,7 @@ IsOwnItem (Emit inst map) = IsOwnInst inst × IsMap inst map
 
 abbrev pub IsOwn : Entry → Type 0
 IsOwn (entries.Item item) = IsOwnItem item
+IsOwn (entries.Constant addr bytes) = HasHex bytes
 IsOwn (entries.Frame field bytes) = Unit {0}
 
 -- an entry that has a line

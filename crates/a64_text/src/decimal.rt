@@ -1,26 +1,7 @@
 //! Reads decimal numbers.
 
-ghost use Rattle.std.specs.Prelude.{◌≡◌, ◌<◌, ◌≤◌, ◌+◌, ◌*◌, ◌^◌, MatchOption};
 ghost use Rattle.std.specs.Fmt.{decimal};
 ghost use Rattle.a64_text.specs.Reads.{Reads, IsU8, IsU32, IsU64};
-
-/// The largest number that stays below 2^64 with any digit behind its digits.
-const NEVER_TOO_LARGE: u64 = 1_844_674_407_370_955_160;
-
-/// The number with one more digit behind its digits, where that is below 2^64.
-#[inline(always)]
-fn with_digit(value: u64, digit: u64) -> Option<u64>
-    requires { digit ≤ 9 }
-    ensures { MatchOption result (2 ^ 64 ≤ value * 10 + digit) (λ n. (n < 2 ^ 64) × (n ≡ value * 10 + digit)) }
-{
-    if value <= NEVER_TOO_LARGE {
-        return Some(value * 10 + digit);
-    }
-    if value > (u64::MAX - digit) / 10 {
-        return None;
-    }
-    Some(value * 10 + digit)
-}
 
 /// The number below 2^64 whose decimal text the token is. No text has a sign, or a needless `0` at
 /// its front.
@@ -36,8 +17,8 @@ pub fn read_u64(token: &[u8]) -> Option<u64>
         if byte < b'0' || byte > b'9' {
             return None;
         }
-        let digit = (byte - b'0') as u64;
-        value = with_digit(value, digit)?;
+        let digit = u64::from(byte - b'0');
+        value = value.checked_mul(10)?.checked_add(digit)?;
     }
     Some(value)
 }

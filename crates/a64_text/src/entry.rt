@@ -4,9 +4,11 @@ ghost use Rattle.std.specs.Prelude.{◌≡◌};
 ghost use Rattle.a64_text.specs.States.{once_name};
 
 use crate::frame_field::FrameField;
+use a64_base::VCodeConstant;
 use a64_inst::Item;
+use a64_list::ListVec;
 
-/// A name that a file gives at most once. No entry gives a constant's so far.
+/// A name that a file gives at most once.
 #[derive(Clone, Copy, Debug, PartialEq, Eq, PartialOrd, Ord)]
 pub enum OnceName {
     /// The constant of this number.
@@ -15,18 +17,13 @@ pub enum OnceName {
     Frame(FrameField),
 }
 
-/// An item that a file gets.
-#[derive(Drop)]
-pub enum NewItem {
-    /// The item.
-    Item(Item),
-}
-
 /// What a line of a file says.
 #[derive(Drop)]
 pub enum Entry {
     /// An item of the code: an instruction or a binding.
     Item(Item),
+    /// A constant, with its bytes.
+    Constant(VCodeConstant, ListVec<u8>),
     /// A size of the frame, in bytes.
     Frame(FrameField, u32),
 }
@@ -39,6 +36,7 @@ impl Entry {
     {
         match self {
             Entry::Item(_) => None,
+            Entry::Constant(addr, _) => Some(OnceName::Constant(addr.0)),
             Entry::Frame(field, _) => Some(OnceName::Frame(*field)),
         }
     }

@@ -11,6 +11,7 @@ mod fields;
 mod file;
 mod flags;
 mod frame_field;
+mod hex;
 mod immediate;
 mod label;
 mod line;

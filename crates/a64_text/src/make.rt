@@ -5,16 +5,20 @@ pub mod integer;
 pub mod memory;
 pub mod mode;
 
-ghost use Rattle.std.specs.Prelude.{◌≡◌, ◌<◌, true, Some, option_map};
+ghost use Rattle.std.specs.Prelude.{◌≡◌, ◌<◌, true, Some, option_map, IfOk, IfSome};
 ghost use Rattle.std.specs.Vec.{vec_len, vec_capacity};
 ghost use Rattle.a64_text.specs.declared.name.Name.TheVariants as names;
-ghost use Rattle.a64_text.specs.Makes.{emitted, entry_of};
+ghost use Rattle.a64_text.specs.Makes.{emitted, entry_of, Makes};
 ghost use Rattle.a64_text.specs.Puts.{PutsEntry, Puts};
+ghost use Rattle.a64_text.specs.States.{IsSized};
 
 use crate::at;
 use crate::entry::Entry;
+use crate::hex::read_constant;
 use crate::value::Value;
+use a64_base::VCodeConstant;
 use a64_inst::{Inst, Item};
+use std::alloc::{AllocError, Global};
 
 /// Puts the instruction, without a map of the stack, behind the items. Always true.
 #[inline(always)]
@@ -49,9 +53,26 @@ pub fn put_bind(items: &mut Vec<Item>, values: &[Value]) -> bool
     true
 }
 
+/// The constant of these fields, where there is one.
+///
+/// # Errors
+///
+/// Want of memory, for its bytes.
+#[tactic(auto, unfolding(crate::specs::Makes::Makes))]
+pub fn make_constant(alloc: Global, values: &[Value]) -> Result<Option<Entry>, AllocError>
+    ensures made { IfOk result (Makes names.Const values.now) }
+    ensures sized { IfOk result (λ entry. IfSome entry IsSized) }
+{
+    let Some(bytes) = read_constant(alloc, at::list(values, 1))? else {
+        return Ok(None);
+    };
+    Ok(Some(Entry::Constant(VCodeConstant(at::u32(values, 0)), bytes)))
+}
+
 /// The size of an area of the frame.
 pub fn make_frame(values: &[Value]) -> Entry
-    ensures { result ≡ entry_of names.Frame values.now }
+    ensures made { result ≡ entry_of names.Frame values.now }
+    ensures sized { IsSized result }
 {
     Entry::Frame(at::frame_field(values, 0), at::u32(values, 1))
 }

@@ -45,17 +45,19 @@ pub enum ModeName {
     SlotOffset,
     /// `RegOffset`.
     RegOffset,
+    /// `Const`.
+    Const,
 }
 
 /// For each remainder of a hash, the row of the name that has it.
 pub static MODE_HOMES: [u8; 64] = [
     0, 0, 0, 0, 8, 12, 0, 0, 0, 9, 2, 0, 0, 0, 0, 0, 3, 0, 0, 11, 0, 0, 13, 0, 0, 0, 0, 0, 0, 4, 0,
-    0, 0, 0, 6, 0, 0, 0, 0, 0, 0, 0, 0, 0, 10, 0, 0, 0, 0, 0, 0, 1, 0, 0, 0, 0, 0, 0, 7, 0, 0, 0,
+    0, 0, 0, 6, 0, 0, 0, 0, 0, 0, 0, 0, 0, 10, 0, 0, 0, 0, 0, 0, 1, 0, 0, 0, 0, 0, 14, 7, 0, 0, 0,
     5, 0,
 ];
 
 /// The addressing modes.
-pub static MODES: [Row<ModeName>; 14] = [
+pub static MODES: [Row<ModeName>; 15] = [
     (b"RegReg", &[Kind::Reg, Kind::Reg], ModeName::RegReg),
     (b"RegScaled", &[Kind::Reg, Kind::Reg], ModeName::RegScaled),
     (
@@ -82,6 +84,7 @@ pub static MODES: [Row<ModeName>; 14] = [
     (b"IncomingArg", &[Kind::I64], ModeName::IncomingArg),
     (b"SlotOffset", &[Kind::I64], ModeName::SlotOffset),
     (b"RegOffset", &[Kind::Reg, Kind::I64], ModeName::RegOffset),
+    (b"Const", &[Kind::U32], ModeName::Const),
 ];
 
 impl Named for ModeName {
@@ -212,15 +215,18 @@ pub enum MemLabelName {
     PCRel,
     /// `Mach`.
     Mach,
+    /// `Pool`.
+    Pool,
 }
 
 /// For each remainder of a hash, the row of the name that has it.
-pub static MEM_LABEL_HOMES: [u8; 2] = [0, 1];
+pub static MEM_LABEL_HOMES: [u8; 8] = [2, 1, 0, 0, 0, 0, 0, 0];
 
 /// The addresses in the code.
-pub static MEM_LABELS: [Row<MemLabelName>; 2] = [
+pub static MEM_LABELS: [Row<MemLabelName>; 3] = [
     (b"PCRel", &[], MemLabelName::PCRel),
     (b"Mach", &[], MemLabelName::Mach),
+    (b"Pool", &[], MemLabelName::Pool),
 ];
 
 impl Named for MemLabelName {

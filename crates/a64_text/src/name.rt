@@ -74,6 +74,8 @@ pub enum ControlName {
     CondBr,
     /// `TestBitAndBranch`.
     TestBitAndBranch,
+    /// `TrapIf`.
+    TrapIf,
     /// `IndirectBr`.
     IndirectBr,
     /// `Brk`.
@@ -84,6 +86,8 @@ pub enum ControlName {
     Word4,
     /// `Word8`.
     Word8,
+    /// `EmitIsland`.
+    EmitIsland,
     /// `LabelAddress`.
     LabelAddress,
 }
@@ -112,6 +116,8 @@ pub enum Name {
     Access(AccessOp),
     /// `bind`.
     Bind,
+    /// `const`.
+    Const,
     /// `frame`.
     Frame,
 }

@@ -52,23 +52,6 @@ fn hash_of(token: &[u8]) -> usize
     }
 }
 
-/// Whether the texts are the same. A name is short, so that a call of the comparison of slices, which
-/// is never inlined, would cost more.
-#[inline(always)]
-fn is_same(a: &[u8], b: &[u8]) -> bool
-    ensures { (result ≡ true) ↔ (a.now ≡ b.now) }
-{
-    if a.len() != b.len() {
-        return false;
-    }
-    for (i, byte) in a.iter().enumerate() {
-        if *byte != b[i] {
-            return false;
-        }
-    }
-    true
-}
-
 /// What the token names, and the kinds of the fields behind it.
 #[inline(always)]
 pub fn read_heading<T: Named>(token: &[u8]) -> Option<(&'static [Kind], T)>
@@ -81,7 +64,7 @@ pub fn read_heading<T: Named>(token: &[u8]) -> Option<(&'static [Kind], T)>
     }
     let home = homes[hash_of(token) % homes.len()];
     let (name, kinds, value) = rows.get(home as usize)?;
-    if is_same(name, token) {
+    if *name == token {
         Some((*kinds, *value))
     } else {
         None

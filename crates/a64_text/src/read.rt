@@ -1,25 +1,25 @@
 //! Reads files.
 
 ghost use Rattle.std.specs.Prelude.{◌≡◌, ◌≤◌, ◌+◌, [], ◌∷◌, ◌++◌, length, Some, IfOk, OnOk};
-ghost use Rattle.a64_text.specs.States.{contents_of, item_in, said};
+ghost use Rattle.a64_text.specs.States.{contents_of, said, IsSized};
 ghost use Rattle.a64_text.specs.FileText as FileText;
+ghost use Rattle.a64_text.specs.declared.name.Name.TheVariants as names;
 ghost use Rattle.a64_text.specs.Splitting.{first_line};
 ghost use Rattle.a64_text.specs.AddsLine.{AddsName, AddsEntry, AddsMade, AddsLine};
 ghost use Rattle.a64_text.specs.Reading.{Answers};
 
-use crate::entry::{Entry, NewItem, OnceName};
+use crate::entry::{Entry, OnceName};
 use crate::file::{File, FileError};
 use crate::frame_field::set_frame_field;
 use crate::line::read_line;
 use crate::make::control::put_control;
 use crate::make::integer::put_integer;
 use crate::make::memory::{put_access, put_memory};
-use crate::make::{make_frame, put_bind};
+use crate::make::{make_constant, make_frame, put_bind};
 use crate::name::Name;
 use crate::split::cut;
 use crate::state::{ReaderState, start_state};
 use crate::value::{Fields, Value};
-use a64_inst::Item;
 use std::alloc::{AllocError, Global};
 use std::collections::BTreeSet;
 
@@ -45,27 +45,18 @@ fn add_name(given: &mut BTreeSet<OnceName>, name: Option<OnceName>) -> Result<bo
     }
 }
 
-/// Adds the item behind the others.
-#[inline(always)]
-fn add_item(items: &mut Vec<Item>, item: NewItem) -> Result<(), AllocError>
-    ensures { OnOk result (items.new.items ≡ items.old.items ++ item_in item ∷ []) }
-{
-    match item {
-        NewItem::Item(item) => {
-            items.reserve(1)?;
-            items.push_reserved(item);
-            Ok(())
-        }
-    }
-}
-
 /// Adds what the entry says to the file.
 #[inline(always)]
 fn add_entry(file: &mut File, entry: Entry) -> Result<(), AllocError>
+    requires { IsSized entry }
     ensures { OnOk result (contents_of file.new ≡ said entry (contents_of file.old)) }
 {
     match entry {
-        Entry::Item(item) => add_item(&mut file.items, NewItem::Item(item)),
+        Entry::Item(item) => Ok(file.items.push(item)?),
+        Entry::Constant(addr, bytes) => {
+            file.constants.insert(addr, bytes.as_slice())?;
+            Ok(())
+        }
         Entry::Frame(field, bytes) => {
             set_frame_field(&mut file.frame, field, bytes);
             Ok(())
@@ -75,6 +66,7 @@ fn add_entry(file: &mut File, entry: Entry) -> Result<(), AllocError>
 
 /// Takes the entry into the state. False: its name was given before.
 fn add_once(state: &mut ReaderState, entry: Entry) -> Result<bool, AllocError>
+    requires { IsSized entry }
     ensures { IfOk result (AddsEntry (Some entry) state.old state.new) }
 {
     if !add_name(&mut state.given, entry.once_name())? {
@@ -82,6 +74,20 @@ fn add_once(state: &mut ReaderState, entry: Entry) -> Result<bool, AllocError>
     }
     add_entry(&mut state.file, entry)?;
     Ok(true)
+}
+
+/// Takes the constant into the state. False: there is none, or its number was given before.
+fn add_constant(
+    alloc: Global,
+    state: &mut ReaderState,
+    values: &[Value],
+) -> Result<bool, AllocError>
+    ensures { IfOk result (AddsMade names.Const values.now state.old state.new) }
+{
+    match make_constant(alloc, values)? {
+        Some(entry) => add_once(state, entry),
+        None => Ok(false),
+    }
 }
 
 /// Takes the entry of this name with these fields into the state. False: there is none, or none that
@@ -102,6 +108,7 @@ fn add_made(
         Name::Memory(name) => Ok(put_memory(&mut state.file.items, name, values)),
         Name::Access(op) => Ok(put_access(&mut state.file.items, op, values)),
         Name::Bind => Ok(put_bind(&mut state.file.items, values)),
+        Name::Const => add_constant(alloc, state, values),
         Name::Frame => add_once(state, make_frame(values)),
     }
 }

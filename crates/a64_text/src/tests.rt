@@ -1,7 +1,7 @@
 //! Tests of files that are read.
 
 use crate::{FileError, read_file};
-use a64_base::MachLabel;
+use a64_base::{MachLabel, VCodeConstant};
 use a64_inst::Item;
 use std::test::Fail;
 
@@ -80,6 +80,8 @@ CondBr L0 -4 Cond(Eq)
 CondBr 1048572 L4294967295 Cond(Nv)
 TestBitAndBranch Z L3 L4 x1 0
 TestBitAndBranch NZ -4 L4 sp 255
+TrapIf Zero(x5,64) 0
+TrapIf Cond(Nv) 255
 IndirectBr x9 L0,L4294967295,L0
 IndirectBr sp L7
 IndirectBr %i1 -
@@ -88,8 +90,14 @@ Udf 0
 Udf 255
 Word4 4294967295
 Word8 18446744073709551615
+EmitIsland 0
+EmitIsland 4294967295
 LabelAddress v0 L1
 ULoad64 x0 Label(Mach,4294967295) -
+ULoad64 x0 Label(Pool,0) -
+Store8 x0 Label(Pool,4294967295) -
+ULoad64 x0 Const(0) -
+FpuLoad128 v0 Const(4294967295) 3
 Ret
 Jump L4294967295
 Jump -134217728
@@ -131,7 +139,7 @@ bind L7";
 #[test]
 fn takes_entries(rt: HostRuntime) -> Result<(), Fail> {
     let file = read_file(rt.alloc(), ENTRIES.as_bytes())?;
-    assert_eq!(rt; file.items.len(), 121);
+    assert_eq!(rt; file.items.len(), 129);
     match file.items.as_slice().last() {
         Some(Item::Bind(label)) => assert_eq!(rt; *label, MachLabel(7)),
         _ => assert!(rt; false),
@@ -167,6 +175,25 @@ fn takes_the_sizes_of_a_frame(rt: HostRuntime) -> Result<(), Fail> {
     assert_eq!(rt; file.frame.clobber_size, 0);
     assert_eq!(rt; file.frame.fixed_frame_storage_size, 4294967295);
     assert_eq!(rt; file.frame.outgoing_args_size, 8);
+    Ok(())
+}
+
+#[test]
+fn takes_constants(rt: HostRuntime) -> Result<(), Fail> {
+    let text =
+        "const 0 0102030405060708\nNop4\nconst 4294967295 ff00a9b0\nconst 7 00112233445566778899aabbccddeeff";
+    let file = read_file(rt.alloc(), text.as_bytes())?;
+    assert_eq!(rt; file.items.len(), 1);
+    match file.constants.bytes_of(VCodeConstant(0)) {
+        Some(bytes) => assert_eq!(rt; bytes, [1, 2, 3, 4, 5, 6, 7, 8].as_slice()),
+        None => assert!(rt; false),
+    }
+    match file.constants.bytes_of(VCodeConstant(4294967295)) {
+        Some(bytes) => assert_eq!(rt; bytes, [0xff, 0, 0xa9, 0xb0].as_slice()),
+        None => assert!(rt; false),
+    }
+    assert_eq!(rt; file.constants.size_of(VCodeConstant(7)), Some(16));
+    assert_eq!(rt; file.constants.size_of(VCodeConstant(1)), None);
     Ok(())
 }
 
@@ -324,6 +351,10 @@ CondBr Cond(Eq) L3 L4
 TestBitAndBranch Zero L3 L4 x1 0
 TestBitAndBranch Z L3 L4 x1 256
 TestBitAndBranch Z L3 x1 0
+TrapIf Cond(Eq)
+TrapIf Cond(Eq) 256
+TrapIf Eq 5
+TrapIf L3 Cond(Eq) 5
 IndirectBr x9
 IndirectBr x9 L0,
 IndirectBr x9 ,L0
@@ -340,7 +371,36 @@ Udf 256
 Word4 4294967296
 Word4 -1
 Word8 18446744073709551616
+EmitIsland
+EmitIsland 4294967296
+EmitIsland -1
+const
+const 0
+const 0 01
+const 0 0102030
+const 0 010203040
+const 0 0102030405
+const 0 010203040506070809
+const 0 000102030405060708090a0b0c0d0e0f00
+const 0 0102030g
+const 0 0102030A
+const 0 0x010203
+const 0 01 02 03 04
+const 0 01020304 05060708
+const 01 01020304
+const -1 01020304
+const 4294967296 01020304
+const L0 01020304
+Const 0 01020304
 LabelAddress x0 4
+ULoad64 x0 Const(4294967296) -
+ULoad64 x0 Const(-1) -
+ULoad64 x0 Const() -
+ULoad64 x0 Const(0,1) -
+ULoad64 x0 const(0) -
+ULoad64 x0 Label(Pool,4294967296) -
+ULoad64 x0 Label(Pool,-1) -
+ULoad64 x0 Label(pool,0) -
 ULoad64 x0 Label(Mach,4294967296) -
 ULoad64 x0 Label(Mach,-1) -
 ULoad64 x0 Label(Mach,L3) -
@@ -388,6 +448,11 @@ fn reports_the_first_bad_line(rt: HostRuntime) -> Result<(), Fail> {
         (
             "frame clobber_size 1\nNop4\nframe tail_args_size 1\nframe clobber_size 2",
             "line 4: not an entry",
+        ),
+        ("const 0 01020304\nconst 0 01020304", "line 2: not an entry"),
+        (
+            "const 7 01020304\nconst 1 01020304\nconst 7 0000000000000000",
+            "line 3: not an entry",
         ),
     ] {
         let Err(error) = read_file(rt.alloc(), text.as_bytes()) else {

@@ -72,6 +72,13 @@ pub fn put_control(
                 bit: at::u8(values, 4),
             },
         )),
+        ControlName::TrapIf => Ok(emit(
+            items,
+            Inst::TrapIf {
+                kind: at::cond_br_kind(values, 0),
+                trap_code: TrapCode(at::u8(values, 1)),
+            },
+        )),
         ControlName::IndirectBr => Ok(emit_some(items, indirect_br(alloc, values)?)),
         ControlName::Brk => Ok(emit(items, Inst::Brk)),
         ControlName::Udf => Ok(emit(
@@ -90,6 +97,12 @@ pub fn put_control(
             items,
             Inst::Word8 {
                 value: at::u64(values, 0),
+            },
+        )),
+        ControlName::EmitIsland => Ok(emit(
+            items,
+            Inst::EmitIsland {
+                needed_space: at::u32(values, 0),
             },
         )),
         ControlName::LabelAddress => Ok(emit(

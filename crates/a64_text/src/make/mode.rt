@@ -1,15 +1,15 @@
 //! Makes addressing modes of their fields.
 
-ghost use Rattle.std.specs.Prelude.{◌≡◌};
+ghost use Rattle.std.specs.Prelude.{◌≡◌, pos};
 ghost use Rattle.a64_text.specs.ModeMakes.{MakesMode, MakesPair};
 ghost use Rattle.a64_text.specs.Modes.{IsScaled, scaled_parts, IsMemLabel, mem_label_parts};
-ghost use Rattle.a64_text.specs.Reads.{Reads};
+ghost use Rattle.a64_text.specs.Reads.{Reads, IsU32};
 ghost use Rattle.a64_text.specs.Types as types;
 
 use crate::at;
 use crate::mode_name::{MemLabelName, ModeName, PairModeName};
 use crate::value::Value;
-use a64_base::{IrType, MachLabel};
+use a64_base::{IrType, MachLabel, VCodeConstant};
 use a64_imms::UImm12Scaled;
 use a64_inst::{AMode, MemLabel, PairAMode};
 
@@ -33,6 +33,16 @@ fn scaled_of(value: i64, scale: IrType) -> Option<UImm12Scaled>
     UImm12Scaled::maybe_from_i64(value, scale)
 }
 
+/// The number, where it has 32 bits.
+fn index_of(number: i64) -> Option<u32>
+    ensures { Reads IsU32 (λ n. pos n) number result }
+{
+    if number < 0 || number > i64::from(u32::MAX) {
+        return None;
+    }
+    Some(number as u32)
+}
+
 /// The address in the code that the name and the number are.
 fn mem_label_of(name: MemLabelName, number: i64) -> Option<MemLabel>
     ensures { Reads IsMemLabel mem_label_parts (name, number) result }
@@ -44,12 +54,8 @@ fn mem_label_of(name: MemLabelName, number: i64) -> Option<MemLabel>
             }
             Some(MemLabel::PCRel(number as i32))
         }
-        MemLabelName::Mach => {
-            if number < 0 || number > i64::from(u32::MAX) {
-                return None;
-            }
-            Some(MemLabel::Mach(MachLabel(number as u32)))
-        }
+        MemLabelName::Mach => Some(MemLabel::Mach(MachLabel(index_of(number)?))),
+        MemLabelName::Pool => Some(MemLabel::Pool(VCodeConstant(index_of(number)?))),
     }
 }
 
@@ -125,6 +131,9 @@ pub fn make_mode(name: ModeName, values: &[Value]) -> Option<AMode>
         ModeName::RegOffset => Some(AMode::RegOffset {
             rn: at::reg(values, 0),
             off: at::i64(values, 1),
+        }),
+        ModeName::Const => Some(AMode::Const {
+            addr: VCodeConstant(at::u32(values, 0)),
         }),
     }
 }

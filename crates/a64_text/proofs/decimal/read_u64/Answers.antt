@@ -21,17 +21,24 @@ returns-then-is_empty c = is_none c.args.token.now (λ n fits can.
 pub returns-then-byte-lt48 : goal.returns-then-byte-lt48
 returns-then-byte-lt48 c = other_byte c.args.token.now c.loop-byte.byte-index c.loop-byte-test.true (λ low high. omega arith)
 
+pub returns-in_err-checked_mul : goal.returns-in_err-checked_mul
+returns-in_err-checked_mul c =
+    let e = one_more c.args.token.now c.loop-byte.byte-index c.loop-byte.value c.loop-byte-test.true (omega arith) (omega arith) c.loop-byte.invariant.value in
+    rw c.from_residual.ensures (too_large c.args.token.now (c.loop-byte.byte-index + 1) (omega (arith, c.in_err-checked_mul.ensures, e)))
+
 pub returns-in_err-value : goal.returns-in_err-value
 returns-in_err-value c =
     let e = one_more c.args.token.now c.loop-byte.byte-index c.loop-byte.value c.loop-byte-test.true (omega arith) (omega arith) c.loop-byte.invariant.value in
-    rw c.from_residual.ensures (too_large c.args.token.now (c.loop-byte.byte-index + 1) (omega (arith, c.in_err-value.ensures, e)))
+    rw c.from_residual-in_err-value.ensures (too_large c.args.token.now (c.loop-byte.byte-index + 1) (omega (arith, c.in_err-value.ensures, c.in_ok-checked_mul.ensures.1, c.from-digit.ensures, e)))
 
 pub loop-byte-preserved : goal.loop-byte-preserved
-loop-byte-preserved c = record {
-  digits = digits_so_far c.args.token.now c.loop-byte.byte-index c.loop-byte-test.true (omega arith) (omega arith) c.loop-byte.invariant.digits;
-  below = c.in_ok-value.ensures.0;
-  value = c.in_ok-value.ensures.1 ∙ one_more c.args.token.now c.loop-byte.byte-index c.loop-byte.value c.loop-byte-test.true (omega arith) (omega arith) c.loop-byte.invariant.value;
-}
+loop-byte-preserved c =
+    let e = one_more c.args.token.now c.loop-byte.byte-index c.loop-byte.value c.loop-byte-test.true (omega arith) (omega arith) c.loop-byte.invariant.value in
+    record {
+      digits = digits_so_far c.args.token.now c.loop-byte.byte-index c.loop-byte-test.true (omega arith) (omega arith) c.loop-byte.invariant.digits;
+      below = omega (arith, c.in_ok-value.ensures.0, c.in_ok-value.ensures.1);
+      value = omega (arith, c.in_ok-value.ensures.1, c.in_ok-checked_mul.ensures.1, c.from-digit.ensures, e);
+    }
 
 pub returns : goal.returns
 returns c =

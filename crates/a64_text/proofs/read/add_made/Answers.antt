@@ -5,7 +5,7 @@ use Rattle.a64_text.specs.declared.name.Name.TheVariants as names
 use Rattle.a64_text.specs.declared.state.ReaderState.{ReaderState}
 use Rattle.a64_text.specs.AddsLine.{AddsEntry, AddsMade}
 use Rattle.a64_text.specs.Puts.{Puts}
-use Rattle.a64_text.proofs.Adds.{all_ok, put_adds, frame_adds}
+use Rattle.a64_text.proofs.Adds.{all_ok, put_adds, frame_adds, others_add}
 use Rattle.a64_text.proofs.read.add_made.Goals as goal
 
 -- the state with these items
@@ -31,9 +31,16 @@ returns-in-Access c = put_adds c.args.state.now (with_items c.args.state.now c.p
 pub returns-in-Bind : goal.returns-in-Bind
 returns-in-Bind c = put_adds c.args.state.now (with_items c.args.state.now c.put_bind.new.items) refl refl c.args.name names.Bind c.args.values.now c.reserve.new.self.items c.put_bind.result c.in-Bind.is c.reserve.ensures.items c.put_bind.ensures
 
+pub returns-in-Const : goal.returns-in-Const
+returns-in-Const c =
+    let reserved = with_items c.args.state.now c.reserve.new.self in
+    all_ok (λ (made : Bool). AddsMade names.Const c.args.values.now reserved c.add_constant.new.state made) (AddsMade c.args.name c.args.values.now c.args.state.now c.add_constant.new.state)
+    (λ made h. others_add c.args.state.now c.add_constant.new.state c.reserve.new.self made c.reserve.ensures.items c.args.name names.Const c.args.values.now c.in-Const.is h)
+    c.add_constant.result c.add_constant.ensures
+
 pub returns-in-Frame : goal.returns-in-Frame
 returns-in-Frame c =
     let reserved = with_items c.args.state.now c.reserve.new.self in
     all_ok (λ (made : Bool). AddsEntry (Some c.make_frame.result) reserved c.add_once.new.state made) (AddsMade c.args.name c.args.values.now c.args.state.now c.add_once.new.state)
-    (λ made h. frame_adds c.args.state.now c.add_once.new.state c.reserve.new.self c.args.name c.args.values.now c.make_frame.result made c.reserve.ensures.items c.in-Frame.is c.make_frame.ensures h)
+    (λ made h. frame_adds c.args.state.now c.add_once.new.state c.reserve.new.self c.args.name c.args.values.now c.make_frame.result made c.reserve.ensures.items c.in-Frame.is c.make_frame.ensures.made h)
     c.add_once.result c.add_once.ensures

@@ -1,0 +1,33 @@
+-- The texts of constants: their bytes in hexadecimal digits, in order.
+use Rattle.std.specs.Prelude.{ℕ, ◌<◌, ◌+◌, ◌/◌, ◌%◌, Bool, ◌||◌, nat_lt, nat_eq, if◌then◌else◌, List, [], ◌∷◌}
+use Rattle.std.specs.List.{AllByRecursion}
+use Rattle.a64_buffer.specs.Constants.{IsConstant}
+use Rattle.a64_text.specs.Reads.{IsU8}
+
+-- a hexadecimal digit, in lower case
+abbrev pub hex_digit : ℕ → ℕ
+hex_digit n = if nat_lt n 10 then 48 + n else 87 + n
+
+-- a digit has four bits
+abbrev pub IsDigit : ℕ → Type 0
+IsDigit n = n < 16
+
+-- the two digits of a byte
+abbrev pub hex_pair : ℕ → ℕ × ℕ
+hex_pair byte = (hex_digit (byte / 16), hex_digit (byte % 16))
+
+-- the bytes one behind another
+abbrev pub hex_text : List ℕ → List ℕ
+hex_text [] = []
+hex_text (byte ∷ bytes) = hex_digit (byte / 16) ∷ hex_digit (byte % 16) ∷ hex_text bytes
+
+abbrev pub AreBytes : List ℕ → Type 0
+AreBytes bytes = AllByRecursion IsU8 bytes
+
+-- a constant is written in 8, 16 or 32 digits
+abbrev pub has_digits : ℕ → Bool
+has_digits count = nat_eq count 8 || nat_eq count 16 || nat_eq count 32
+
+-- the bytes of a constant
+abbrev pub HasHex : List ℕ → Type 0
+HasHex bytes = IsConstant bytes × AreBytes bytes
