@@ -7,3 +7,4 @@ pub mod DigitPairs
 pub mod HexPairs
 pub mod SectionLists
 pub mod Overlaps
+pub mod KeptLines

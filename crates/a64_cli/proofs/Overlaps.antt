@@ -1,6 +1,7 @@
 -- Two copies that may overlap.
-use Rattle.std.proofs.Common.{◌≡◌, ℕ, ◌-◌, ◌≤◌, List, ◌++◌, length, take, drop, sym, ◌∙◌, arith, length-append, length-drop, take-append-drop, take-take, append-nil}
+use Rattle.std.proofs.Common.{◌≡◌, ℕ, ◌+◌, ◌-◌, ◌≤◌, List, ◌++◌, length, take, drop, sym, ap, ◌∙◌, arith, length-append, length-drop, take-append-drop, take-take, append-nil}
 use Rattle.std.proofs.lemmas.List.{take-append-le, length-take-le, drop_all}
+use Rattle.std.proofs.Math.Seq.{take-append-add}
 use Rattle.std.proofs.lemmas.Slice.{take-put_mid, drop-put_mid}
 use borrow.Rule.Slice.PartMut.{put_mid}
 
@@ -14,3 +15,10 @@ overlapped n k text front xs f e lo hi x s =
     sym (take-append-drop n (put_mid (n - 16) k (front ++ xs) (drop (n - 16) text)))
     ∙ rw (take-put_mid (n - 16) k (front ++ xs) (drop (n - 16) text) n (omega arith) (omega arith), drop-put_mid (n - 16) k (front ++ xs) (drop (n - 16) text) n (omega arith) (omega arith) (omega arith), drop_all n (front ++ xs) (omega arith), append-nil, take-append-le (n - 16) front xs (omega arith), f, take-take (n - 16) 16 text (omega arith))
     (take-append-drop (n - 16) text)
+
+-- the first bytes of a text that was put behind others, where more of it was
+pub appended : (l n : ℕ) (xs text behind : List ℕ) → l ≤ length xs → n ≤ length text → take (l + n) (take l xs ++ (text ++ behind)) ≡ take l xs ++ take n text
+appended l n xs text behind low few =
+    ap (λ k. take (k + n) (take l xs ++ (text ++ behind))) (sym (length-take-le l xs low))
+    ∙ take-append-add (take l xs) (text ++ behind) n
+    ∙ ap (λ t. take l xs ++ t) (take-append-le n text behind few)

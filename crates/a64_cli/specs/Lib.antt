@@ -4,3 +4,4 @@ pub mod Commands
 pub mod Run
 pub mod Stages
 pub mod Sections
+pub mod Kept

@@ -8,11 +8,12 @@ use Rattle.a64_cli.specs.declared.command.Command.TheVariants.{Asm}
 use Rattle.a64_text.specs.declared.file.File.{File}
 use Rattle.a64_cli.specs.declared.ran.Fault.{Fault}
 use Rattle.a64_cli.specs.declared.ran.Fault.TheVariants as faults
+use Rattle.a64_text.specs.Hex.{hex_digit}
 use Rattle.a64_text.specs.States.{contents_of}
 use Rattle.a64_text.specs.FileText.{IsFile, IsFirstBad}
 use Rattle.a64_cli.specs.declared.making.Made.{Made}
 use Rattle.a64_cli.specs.declared.making.Made.TheVariants.{Report}
-use Rattle.a64_cli.specs.Report.{hex_digit, report_of}
+use Rattle.a64_cli.specs.Report.{report_of}
 use Rattle.a64_cli.specs.Streams.{HasFailed, Takes, TakesPart}
 use Rattle.a64_cli.specs.Commands.{limit, IsCommand, OfCommand, assembly_fault, file_fault, IsMade}
 use Rattle.a64_cli.specs.Run.{Held, IsDueForText}

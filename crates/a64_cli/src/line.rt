@@ -4,7 +4,7 @@
 //! digits of a number. So each call is given where the text that is there begins, and answers where
 //! it begins with what the call put before it.
 
-ghost use Rattle.std.specs.Prelude.{◌≡◌, ◌+◌, ◌≤◌, ◌++◌, drop, length};
+ghost use Rattle.std.specs.Prelude.{◌≡◌, ◌+◌, ◌≤◌, ◌++◌, drop, take, length};
 ghost use Rattle.std.specs.Fmt.{decimal, signed_decimal};
 ghost use Rattle.a64_cli.specs.Report.{hex_word};
 ghost use Rattle.a64_cli.specs.Stages.{hex_pair};
@@ -35,6 +35,7 @@ pub fn text_from(line: &LineBuffer, start: usize) -> &[u8]
 pub fn put_text(line: &mut LineBuffer, end: usize, text: &[u8]) -> usize
     requires { (length text.now ≤ end) × (end ≤ 128) }
     ensures start { result + length text.now ≡ end }
+    ensures front { take result line.new ≡ take result line.old }
     ensures written { drop result line.new ≡ text.now ++ drop end line.old }
 {
     let start = end - text.len();
@@ -71,6 +72,7 @@ pub fn put_signed(line: &mut LineBuffer, end: usize, number: i64) -> usize
 fn put_hex_byte(line: &mut LineBuffer, end: usize, byte: u8) -> usize
     requires { (2 ≤ end) × (end ≤ 128) }
     ensures start { result + 2 ≡ end }
+    ensures front { take result line.new ≡ take result line.old }
     ensures written { drop result line.new ≡ hex_pair byte ++ drop end line.old }
 {
     let at = usize::from(byte) * 2;
@@ -83,6 +85,7 @@ fn put_hex_byte(line: &mut LineBuffer, end: usize, byte: u8) -> usize
 pub fn put_hex(line: &mut LineBuffer, end: usize, word: u32) -> usize
     requires { (8 ≤ end) × (end ≤ 128) }
     ensures start { result + 8 ≡ end }
+    ensures front { take result line.new ≡ take result line.old }
     ensures written { drop result line.new ≡ hex_word word ++ drop end line.old }
 {
     let end = put_hex_byte(line, end, (word % 0x100) as u8);

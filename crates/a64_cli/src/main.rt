@@ -5,9 +5,10 @@
 mod adapter;
 mod assembling;
 mod command;
-mod counter;
 mod fault_lines;
+mod hundred;
 mod input;
+mod kept;
 mod line;
 mod making;
 mod memory;

@@ -11,6 +11,9 @@ use std::marker::Model;
 /// The most bytes that are gathered.
 const SIZE: usize = 65_536;
 
+/// The most bytes of a short text, which goes by a copy of fixed length.
+pub const SHORT: usize = 48;
+
 /// Copies a text. One of 16 to 32 bytes, as most lines are, goes by two copies of 16 bytes that may
 /// overlap, which are an instruction or two each.
 #[inline(always)]
@@ -41,7 +44,7 @@ impl Model for Piece {
 
     ghost view = { λ piece. take piece.len piece.bytes.items };
 
-    ghost invariant = { λ piece. (length piece.bytes.items ≡ 65536) × (piece.len ≤ 65536) };
+    ghost invariant = { λ piece. (length piece.bytes.items ≡ 65584) × (piece.len ≤ 65536) };
 }
 
 impl Piece {
@@ -53,7 +56,7 @@ impl Piece {
     pub fn new(alloc: Global) -> Result<Piece, AllocError>
         ensures { IfOk result (λ piece. piece ≡ []) }
     {
-        let bytes = vec![in alloc; 0; SIZE]?;
+        let bytes = vec![in alloc; 0; SIZE + SHORT]?;
         Ok(Piece { bytes, len: 0 })
     }
 
@@ -106,6 +109,40 @@ impl Piece {
             self.flush(sink)?;
         }
         self.add(text);
+        Ok(())
+    }
+
+    /// Puts a short text behind what waits, where there is room for both.
+    #[inline(always)]
+    fn add_short(&mut self, text: &[u8], len: usize)
+        requires short { (length text.now ≡ 48) × (len ≤ 48) }
+        requires room { length self.old + len ≤ 65536 }
+        ensures { self.new ≡ self.old ++ take len text.now }
+    {
+        self.bytes[self.len..self.len + SHORT].copy_from_slice(text);
+        self.len += len;
+    }
+
+    /// Puts a short text behind what waits, as `put` does: the first bytes of these.
+    ///
+    /// # Errors
+    ///
+    /// A write failed; some first bytes of what waited may have been taken, but not all.
+    #[inline(always)]
+    pub fn put_short<K: Sink>(
+        &mut self,
+        sink: &mut K,
+        text: &[u8],
+        len: usize,
+    ) -> Result<(), Failed>
+        requires { (length text.now ≡ 48) × (len ≤ 48) }
+        ensures ok { OnOk result (Puts (K.taken sink.old) (K.faults sink.old) self.old (K.taken sink.new) (K.faults sink.new) self.new (take len text.now)) }
+        ensures err { OnErr result (IsCut (K.taken sink.old) (K.faults sink.old) self.old (K.taken sink.new) (K.faults sink.new) (take len text.now)) }
+    {
+        if self.len + len > SIZE {
+            self.flush(sink)?;
+        }
+        self.add_short(text, len);
         Ok(())
     }
 }

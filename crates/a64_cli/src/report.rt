@@ -6,12 +6,12 @@ ghost use Rattle.a64_cli.specs.Streams.{HasFailed, Takes, TakesPart, Puts, IsCut
 ghost use Rattle.a64_cli.specs.Report.{item_line, pool_line, word_line, words_in, report_of};
 ghost use Rattle.a64_cli.specs.Sections.{section_text};
 
-use crate::counter::Counter;
+use crate::kept::{ItemLine, WordLine};
 use crate::line::{SIZE, text_from};
 use crate::piece::Piece;
 use crate::report_lines::{
     CallLines, IslandLines, LabelLines, LineKind, MapLines, PatchableLines, RelocLines, TrapLines,
-    compose_item, compose_one, compose_word,
+    compose_one,
 };
 use crate::stream::{Failed, Sink};
 use a64_emit::Code;
@@ -41,13 +41,12 @@ fn put_items<K: Sink>(sink: &mut K, piece: &mut Piece, places: &[u32]) -> Result
     ensures ok { OnOk result (Puts (K.taken sink.old) (K.faults sink.old) piece.old (K.taken sink.new) (K.faults sink.new) piece.new (flat_map item_line (enumerate_from 0 places.now))) }
     ensures err { OnErr result (IsCut (K.taken sink.old) (K.faults sink.old) piece.old (K.taken sink.new) (K.faults sink.new) (flat_map item_line (enumerate_from 0 places.now))) }
 {
-    let mut buffer = [0; SIZE];
-    let mut index = Counter::new();
-    let mut shown = Counter::new();
+    let mut line = ItemLine::of(0, 0);
+    let mut index: u64 = 0;
     for place in places {
-        let start = compose_item(&mut buffer, &index, &mut shown, *place);
-        piece.put(sink, text_from(&buffer, start))?;
-        index.add(1);
+        line.set(index, *place);
+        line.put(sink, piece)?;
+        index += 1;
     }
     Ok(())
 }
@@ -81,13 +80,13 @@ fn put_words<K: Sink>(sink: &mut K, piece: &mut Piece, bytes: &[u8]) -> Result<(
     ensures ok { OnOk result (Puts (K.taken sink.old) (K.faults sink.old) piece.old (K.taken sink.new) (K.faults sink.new) piece.new (flat_map word_line (enumerate_from 0 (words_in bytes.now)))) }
     ensures err { OnErr result (IsCut (K.taken sink.old) (K.faults sink.old) piece.old (K.taken sink.new) (K.faults sink.new) (flat_map word_line (enumerate_from 0 (words_in bytes.now)))) }
 {
-    let mut buffer = [0; SIZE];
-    let mut place = Counter::new();
+    let mut line = WordLine::of(0, 0);
+    let mut place: u64 = 0;
     let mut rest = bytes;
     while let Some((word, tail)) = first_word(rest) {
-        let start = compose_word(&mut buffer, &place, word);
-        piece.put(sink, text_from(&buffer, start))?;
-        place.add(4);
+        line.set(place, word);
+        line.put(sink, piece)?;
+        place += 4;
         rest = tail;
     }
     Ok(())

@@ -1,10 +1,9 @@
 //! The lines of a report, one kind after another.
 
-ghost use Rattle.std.specs.Prelude.{◌≡◌, ◌≤◌, ◌<◌, ◌/◌, ◌%◌, List, ℕ, drop, length};
-ghost use Rattle.a64_cli.specs.Report.{line_of_one, line_of_two, item_line, label_line, island_line, word_line, reloc_text, reloc_line, trap_line, call_line, patchable_line, map_line};
+ghost use Rattle.std.specs.Prelude.{◌≡◌, ◌≤◌, ◌<◌, List, ℕ, drop, length};
+ghost use Rattle.a64_cli.specs.Report.{line_of_one, line_of_two, label_line, island_line, reloc_text, reloc_line, trap_line, call_line, patchable_line, map_line};
 
-use crate::counter::Counter;
-use crate::line::{LineBuffer, SIZE, put_decimal, put_hex, put_signed, put_text};
+use crate::line::{LineBuffer, SIZE, put_decimal, put_signed, put_text};
 use a64_base::{ExternalName, MachLabel, Reloc, TrapCode, UserStackMap};
 
 /// A kind of line.
@@ -48,40 +47,6 @@ pub fn compose_two(buffer: &mut LineBuffer, name: &[u8], first: u64, second: u32
     let start = put_decimal(buffer, start, first);
     let start = put_text(buffer, start, b" ");
     put_text(buffer, start, name)
-}
-
-/// Composes the line of an item, whose number is at hand with its text. The other counter holds the text
-/// of the place of an earlier item.
-#[inline(always)]
-pub fn compose_item(
-    buffer: &mut LineBuffer,
-    index: &Counter,
-    places: &mut Counter,
-    place: u32,
-) -> usize
-    ensures text { drop result buffer.new ≡ item_line (index.now, place) }
-    ensures shorter { (0 < result) × (result ≤ 128) }
-{
-    places.set(u64::from(place));
-    let start = put_text(buffer, SIZE, b"\n");
-    let start = places.put(buffer, start);
-    let start = put_text(buffer, start, b" ");
-    let start = index.put(buffer, start);
-    put_text(buffer, start, b"item ")
-}
-
-/// Composes the line of a word, whose place is at hand with its text.
-#[inline(always)]
-pub fn compose_word(buffer: &mut LineBuffer, place: &Counter, word: u32) -> usize
-    requires { place.now % 4 ≡ 0 }
-    ensures text { drop result buffer.new ≡ word_line (place.now / 4, word) }
-    ensures shorter { (0 < result) × (result ≤ 128) }
-{
-    let start = put_text(buffer, SIZE, b"\n");
-    let start = put_hex(buffer, start, word);
-    let start = put_text(buffer, start, b" ");
-    let start = place.put(buffer, start);
-    put_text(buffer, start, b"word ")
 }
 
 /// The lines of labels.

@@ -41,6 +41,22 @@ fn files_give_their_reports(rt: HostRuntime) -> Result<(), Fail> {
             b"ULoad64 x0 Label(Mach,1) 9\nUdf 3\nbind L1\nWord8 72623859790382856\n".as_slice(),
             b"item 0 0\nitem 1 4\nitem 2 8\nitem 3 8\nlabel L1 8\npool 16\nword 0 58000040\nword 4 0000c11f\nword 8 05060708\nword 12 01020304\ntrap 0 9\ntrap 4 3\n".as_slice(),
         ),
+        (
+            b"const 0 0102030405060708\nFpuLoad64 v0 Const(0) -\nNop4\nRet\n".as_slice(),
+            b"item 0 0\nitem 1 4\nitem 2 8\npool 12\nword 0 5c000080\nword 4 d503201f\nword 8 d65f03c0\nword 12 00000000\nword 16 04030201\nword 20 08070605\n".as_slice(),
+        ),
+        (
+            b"StoreP64 x29 x30 SPPreIndexed(-16) -\nMov 64 x29 sp\nAluRRR SubS 64 xzr x0 x1\nTrapIf Cond(Eq) 5\nLoadP64 x29 x30 SPPostIndexed(16) -\nRet\n".as_slice(),
+            b"item 0 0\nitem 1 4\nitem 2 8\nitem 3 12\nitem 4 16\nitem 5 20\npool 24\nword 0 a9bf7bfd\nword 4 910003fd\nword 8 eb01001f\nword 12 54000060\nword 16 a8c17bfd\nword 20 d65f03c0\nword 24 0000c11f\ntrap 24 5\n".as_slice(),
+        ),
+        (
+            b"const 2 01020304\nTrapIf Zero(x5,64) 0\nULoad32 x1 Const(2) -\nULoad32 x3 Label(Pool,2) 7\nTrapIf Cond(Ne) 1\n".as_slice(),
+            b"item 0 0\nitem 1 4\nitem 2 8\nitem 3 12\npool 16\nword 0 b40000a5\nword 4 18000061\nword 8 18000043\nword 12 54000061\nword 16 04030201\nword 20 0000c11f\nword 24 0000c11f\ntrap 8 7\ntrap 20 0\ntrap 24 1\n".as_slice(),
+        ),
+        (
+            b"EmitIsland 40000\nJump L1\nEmitIsland 0\nbind L1\nRet\n".as_slice(),
+            b"item 0 0\nitem 1 0\nitem 2 4\nitem 3 4\nitem 4 4\nlabel L1 4\npool 8\nword 0 14000001\nword 4 d65f03c0\n".as_slice(),
+        ),
     ];
     for (file, report) in rows {
         for at_most in [1, 3, usize::MAX] {
@@ -201,6 +217,8 @@ TestBitAndBranch NZ 32768 0 x1 0
 TestBitAndBranch Z -32772 0 x1 0
 TestBitAndBranch Z 0 0 x1 64
 TestBitAndBranch Z 0 0 sp 1
+TrapIf NotZero(sp,64) 1
+TrapIf Zero(sp,32) 0
 IndirectBr sp -
 LabelAddress sp L0";
 
@@ -263,6 +281,22 @@ fn refused_files_give_their_lines(rt: HostRuntime) -> Result<(), Fail> {
         (
             b"Jump L1\nJump 6\nJump 6\n".as_slice(),
             b"item 1: bad operand\n".as_slice(),
+        ),
+        (
+            b"EmitIsland 4294967295\n".as_slice(),
+            b"code too large\n".as_slice(),
+        ),
+        (
+            b"ULoad64 x0 Const(9) -\n".as_slice(),
+            b"item 0: unknown constant\n".as_slice(),
+        ),
+        (
+            b"const 9 01020304\nULoad64 x0 Const(9) -\n".as_slice(),
+            b"item 0: bad operand\n".as_slice(),
+        ),
+        (
+            b"const 9 01020304\nconst 9 01020304\n".as_slice(),
+            b"line 2: not an entry\n".as_slice(),
         ),
         (
             b"Jump L01\n".as_slice(),

@@ -1,7 +1,0 @@
-use Rattle.std.proofs.Common.{sym, arith}
-use Rattle.std.proofs.lemmas.Fmt.{decimal_digit}
-use Rattle.a64_cli.proofs.counter.Counter.new.Goals as goal
-
-pub invariant_of-result : goal.invariant_of-result
-invariant_of-result c =
-    (omega arith, omega arith, omega arith, λ some. absurd (omega (arith, some)), omega arith, sym (decimal_digit 0 (omega arith)))

@@ -1,0 +1,39 @@
+-- Lines that are kept.
+use Rattle.std.specs.Prelude.{ℕ, ◌≡◌, ◌+◌, ◌/◌, ◌%◌, ◌^◌, ◌<◌, ◌≤◌, List, [], ◌∷◌, ◌++◌, drop, length, codes}
+use Rattle.std.specs.Fmt.{decimal}
+use Rattle.a64_cli.specs.Report.{hex_word}
+
+-- the two digits of a number below 100
+abbrev pub last_digits : ℕ → List ℕ
+last_digits n = (48 + n / 10) ∷ (48 + n % 10) ∷ []
+
+-- the `span` numbers from `first` on have texts that differ in the last two digits alone, and a number is of their
+-- hundred
+pub record Shares (first span number : ℕ) : Type 0 where
+  pub few : span ≤ 100
+  pub fits : first + span < 2 ^ 64
+  pub some : 0 < span → (100 ≤ first) × (first % 100 ≡ 0) × (number / 100 ≡ first / 100)
+
+-- the line of an item stands in a buffer, from `start` to 64, and the text of its number ends at `index_end`
+pub record KeepsItem (buffer : List ℕ) (start index_end index place : ℕ) : Type 0 where
+  pub text : drop start buffer ≡ codes "item " ++ (decimal index ++ (codes " " ++ (decimal place ++ drop 63 buffer)))
+  pub last : drop 63 buffer ≡ 10 ∷ drop 64 buffer
+  pub front : index_end ≡ start + (5 + length (decimal index))
+  pub begins : 16 ≤ start
+  pub high : index_end ≤ 63
+  pub index_fits : index < 2 ^ 64
+  pub place_fits : place < 2 ^ 64
+
+-- the line of a word of code with its place
+abbrev pub placed_word : ℕ → ℕ → List ℕ
+placed_word place word = codes "word " ++ decimal place ++ codes " " ++ hex_word word ++ codes "\n"
+
+-- it stands in a buffer, from `start` to 64
+pub record KeepsWord (buffer : List ℕ) (start place word : ℕ) : Type 0 where
+  pub text : drop start buffer ≡ codes "word " ++ (decimal place ++ drop 54 buffer)
+  pub rest : drop 54 buffer ≡ 32 ∷ drop 55 buffer
+  pub digits : drop 55 buffer ≡ hex_word word ++ drop 63 buffer
+  pub last : drop 63 buffer ≡ 10 ∷ drop 64 buffer
+  pub begins : 16 ≤ start
+  pub low : start ≤ 54
+  pub fits : place < 2 ^ 64
