@@ -1,0 +1,388 @@
+-- The islands and the pool of finished code hold what uses wait for, and nothing else.
+use Rattle.std.proofs.Common.{ℕ, ◌≡◌, ◌⊎◌, ◌+◌, ◌-◌, ◌*◌, ◌/◌, ◌%◌, ◌<◌, ◌≤◌, suc, zero, true, false, List, [], ◌∷◌, ◌++◌, length, get_or, map, take, Option, None, Some, refl, sym, ap, ◌∙◌, subst, arith, inl, inr}
+use Rattle.std.specs.Prelude.{All, Contains, IfSome, IsSome, slice_get}
+use Rattle.std.specs.List.{flat_map}
+use Rattle.std.specs.FinMap.{get}
+use Rattle.std.proofs.lemmas.Bool.{cases_lt, false≢true}
+use Rattle.std.proofs.lemmas.List.{length-append, length-map, length-take-le, get_or-map, get_or-take, get_or_append_left, get_or-append-add, get_or_default}
+use Rattle.std.proofs.lemmas.List.Elements.{All-append, All-same}
+use Rattle.std.proofs.lemmas.Option.{slice_get-get_or, slice_get_within}
+use Rattle.a64_base.specs.declared.entity.MachLabel.{MachLabel}
+use Rattle.a64_inst.specs.declared.emission.EmitFlags.{EmitFlags}
+use Rattle.a64_inst.specs.declared.frame.FrameLayout.{FrameLayout}
+use Rattle.a64_inst.specs.declared.item.Item.{Item}
+use Rattle.a64_inst.specs.declared.item.Item.TheVariants.{Bind}
+use Rattle.a64_buffer.specs.declared.site.Use.{Use}
+use Rattle.a64_buffer.specs.declared.site.Target.{Target}
+use Rattle.a64_buffer.specs.declared.site.Target.TheVariants.{Label, Constant, Trap, IslandEnd}
+use Rattle.a64_buffer.specs.declared.class.Class.TheVariants.{Near, Middle}
+use Rattle.a64_buffer.specs.declared.finish.Finished.{Finished}
+use Rattle.a64_buffer.specs.declared.force.ForceVeneers.{ForceVeneers}
+use Rattle.a64_buffer.specs.Constants.{AreConstants}
+use Rattle.a64_buffer.specs.Word.{outside, word_at}
+use Rattle.a64_buffer.specs.Buffer.{Buffer, end_of, label_of, goal_of, is_within, IsBound}
+use Rattle.a64_buffer.specs.Classes.{class, class_of, wants}
+use Rattle.a64_buffer.specs.Islands.{IsNewUse}
+use Rattle.a64_buffer.specs.Later.{IsLater}
+use Rattle.a64_buffer.specs.Pieces as pieces
+use Rattle.a64_buffer.specs.Pieces.{Serves, IsServed}
+use Rattle.a64_buffer.specs.Finished.{IsFinished}
+use Rattle.a64_buffer.proofs.Emitting.{stops_below}
+use Rattle.a64_buffer.proofs.Laters.{later_none, later_trans}
+use Rattle.a64_emit.specs.declared.code.Code.{Code}
+use Rattle.a64_emit.specs.declared.label_use.LabelUse.{LabelUse}
+use Rattle.a64_emit.specs.declared.label_use.LabelUse.TheVariants as uses
+use Rattle.a64_emit.specs.declared.site.Site.{Site}
+use Rattle.a64_emit.specs.LabelUses.{label_kinds, mask_for}
+use Rattle.a64_emit.specs.Cells.{Cell, cells_of}
+use Rattle.a64_emit.specs.Layout.{standing}
+use Rattle.a64_emit.specs.Emission.{site_of}
+use Rattle.a64_emit.specs.Contents.{IsCellUse, IsFarOff}
+use Rattle.a64_emit.specs.Leads.{areas, StopsAt}
+use Rattle.a64_emit.proofs.Arrivals.{no_use, IsOutput, old_site, use_settled, end_is, pool_is}
+use Rattle.a64_assemble.specs.Elements.{Element, Binding, Asking, cells_in, element_of, elements_of, element_at}
+use Rattle.a64_assemble.specs.OpenUses.{WasAsked}
+use Rattle.a64_assemble.specs.Progress.{HasPut}
+use Rattle.a64_assemble.specs.Owners.{AreOwned}
+use Rattle.a64_assemble.specs.Placement.{IsVeneerWord, IsWanting, IsOpenIn}
+use Rattle.a64_assemble.specs.Fillings.{IsLateOrFar, HoldsPieces, IsFilledIsland, IsFilledPool}
+use Rattle.a64_assemble.proofs.Areas.{stops_from, IsWritten, FinalServed, final_served, old_wanting, holds_pieces}
+use Rattle.a64_assemble.proofs.BoundLabels.{bound_at}
+use Rattle.a64_assemble.proofs.Itemized.{binding_item}
+use Rattle.a64_assemble.proofs.Islanded.{end_same}
+use Rattle.a64_assemble.proofs.Needing.{some_same}
+use Rattle.a64_assemble.proofs.Owners.{IsPieceJump, piece_jump, short_kind}
+use Rattle.a64_assemble.proofs.Placing.{all_cells_are, says_stop, not_inside}
+
+no_constant : (t : Target) → IsSome (label_of t) → IsSome (pieces.constant_of t) → ⊥
+no_constant (Label l) s c = false≢true c
+no_constant (Constant n) s c = false≢true s
+no_constant (Trap x) s c = false≢true s
+no_constant IslandEnd s c = false≢true s
+
+module _ (frame : FrameLayout) (flags : EmitFlags) (items : List Item) (force : ForceVeneers) (b : Buffer LabelUse) (code : Finished) (f : IsFinished label_kinds b code) (out : Code) (o : IsOutput code out) (h : HasPut force (elements_of frame flags items) (length (elements_of frame flags items)) out.places.items b) (owned : AreOwned (elements_of frame flags items) (length (elements_of frame flags items)) out.places.items b) (are : AreConstants b.constants) (all_bound : All (IsBound b.labels) b.uses) where
+  abbrev xs : List Element
+  xs = elements_of frame flags items
+
+  abbrev use_at : ℕ → Use LabelUse
+  use_at k = get_or f.final.uses k no_use
+
+  abbrev cells : List (ℕ × Cell)
+  cells = standing (map (cells_of frame flags) items) out.places.items
+
+  -- ---- labels
+
+  -- the label of a use is bound, and listed
+  pub record HasGoal (label : MachLabel) : Type 0 where
+    pub goal : ℕ
+    pub bound : get b.labels label.0 ≡ Some goal
+    pub listed : Contains out.labels.items (label, goal)
+
+  has_goal : (label : MachLabel) (k : ℕ) → k < length b.uses → (get_or b.uses k no_use).target ≡ Label label → HasGoal label
+  has_goal label k lt target = go (get b.labels label.0) refl (subst (λ (t : Target). IfSome (label_of t) (λ l. IsSome (get b.labels l))) target (all_bound k no_use lt))
+    where
+      go : (g : Option ℕ) → get b.labels label.0 ≡ g → IsSome g → HasGoal label
+      go None e s = absurd (false≢true s)
+      go (Some goal) e s = record {
+        goal = goal;
+        bound = e;
+        listed = subst (λ (ls : List (MachLabel × ℕ)). Contains ls (label, goal)) (sym o.labels) ((f.labels.listed label goal).1 e);
+      }
+
+  -- ---- the pool
+
+  pool_written : IsWritten b.constants b b f.final f.final f.served
+  pool_written = record {
+    serves = f.serves;
+    known = f.later;
+    later = later_none f.final;
+    sound = f.sound;
+    count = omega arith;
+    started = λ k d lt. refl;
+    low = λ k d lt. (f.sound.placed k d lt).inside;
+    new = λ k d ge lt c. no_constant (get_or f.final.uses k d).target (f.given k d ge lt).labelled c;
+  }
+
+  -- a use of one of the shorter urgencies is a cell's
+  short_cell : (k : ℕ) → k < length f.final.uses → (class label_kinds (use_at k) ≡ Near) ⊎ (class label_kinds (use_at k) ≡ Middle) → IsCellUse cells (site_of (use_at k))
+  short_cell k w short = elim (cases_lt k (length b.uses)) [
+    | inl old ↦
+        let same = f.later.uses k no_use old in
+        let site = old_site b code f out o k no_use old in
+        let want : wants (class label_kinds (get_or b.uses k no_use)) ≡ true = ap (λ (s : ℕ × Site). wants (class_of label_kinds s.1.target s.1.kind)) (sym site) ∙ short_wants short in
+        elim (owned k no_use old want) [
+          | inl c ↦ subst (λ cs. IsCellUse cs (site_of (use_at k))) (all_cells_are frame flags items out.places.items) (subst (IsCellUse (standing (map cells_in (take (length xs) xs)) out.places.items)) (sym site) c)
+          | inr j ↦ absurd (not_jump (same.kind ∙ j.kind))
+        ]
+    | inr new ↦ elim (f.given k no_use new w).kind [
+      | inl jump ↦ absurd (not_jump jump)
+      | inr far ↦ absurd (not_far far)
+    ]
+  ]
+    where
+      kinds : ((use_at k).kind ≡ uses.Branch14) ⊎ ((use_at k).kind ≡ uses.Branch19)
+      kinds = (short_kind (use_at k).target (use_at k).kind short).1
+
+      short_wants : (class label_kinds (use_at k) ≡ Near) ⊎ (class label_kinds (use_at k) ≡ Middle) → wants (class label_kinds (use_at k)) ≡ true
+      short_wants s = elim s [ inl n ↦ ap wants n | inr n ↦ ap wants n ]
+
+      not_jump : (use_at k).kind ≡ uses.Branch26 → ⊥
+      not_jump e = elim kinds [ inl s ↦ (let z : uses.Branch14 ≡ uses.Branch26 = sym s ∙ e in cc) | inr s ↦ (let z : uses.Branch19 ≡ uses.Branch26 = sym s ∙ e in cc) ]
+
+      not_far : (use_at k).kind ≡ uses.PCRel32 → ⊥
+      not_far e = elim kinds [ inl s ↦ (let z : uses.Branch14 ≡ uses.PCRel32 = sym s ∙ e in cc) | inr s ↦ (let z : uses.Branch19 ≡ uses.PCRel32 = sym s ∙ e in cc) ]
+
+  abbrev Told : Type 0
+  Told = ℕ × Target × LabelUse
+
+  -- a jump word in the pool is a veneer word
+  pool_veneer : (k : ℕ) → length b.uses ≤ k → k < length f.final.uses → wants (class label_kinds (use_at k)) ≡ true → ((use_at k).kind ≡ uses.Branch26) × IsVeneerWord frame flags items out (use_at k).offset (use_at k).target
+  pool_veneer k new w want =
+      let front : List Told = map pieces.site_of b.uses in
+      let between : List Told = flat_map (pieces.piece_sites label_kinds b.constants) (pieces.pieces label_kinds b.constants (end_of b) f.served) in
+      let words : List ℕ = flat_map (pieces.piece_words label_kinds b.constants) (pieces.pieces label_kinds b.constants (end_of b) f.served) in
+      let told : Told = (0, IslandEnd, uses.Branch26) in
+      let long : length front ≡ length b.uses = length-map b.uses (pieces.site_of {K = LabelUse}) in
+      let all = length-append front between in
+      let count : length f.final.uses ≡ length front + length between = sym (length-map f.final.uses (pieces.site_of {K = LabelUse})) ∙ (ap length f.serves.uses_are ∙ all) in
+      let back : length front + (k - length front) ≡ k = omega (arith, long, new) in
+      let here : get_or between (k - length front) told ≡ pieces.site_of (use_at k) =
+      sym (get_or-append-add front between (k - length front) told)
+      ∙ (ap (λ n. get_or (front ++ between) n told) back
+      ∙ (ap (λ ss. get_or ss k told) (sym f.serves.uses_are) ∙ get_or-map pieces.site_of f.final.uses k no_use told w)) in
+      let wanting : wants (class_of label_kinds (get_or between (k - length front) told).1 (get_or between (k - length front) told).2) ≡ true = ap (λ (t : Told). wants (class_of label_kinds t.1 t.2)) here ∙ want in
+      let j : IsPieceJump b.constants (end_of b) f.served (pieces.site_of (use_at k)) = subst (IsPieceJump b.constants (end_of b) f.served) here (piece_jump b.constants (end_of b) f.served f.serves.stops (k - length front) told (omega (arith, back, count, w)) wanting) in
+      let q : IsServed label_kinds b.labels b f.final (get_or f.served j.served no_use) = f.serves.waited j.served no_use j.within in
+      let is : use_at q.index ≡ get_or f.served j.served no_use = q.is no_use in
+      let final_end : end_of f.final ≡ end_of b + 4 * length words = omega (arith, ap length f.serves.words, length-append b.words words) in
+      let short : (class label_kinds (use_at q.index) ≡ Near) ⊎ (class label_kinds (use_at q.index) ≡ Middle) = subst (λ (u : Use LabelUse). (class label_kinds u ≡ Near) ⊎ (class label_kinds u ≡ Middle)) (sym is) (j.class_is no_use) in
+      let kinds = short_kind (use_at q.index).target (use_at q.index).kind short in
+      let target : (use_at q.index).target ≡ (use_at k).target = ap (λ (u : Use LabelUse). u.target) is ∙ j.target no_use in
+      let stop : (use_at q.index).stop ≡ Some (use_at k).offset = ap (λ (u : Use LabelUse). u.stop) is ∙ j.stops no_use in
+      let want_user : wants (class label_kinds (use_at q.index)) ≡ true = elim short [ inl n ↦ ap wants n | inr n ↦ ap wants n ] in
+      let jump : (use_at k).kind ≡ uses.Branch26 = j.kind in
+      let settled = use_settled b code f out o k no_use w in
+      let at : (use_at k).offset / 4 ≡ length b.words + j.number = omega (arith, j.place_is) in
+      let put : get_or f.final.words ((use_at k).offset / 4) 0 ≡ 0x14000000 =
+      ap (λ n. get_or f.final.words n 0) at ∙ (ap (λ ws. get_or ws (length b.words + j.number) 0) f.serves.words ∙ (get_or-append-add b.words words j.number 0 ∙ j.word)) in
+      let pool = pool_is b code f out o in
+      let last = end_is b code f out o in (
+        jump,
+        record {
+          area =
+              let n : length out.islands.items + 0 ≡ length out.islands.items = omega arith in
+              let area_is : get_or (areas out) (length out.islands.items) (0, 0) ≡ (out.pool, length out.bytes.items) = ap (λ i. get_or (areas out) i (0, 0)) (sym n) ∙ get_or-append-add out.islands.items ((out.pool, length out.bytes.items) ∷ []) 0 (0, 0) in
+              record {
+                index = length out.islands.items;
+                within = omega (arith, length-append out.islands.items ((out.pool, length out.bytes.items) ∷ []));
+                begins = omega (arith, ap (λ (i : ℕ × ℕ). i.0) area_is, pool, j.place_is);
+                ends = omega (arith, ap (λ (i : ℕ × ℕ). i.1) area_is, last, final_end, j.place_is, j.inside);
+              };
+          word = subst (λ kind. outside (mask_for kind) (word_at out.bytes.items (use_at k).offset) ≡ outside (mask_for kind) (get_or f.final.words ((use_at k).offset / 4) 0)) jump settled.rest ∙ ap (outside (mask_for uses.Branch26)) put;
+          labelled = subst (λ t. IsSome (label_of t)) target kinds.0;
+          user = (use_at q.index).offset;
+          kind = (use_at q.index).kind;
+          short = kinds.1;
+          use' = subst (λ t. IsCellUse cells ((use_at q.index).offset, record { kind = (use_at q.index).kind; target = t })) target (short_cell q.index q.within short);
+          stops = says_stop frame flags items force b code f out o h owned q.index q.within want_user (use_at k).offset stop;
+          not_over = λ island listed begins says.
+              let known : Contains b.islands island = subst (λ is. Contains is island) (o.islands ∙ f.islands) listed in
+              let below : island.1 ≤ end_of b = subst (λ (i : ℕ × ℕ). i.1 ≤ end_of b) known.2 (h.laid.below known.0 island known.1) in
+              let tall : island.0 + 4 ≤ island.1 = subst (λ (i : ℕ × ℕ). i.0 + 4 ≤ i.1) known.2 (h.laid.once known.0 island known.1).stands.long in
+              omega (arith, below, tall, begins, j.place_is);
+        },
+      )
+
+  -- what the pool serves is a cell's use or a veneer word
+  pool_wanting : (u : Use LabelUse) (q : IsServed label_kinds b.labels b f.final u) → IsWanting frame flags items out u.offset (site_of u).1
+  pool_wanting u q = elim (cases_lt q.index (length b.uses)) [
+    | inl old ↦ old_wanting frame flags items force b code f out o h owned are b b f.final f.served pool_written u q old
+    | inr new ↦
+        let want : wants (class label_kinds (use_at q.index)) ≡ true = ap (λ (v : Use LabelUse). wants (class label_kinds v)) (q.is no_use) ∙ q.wants_one in
+        subst (λ (v : Use LabelUse). IsWanting frame flags items out v.offset (site_of v).1) (q.is no_use)
+        (record { wanting = want; is = inr (pool_veneer q.index new q.within want) })
+  ]
+
+  -- its label is out of its range
+  pool_far : (u : Use LabelUse) (q : IsServed label_kinds b.labels b f.final u) → IsFarOff b.constants out (site_of u)
+  pool_far u q = go u.target refl q.far_off q.wants_one
+    where
+      goal : (label : MachLabel) → u.target ≡ Label label → HasGoal label
+      goal label e = elim (cases_lt q.index (length b.uses)) [
+        | inl old ↦ has_goal label q.index old (sym (f.later.uses q.index no_use old).target ∙ (ap (λ (w : Use LabelUse). w.target) (q.is no_use) ∙ e))
+        | inr new ↦ (let v = f.given q.index no_use new q.within in has_goal label v.parent v.within (v.target no_use ∙ (ap (λ (w : Use LabelUse). w.target) (q.is no_use) ∙ e)))
+      ]
+
+      go : (t : Target) → u.target ≡ t → IfSome (goal_of b.labels t) (λ place. is_within label_kinds u.kind u.offset place ≡ false) → wants (class_of label_kinds t u.kind) ≡ true → IsFarOff b.constants out (u.offset, record { kind = u.kind; target = t })
+      go (Label label) e far w =
+          let g = goal label e in
+          (g.goal, g.listed, subst (λ (x : Option ℕ). IfSome x (λ place. is_within label_kinds u.kind u.offset place ≡ false)) g.bound far)
+      go (Constant n) e far w = tt
+      go (Trap x) e far w = tt
+      go IslandEnd e far w = absurd (false≢true w)
+
+  -- the pool holds what uses still wait for, in the order of islands, and nothing else
+  pub pool_filled : IsFilledPool frame flags items b.constants out
+  pool_filled =
+      let pool = pool_is b code f out o in
+      subst (λ n. HoldsPieces frame flags items b.constants out n n (length out.bytes.items) (IsFarOff b.constants out)) (sym pool)
+      (subst (λ n. HoldsPieces frame flags items b.constants out (end_of b) (end_of b) n (IsFarOff b.constants out)) (sym (end_is b code f out o))
+      (holds_pieces frame flags items force b code f out o h owned are b b f.final f.served pool_written (IsFarOff b.constants out) pool_wanting (λ k l. pool_far (get_or f.served k no_use) (f.serves.waited k no_use l))))
+
+  -- ---- an island
+
+  module _ (island : ℕ × ℕ) (listed : Contains b.islands island) (z : WasAsked force (elements_of frame flags items) (length (elements_of frame flags items)) (out.places.items ++ end_of b ∷ []) b island) where
+    abbrev m : Buffer LabelUse
+    m = z.moment
+
+    abbrev begun_m : Buffer LabelUse
+    begun_m = pieces.begun label_kinds z.moment
+
+    since_moment : IsLater m b
+    since_moment = later_trans m z.written b z.has.later z.since
+
+    new_use : (v : Use LabelUse) → IsNewUse label_kinds m v → IsSome (pieces.constant_of v.target) → ⊥
+    new_use v new c = elim new [
+      | inl over ↦ false≢true (subst (λ t. IsSome (pieces.constant_of t)) over.0 c)
+      | inr veneer ↦ no_constant v.target veneer.labelled c
+    ]
+
+    begun_end : end_of begun_m ≡ end_of m + 4
+    begun_end = omega (arith, length-append m.words (0x14000000 ∷ []))
+
+    island_written : IsWritten b.constants m begun_m z.written f.final z.has.served
+    island_written = record {
+      serves = subst (λ cs. Serves label_kinds m.labels cs z.has.served begun_m z.written) (sym since_moment.constants) z.has.serves;
+      known = later_trans m b f.final since_moment f.later;
+      later = later_trans z.written b f.final z.since f.later;
+      sound = z.whole.sound;
+      count = omega (arith, length-append m.uses (pieces.over_use label_kinds (end_of m) ∷ []));
+      started = λ k d lt. get_or_append_left m.uses (pieces.over_use label_kinds (end_of m) ∷ []) d k lt;
+      low = All-append (λ (u : Use LabelUse). u.offset < end_of begun_m) m.uses (pieces.over_use label_kinds (end_of m) ∷ [])
+          (λ k d lt. let x = (z.whole.sound.placed k d lt).inside in omega (arith, x, begun_end))
+          (λ k d lt. one k d lt);
+      new = λ k d ge lt c. new_use (get_or z.written.uses k d) (z.has.given k d ge lt) c;
+    }
+      where
+        one : (k : ℕ) (d : Use LabelUse) → k < 1 → (get_or (pieces.over_use label_kinds (end_of m) ∷ []) k d).offset < end_of begun_m
+        one zero d lt = omega (arith, begun_end)
+        one (suc k) d lt = absurd (omega (arith, lt))
+
+    served_old : (u : Use LabelUse) (q : IsServed label_kinds m.labels begun_m z.written u) → q.index < length b.uses
+    served_old u q = omega (arith, q.within, z.since.count)
+
+    -- its label is out of its range, or bound later
+    island_late : (u : Use LabelUse) (q : IsServed label_kinds m.labels begun_m z.written u) → IsLateOrFar frame flags items b.constants out z.after (site_of u)
+    island_late u q = go u.target refl q.far_off q.wants_one
+      where
+        go : (t : Target) → u.target ≡ t → IfSome (goal_of m.labels t) (λ place. is_within label_kinds u.kind u.offset place ≡ false) → wants (class_of label_kinds t u.kind) ≡ true → IsLateOrFar frame flags items b.constants out z.after (u.offset, record { kind = u.kind; target = t })
+        go (Constant n) e far w = tt
+        go (Trap x) e far w = tt
+        go IslandEnd e far w = absurd (false≢true w)
+        go (Label label) e far w = (g.goal, g.listed, where_bound (cases_lt z.after only.0))
+          where
+            g : HasGoal label
+            g = has_goal label q.index (served_old u q) ((z.since.uses q.index no_use q.within).target ∙ (ap (λ (v : Use LabelUse). v.target) (q.is no_use) ∙ e))
+
+            only : (i : ℕ) × (i < length xs) × (element_at xs i ≡ Binding label.0) × (get_or out.places.items i 0 ≡ g.goal)
+            only = h.labels.only label.0 g.goal g.bound
+
+            bound_there : only.0 ≤ z.after → IsSome (get m.labels label.0)
+            bound_there le =
+                let inside : only.0 < length (take (z.after + 1) xs) = omega (arith, le, z.within, length-take-le (z.after + 1) xs (omega (arith, z.within))) in
+                z.bound label.0 (bound_at (take (z.after + 1) xs) only.0 label.0 inside (get_or-take (z.after + 1) xs only.0 (Asking 0) (omega (arith, le)) ∙ only.2))
+
+            out_of_range : (p : Option ℕ) → get m.labels label.0 ≡ p → IsSome p → is_within label_kinds u.kind u.offset g.goal ≡ false
+            out_of_range None at s = absurd (false≢true s)
+            out_of_range (Some place) at s =
+                let same : place ≡ g.goal = some_same (sym (since_moment.labels label.0 place at) ∙ g.bound) in
+                subst (λ n. is_within label_kinds u.kind u.offset n ≡ false) same (subst (λ (x : Option ℕ). IfSome x (λ place. is_within label_kinds u.kind u.offset place ≡ false)) at far)
+
+            where_bound : (z.after < only.0) ⊎ (only.0 ≤ z.after) → (is_within label_kinds u.kind u.offset g.goal ≡ false) ⊎ ((i : ℕ) × (z.after < i) × (slice_get items i ≡ Some (Bind label)))
+            where_bound (inl later) = inr (only.0, later, binding_item frame flags items only.0 label.0 (let x = only.1 in omega (arith, x, length-map items (element_of frame flags))) only.2)
+            where_bound (inr early) = inl (out_of_range (get m.labels label.0) refl (bound_there early))
+
+    -- and it is open there
+    island_open : (k : ℕ) → k < length z.has.served → IsOpenIn frame flags items out z.after island.0 island.1 (site_of (get_or z.has.served k no_use))
+    island_open k l = at u.stop refl q.stops
+      where
+        u : Use LabelUse
+        u = get_or z.has.served k no_use
+
+        q : IsServed label_kinds m.labels begun_m z.written u
+        q = z.has.serves.waited k no_use l
+
+        s : FinalServed frame flags items force b code f out o h owned are m begun_m z.written z.has.served island_written u
+        s = final_served frame flags items force b code f out o h owned are m begun_m z.written z.has.served island_written u q
+
+        want : wants (class label_kinds (use_at s.index)) ≡ true
+        want = ap (λ (t : ℕ × Site). wants (class_of label_kinds t.1.target t.1.kind)) s.is ∙ q.wants_one
+
+        low : (stop : ℕ) → u.stop ≡ Some stop → island.0 < stop
+        low stop e = let x = stops_from m.constants (end_of begun_m) z.has.served z.has.serves.stops k no_use l stop e in omega (arith, x, begun_end, z.at)
+
+        no_label : (label : ℕ) (stop : ℕ) → get m.labels label ≡ Some stop → island.0 < stop → ⊥
+        no_label label stop e less =
+            let x : (stop % 4 ≡ 0) × (stop ≤ end_of m) = subst (λ g. IfSome g (λ place. (place % 4 ≡ 0) × (place ≤ end_of m))) e (z.whole.sound.bound label) in
+            omega (arith, x.1, less, z.at)
+
+        inside : (stop : ℕ) → u.stop ≡ Some stop → stop < island.1
+        inside stop e = within u.target q.wants_one (subst (λ g. IfSome g (λ x. (x < end_of z.written) ⊎ (goal_of z.written.labels u.target ≡ Some x) ⊎ (u.target ≡ IslandEnd))) e
+            (subst (λ (v : Use LabelUse). IfSome v.stop (λ x. (x < end_of z.written) ⊎ (goal_of z.written.labels v.target ≡ Some x) ⊎ (v.target ≡ IslandEnd))) (q.is no_use) (stops_below label_kinds z.written z.written.islands z.has.whole.sound q.index no_use q.within)))
+          where
+            below : stop < end_of z.written → stop < island.1
+            below lt = omega (arith, lt, z.ends)
+
+            within : (t : Target) → wants (class_of label_kinds t u.kind) ≡ true → (stop < end_of z.written) ⊎ (goal_of z.written.labels t ≡ Some stop) ⊎ (t ≡ IslandEnd) → stop < island.1
+            within t w (inl lt) = below lt
+            within (Label label) w (inr (inl goal)) = absurd (no_label label.0 stop (ap (λ labels. get labels label.0) (sym z.has.labels) ∙ goal) (low stop e))
+            within (Constant n) w (inr (inl goal)) = absurd cc
+            within (Trap x) w (inr (inl goal)) = absurd cc
+            within IslandEnd w (inr (inl goal)) = absurd (false≢true w)
+            within t w (inr (inr end)) = absurd (false≢true (sym (ap (λ t. wants (class_of label_kinds t u.kind)) end) ∙ w))
+
+        at : (g : Option ℕ) → u.stop ≡ g → IsSome g → IsOpenIn frame flags items out z.after island.0 island.1 (site_of u)
+        at None e some = absurd (false≢true some)
+        at (Some stop) e some = record {
+          is = old_wanting frame flags items force b code f out o h owned are m begun_m z.written z.has.served island_written u q (served_old u q);
+          before =
+              let p = (z.has.whole.sound.placed q.index no_use q.within).inside in
+              omega (arith, p, ap (λ (v : Use LabelUse). v.offset) (q.is no_use), z.ends);
+          stop = stop;
+          stops = subst (λ (t : ℕ × Site). StopsAt out t.1.kind 0 t.0 stop) s.is (says_stop frame flags items force b code f out o h owned s.index s.within want stop (s.stop_kept stop e));
+          from = let x = low stop e in omega (arith, x);
+          away = λ label i target early item place.
+              let count : length xs ≡ length items = length-map items (element_of frame flags) in
+              let placed = slice_get_within out.places.items i stop place in
+              let here : get_or out.places.items i 0 ≡ stop = some_same (sym (slice_get-get_or out.places.items i 0 placed) ∙ place) in
+              let station : get_or (out.places.items ++ end_of b ∷ []) i 0 ≡ get_or out.places.items i 0 = get_or_append_left out.places.items (end_of b ∷ []) 0 i placed in
+              let first = low stop e in
+              let last = inside stop e in
+              not_inside xs (length xs) out.places.items b.islands (end_of b) h.laid island listed i (omega (arith, placed, h.laid.each_placed)) (omega (arith, first, station, here)) (omega (arith, last, station, here));
+        }
+
+    abbrev May : ℕ × Site → Type 0
+    May u = IsOpenIn frame flags items out z.after island.0 island.1 u × IsLateOrFar frame flags items b.constants out z.after u
+
+    island_filled : IsFilledIsland frame flags items b.constants out island
+    island_filled =
+        let inside : z.after < length xs = z.within in
+        record {
+          after = z.after;
+          within = omega (arith, inside, length-map items (element_of frame flags));
+          begins = z.stands.begins ∙ end_same frame flags items force b code f out o h z.after z.within;
+          holds =
+              let begin : end_of m ≡ island.0 = z.at in
+              let start : end_of begun_m ≡ island.0 + 4 = omega (arith, begun_end, begin) in
+              subst (λ n. HoldsPieces frame flags items b.constants out n (island.0 + 4) island.1 May) begin
+              (subst (λ n. HoldsPieces frame flags items b.constants out (end_of m) n island.1 May) start
+              (subst (λ n. HoldsPieces frame flags items b.constants out (end_of m) (end_of begun_m) n May) z.ends
+              (holds_pieces frame flags items force b code f out o h owned are m begun_m z.written z.has.served island_written May
+              (λ u q. old_wanting frame flags items force b code f out o h owned are m begun_m z.written z.has.served island_written u q (served_old u q))
+              (λ k l. (island_open k l, island_late (get_or z.has.served k no_use) (z.has.serves.waited k no_use l))))));
+        }
+
+  -- each island holds what uses waited for there, in the order of islands, and nothing else
+  pub islands_filled : All (IsFilledIsland frame flags items b.constants out) out.islands.items
+  islands_filled = All-same (IsFilledIsland frame flags items b.constants out) out.islands.items b.islands (o.islands ∙ f.islands)
+      (λ i d w. island_filled (get_or b.islands i d) (i, w, get_or_default b.islands i (get_or b.islands i d) d w) (h.asked i d w))

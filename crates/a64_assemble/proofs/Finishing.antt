@@ -1,0 +1,84 @@
+-- What the finished code of elements is: laid, short, and with islands only where they may stand.
+use Rattle.std.proofs.Common.{ℕ, ◌≡◌, ◌+◌, ◌<◌, ◌≤◌, true, List, [], ◌∷◌, ◌++◌, All, length, get_or, map, take, Option, None, Some, refl, sym, ap, ◌∙◌, subst, arith, inl, inr}
+use Rattle.std.specs.Prelude.{Contains, IsSome, MatchOption}
+use Rattle.std.proofs.lemmas.Bool.{false≢true}
+use Rattle.std.proofs.lemmas.List.{get_or_append_left}
+use Rattle.std.proofs.lemmas.List.Elements.{All-same}
+use Rattle.a64_buffer.specs.declared.finish.Finished.{Finished}
+use Rattle.a64_buffer.specs.declared.force.ForceVeneers.{ForceVeneers}
+use Rattle.a64_buffer.specs.declared.force.ForceVeneers.TheVariants.{Yes}
+use Rattle.a64_buffer.specs.declared.site.Target.{Target}
+use Rattle.a64_buffer.specs.declared.site.Target.TheVariants.{Label, Constant, Trap, IslandEnd}
+use Rattle.a64_buffer.specs.Buffer.{Buffer, end_of}
+use Rattle.a64_buffer.specs.Classes.{wants, class, class_of}
+use Rattle.a64_buffer.specs.Finished.{IsFinished}
+use Rattle.a64_buffer.specs.Leads.{TargetLeads}
+use Rattle.a64_buffer.proofs.Laters.{later_trans}
+use Rattle.a64_emit.specs.declared.label_use.LabelUse.{LabelUse}
+use Rattle.a64_emit.specs.LabelUses.{label_kinds}
+use Rattle.a64_emit.specs.Layout.{standing}
+use Rattle.a64_emit.specs.Emission.{IsPut}
+use Rattle.a64_assemble.specs.Elements.{Element, Binding, Words, Asking, cells_in, size_in, whole_in, is_asking, element_at}
+use Rattle.a64_assemble.specs.Stations.{IsLaid, end_of_element}
+use Rattle.a64_assemble.specs.OpenUses.{SomeOpenAt, IsCaused}
+use Rattle.a64_assemble.specs.Progress.{AreGood, AreQuiet, HasPut}
+use Rattle.a64_emit.proofs.Later.{put_later}
+use Rattle.a64_assemble.proofs.Standings.{still}
+use Rattle.a64_assemble.proofs.Forcing.{none_open}
+use Rattle.a64_assemble.proofs.Promoting.{is_caused}
+use Rattle.a64_assemble.proofs.Progress.{bounded_all}
+
+no_size : (x : Element) → is_asking x ≡ true → size_in x ≡ 0
+no_size (Binding l) e = refl
+no_size (Words cells) e = absurd (false≢true e)
+no_size (Asking space) e = refl
+
+-- in finished code each use that may want something stops somewhere
+pub all_stop : (b : Buffer LabelUse) (code : Finished) (f : IsFinished label_kinds b code) → All (λ u. wants (class label_kinds u) ≡ true → IsSome u.stop) f.final.uses
+all_stop b code f j d w want = go (get_or f.final.uses j d).target (get_or f.final.uses j d).kind (get_or f.final.uses j d).stop want (f.leads j d w)
+  where
+    go : (t : Target) (kind : LabelUse) (o : Option ℕ) → wants (class_of label_kinds t kind) ≡ true → MatchOption o (t ≡ IslandEnd) (TargetLeads label_kinds code.bytes.items (b.islands ++ (end_of b, end_of f.final) ∷ []) b.labels b.constants code.traps.items kind t) → IsSome o
+    go t kind (Some s) want l = refl
+    go (Label l) kind None want e = absurd (let z : Label l ≡ IslandEnd = e in cc)
+    go (Constant c) kind None want e = absurd (let z : Constant c ≡ IslandEnd = e in cc)
+    go (Trap c) kind None want e = absurd (let z : Trap c ≡ IslandEnd = e in cc)
+    go IslandEnd kind None want e = absurd (false≢true want)
+
+module _ (force : ForceVeneers) (xs : List Element) (good : AreGood xs) (places : List ℕ) (b : Buffer LabelUse) (h : HasPut force xs (length xs) places b) (code : Finished) (f : IsFinished label_kinds b code) where
+  -- the code is at most the sizes, the charges and the asked spaces long
+  pub code_short : length code.bytes.items ≤ whole_in xs
+  code_short = omega (arith, f.same_length, f.longest, bounded_all force xs good places b h)
+
+  pub code_laid : IsLaid xs (length xs) places code.islands.items code.pool
+  code_laid = subst (λ end. IsLaid xs (length xs) places code.islands.items end) (sym f.pool) (subst (λ is. IsLaid xs (length xs) places is (end_of b)) (sym f.islands) h.laid)
+
+  -- each cell stands at its place in the last buffer
+  pub cells_final : All (IsPut f.final) (standing (map cells_in (take (length xs) xs)) places)
+  cells_final i d w = put_later b f.final (still b f.final f.later) (get_or (standing (map cells_in (take (length xs) xs)) places) i d) (h.cells i d w)
+
+  -- each island is needed where it stands, or forced
+  pub code_caused : All (IsCaused xs f.final force (places ++ code.pool ∷ [])) code.islands.items
+  code_caused =
+      subst (λ end. All (IsCaused xs f.final force (places ++ end ∷ [])) code.islands.items) (sym f.pool)
+      (All-same (IsCaused xs f.final force (places ++ end_of b ∷ [])) code.islands.items b.islands f.islands
+      (λ i d w. is_caused force xs (places ++ end_of b ∷ []) b f.final (get_or b.islands i d) f.later (all_stop b code f) (h.asked i d w)))
+
+  -- quiet input has none
+  pub code_quiet : AreQuiet force xs → code.islands.items ≡ []
+  code_quiet q = f.islands ∙ (h.quiet q).0
+
+  -- and where islands are forced, one stands wherever one is asked for and a use is open
+  pub code_forced : force ≡ Yes → (i : ℕ) → i < length xs → is_asking (element_at xs i) ≡ true → SomeOpenAt xs f.final i (get_or places i 0) → Contains code.islands.items (get_or places i 0, get_or (places ++ code.pool ∷ []) (i + 1) 0)
+  code_forced now i w is open' =
+      let s : List ℕ = places ++ end_of b ∷ [] in
+      let at : get_or s i 0 ≡ get_or places i 0 = get_or_append_left places (end_of b ∷ []) 0 i (omega (arith, w, h.laid.each_placed)) in
+      let size : size_in (element_at xs i) ≡ 0 = no_size (element_at xs i) is in
+      elim (h.forced now i w is) [
+        | inr left ↦ absurd (none_open xs left.moment f.final i left.whole left.closed left.bound (later_trans left.moment b f.final left.later f.later) (subst (SomeOpenAt xs f.final i) (sym (left.at ∙ at)) open'))
+        | inl island ↦ elim (h.laid.next i w) [
+          | inl flat ↦ absurd (omega (arith, flat, island, size))
+          | inr there ↦
+              let p : (end_of_element xs s i, get_or s (i + 1) 0) ≡ (get_or places i 0, get_or s (i + 1) 0) = ap (λ e. (e, get_or s (i + 1) 0)) (let z : end_of_element xs s i ≡ get_or places i 0 = omega (arith, at, size) in z) in
+              subst (λ end. Contains code.islands.items (get_or places i 0, get_or (places ++ end ∷ []) (i + 1) 0)) (sym f.pool) (subst (λ is. Contains is (get_or places i 0, get_or s (i + 1) 0)) (sym f.islands) (subst (Contains b.islands) p there.0))
+        ]
+      ]

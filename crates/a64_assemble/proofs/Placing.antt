@@ -1,0 +1,331 @@
+-- The uses that finished code has by its bytes are those that the buffer knows.
+use Rattle.std.proofs.Common.{ℕ, zero, suc, pos, ◌+ℤ◌, ◌≡◌, ◌⊎◌, ◌+◌, ◌-◌, ◌*◌, ◌/◌, ◌<◌, ◌≤◌, true, false, List, [], ◌∷◌, ◌++◌, All, length, get_or, map, take, Option, None, Some, refl, sym, ap, ◌∙◌, subst, arith, inl, inr}
+use Rattle.std.specs.Prelude.{Contains, IsSome, IfSome, MatchOption}
+use Rattle.std.specs.FinMap.{get}
+use Rattle.std.proofs.lemmas.Bool.{cases_lt, cases_eq, false≢true}
+use Rattle.std.proofs.lemmas.List.{length-append, get_or_append_left, get_or-append-add, get_or_default, take_all}
+use Rattle.a64_inst.specs.declared.emission.EmitFlags.{EmitFlags}
+use Rattle.a64_inst.specs.declared.frame.FrameLayout.{FrameLayout}
+use Rattle.a64_inst.specs.declared.item.Item.{Item}
+use Rattle.a64_buffer.specs.declared.site.Use.{Use}
+use Rattle.a64_buffer.specs.declared.site.Target.{Target}
+use Rattle.a64_buffer.specs.declared.site.Target.TheVariants.{Label, Constant, Trap, IslandEnd}
+use Rattle.a64_buffer.specs.declared.finish.Finished.{Finished}
+use Rattle.a64_buffer.specs.declared.force.ForceVeneers.{ForceVeneers}
+use Rattle.a64_buffer.specs.Areas.{InArea}
+use Rattle.a64_buffer.specs.Word.{outside, word_at}
+use Rattle.a64_buffer.specs.Kinds.{GoesTo}
+use Rattle.a64_buffer.specs.Buffer.{Buffer, end_of, label_of, IsFree}
+use Rattle.a64_buffer.specs.Classes.{wants, class, class_of}
+use Rattle.a64_buffer.specs.Sound.{IsJump, IsFar, IsStop, IsRightlyOpen, LeadsOn}
+use Rattle.a64_buffer.specs.Finished.{IsFinished}
+use Rattle.a64_emit.specs.declared.code.Code.{Code}
+use Rattle.a64_emit.specs.declared.label_use.LabelUse.{LabelUse}
+use Rattle.a64_emit.specs.declared.label_use.LabelUse.TheVariants as uses
+use Rattle.a64_emit.specs.declared.site.Site.{Site}
+use Rattle.a64_emit.specs.LabelUses.{label_kinds, mask_for, adds_distance}
+use Rattle.a64_emit.specs.Cells.{Cell, cells_of}
+use Rattle.a64_emit.specs.Layout.{standing}
+use Rattle.a64_emit.specs.Emission.{site_of, HasUse, IsPut}
+use Rattle.a64_emit.specs.Contents.{site_class, IsCellUse}
+use Rattle.a64_emit.specs.Leads.{areas, StopsAt}
+use Rattle.a64_assemble.specs.Elements.{Element, cells_in, elements_of}
+use Rattle.a64_assemble.specs.Stations.{IsLaid, end_of_element}
+use Rattle.a64_assemble.specs.Progress.{HasPut}
+use Rattle.a64_assemble.specs.Owners.{IsGivenJump, AreOwned}
+use Rattle.a64_assemble.specs.Placement.{IsVeneerWord, IsWanting}
+use Rattle.a64_emit.proofs.Arrivals.{no_use, IsOutput, pool_is, use_settled, word_free, old_site}
+use Rattle.a64_assemble.proofs.Finishing.{all_stop}
+use Rattle.a64_assemble.proofs.Itemized.{cells_same}
+use Rattle.a64_emit.proofs.Pooled.{wanting_kind}
+
+-- ---- where a word leads
+
+-- the words of kinds that replace a field say by themselves where they lead
+goes_so : (kind : LabelUse) (put word place stop : ℕ) → adds_distance kind ≡ false → GoesTo label_kinds kind put word place stop → GoesTo label_kinds kind 0 word place stop
+goes_so uses.Branch14 put word place stop e g = g
+goes_so uses.Branch19 put word place stop e g = g
+goes_so uses.Branch26 put word place stop e g = g
+goes_so uses.Ldr19 put word place stop e g = g
+goes_so uses.Adr21 put word place stop e g = g
+goes_so uses.PCRel32 put word place stop e g = absurd (false≢true (sym e))
+
+one_number : {m n : ℕ} → pos m ≡ pos n → m ≡ n
+one_number e = cc
+
+one_stop : (kind : LabelUse) (word place s t : ℕ) → adds_distance kind ≡ false → GoesTo label_kinds kind 0 word place s → GoesTo label_kinds kind 0 word place t → s ≡ t
+one_stop uses.Branch14 word place s t e g h = one_number (sym g ∙ h)
+one_stop uses.Branch19 word place s t e g h = one_number (sym g ∙ h)
+one_stop uses.Branch26 word place s t e g h = one_number (sym g ∙ h)
+one_stop uses.Ldr19 word place s t e g h = one_number (sym g ∙ h)
+one_stop uses.Adr21 word place s t e g h = one_number (sym g ∙ h)
+one_stop uses.PCRel32 word place s t e g h = absurd (false≢true (sym e))
+
+some_number : {m n : ℕ} → Some m ≡ Some n → m ≡ n
+some_number e = cc
+
+-- a branch of one of the shorter kinds to a label may want something
+short_wants : (t : Target) (kind : LabelUse) → IsSome (label_of t) → (kind ≡ uses.Branch14) ⊎ (kind ≡ uses.Branch19) → wants (class_of label_kinds t kind) ≡ true
+short_wants (Label l) kind s e = elim e [ inl k ↦ ap (λ k. wants (class_of label_kinds (Label l) k)) k | inr k ↦ ap (λ k. wants (class_of label_kinds (Label l) k)) k ]
+short_wants (Constant c) kind s e = absurd (false≢true s)
+short_wants (Trap c) kind s e = absurd (false≢true s)
+short_wants IslandEnd kind s e = absurd (false≢true s)
+
+-- ---- stations
+
+module _ (xs : List Element) (count : ℕ) (places : List ℕ) (islands : List (ℕ × ℕ)) (end : ℕ) (laid : IsLaid xs count places islands end) where
+  abbrev station : ℕ → ℕ
+  station i = get_or (places ++ end ∷ []) i 0
+
+  next_station : (i : ℕ) → i < count → station i ≤ station (i + 1)
+  next_station i h = elim (laid.next i h) [ inl flat ↦ omega (arith, flat) | inr island ↦ (let long = island.1.long in omega (arith, long)) ]
+
+  stations_rise : (n i : ℕ) → i + n ≤ count → station i ≤ station (i + n)
+  stations_rise zero i h = let e : i ≡ i + 0 = omega arith in subst (λ j. station i ≤ station j) e (omega arith)
+  stations_rise (suc n) i h =
+      let e : i + n + 1 ≡ i + suc n = omega arith in
+      subst (λ j. station i ≤ station j) e (let a = stations_rise n i (omega (arith, h)) in let b = next_station (i + n) (omega (arith, h)) in omega (arith, a, b))
+
+  rises : (i j : ℕ) → i ≤ j → j ≤ count → station i ≤ station j
+  rises i j le h = let e : i + (j - i) ≡ j = omega (arith, le) in subst (λ k. station i ≤ station k) e (stations_rise (j - i) i (omega (arith, le, h)))
+
+  -- no element stands inside of an island
+  pub not_inside : (island : ℕ × ℕ) → Contains islands island → (i : ℕ) → i < count → island.0 < station i → station i < island.1 → ⊥
+  not_inside island listed i h low high =
+      let once = subst (λ (x : ℕ × ℕ). (after : ℕ) × (after < count) × (x.0 ≡ end_of_element xs (places ++ end ∷ []) after) × (x.1 ≡ station (after + 1))) listed.2 (let z = laid.once listed.0 island listed.1 in (z.after, z.within, z.stands.begins, z.stands.ends)) in
+      elim (cases_lt once.0 i) [
+        | inl behind ↦ (let a = rises (once.0 + 1) i (omega (arith, behind)) (omega (arith, h)) in omega (arith, a, once.3, high))
+        | inr before ↦ (let a = rises i once.0 (omega (arith, before)) (let w = once.1 in omega (arith, w)) in omega (arith, a, once.2, low))
+      ]
+
+  -- an island does not begin inside of another
+  pub islands_apart : (x y : ℕ × ℕ) → Contains islands x → Contains islands y → x.0 < y.0 → y.0 < x.1 → ⊥
+  islands_apart x y cx cy low high = elim (cases_lt cx.0 cy.0) [
+    | inl lt ↦ (let a = laid.apart cx.0 cy.0 x lt cy.1 in omega (arith, a, ap (λ (i : ℕ × ℕ). i.1) cx.2, ap (λ (i : ℕ × ℕ). i.0) (get_or_default islands cy.0 x y cy.1 ∙ cy.2), high))
+    | inr ge ↦ elim (cases_eq cx.0 cy.0) [
+      | inl e ↦ (let same : x ≡ y = sym cx.2 ∙ (ap (λ n. get_or islands n x) e ∙ (get_or_default islands cy.0 x y cy.1 ∙ cy.2)) in omega (arith, ap (λ (i : ℕ × ℕ). i.0) same, low))
+      | inr ne ↦ (let a = laid.apart cy.0 cx.0 x (omega (arith, ge, ne)) cx.1 in let long : y.0 ≤ y.1 = subst (λ (i : ℕ × ℕ). i.0 ≤ i.1) cy.2 (let z = (laid.once cy.0 y cy.1).stands.long in omega (arith, z)) in omega (arith, a, long, ap (λ (i : ℕ × ℕ). i.0) cx.2, ap (λ (i : ℕ × ℕ). i.1) (get_or_default islands cy.0 x y cy.1 ∙ cy.2), low))
+    ]
+  ]
+
+-- ---- uses by bytes
+
+module _ (frame : FrameLayout) (flags : EmitFlags) where
+  pub cell_lists : (items : List Item) → map cells_in (elements_of frame flags items) ≡ map (cells_of frame flags) items
+  cell_lists [] = refl
+  cell_lists (x ∷ items) = ap (λ cs. cs ∷ map cells_in (elements_of frame flags items)) (cells_same frame flags x) ∙ ap (λ css. cells_of frame flags x ∷ css) (cell_lists items)
+
+  pub all_cells_are : (items : List Item) (places : List ℕ) → standing (map cells_in (take (length (elements_of frame flags items)) (elements_of frame flags items))) places ≡ standing (map (cells_of frame flags) items) places
+  all_cells_are items places = ap (λ xs. standing (map cells_in xs) places) (take_all (length (elements_of frame flags items)) (elements_of frame flags items) (omega arith)) ∙ ap (λ css. standing css places) (cell_lists items)
+
+module _ (frame : FrameLayout) (flags : EmitFlags) (items : List Item) (force : ForceVeneers) (b : Buffer LabelUse) (code : Finished) (f : IsFinished label_kinds b code) (out : Code) (o : IsOutput code out) (h : HasPut force (elements_of frame flags items) (length (elements_of frame flags items)) out.places.items b) (owned : AreOwned (elements_of frame flags items) (length (elements_of frame flags items)) out.places.items b) where
+  abbrev xs : List Element
+  xs = elements_of frame flags items
+
+  abbrev cells : List (ℕ × Cell)
+  cells = standing (map (cells_of frame flags) items) out.places.items
+
+  abbrev use_at : ℕ → Use LabelUse
+  use_at k = get_or f.final.uses k no_use
+
+  islands_are : out.islands.items ≡ b.islands
+  islands_are = o.islands ∙ f.islands
+
+  pool_at : out.pool ≡ end_of b
+  pool_at = pool_is b code f out o
+
+  final_within : (k : ℕ) → k < length b.uses → k < length f.final.uses
+  final_within k w = omega (arith, w, f.later.count)
+
+  old_wants : (k : ℕ) → k < length b.uses → wants (class label_kinds (use_at k)) ≡ true → wants (class label_kinds (get_or b.uses k no_use)) ≡ true
+  old_wants k w want = ap (λ (s : ℕ × Site). wants (site_class s.1)) (sym (old_site b code f out o k no_use w)) ∙ want
+
+  adds_none : (k : ℕ) → k < length f.final.uses → wants (class label_kinds (use_at k)) ≡ true → adds_distance (use_at k).kind ≡ false
+  adds_none k w want = wanting_kind (use_at k).target (use_at k).kind want (f.final_sound.kinded k no_use w)
+
+  -- the word of a use that may want something says where it stops
+  pub says_stop : (k : ℕ) → k < length f.final.uses → wants (class label_kinds (use_at k)) ≡ true → (stop : ℕ) → (use_at k).stop ≡ Some stop → StopsAt out (use_at k).kind 0 (use_at k).offset stop
+  says_stop k w want stop e =
+      let settled = use_settled b code f out o k no_use w in
+      let goes = subst (λ g. IfSome g (GoesTo label_kinds (use_at k).kind (get_or f.final.words ((use_at k).offset / 4) 0) (word_at out.bytes.items (use_at k).offset) (use_at k).offset)) e settled.stops in
+      goes_so (use_at k).kind (get_or f.final.words ((use_at k).offset / 4) 0) (word_at out.bytes.items (use_at k).offset) (use_at k).offset stop (adds_none k w want) goes
+
+  -- and it says no other place
+  pub stop_said : (k : ℕ) → k < length f.final.uses → wants (class label_kinds (use_at k)) ≡ true → (stop : ℕ) → StopsAt out (use_at k).kind 0 (use_at k).offset stop → (use_at k).stop ≡ Some stop
+  stop_said k w want stop says = go (use_at k).stop refl (all_stop b code f k no_use w want)
+    where
+      go : (g : Option ℕ) → (use_at k).stop ≡ g → IsSome g → g ≡ Some stop
+      go None e s = absurd (false≢true s)
+      go (Some t) e s = ap (λ n. Some n) (one_stop (use_at k).kind (word_at out.bytes.items (use_at k).offset) (use_at k).offset t stop (adds_none k w want) (says_stop k w want t e) says)
+
+  -- ---- a use that the buffer knows stands in the bytes
+
+  cell_in : (k : ℕ) (d : Use LabelUse) → k < length b.uses → IsCellUse (standing (map cells_in (take (length xs) xs)) out.places.items) (site_of (get_or b.uses k d)) → IsCellUse cells (site_of (get_or f.final.uses k d))
+  cell_in k d w c = subst (IsCellUse cells) (sym (old_site b code f out o k d w)) (subst (λ cs. IsCellUse cs (site_of (get_or b.uses k d))) (all_cells_are frame flags items out.places.items) c)
+
+  veneer_in : (k : ℕ) → k < length b.uses → IsGivenJump (standing (map cells_in (take (length xs) xs)) out.places.items) b (get_or b.uses k no_use) → IsVeneerWord frame flags items out (use_at k).offset (use_at k).target
+  veneer_in k w j =
+      let same = f.later.uses k no_use w in
+      let at : (use_at k).offset ≡ (get_or b.uses k no_use).offset = same.offset in
+      let p = f.later.uses j.parent no_use j.within in
+      let kind : (use_at j.parent).kind ≡ (get_or b.uses j.parent no_use).kind = p.kind in
+      let target : (use_at j.parent).target ≡ (use_at k).target = p.target ∙ (j.target no_use ∙ sym same.target) in
+      let short : ((use_at j.parent).kind ≡ uses.Branch14) ⊎ ((use_at j.parent).kind ≡ uses.Branch19) = elim (j.short no_use) [ inl s ↦ inl (kind ∙ s) | inr s ↦ inr (kind ∙ s) ] in
+      let labelled : IsSome (label_of (use_at j.parent).target) = subst (λ t. IsSome (label_of t)) (sym (p.target ∙ j.target no_use)) j.labelled in
+      let want : wants (class label_kinds (use_at j.parent)) ≡ true = short_wants (use_at j.parent).target (use_at j.parent).kind labelled short in
+      let there : (use_at j.parent).stop ≡ Some (use_at k).offset = p.kept (get_or b.uses k no_use).offset (j.stops no_use) ∙ ap (λ n. Some n) (sym at) in
+      let settled = use_settled b code f out o k no_use (final_within k w) in
+      let jump : (use_at k).kind ≡ uses.Branch26 = same.kind ∙ j.kind in
+      let put : get_or f.final.words ((use_at k).offset / 4) 0 ≡ 0x14000000 = ap (λ n. get_or f.final.words (n / 4) 0) at ∙ (f.later.words ((get_or b.uses k no_use).offset / 4) (let x = j.inside in omega (arith, x)) ∙ j.word) in
+      record {
+        area = subst (λ n. InArea (areas out) n 4) (sym at) (listed_area j.island (get_or b.uses k no_use).offset j.listed (let x = j.behind in omega (arith, x)) j.before);
+        word = subst (λ kind. outside (mask_for kind) (word_at out.bytes.items (use_at k).offset) ≡ outside (mask_for kind) (get_or f.final.words ((use_at k).offset / 4) 0)) jump settled.rest ∙ ap (outside (mask_for uses.Branch26)) put;
+        labelled = subst (λ t. IsSome (label_of t)) target labelled;
+        user = (use_at j.parent).offset;
+        kind = (use_at j.parent).kind;
+        short = short;
+        use' = subst (λ t. IsCellUse cells ((use_at j.parent).offset, record { kind = (use_at j.parent).kind; target = t })) target (cell_in j.parent no_use j.within (j.owned no_use));
+        stops = says_stop j.parent (final_within j.parent j.within) want (use_at k).offset there;
+        not_over = λ island listed begins says. islands_apart xs (length xs) out.places.items b.islands (end_of b) h.laid j.island island j.listed (subst (λ is. Contains is island) islands_are listed) (let x = j.behind in omega (arith, x, at, begins)) (let x = j.before in omega (arith, x, at, begins));
+      }
+    where
+      listed_area : (island : ℕ × ℕ) (place : ℕ) → Contains b.islands island → island.0 ≤ place → place + 4 ≤ island.1 → InArea (areas out) place 4
+      listed_area island place listed low high =
+          let is : get_or (areas out) listed.0 (0, 0) ≡ island =
+          get_or_append_left out.islands.items ((out.pool, length out.bytes.items) ∷ []) (0, 0) listed.0 (let n = ap length islands_are in let l = listed.1 in omega (arith, n, l))
+          ∙ (ap (λ is. get_or is listed.0 (0, 0)) islands_are ∙ (get_or_default b.islands listed.0 (0, 0) island listed.1 ∙ listed.2)) in
+          let n = ap length islands_are in
+          let l = listed.1 in
+          record {
+            index = listed.0;
+            within = omega (arith, n, l, length-append out.islands.items ((out.pool, length out.bytes.items) ∷ []));
+            begins = let e = ap (λ (i : ℕ × ℕ). i.0) is in omega (arith, e, low);
+            ends = let e = ap (λ (i : ℕ × ℕ). i.1) is in omega (arith, e, high);
+          }
+
+  pub wanting_in : (k : ℕ) → k < length b.uses → wants (class label_kinds (use_at k)) ≡ true → IsWanting frame flags items out (use_at k).offset (site_of (use_at k)).1
+  wanting_in k w want = record {
+    wanting = want;
+    is = elim (owned k no_use w (old_wants k w want)) [
+      | inl c ↦ inl (cell_in k no_use w c)
+      | inr j ↦ inr ((f.later.uses k no_use w).kind ∙ j.kind, veneer_in k w j)
+    ];
+  }
+
+  -- ---- and what stands in the bytes before the pool, the buffer knows
+
+  pub record IsKnownUse (u : ℕ × Site) : Type 0 where
+    pub index : ℕ
+    pub within : index < length b.uses
+    pub is : site_of (use_at index) ≡ u
+
+  pub known_cell : (u : ℕ × Site) → IsCellUse cells u → IsKnownUse u
+  known_cell u c =
+      let all : All (IsPut b) cells = subst (λ cs. All (IsPut b) cs) (all_cells_are frame flags items out.places.items) h.cells in
+      let put : IsPut b c.0 = subst (IsPut b) c.1.2 (all c.1.0 c.0 c.1.1) in
+      let r : HasUse b.uses c.0.0 u.1 = subst (λ s. MatchOption s (IsFree b.uses c.0.0) (HasUse b.uses c.0.0)) c.3 put.site in
+      record { index = r.index; within = r.within; is = old_site b code f out o r.index no_use r.within ∙ (r.is no_use ∙ ap (λ n. (n, u.1)) c.2) }
+
+  -- what stands where a shorter branch stops
+  module _ (place : ℕ) (target : Target) (v : IsVeneerWord frame flags items out place target) (early : place < out.pool) where
+    user_known : IsKnownUse (v.user, record { kind = v.kind; target = target })
+    user_known = known_cell (v.user, record { kind = v.kind; target = target }) v.use'
+
+    abbrev user : Use LabelUse
+    user = use_at user_known.index
+
+    user_within : user_known.index < length f.final.uses
+    user_within = final_within user_known.index user_known.within
+
+    user_wants : wants (class label_kinds user) ≡ true
+    user_wants = ap (λ (s : ℕ × Site). wants (site_class s.1)) user_known.is ∙ short_wants target v.kind v.labelled v.short
+
+    user_stops : user.stop ≡ Some place
+    user_stops = stop_said user_known.index user_within user_wants place (subst (λ (s : ℕ × Site). StopsAt out s.1.kind 0 s.0 place) (sym user_known.is) v.stops)
+
+    user_leads : IsStop label_kinds f.final (b.islands ++ (end_of b, end_of f.final) ∷ []) user.target user.kind user.offset place
+    user_leads = subst (λ g. MatchOption g (IsRightlyOpen label_kinds f.final (b.islands ++ (end_of b, end_of f.final) ∷ []) user.target user.kind user.offset) (IsStop label_kinds f.final (b.islands ++ (end_of b, end_of f.final) ∷ []) user.target user.kind user.offset)) user_stops (f.final_sound.stops user_known.index no_use user_within)
+
+    -- no label is bound there
+    no_label : (label : ℕ) → get f.final.labels label ≡ Some place → ⊥
+    no_label label e =
+        let only = h.labels.only label place (ap (λ labels. get labels label) (sym f.labels_kept) ∙ e) in
+        let at : get_or (out.places.items ++ end_of b ∷ []) only.0 0 ≡ place = get_or_append_left out.places.items (end_of b ∷ []) 0 only.0 (let w = only.1 in omega (arith, w, h.laid.each_placed)) ∙ only.3 in
+        elim (cases_lt v.area.index (length out.islands.items)) [
+          | inl inside ↦
+              let island : ℕ × ℕ = get_or out.islands.items v.area.index (0, 0) in
+              let is : get_or (areas out) v.area.index (0, 0) ≡ island = get_or_append_left out.islands.items ((out.pool, length out.bytes.items) ∷ []) (0, 0) v.area.index inside in
+              let listed : Contains out.islands.items island = (v.area.index, inside, get_or_default out.islands.items v.area.index island (0, 0) inside) in
+              let known : Contains b.islands island = subst (λ is. Contains is island) islands_are listed in
+              let low : island.0 ≤ place = omega (arith, v.area.begins, ap (λ (i : ℕ × ℕ). i.0) is) in
+              let high : place + 4 ≤ island.1 = omega (arith, v.area.ends, ap (λ (i : ℕ × ℕ). i.1) is) in
+              elim (cases_eq island.0 place) [
+                | inl first ↦ v.not_over island listed (sym first) (over island known first)
+                | inr ne ↦ not_inside xs (length xs) out.places.items b.islands (end_of b) h.laid island known only.0 only.1 (omega (arith, low, ne, at)) (omega (arith, high, at))
+              ]
+          | inr behind ↦
+              let long = length-append out.islands.items ((out.pool, length out.bytes.items) ∷ []) in
+              let w = v.area.within in
+              let n : v.area.index ≡ length out.islands.items + 0 = omega (arith, behind, long, w) in
+              let is : get_or (areas out) v.area.index (0, 0) ≡ (out.pool, length out.bytes.items) = ap (λ i. get_or (areas out) i (0, 0)) n ∙ get_or-append-add out.islands.items ((out.pool, length out.bytes.items) ∷ []) 0 (0, 0) in
+              omega (arith, v.area.begins, ap (λ (i : ℕ × ℕ). i.0) is, early)
+        ]
+      where
+        over : (island : ℕ × ℕ) → Contains b.islands island → island.0 ≡ place → StopsAt out uses.Branch26 0 place island.1
+        over island known first =
+            let j = f.jumps known.0 island known.1 in
+            let goes : pos island.0 +ℤ label_kinds.field uses.Branch26 (word_at code.bytes.items island.0) ≡ pos island.1 = subst (λ (i : ℕ × ℕ). GoesTo label_kinds uses.Branch26 0x14000000 (word_at code.bytes.items i.0) i.0 i.1) known.2 j.goes in
+            subst (λ n. pos n +ℤ label_kinds.field uses.Branch26 (word_at out.bytes.items n) ≡ pos island.1) first
+            (subst (λ bytes. pos island.0 +ℤ label_kinds.field uses.Branch26 (word_at bytes island.0) ≡ pos island.1) (sym o.bytes) goes)
+
+    -- nor a far veneer
+    no_far : IsFar label_kinds f.final (b.islands ++ (end_of b, end_of f.final) ∷ []) user.target place → ⊥
+    no_far far =
+        let aligned = user_leads.aligned in
+        let here : 4 * (place / 4) ≡ place = omega (arith, aligned) in
+        let start : place / 4 + 0 ≡ place / 4 = omega arith in
+        let also : place + 4 * 0 ≡ 4 * (place / 4) = omega (arith, here) in
+        let put : get_or f.final.words (place / 4) 0 ≡ 0x98000090 = ap (λ n. get_or f.final.words n 0) (sym start) ∙ far.stands.at 0 (omega arith) in
+        let free : IsFree f.final.uses (4 * (place / 4)) = subst (IsFree f.final.uses) also (far.stands.free 0 (omega arith)) in
+        let word : word_at out.bytes.items place ≡ 0x98000090 = ap (word_at out.bytes.items) (sym here) ∙ (word_free b code f out o (place / 4) (let i = far.stands.inside in omega (arith, i, here)) free ∙ put) in
+        no_jump (ap (outside (mask_for uses.Branch26)) (sym word) ∙ v.word)
+      where
+        no_jump : outside (mask_for uses.Branch26) 0x98000090 ≡ 0x14000000 → ⊥
+        no_jump e = let z : 0x98000000 ≡ 0x14000000 = e in omega (arith, z)
+
+    known_jump : IsKnownUse (place, record { kind = uses.Branch26; target = target })
+    known_jump = go target refl v.labelled
+      where
+        jump : IsJump label_kinds f.final (b.islands ++ (end_of b, end_of f.final) ∷ []) user.target place → IsKnownUse (place, record { kind = uses.Branch26; target = target })
+        jump j =
+            let u = j.use' in
+            record {
+              index = u.index;
+              within = elim (cases_lt u.index (length b.uses)) [
+                | inl old ↦ old
+                | inr new ↦ (let fresh = f.later.fresh u.index no_use new u.within in absurd (omega (arith, fresh, u.offset_is no_use, early, pool_at)))
+              ];
+              is =
+                  ap (λ n. (n, record { kind = (use_at u.index).kind; target = (use_at u.index).target })) (u.offset_is no_use)
+                  ∙ (ap (λ kind. (place, record { kind = kind; target = (use_at u.index).target })) (u.kind_is no_use)
+                  ∙ (ap (λ target. (place, record { kind = uses.Branch26; target = target })) (u.target_is no_use)
+                  ∙ ap (λ (s : ℕ × Site). (place, record { kind = uses.Branch26; target = s.1.target })) user_known.is));
+            }
+
+        go : (t : Target) → target ≡ t → IsSome (label_of t) → IsKnownUse (place, record { kind = uses.Branch26; target = target })
+        go (Label l) e s = elim (subst (λ t. LeadsOn label_kinds f.final (b.islands ++ (end_of b, end_of f.final) ∷ []) user.kind t place) (ap (λ (s : ℕ × Site). s.1.target) user_known.is ∙ e) user_leads.leads) [
+          | inl goal ↦ absurd (no_label l.0 goal)
+          | inr more ↦ elim more.1 [
+            | inl j ↦ jump (subst (λ t. IsJump label_kinds f.final (b.islands ++ (end_of b, end_of f.final) ∷ []) t place) (sym (ap (λ (s : ℕ × Site). s.1.target) user_known.is ∙ e)) j.1)
+            | inr far ↦ absurd (no_far (subst (λ t. IsFar label_kinds f.final (b.islands ++ (end_of b, end_of f.final) ∷ []) t place) (sym (ap (λ (s : ℕ × Site). s.1.target) user_known.is ∙ e)) far))
+          ]
+        ]
+        go (Constant c) e s = absurd (false≢true s)
+        go (Trap c) e s = absurd (false≢true s)
+        go IslandEnd e s = absurd (false≢true s)
+
+  pub wanting_known : (place : ℕ) (site : Site) → IsWanting frame flags items out place site → place < out.pool → IsKnownUse (place, site)
+  wanting_known place site w early = elim w.is [
+    | inl c ↦ known_cell (place, site) c
+    | inr v ↦ subst (λ kind. IsKnownUse (place, record { kind = kind; target = site.target })) (sym v.0) (known_jump place site.target v.1 early)
+  ]

@@ -1,0 +1,60 @@
+-- What an element does to a buffer that may write islands.
+use Rattle.std.specs.Prelude.{ℕ, ◌≡◌, ◌⊎◌, ◌+◌, ◌-◌, ◌^◌, ◌<◌, List, [], ◌∷◌, Option, None, Some}
+use Rattle.std.specs.FinMap.{get}
+use Rattle.a64_buffer.specs.declared.force.ForceVeneers.{ForceVeneers}
+use Rattle.a64_buffer.specs.declared.force.ForceVeneers.TheVariants.{No, Yes}
+use Rattle.a64_buffer.specs.Buffer.{Buffer, end_of}
+use Rattle.a64_buffer.specs.Classes.{owed, Fits}
+use Rattle.a64_buffer.specs.Sound.{IsWhole}
+use Rattle.a64_buffer.specs.Islands.{HasIsland}
+use Rattle.a64_emit.specs.declared.label_use.LabelUse.{LabelUse}
+use Rattle.a64_emit.specs.LabelUses.{label_kinds}
+use Rattle.a64_emit.specs.Cells.{Cell}
+use Rattle.a64_emit.specs.Emission.{appended, Binds}
+use Rattle.a64_assemble.specs.Elements.{Element, Binding, Words, Asking, growth_in, whole_in, IsCompact, next_room, room_of}
+
+-- an island was written, because it was needed, or forced while some use waited
+pub record Writes (distance : ℕ) (force : ForceVeneers) (b b' : Buffer LabelUse) : Type 0 where
+  pub cause : (Fits label_kinds b distance → ⊥) ⊎ ((force ≡ Yes) × (Fits label_kinds b (2 ^ 32 - 1) → ⊥))
+  pub island : HasIsland label_kinds distance force b b'
+
+-- none was, since none was needed, nor forced while some use waited
+pub record Leaves (distance : ℕ) (force : ForceVeneers) (b b' : Buffer LabelUse) : Type 0 where
+  pub fits : Fits label_kinds b distance
+  pub unforced : force ≡ Yes → Fits label_kinds b (2 ^ 32 - 1)
+  pub same : b' ≡ b
+
+-- room for so many bytes was asked for
+pub record Asks (distance : ℕ) (force : ForceVeneers) (b b' : Buffer LabelUse) : Type 0 where
+  pub whole : IsWhole label_kinds b
+  pub outcome : Writes distance force b b' ⊎ Leaves distance force b b'
+
+abbrev pub AsksNext : Option ℕ → Buffer LabelUse → Buffer LabelUse → Type 0
+AsksNext None b b' = b' ≡ b
+AsksNext (Some distance) b b' = Asks distance No b b'
+
+-- words were put, and then the room was asked for that is needed next
+abbrev pub PutsWords : List Cell → List Element → Buffer LabelUse → Buffer LabelUse → Type 0
+PutsWords [] rest b b' = b' ≡ b
+PutsWords (c ∷ cs) rest b b' = AsksNext (next_room rest) (appended b (c ∷ cs)) b'
+
+-- what an element in front of the rest did to a buffer
+abbrev pub Moves : ForceVeneers → Element → List Element → Buffer LabelUse → Buffer LabelUse → Type 0
+Moves force (Binding label) rest b b' = Binds (record { 0 = label }) b b'
+Moves force (Words cells) rest b b' = PutsWords cells rest b b'
+Moves force (Asking space) rest b b' = Asks space force b b'
+
+-- the label that an element binds, if it binds one, is not bound yet
+abbrev pub IsFreeToBind : Buffer LabelUse → Element → Type 0
+IsFreeToBind b (Binding label) = get b.labels label ≡ None
+IsFreeToBind b (Words cells) = Unit {0}
+IsFreeToBind b (Asking space) = Unit {0}
+
+-- what an element in front of the rest needs of a buffer
+pub record MayMove (x : Element) (rest : List Element) (b : Buffer LabelUse) : Type 0 where
+  pub whole : IsWhole label_kinds b
+  pub fits : Fits label_kinds b (room_of (x ∷ rest))
+  pub short : end_of b + owed label_kinds b + growth_in x < 2 ^ 31
+  pub compact : IsCompact x
+  pub unbound : IsFreeToBind b x
+  pub rest_short : whole_in rest < 2 ^ 31

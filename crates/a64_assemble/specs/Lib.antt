@@ -1,0 +1,11 @@
+pub mod Elements
+pub mod Asks
+pub mod Stations
+pub mod OpenUses
+pub mod LooseUses
+pub mod Progress
+pub mod Placement
+pub mod Owners
+pub mod TrapRecords
+pub mod Fillings
+pub mod Tally
