@@ -1,5 +1,5 @@
 -- Places for islands: items without words that ask for space.
-use Rattle.std.proofs.Common.{ℕ, ◌≡◌, ◌+◌, ◌*◌, ◌≤◌, ◌⊎◌, inl, inr, List, [], ◌∷◌, ◌++◌, length, take, map, Option, None, Some, IfSome, refl, sym, ap, ◌∙◌, subst, arith}
+use Rattle.std.proofs.Common.{ℕ, ◌≡◌, ◌+◌, ◌*◌, ◌≤◌, inl, [], length, Option, None, Some, refl, sym, ap, ◌∙◌, subst, arith}
 use Rattle.std.proofs.lemmas.List.{append-nil}
 use Rattle.a64_base.specs.declared.entity.UserStackMap.{UserStackMap}
 use Rattle.a64_inst.specs.declared.emission.EmitFlags.{EmitFlags}
@@ -10,12 +10,10 @@ use Rattle.a64_inst.specs.declared.item.Item.{Item}
 use Rattle.a64_inst.specs.declared.item.Item.TheVariants.{Bind, Emit}
 use Rattle.a64_inst.specs.State.{State}
 use Rattle.a64_buffer.specs.Buffer.{Buffer}
-use Rattle.a64_buffer.specs.Classes.{Fits}
 use Rattle.a64_emit.specs.declared.label_use.LabelUse.{LabelUse}
-use Rattle.a64_emit.specs.LabelUses.{label_kinds}
-use Rattle.a64_emit.specs.Cells.{Cell, shape_of, only_word, inst_cells, cells_of}
-use Rattle.a64_emit.specs.Bounds.{ranges_in, charge_of, asked_of, asked, item_charge}
-use Rattle.a64_emit.specs.Emission.{appended, IsAppendedInPart, IslandsIfNeeded, Puts, Emits, Steps}
+use Rattle.a64_emit.specs.Cells.{shape_of, only_word, inst_cells, cells_of}
+use Rattle.a64_emit.specs.Bounds.{ranges_in, charge_of, asked_of, item_charge}
+use Rattle.a64_emit.specs.Emission.{appended, IsAppendedInPart, IslandsIfNeeded, Puts, Emits}
 use Rattle.a64_emit.proofs.Burdens.{charge_least, charge_some}
 
 module _ (frame : FrameLayout) (flags : EmitFlags) where
@@ -50,32 +48,7 @@ module _ (frame : FrameLayout) (flags : EmitFlags) where
       go None e = omega (arith, charge_some (inst_cells frame flags inst) some, words_charge inst kept e)
       go (Some space) e = absurd (omega (arith, some, ap length (asked_words inst space e)))
 
-  -- ---- what is emitted
-
-  no_words : (b : Buffer LabelUse) → b ≡ appended b []
-  no_words b =
-      ap (λ ws. record b { words = ws }) (sym (append-nil b.words))
-      ∙ (ap (λ us. record b { words = b.words ++ []; uses = us }) (sym (append-nil b.uses))
-      ∙ ap (λ ts. record b { words = b.words ++ []; uses = b.uses ++ []; traps = ts }) (sym (append-nil b.traps)))
-
-  -- where the space fits, an instruction's cells stand at the end
-  pub emitted_words : (inst : Inst) (kept : Option UserStackMap) (b b' : Buffer LabelUse) → IfSome (asked_of inst) (Fits label_kinds b) → Steps frame flags (Emit inst kept) b b' → b' ≡ appended b (inst_cells frame flags inst)
-  emitted_words inst kept b b' = go (asked_of inst) refl
-    where
-      go : (o : Option ℕ) → asked_of inst ≡ o → IfSome o (Fits label_kinds b) → Puts o (inst_cells frame flags inst) b b' → b' ≡ appended b (inst_cells frame flags inst)
-      go None e fits s = s
-      go (Some space) e fits (inl s) = s.1 ∙ (no_words b ∙ ap (appended b) (sym (asked_words inst space e)))
-      go (Some space) e fits (inr s) = absurd (s.0 fits)
-
-  -- an item leaves the constants
-  pub steps_constants : (x : Item) (b b' : Buffer LabelUse) → Steps frame flags x b b' → b'.constants ≡ b.constants
-  steps_constants (Bind label) b b' = λ e. ap (λ (c : Buffer LabelUse). c.constants) e
-  steps_constants (Emit inst kept) b b' = go (asked_of inst)
-    where
-      go : (o : Option ℕ) → Puts o (inst_cells frame flags inst) b b' → b'.constants ≡ b.constants
-      go None s = ap (λ (c : Buffer LabelUse). c.constants) s
-      go (Some space) (inl s) = ap (λ (c : Buffer LabelUse). c.constants) s.1
-      go (Some space) (inr s) = s.1.later.constants
+-- ---- what is emitted
 
 module _ (flags : EmitFlags) (state : State) (inst : Inst) (b b' : Buffer LabelUse) where
   -- emission of words, and of an island where one is needed

@@ -22,7 +22,7 @@ use Rattle.a64_emit.specs.LabelUses.{label_kinds, urgency_of, forward_range}
 use Rattle.a64_emit.specs.Cells.{Cell, cells_of, all_cells, sites_of}
 use Rattle.a64_emit.specs.Bounds.{veneer_range, ranges_in, charge_of}
 use Rattle.a64_emit.proofs.Targets.{IsCodeTarget, IsCodeSite, inst_targets}
-use Rattle.a64_emit.specs.Emission.{use_at, uses_from, site_of, IsOneOf}
+use Rattle.a64_emit.specs.Emission.{use_at, uses_from, site_of}
 
 -- ---- what a use may want
 
@@ -93,10 +93,6 @@ module _ (frame : FrameLayout) (flags : EmitFlags) where
   all_targets [] = no_sites
   all_targets (x ∷ xs) = subst (All IsCodeSite) (sym (filter_map-append (λ cell. cell.site) (cells_of frame flags x) (all_cells frame flags xs)))
       (All-append IsCodeSite (sites_of (cells_of frame flags x)) (sites_of (all_cells frame flags xs)) (item_targets x) (all_targets xs))
-
-  -- and those of a buffer
-  pub use_target : (items : List Item) (end : ℕ) (u : Use LabelUse) → IsOneOf end (sites_of (all_cells frame flags items)) u → IsCodeTarget u.target u.kind
-  use_target items end u one = subst IsCodeSite (one.is (site_of u).1) (all_targets items one.index (site_of u).1 one.within)
 
 -- are of the kinds that the buffer asks for
 pub target_kinded : (t : Target) (kind : LabelUse) → IsCodeTarget t kind → IsKinded label_kinds t kind

@@ -1,5 +1,5 @@
 -- The form of an instruction of one word that has no fault of its own is a form of its row.
-use Rattle.std.proofs.Common.{ℕ, ◌≡◌, ◌+◌, ◌*◌, ◌<◌, ◌^◌, Bool, true, false, List, refl, ap, ◌∙◌, lit<, arith, rules}
+use Rattle.std.proofs.Common.{ℕ, ◌≡◌, ◌+◌, ◌*◌, ◌<◌, ◌^◌, Bool, true, false, List, refl, lit<, arith, rules}
 use Rattle.std.specs.Prelude.{◌&&◌, ◌||◌, ◌==◌, not}
 use Rattle.std.specs.List.{Contains}
 use Rattle.std.proofs.lemmas.Bool.{and_parts}
@@ -9,30 +9,25 @@ use Rattle.a64_base.specs.declared.shift.ExtendOp.{ExtendOp}
 use Rattle.a64_base.specs.declared.shift.ShiftOp.{ShiftOp}
 use Rattle.a64_base.specs.declared.shift.ShiftOp.TheVariants.{LSL, LSR, ASR, ROR}
 use Rattle.a64_base.specs.declared.size.OperandSize.{OperandSize}
-use Rattle.a64_base.specs.declared.size.OperandSize.TheVariants.{Size32, Size64}
 use Rattle.a64_base.specs.OperandSizes.{sf_of, operand_bits, is_32_bits, is_64_bits}
 use Rattle.a64_base.specs.ShiftParts.{Shift}
 use Rattle.a64_base.specs.Shifts.{shift_bits, extend_bits}
-use Rattle.a64_imms.specs.declared.imm_logic.ImmLogic.{ImmLogic}
-use Rattle.a64_imms.specs.Logic.{inverted, is_imm_logic, IsImmLogic}
-use Rattle.a64_imms.specs.LogicLaws.{r_fits, s_fits}
 use Rattle.a64_ops.specs.declared.operator.ALUOp.{ALUOp}
 use Rattle.a64_ops.specs.declared.operator.ALUOp.TheVariants as alu
 use Rattle.a64_ops.specs.declared.operator.ALUOp3.{ALUOp3}
 use Rattle.a64_ops.specs.declared.operator.ALUOp3.TheVariants.{MAdd, MSub, UMAddL, SMAddL}
 use Rattle.a64_inst.specs.declared.virtuals.VirtualRegisters.TheVariants.{Refused}
-use Rattle.a64_inst.specs.Operands.{is_register_or_zero, is_register_or_stack, is_same_size, is_bit_of, is_logic_of}
-use Rattle.a64_inst.specs.IntegerOperands.{is_high_product, is_long_product, is_add_sub_result, is_logic_result, is_no_rotation, takes_shift, are_alu_rrr_operands, are_alu_rrrr_operands, are_alu_rr_imm_logic_operands, are_alu_rrr_shift_operands, are_alu_rrr_extend_operands}
+use Rattle.a64_inst.specs.Operands.{is_register_or_zero, is_register_or_stack, is_bit_of}
+use Rattle.a64_inst.specs.IntegerOperands.{is_high_product, is_long_product, is_add_sub_result, is_no_rotation, takes_shift, are_alu_rrr_operands, are_alu_rrrr_operands, are_alu_rrr_shift_operands, are_alu_rrr_extend_operands}
 use Rattle.a64_rows.specs.declared.row_table.Row.{Row}
 use Rattle.a64_rows.specs.Forms.{Form, form_word, IsFormOf}
 use Rattle.a64_rows.specs.Limits.{is_bit_number}
-use Rattle.a64_rows.specs.DataProcessing.{add_sub_reg, logic_reg, add_sub_carry, data_proc2, mul_high, logic_imm}
+use Rattle.a64_rows.specs.DataProcessing.{add_sub_reg, logic_reg, add_sub_carry, data_proc2, mul_high}
 use Rattle.a64_enc_int.specs.Operators.{bit_of}
 use Rattle.a64_enc_int.specs.Registers.{register_field}
 use Rattle.a64_enc_int.specs.Named.{rows_of_rrr, rows_of_rrrr, rrr_number, rrrr_number, NamedForm}
-use Rattle.a64_enc_int.proofs.Immediates.{logic_within}
-use Rattle.a64_emit.specs.IntegerForms.{op_of, s_of, opc_of, n_of, TwoRegisters, two_registers, no_registers, no_shift, add_sub, logic, with_carry, two_sources, high_product, alu_form, alu_rrr_form, extraction, shifted_form, alu_rrr_shift_form, extended_form, alu_rrr_extend_form, product_form, alu_rrrr_form, logic_fields, taken}
-use Rattle.a64_emit.proofs.Operands.{zero_below, stack_below, add_sub_below, logic_below, sf_below, bit_below, bit_in, bit_number}
+use Rattle.a64_emit.specs.IntegerForms.{op_of, s_of, opc_of, n_of, TwoRegisters, two_registers, no_registers, no_shift, add_sub, logic, with_carry, two_sources, high_product, alu_form, alu_rrr_form, extraction, shifted_form, alu_rrr_shift_form, extended_form, alu_rrr_extend_form, product_form, alu_rrrr_form}
+use Rattle.a64_emit.proofs.Operands.{zero_below, stack_below, add_sub_below, sf_below, bit_below, bit_in, bit_number}
 
 -- ---- forms that raw bits name together with registers
 
@@ -62,7 +57,7 @@ pub record AreWithin (r : TwoRegisters) : Type 0 where
 pub registers_within : (size : OperandSize) (rd rn rm : Reg) → register_field rd < 32 → register_field rn < 32 → register_field rm < 32 → AreWithin (two_registers size rd rn rm)
 registers_within size rd rn rm d n m = record { sf = sf_below size; rm = m; rn = n; rd = d }
 
-zeros_within : (size : OperandSize) (rd rn rm : Reg) → (is_register_or_zero Refused rd && (is_register_or_zero Refused rn && is_register_or_zero Refused rm)) ≡ true → AreWithin (two_registers size rd rn rm)
+pub zeros_within : (size : OperandSize) (rd rn rm : Reg) → (is_register_or_zero Refused rd && (is_register_or_zero Refused rn && is_register_or_zero Refused rm)) ≡ true → AreWithin (two_registers size rd rn rm)
 zeros_within size rd rn rm e =
     let (result, operands) = and_parts (is_register_or_zero Refused rd) (is_register_or_zero Refused rn && is_register_or_zero Refused rm) e in
     let (first, second) = and_parts (is_register_or_zero Refused rn) (is_register_or_zero Refused rm) operands in
@@ -73,7 +68,7 @@ pub record IsShift (sf : ℕ) (shift : Shift) : Type 0 where
   pub amount : shift.amount < 2 ^ 6
   pub bit : is_bit_number sf shift.amount ≡ true
 
-no_shift_within : (sf : ℕ) → sf < 2 → IsShift sf no_shift
+pub no_shift_within : (sf : ℕ) → sf < 2 → IsShift sf no_shift
 no_shift_within sf h = record { amount = omega arith; bit = grind (arith, nat_tests) }
 
 shift_below : (op : ShiftOp) → shift_bits op < 2 ^ 2
@@ -85,19 +80,23 @@ no_rotation LSR e = refl
 no_rotation ASR e = refl
 no_rotation ROR e = absurd cc
 
-op_below : (op : ALUOp) → op_of op < 2
+pub op_below : (op : ALUOp) → op_of op < 2
 op_below op = grind arith
 
-s_below : (op : ALUOp) → s_of op < 2
+pub s_below : (op : ALUOp) → s_of op < 2
 s_below op = grind arith
 
-opc_below : (op : ALUOp) → opc_of op < 4
+pub opc_below : (op : ALUOp) → opc_of op < 4
 opc_below op = grind arith
 
 n_below : (op : ALUOp) → n_of op < 2
 n_below op = grind arith
 
-extend_below : (extend : ExtendOp) → extend_bits extend < 2 ^ 3
+pub bit_of_below : (bit : Bool) → bit_of bit < 2
+bit_of_below true = omega arith
+bit_of_below false = omega arith
+
+pub extend_below : (extend : ExtendOp) → extend_bits extend < 2 ^ 3
 extend_below extend = grind arith
 
 -- whether the row of an operator has the shift
@@ -107,6 +106,68 @@ has_shift alu.Sub shift = is_no_rotation shift
 has_shift alu.AddS shift = is_no_rotation shift
 has_shift alu.SubS shift = is_no_rotation shift
 has_shift _ shift = true
+
+-- the fields of each class of operation are within their widths and the row's limits
+module _ (r : TwoRegisters) (w : AreWithin r) where
+  add_sub_within : (op : ALUOp) (shift : Shift) → IsShift r.sf shift → is_no_rotation shift.op ≡ true → IsFormOf (add_sub_reg (add_sub op shift r))
+  add_sub_within op shift is kept =
+      ((w.sf, (op_below op, (s_below op, (shift_below shift.op, (w.rm, (is.amount, (w.rn, (w.rd, tt)))))))), rw (no_rotation shift.op kept) is.bit)
+
+  logic_form_within : (op : ALUOp) (shift : Shift) → IsShift r.sf shift → IsFormOf (logic_reg (logic op shift r))
+  logic_form_within op shift is = ((w.sf, (opc_below op, (shift_below shift.op, (n_below op, (w.rm, (is.amount, (w.rn, (w.rd, tt)))))))), is.bit)
+
+  pub extended_within : (op : ALUOp) (extend : ExtendOp) → IsFormOf (extended_form op extend r)
+  extended_within op extend = ((w.sf, (op_below op, (s_below op, (w.rm, (extend_below extend, (w.rn, (w.rd, tt))))))), refl)
+
+  with_carry_within : (op : ALUOp) → IsFormOf (add_sub_carry (with_carry op r))
+  with_carry_within op = ((w.sf, (op_below op, (s_below op, (w.rm, (w.rn, (w.rd, tt)))))), refl)
+
+  high_product_within : (u : ℕ) → u < 2 → IsFormOf (mul_high (high_product u r))
+  high_product_within u h = ((h, (w.rm, (w.rn, (w.rd, tt)))), refl)
+
+  pub extraction_within : (lowest : ℕ) → lowest < 2 ^ 6 → is_bit_number r.sf lowest ≡ true → IsFormOf (extraction lowest r)
+  extraction_within lowest small bit = ((w.sf, (w.rm, (small, (w.rn, (w.rd, tt))))), bit)
+
+  pub alu_within : (op : ALUOp) (shift : Shift) → IsShift r.sf shift → has_shift op shift.op ≡ true → IsFormOf (alu_form op shift r)
+  alu_within alu.Add shift is has = add_sub_within alu.Add shift is has
+  alu_within alu.Sub shift is has = add_sub_within alu.Sub shift is has
+  alu_within alu.AddS shift is has = add_sub_within alu.AddS shift is has
+  alu_within alu.SubS shift is has = add_sub_within alu.SubS shift is has
+  alu_within alu.And shift is has = logic_form_within alu.And shift is
+  alu_within alu.Orr shift is has = logic_form_within alu.Orr shift is
+  alu_within alu.Eor shift is has = logic_form_within alu.Eor shift is
+  alu_within alu.AndS shift is has = logic_form_within alu.AndS shift is
+  alu_within alu.AndNot shift is has = logic_form_within alu.AndNot shift is
+  alu_within alu.OrrNot shift is has = logic_form_within alu.OrrNot shift is
+  alu_within alu.EorNot shift is has = logic_form_within alu.EorNot shift is
+  alu_within alu.Adc shift is has = with_carry_within alu.Adc
+  alu_within alu.Sbc shift is has = with_carry_within alu.Sbc
+  alu_within alu.AdcS shift is has = with_carry_within alu.AdcS
+  alu_within alu.SbcS shift is has = with_carry_within alu.SbcS
+  alu_within alu.UDiv shift is has = search rules
+  alu_within alu.SDiv shift is has = search rules
+  alu_within alu.Lsl shift is has = search rules
+  alu_within alu.Lsr shift is has = search rules
+  alu_within alu.Asr shift is has = search rules
+  alu_within alu.Extr shift is has = search rules
+  alu_within alu.SMulH shift is has = high_product_within 0 (omega arith)
+  alu_within alu.UMulH shift is has = high_product_within 1 (omega arith)
+
+  -- of which the second is shifted, or an extraction
+  pub shifted_within : (op : ALUOp) (size : OperandSize) (shift : Shift) → takes_shift op size shift.op ≡ true → IsShift r.sf shift → IsFormOf (shifted_form op shift r)
+  shifted_within alu.Add size shift takes is = alu_within alu.Add shift is takes
+  shifted_within alu.Sub size shift takes is = alu_within alu.Sub shift is takes
+  shifted_within alu.AddS size shift takes is = alu_within alu.AddS shift is takes
+  shifted_within alu.SubS size shift takes is = alu_within alu.SubS shift is takes
+  shifted_within alu.And size shift takes is = alu_within alu.And shift is refl
+  shifted_within alu.Orr size shift takes is = alu_within alu.Orr shift is refl
+  shifted_within alu.Eor size shift takes is = alu_within alu.Eor shift is refl
+  shifted_within alu.AndS size shift takes is = alu_within alu.AndS shift is refl
+  shifted_within alu.AndNot size shift takes is = alu_within alu.AndNot shift is refl
+  shifted_within alu.OrrNot size shift takes is = alu_within alu.OrrNot shift is refl
+  shifted_within alu.EorNot size shift takes is = alu_within alu.EorNot shift is refl
+  shifted_within alu.Extr size shift takes is = extraction_within shift.amount is.amount is.bit
+  shifted_within _ size shift takes is = absurd cc
 
 -- raw bits are those of a form of registers, with zeros for the registers
 abbrev AreBitsOf : ℕ → ℕ → ℕ → (TwoRegisters → Form) → Type 0
@@ -120,28 +181,28 @@ module _ (top low : ℕ) (r : TwoRegisters) (w : AreWithin r) where
   add_sub_names : (op : ALUOp) (shift : Shift) → IsShift r.sf shift → is_no_rotation shift.op ≡ true → AreBitsOf top low r.sf (λ r. add_sub_reg (add_sub op shift r)) → NamesForm top low r (λ r. add_sub_reg (add_sub op shift r))
   add_sub_names op shift is kept e = record {
     listed = (0, lit< tt, refl);
-    within = ((w.sf, (op_below op, (s_below op, (shift_below shift.op, (w.rm, (is.amount, (w.rn, (w.rd, tt)))))))), rw (no_rotation shift.op kept) is.bit);
+    within = add_sub_within r w op shift is kept;
     word = omega arith;
   }
 
   logic_names : (op : ALUOp) (shift : Shift) → IsShift r.sf shift → AreBitsOf top low r.sf (λ r. logic_reg (logic op shift r)) → NamesForm top low r (λ r. logic_reg (logic op shift r))
   logic_names op shift is e = record {
     listed = (1, lit< tt, refl);
-    within = ((w.sf, (opc_below op, (shift_below shift.op, (n_below op, (w.rm, (is.amount, (w.rn, (w.rd, tt)))))))), is.bit);
+    within = logic_form_within r w op shift is;
     word = omega arith;
   }
 
   extended_names : (op : ALUOp) (extend : ExtendOp) → AreBitsOf top low r.sf (extended_form op extend) → NamesForm top low r (extended_form op extend)
   extended_names op extend e = record {
     listed = (2, lit< tt, refl);
-    within = ((w.sf, (op_below op, (s_below op, (w.rm, (extend_below extend, (w.rn, (w.rd, tt))))))), refl);
+    within = extended_within r w op extend;
     word = omega arith;
   }
 
   with_carry_names : (op : ALUOp) → AreBitsOf top low r.sf (λ r. add_sub_carry (with_carry op r)) → NamesForm top low r (λ r. add_sub_carry (with_carry op r))
   with_carry_names op e = record {
     listed = (3, lit< tt, refl);
-    within = ((w.sf, (op_below op, (s_below op, (w.rm, (w.rn, (w.rd, tt)))))), refl);
+    within = with_carry_within r w op;
     word = omega arith;
   }
 
@@ -149,12 +210,12 @@ module _ (top low : ℕ) (r : TwoRegisters) (w : AreWithin r) where
   two_sources_names op is e = record { listed = (4, lit< tt, refl); within = is; word = omega arith }
 
   high_product_names : (u : ℕ) → u < 2 → AreBitsOf top low r.sf (λ r. mul_high (high_product u r)) → NamesForm top low r (λ r. mul_high (high_product u r))
-  high_product_names u h e = record { listed = (5, lit< tt, refl); within = ((h, (w.rm, (w.rn, (w.rd, tt)))), refl); word = omega arith }
+  high_product_names u h e = record { listed = (5, lit< tt, refl); within = high_product_within r w u h; word = omega arith }
 
   extraction_names : (lowest : ℕ) → lowest < 2 ^ 6 → is_bit_number r.sf lowest ≡ true → AreBitsOf top low r.sf (extraction lowest) → NamesForm top low r (extraction lowest)
   extraction_names lowest small bit e = record {
     listed = (6, lit< tt, refl);
-    within = ((w.sf, (w.rm, (small, (w.rn, (w.rd, tt))))), bit);
+    within = extraction_within r w lowest small bit;
     word = omega arith;
   }
 
@@ -174,12 +235,12 @@ module _ (top low : ℕ) (r : TwoRegisters) (w : AreWithin r) where
   alu_names alu.Sbc shift is has e = with_carry_names alu.Sbc e
   alu_names alu.AdcS shift is has e = with_carry_names alu.AdcS e
   alu_names alu.SbcS shift is has e = with_carry_names alu.SbcS e
-  alu_names alu.UDiv shift is has e = two_sources_names alu.UDiv (search rules) e
-  alu_names alu.SDiv shift is has e = two_sources_names alu.SDiv (search rules) e
-  alu_names alu.Lsl shift is has e = two_sources_names alu.Lsl (search rules) e
-  alu_names alu.Lsr shift is has e = two_sources_names alu.Lsr (search rules) e
-  alu_names alu.Asr shift is has e = two_sources_names alu.Asr (search rules) e
-  alu_names alu.Extr shift is has e = two_sources_names alu.Extr (search rules) e
+  alu_names alu.UDiv shift is has e = two_sources_names alu.UDiv (alu_within r w alu.UDiv shift is has) e
+  alu_names alu.SDiv shift is has e = two_sources_names alu.SDiv (alu_within r w alu.SDiv shift is has) e
+  alu_names alu.Lsl shift is has e = two_sources_names alu.Lsl (alu_within r w alu.Lsl shift is has) e
+  alu_names alu.Lsr shift is has e = two_sources_names alu.Lsr (alu_within r w alu.Lsr shift is has) e
+  alu_names alu.Asr shift is has e = two_sources_names alu.Asr (alu_within r w alu.Asr shift is has) e
+  alu_names alu.Extr shift is has e = two_sources_names alu.Extr (alu_within r w alu.Extr shift is has) e
   alu_names alu.SMulH shift is has e = high_product_names 0 (omega arith) e
   alu_names alu.UMulH shift is has e = high_product_names 1 (omega arith) e
 
@@ -241,13 +302,19 @@ rotation_names size rd rn amount top low result operand bit e =
 
 -- ---- products
 
+pub product_within : (op : ALUOp3) (r : TwoRegisters) (ra : ℕ) → AreWithin r → ra < 32 → IsFormOf (product_form op ra r)
+product_within MAdd r ra w a = ((w.sf, (w.rm, (lit< tt, (a, (w.rn, (w.rd, tt)))))), refl)
+product_within MSub r ra w a = ((w.sf, (w.rm, (lit< tt, (a, (w.rn, (w.rd, tt)))))), refl)
+product_within UMAddL r ra w a = ((lit< tt, (w.rm, (a, (w.rn, (w.rd, tt))))), refl)
+product_within SMAddL r ra w a = ((lit< tt, (w.rm, (a, (w.rn, (w.rd, tt))))), refl)
+
 product_names : (op : ALUOp3) (top low : ℕ) (r : TwoRegisters) (ra : ℕ) → AreWithin r → ra < 32
     → top * 2 ^ 21 + low * 2 ^ 15 ≡ form_word (product_form op 0 (no_registers r.sf))
     → Names rows_of_rrrr (rrrr_number top low r.rd r.rn ra r.rm) (product_form op ra r)
-product_names MAdd top low r ra w a e = record { listed = (0, lit< tt, refl); within = ((w.sf, (w.rm, (lit< tt, (a, (w.rn, (w.rd, tt)))))), refl); word = omega arith }
-product_names MSub top low r ra w a e = record { listed = (0, lit< tt, refl); within = ((w.sf, (w.rm, (lit< tt, (a, (w.rn, (w.rd, tt)))))), refl); word = omega arith }
-product_names UMAddL top low r ra w a e = record { listed = (1, lit< tt, refl); within = ((lit< tt, (w.rm, (a, (w.rn, (w.rd, tt))))), refl); word = omega arith }
-product_names SMAddL top low r ra w a e = record { listed = (1, lit< tt, refl); within = ((lit< tt, (w.rm, (a, (w.rn, (w.rd, tt))))), refl); word = omega arith }
+product_names MAdd top low r ra w a e = record { listed = (0, lit< tt, refl); within = product_within MAdd r ra w a; word = omega arith }
+product_names MSub top low r ra w a e = record { listed = (0, lit< tt, refl); within = product_within MSub r ra w a; word = omega arith }
+product_names UMAddL top low r ra w a e = record { listed = (1, lit< tt, refl); within = product_within UMAddL r ra w a; word = omega arith }
+product_names SMAddL top low r ra w a e = record { listed = (1, lit< tt, refl); within = product_within SMAddL r ra w a; word = omega arith }
 
 pub alu_rrrr_names : (op : ALUOp3) (size : OperandSize) (rd rn rm ra : Reg) (top low : ℕ) → are_alu_rrrr_operands Refused op size rd rn rm ra ≡ true
     → top * 2 ^ 21 + low * 2 ^ 15 ≡ form_word (product_form op 0 (no_registers (sf_of size)))
@@ -259,31 +326,3 @@ alu_rrrr_names op size rd rn rm ra top low good e =
     let (first, others) = and_parts (is_register_or_zero Refused rn) (is_register_or_zero Refused rm && is_register_or_zero Refused ra) operands in
     let (second, third) = and_parts (is_register_or_zero Refused rm) (is_register_or_zero Refused ra) others in
     product_names op top low (two_registers size rd rn rm) (register_field ra) (registers_within size rd rn rm (zero_below rd result) (zero_below rn first) (zero_below rm second)) (zero_below ra third) e
-
--- ---- logical operations with an immediate
-
-same_size : (a b : OperandSize) → is_same_size a b ≡ true → a ≡ b
-same_size Size32 Size32 e = refl
-same_size Size64 Size64 e = refl
-same_size Size32 Size64 e = absurd cc
-same_size Size64 Size32 e = absurd cc
-
-taken_size : (op : ALUOp) (imm : ImmLogic) → (taken op imm).size ≡ imm.size
-unfolding inverted
-taken_size op imm = grind arith
-
-bit_of_below : (bit : Bool) → bit_of bit < 2
-bit_of_below true = omega arith
-bit_of_below false = omega arith
-
-pub alu_rr_imm_logic_is_form : (op : ALUOp) (size : OperandSize) (rd rn : Reg) (imml imm : ImmLogic) → are_alu_rr_imm_logic_operands Refused op size rd rn imml ≡ true
-    → imm ≡ taken op imml → IsImmLogic imm
-    → IsFormOf (logic_imm (logic_fields op size rd rn imm))
-unfolding are_alu_rr_imm_logic_operands
-alu_rr_imm_logic_is_form op size rd rn imml imm none is lawful =
-    let (result, others) = and_parts (is_logic_result Refused op rd) (is_register_or_zero Refused rn && is_logic_of size imml) none in
-    let (operand, of_size) = and_parts (is_register_or_zero Refused rn) (is_logic_of size imml) others in
-    let same : imm.size ≡ size = ap (λ (i : ImmLogic). i.size) is ∙ taken_size op imml ∙ same_size imml.size size (and_parts (is_same_size imml.size size) (is_imm_logic imml) of_size).0 in (
-      (sf_below size, (opc_below op, (bit_of_below imm.n, (r_fits imm.size imm lawful, (s_fits imm.size imm lawful, (zero_below rn operand, (logic_below op rd result, tt))))))),
-      logic_within size imm same lawful,
-    )

@@ -231,7 +231,7 @@ extension_bit true from_bits to_bits Size64 e size_is = grind (arith, nat_tests)
 extension_bit false from_bits to_bits Size32 e size_is = grind (arith, nat_tests)
 extension_bit false from_bits to_bits Size64 e size_is = absurd cc
 
-extend_result_below : (signed : Bool) (from_bits to_bits : ℕ) (rd : Reg) → is_extend_result Refused signed from_bits to_bits rd ≡ true → register_field rd < 32
+pub extend_result_below : (signed : Bool) (from_bits to_bits : ℕ) (rd : Reg) → is_extend_result Refused signed from_bits to_bits rd ≡ true → register_field rd < 32
 extend_result_below signed from_bits to_bits rd e = elim (cases_cond (not signed && nat_eq from_bits 1) (is_register_or_stack Refused rd) (if not signed && (nat_eq from_bits 32 && nat_eq to_bits 64) then is_register Refused rd else is_register_or_zero Refused rd) true (sym e)) [
   | inl bit ↦ stack_below rd (sym bit)
   | inr others ↦ elim (cases_cond (not signed && (nat_eq from_bits 32 && nat_eq to_bits 64)) (is_register Refused rd) (is_register_or_zero Refused rd) true others) [

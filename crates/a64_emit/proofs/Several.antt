@@ -4,7 +4,7 @@ use Rattle.std.specs.Prelude.{IfSome, IsSome}
 use Rattle.std.specs.Ordering.{nat_cmp, int_eq}
 use Rattle.std.specs.FinMap.{FinMap, get}
 use Rattle.std.specs.Int.RustNames.{unsigned_abs}
-use Rattle.std.specs.List.{cons_option, filter_map}
+use Rattle.std.specs.List.{cons_option}
 use Rattle.std.proofs.lemmas.List.{append-nil}
 use Rattle.a64_base.specs.declared.entity.TrapCode.{TrapCode}
 use Rattle.a64_base.specs.declared.reg.Reg.{Reg}
@@ -31,7 +31,6 @@ use Rattle.a64_rows.specs.Forms.{Form}
 use Rattle.a64_emit.specs.IntegerForms.{mov_form, alu_rrr_extend_form}
 use Rattle.a64_emit.specs.MemoryForms.{step_forms, addend_form, addend_register, sum_form, offset_register, access_steps, access_form}
 use Rattle.a64_emit.specs.declared.site.Site.{Site}
-use Rattle.a64_emit.specs.Bounds.{veneer_range, ranges_in}
 use Rattle.a64_emit.specs.Cells.{Body, FormOf, Cell, Shape, OneWord, Several, Words, quiet, several, literal_site, mode_site, memory_site, sum_shape, address_shape, access_shape, other_shape, shape_of, shape_cells, inst_cells, sites_of, use_of, uses_of}
 use Rattle.a64_emit.specs.Words.{AreSeveral, MayBePut, IsThere}
 

@@ -1,5 +1,5 @@
 -- The uses of instructions are of labels, of constants and of deferred traps.
-use Rattle.std.proofs.Common.{ℕ, ◌≡◌, suc, zero, List, [], ◌∷◌, Option, None, Some, refl, sym, subst, arith}
+use Rattle.std.proofs.Common.{◌≡◌, suc, zero, List, [], ◌∷◌, Option, None, Some, refl, sym, subst, arith}
 use Rattle.std.specs.Prelude.{All, IfSome}
 use Rattle.std.specs.List.{cons_option}
 use Rattle.std.proofs.lemmas.List.Elements.{All-append}

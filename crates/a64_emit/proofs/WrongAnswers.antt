@@ -8,7 +8,12 @@ use Rattle.a64_inst.specs.declared.frame.FrameLayout.{FrameLayout}
 use Rattle.a64_inst.specs.declared.inst.Inst.TheVariants.{Nop4, Jump}
 use Rattle.a64_inst.specs.declared.item.Item.TheVariants.{Bind, Emit}
 use Rattle.a64_buffer.specs.declared.force.ForceVeneers.{ForceVeneers}
+use Rattle.a64_rows.specs.declared.row_table.Row.TheVariants.{Brk}
+use Rattle.a64_rows.specs.Control.{branch_reg}
+use Rattle.a64_rows.specs.Forms.{form}
 use Rattle.a64_emit.specs.declared.code.Code.{Code}
+use Rattle.a64_emit.specs.Cells.{plain}
+use Rattle.a64_emit.specs.FormCells.{IsFormCell}
 use Rattle.a64_emit.specs.Layout.{Laid}
 use Rattle.a64_emit.specs.Reach.{loose, reach}
 
@@ -33,3 +38,10 @@ no_wait_behind_label frame flags m = refl
 
 pub wait_behind_other : (frame : FrameLayout) (flags : EmitFlags) (m : Option UserStackMap) → loose frame flags (Emit (Jump (Label (record { 0 = 1 }))) m ∷ Bind (record { 0 = 2 }) ∷ []) ≡ 1
 wait_behind_other frame flags m = refl
+
+-- a form whose register has six bits, and one with a value too many
+pub no_sixth_bit : IsFormCell (plain (branch_reg (record { opc = 0; rn = 32 }))) → ⊥
+no_sixth_bit is = absurd (omega (arith, is.0.1.0))
+
+pub no_value_more : IsFormCell (plain (form Brk (0 ∷ []))) → ⊥
+no_value_more is = is.0

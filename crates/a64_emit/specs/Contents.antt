@@ -1,13 +1,12 @@
--- What the pool of finished code holds.
-use Rattle.std.specs.Prelude.{ℕ, pos, ◌+ℤ◌, ◌≡◌, ◌≢◌, ◌⊎◌, ◌+◌, ◌*◌, ◌^◌, ◌<◌, ◌≤◌, false, List, [], ◌∷◌, All, Contains, length, Some, IsSome}
-use Rattle.std.specs.List.{AllPairs}
+-- What islands and the pool of finished code hold.
+use Rattle.std.specs.Prelude.{ℕ, pos, ◌+ℤ◌, ◌≡◌, ◌≢◌, ◌+◌, ◌*◌, ◌^◌, ◌<◌, false, List, [], ◌∷◌, Contains, length, Some, IsSome}
 use Rattle.std.specs.Ordering.{nat_cmp}
 use Rattle.std.specs.FinMap.{FinMap}
 use Rattle.a64_buffer.specs.declared.class.Class.{Class}
 use Rattle.a64_buffer.specs.declared.class.Class.TheVariants.{Near, Middle, Load, Trapping, Far, Direct}
 use Rattle.a64_buffer.specs.declared.site.Target.{Target}
 use Rattle.a64_buffer.specs.declared.site.Target.TheVariants.{Label, Constant, Trap, IslandEnd}
-use Rattle.a64_buffer.specs.Buffer.{label_of, is_within}
+use Rattle.a64_buffer.specs.Buffer.{is_within}
 use Rattle.a64_buffer.specs.Classes.{class_of, rank_of}
 use Rattle.a64_buffer.specs.Pieces.{padding, constant_of, content_of, copy_words}
 use Rattle.a64_buffer.specs.Word.{outside, word_at, StandAt}
@@ -73,19 +72,6 @@ module _ (constants : FinMap nat_cmp (List ℕ)) where
     Fills from [] to = from ≡ to
     Fills from (u ∷ us) to = HasPiece from u × Fills (from + piece_size (site_class u.1) u.1.target from) us to
 
-    -- no use of the same constant that stops in the pool too stands before a use
-    abbrev pub IsFirst : List (ℕ × Cell) → ℕ × Site → Type 0
-    IsFirst cells u =
-        IsSome (constant_of u.1.target) → (v : ℕ × Site) → IsCellUse cells v → v.1.target ≡ u.1.target → (stop : ℕ) → code.pool ≤ stop
-        → pos v.0 +ℤ distance_in v.1.kind (word_at code.bytes.items v.0) ≡ pos stop → u.0 ≤ v.0
-
-    -- a jump word in the pool, which leads to a label
-    pub record IsPoolJump (u : ℕ × Site) : Type 0 where
-      pub behind : code.pool ≤ u.0
-      pub before : u.0 + 4 ≤ length code.bytes.items
-      pub kind : u.1.kind ≡ uses.Branch26
-      pub labelled : IsSome (label_of u.1.target)
-
     -- a use of a label is served where the label is out of its range
     abbrev pub IsFarOff : ℕ × Site → Type 0
     IsFarOff u = elim u.1.target [
@@ -94,13 +80,3 @@ module _ (constants : FinMap nat_cmp (List ℕ)) where
       | Trap trap ↦ Unit {0}
       | IslandEnd ↦ ⊥
     ]
-
-    -- the pool holds what uses of these cells still wait for, and nothing else, in the order of islands: each constant once, for
-    -- its first use, and a veneer only for a use that is out of reach of its label
-    pub record IsPool (cells : List (ℕ × Cell)) : Type 0 where
-      pub served : List (ℕ × Site)
-      pub uses_are : All (λ u. IsCellUse cells u ⊎ IsPoolJump u) served
-      pub in_order : AllPairs ComesBefore served
-      pub first : All (IsFirst cells) served
-      pub far_off : All IsFarOff served
-      pub fills : Fills code.pool served (length code.bytes.items)

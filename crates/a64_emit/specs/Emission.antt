@@ -1,15 +1,12 @@
 -- What emission does to a buffer.
-use Rattle.std.specs.Prelude.{ℕ, ◌≡◌, ◌⊎◌, ◌+◌, ◌*◌, ◌/◌, ◌%◌, ◌^◌, ◌<◌, ◌≤◌, List, [], ◌∷◌, ◌++◌, All, map, take, length, slice_get, slice_index, slice_index_or, Option, None, Some, IsSome, MatchOption}
-use Rattle.std.specs.List.Sorted.{IsStrictlyIncreasing}
+use Rattle.std.specs.Prelude.{ℕ, ◌≡◌, ◌⊎◌, ◌+◌, ◌*◌, ◌/◌, ◌%◌, ◌^◌, ◌<◌, ◌≤◌, List, [], ◌∷◌, ◌++◌, map, take, length, slice_index, slice_index_or, Option, None, Some, IsSome, MatchOption}
 use Rattle.std.specs.Ordering.{nat_cmp}
-use Rattle.std.specs.FinMap.{FinMap, get, insert}
+use Rattle.std.specs.FinMap.{FinMap, insert}
 use Rattle.a64_base.specs.declared.entity.MachLabel.{MachLabel}
 use Rattle.a64_base.specs.declared.entity.TrapCode.{TrapCode}
 use Rattle.a64_inst.specs.declared.emission.EmitFlags.{EmitFlags}
 use Rattle.a64_inst.specs.declared.frame.FrameLayout.{FrameLayout}
 use Rattle.a64_inst.specs.declared.inst.Inst.{Inst}
-use Rattle.a64_inst.specs.declared.item.Item.{Item}
-use Rattle.a64_inst.specs.declared.item.Item.TheVariants.{Bind, Emit}
 use Rattle.a64_inst.specs.declared.virtuals.VirtualRegisters.TheVariants.{Refused}
 use Rattle.a64_inst.specs.Faults.{inst_fault}
 use Rattle.a64_inst.specs.State.{State}
@@ -21,9 +18,9 @@ use Rattle.a64_buffer.specs.declared.force.ForceVeneers.TheVariants.{No}
 use Rattle.a64_emit.specs.declared.label_use.LabelUse.{LabelUse}
 use Rattle.a64_emit.specs.declared.site.Site.{Site}
 use Rattle.a64_emit.specs.LabelUses.{label_kinds}
-use Rattle.a64_emit.specs.Cells.{Cell, cell_word, inst_cells, cells_of, all_cells, sites_of}
-use Rattle.a64_emit.specs.Bounds.{asked_of, whole}
-use Rattle.a64_emit.specs.Layout.{placed, standing, traps_in}
+use Rattle.a64_emit.specs.Cells.{Cell, cell_word, inst_cells}
+use Rattle.a64_emit.specs.Bounds.{asked_of}
+use Rattle.a64_emit.specs.Layout.{placed, traps_in}
 
 -- ---- what emitting an instruction does
 
@@ -108,29 +105,12 @@ pub record IsReady (b : Buffer LabelUse) (frame : FrameLayout) (flags : EmitFlag
   pub fits : CellsFit b (inst_cells frame flags inst)
   pub good : inst_fault frame flags b.constants Refused inst ≡ None
 
--- ---- what emitting an item does
-
--- the label that an item binds, if it binds one, is not bound yet
-abbrev pub IsUnbound : Buffer LabelUse → Item → Type 0
-IsUnbound b (Bind label) = get b.labels label.0 ≡ None
-IsUnbound b (Emit inst map) = Unit {0}
-
--- no island is needed before an instruction's cells
-abbrev pub ItemFits : FrameLayout → EmitFlags → Buffer LabelUse → Item → Type 0
-ItemFits frame flags b (Bind label) = Unit {0}
-ItemFits frame flags b (Emit inst map) = CellsFit b (inst_cells frame flags inst)
-
 -- a label was bound to the end
 abbrev pub Binds : MachLabel → Buffer LabelUse → Buffer LabelUse → Type 0
 Binds label b b' = b' ≡ record b {
   uses = map (closed_at label_kinds label.0 (end_of b)) b.uses;
   labels = insert b.labels label.0 (end_of b);
 }
-
--- an item was emitted: its label is bound, or its instruction emitted
-abbrev pub Steps : FrameLayout → EmitFlags → Item → Buffer LabelUse → Buffer LabelUse → Type 0
-Steps frame flags (Bind label) b b' = Binds label b b'
-Steps frame flags (Emit inst map) b b' = Emits flags (record { frame = frame; map = map }) inst b b'
 
 -- ---- what items leave in a buffer
 
@@ -150,37 +130,3 @@ pub record IsPut (b : Buffer LabelUse) (s : ℕ × Cell) : Type 0 where
   pub inside : s.0 + 4 ≤ end_of b
   pub word : slice_index b.words (s.0 / 4) ≡ cell_word s.1
   pub site : MatchOption s.1.site (IsFree b.uses s.0) (HasUse b.uses s.0)
-
--- a use stands before the end, and is one of these
-pub record IsOneOf (end : ℕ) (sites : List Site) (u : Use LabelUse) : Type 0 where
-  pub inside : u.offset < end
-  pub index : ℕ
-  pub within : index < length sites
-  pub is : (d : Site) → slice_index_or sites index d ≡ (site_of u).1
-
--- a use is that of a cell of one of some items, which stand at these places, and stands where the cell does
-pub record IsUseOf (cells : List (List Cell)) (places : List ℕ) (u : Use LabelUse) : Type 0 where
-  pub item : ℕ
-  pub cell : ℕ
-  pub item_within : item < length cells
-  pub cell_within : cell < length (slice_index_or cells item [])
-  pub site_is : (d : Cell) → (slice_index_or (slice_index_or cells item []) cell d).site ≡ Some (site_of u).1
-  pub place_is : u.offset ≡ slice_index places item + 4 * cell
-
--- items were emitted one after another: each stands at its place with its cells, and each use of the
--- buffer is the use of a cell
-pub record HasEmitted (frame : FrameLayout) (flags : EmitFlags) (items : List Item) (places : List ℕ) (b : Buffer LabelUse) : Type 0 where
-  pub count : length places ≡ length items
-  pub first : slice_index (places ++ end_of b ∷ []) 0 ≡ 0
-  pub next : (i : ℕ) → i < length items → slice_index (places ++ end_of b ∷ []) (i + 1) ≡ slice_index places i + 4 * length (slice_index_or (map (cells_of frame flags) items) i [])
-  pub below : (i : ℕ) → i < length items → slice_index places i ≤ end_of b
-  pub bounded : end_of b + classes.owed label_kinds b ≤ whole frame flags items
-  pub islands : b.islands ≡ []
-  pub traps : b.traps ≡ traps_in (standing (map (cells_of frame flags) items) places)
-  pub traps_ordered : IsStrictlyIncreasing (map (λ t. t.0) b.traps)
-  pub traps_below : All (λ t. t.0 < end_of b) b.traps
-  pub cells : All (IsPut b) (standing (map (cells_of frame flags) items) places)
-  pub uses : All (IsOneOf (end_of b) (sites_of (all_cells frame flags items))) b.uses
-  pub owners : All (IsUseOf (map (cells_of frame flags) items) places) b.uses
-  pub bound : (i : ℕ) (label : MachLabel) → slice_get items i ≡ Some (Bind label) → get b.labels label.0 ≡ slice_get places i
-  pub only : (label place : ℕ) → get b.labels label ≡ Some place → (i : ℕ) × (slice_get items i ≡ Some (Bind (record { 0 = label }))) × (slice_get places i ≡ Some place)

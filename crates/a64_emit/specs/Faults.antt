@@ -1,7 +1,6 @@
 -- Why a list of items is refused.
-use Rattle.std.specs.Prelude.{ℕ, ◌≡◌, ◌+◌, ◌^◌, Bool, false, not, ◌||◌, ◌==◌, nat_le, if◌then◌else◌, List, [], ◌∷◌, ◌++◌, find, map, Option, None, Some, option_map}
+use Rattle.std.specs.Prelude.{ℕ, ◌≡◌, ◌+◌, ◌^◌, Bool, not, ◌==◌, nat_le, if◌then◌else◌, List, [], ◌∷◌, ◌++◌, find, map, Option, None, Some, option_map}
 use Rattle.std.specs.List.{filter_map, list_any}
-use Rattle.std.specs.Option.{option_map_or}
 use Rattle.std.specs.Ordering.{nat_cmp}
 use Rattle.std.specs.FinMap.{FinMap, contains_key}
 use Rattle.a64_base.specs.declared.entity.MachLabel.{MachLabel}
@@ -19,7 +18,7 @@ use Rattle.a64_emit.specs.declared.error.EmitError.{EmitError}
 use Rattle.a64_emit.specs.declared.error.EmitError.TheVariants.{BadOperand, BadMode, ScratchConflict, UnknownConstant, LabelBoundTwice, UnboundLabel, TooLarge}
 use Rattle.a64_emit.specs.declared.site.Site.{Site}
 use Rattle.a64_emit.specs.Cells.{sites_of, all_cells}
-use Rattle.a64_emit.specs.Bounds.{whole, shortest}
+use Rattle.a64_emit.specs.Bounds.{whole}
 use Rattle.a64_emit.specs.Reach.{out_of_reach}
 
 -- the first fault, where there is one, else the second
@@ -82,10 +81,6 @@ first_missing bound labels = find (λ label. not (is_among bound label)) labels
 abbrev pub second_binding : List Item → Option EmitError
 second_binding items = option_map LabelBoundTwice (first_repeat [] (bindings items))
 
--- so many bytes are too many to be addressed, or for a use of this range
-abbrev pub is_too_long : ℕ → Option ℕ → Bool
-is_too_long n range = nat_le (2 ^ 31) n || option_map_or (λ r. nat_le r n) range false
-
 module _ (frame : FrameLayout) (flags : EmitFlags) (items : List Item) where
   -- the labels that the items use, by item and cell
   abbrev pub used_labels : List MachLabel
@@ -95,12 +90,9 @@ module _ (frame : FrameLayout) (flags : EmitFlags) (items : List Item) where
   abbrev pub unbound_use : Option EmitError
   unbound_use = option_map UnboundLabel (first_missing (bindings items) used_labels)
 
-  -- the code could not be addressed, or a use could want a veneer
-  abbrev pub is_too_large : Bool
-  is_too_large = is_too_long (whole frame flags items) (shortest frame flags items)
-
+  -- the code could not be addressed
   abbrev pub too_large : Option EmitError
-  too_large = if is_too_large then Some TooLarge else None
+  too_large = if nat_le (2 ^ 31) (whole frame flags items) then Some TooLarge else None
 
 -- the first fault that applies
 abbrev pub fault_of : FrameLayout → EmitFlags → FinMap nat_cmp (List ℕ) → ForceVeneers → List Item → Option EmitError

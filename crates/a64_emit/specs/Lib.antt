@@ -5,15 +5,14 @@ pub mod IntegerForms
 pub mod ControlForms
 pub mod MemoryForms
 pub mod Cells
+pub mod FormCells
 pub mod Words
 pub mod Bounds
 pub mod Reach
 pub mod Lights
-pub mod Starts
 pub mod Leads
 pub mod Layout
 pub mod Contents
 pub mod Emission
 pub mod Records
 pub mod Faults
-pub mod Assembled

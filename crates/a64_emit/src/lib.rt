@@ -1,32 +1,27 @@
-//! Emission of A64 instructions, and the assembly of whole lists of items.
+//! Emission of A64 instructions, and what lists of them are: their cells, bounds, faults, layout and records.
 #![tactic(auto)]
 
-mod assembly;
-mod checks;
 mod code;
 mod emit;
 mod error;
 mod extent;
+mod halfword;
 mod label_use;
-#[cfg(test)]
-mod memory_tests;
 mod mode;
-mod reach;
 mod site;
 mod state;
 #[cfg(test)]
 mod tests;
 mod uses;
 mod word;
-#[cfg(test)]
-mod word_tests;
 
 pub use crate::code::Code;
 pub use a64_inst::Item;
-pub use assembly::assemble;
 pub use emit::MachInstEmit;
 pub use error::EmitError;
-pub use extent::{Burden, Extent, burden_of};
+pub use extent::{Burden, Extent, Light, asked_space, burden_of, lesser, light_of};
+pub use halfword::has_halfword;
 pub use label_use::LabelUse;
-pub use site::{Site, Uses};
+pub use site::{Site, Uses, near_label};
 pub use state::MachInstEmitState;
+pub use uses::uses_in;

@@ -1,6 +1,10 @@
 //! Uses of the words of instructions.
 
+ghost use Rattle.std.specs.Prelude.{◌≡◌};
+ghost use Rattle.a64_emit.specs.Reach as Reach;
+
 use crate::label_use::LabelUse;
+use a64_base::MachLabel;
 use a64_buffer::Target;
 
 /// A use that a word is.
@@ -30,4 +34,15 @@ pub struct Uses {
     pub first: Option<Site>,
     /// The use that the second word is, where it is one.
     pub second: Option<Site>,
+}
+
+/// The label of a use that can have no veneer and has a range that code may outgrow.
+#[inline(always)]
+pub fn near_label(site: Site) -> Option<MachLabel>
+    ensures { result ≡ Reach.near_label site }
+{
+    match (site.target, site.kind) {
+        (Target::Label(label), LabelUse::Ldr19 | LabelUse::Adr21) => Some(label),
+        _ => None,
+    }
 }

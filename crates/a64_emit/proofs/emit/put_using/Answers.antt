@@ -1,12 +1,11 @@
-use Rattle.std.proofs.Common.{◌≡◌, [], ◌∷◌, Some, sym, ap, subst}
-use Rattle.std.specs.Prelude.{IsSome, IsSomeAnd}
+use Rattle.std.proofs.Common.{[], ◌∷◌, Some, sym, subst}
+use Rattle.std.specs.Prelude.{IsSomeAnd}
 use Rattle.std.specs.FinMap.{get}
 use Rattle.std.proofs.lemmas.Result.{on_ok_weaker, on_err_weaker}
 use Rattle.a64_buffer.specs.declared.site.Target.{Target}
-use Rattle.a64_buffer.specs.declared.site.Target.TheVariants.{Label, Constant, Trap, IslandEnd}
+use Rattle.a64_buffer.specs.declared.site.Target.TheVariants.{Label, Constant, Trap}
 use Rattle.a64_buffer.specs.Constants.{IsConstant}
 use Rattle.a64_buffer.proofs.Known.{known_of}
-use Rattle.a64_emit.specs.declared.site.Site.{Site}
 use Rattle.a64_emit.specs.Emission.{IsAppendedInPart}
 use Rattle.a64_emit.specs.Words.{MayBePut, put_cell}
 use Rattle.a64_emit.proofs.Fitting.{before_word, of_error}

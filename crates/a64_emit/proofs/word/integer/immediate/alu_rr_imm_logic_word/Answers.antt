@@ -3,7 +3,7 @@ use Rattle.a64_rows.specs.Forms.{Form, IsFormOf}
 use Rattle.a64_imms.specs.LogicLaws.{r_fits, s_fits}
 use Rattle.a64_enc_int.proofs.Naming.{logic_imm_named}
 use Rattle.a64_emit.specs.IntegerForms.{logic_fields}
-use Rattle.a64_emit.proofs.OneWord.{alu_rr_imm_logic_is_form}
+use Rattle.a64_emit.proofs.LogicForms.{alu_rr_imm_logic_is_form}
 use Rattle.a64_emit.proofs.Operands.{sf_below}
 use Rattle.a64_emit.proofs.word.integer.immediate.alu_rr_imm_logic_word.Goals as goal
 

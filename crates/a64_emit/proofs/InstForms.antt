@@ -1,0 +1,185 @@
+-- The cells of instructions and items without a fault are forms of their rows, or data.
+use Rattle.std.proofs.Common.{ℕ, ℤ, pos, ◌≡◌, ◌/◌, ◌%◌, ◌<◌, ◌^◌, Bool, true, false, List, [], ◌∷◌, map, Option, None, Some, refl, lit<}
+use Rattle.std.specs.Prelude.{All, ◌&&◌, not, if◌then◌else◌}
+use Rattle.std.specs.Ordering.{nat_cmp, int_eq}
+use Rattle.std.specs.FinMap.{FinMap}
+use Rattle.std.specs.Int.RustNames.{unsigned_abs}
+use Rattle.std.proofs.lemmas.Bool.{and_parts}
+use Rattle.std.proofs.lemmas.List.Elements.{All-nil, All-cons, All-append, All-map}
+use Rattle.a64_base.specs.declared.ir_type.IrType.TheVariants.{I8}
+use Rattle.a64_base.specs.declared.reg.Reg.{Reg}
+use Rattle.a64_base.specs.declared.size.OperandSize.TheVariants.{Size64}
+use Rattle.a64_base.specs.declared.target.BranchTarget.{BranchTarget}
+use Rattle.a64_base.specs.declared.target.BranchTarget.TheVariants.{Label}
+use Rattle.a64_ops.specs.declared.operator.ALUOp.TheVariants as alu
+use Rattle.a64_plan.specs.Plans.{plan_of}
+use Rattle.a64_inst.specs.declared.access.Access.{Access}
+use Rattle.a64_inst.specs.declared.emission.EmitFlags.{EmitFlags}
+use Rattle.a64_inst.specs.declared.frame.FrameLayout.{FrameLayout}
+use Rattle.a64_inst.specs.declared.inst.Inst.{Inst}
+use Rattle.a64_inst.specs.declared.inst.Inst.TheVariants as insts
+use Rattle.a64_inst.specs.declared.mode.AMode.{AMode}
+use Rattle.a64_inst.specs.declared.mode.AMode.TheVariants as modes
+use Rattle.a64_inst.specs.declared.virtuals.VirtualRegisters.TheVariants.{Refused}
+use Rattle.a64_inst.specs.Accesses.{access_of}
+use Rattle.a64_inst.specs.Faults.{has_other_operands, has_operands, has_other_mode, has_mode, inst_fault}
+use Rattle.a64_inst.specs.FinalModes.{FinalMode, SignedOffset, ScaledOffset, Other, final_mode, final_steps}
+use Rattle.a64_inst.specs.IntegerOperands.{are_adr_operands}
+use Rattle.a64_inst.specs.MemoryOperands.{is_addend, needs_x17_beside, are_mode_parts, are_mode_operands, are_address_operands, are_access_operands, has_access_mode}
+use Rattle.a64_inst.specs.Operands.{is_register, is_register_or_zero, is_register_or_stack, is_same_register, is_near}
+use Rattle.a64_inst.specs.declared.item.Item.{Item}
+use Rattle.a64_inst.specs.declared.item.Item.TheVariants.{Bind, Emit}
+use Rattle.a64_inst.proofs.Good.{operands_good}
+use Rattle.a64_rows.specs.Forms.{Form, IsFormOf}
+use Rattle.a64_enc_int.specs.Registers.{register_field}
+use Rattle.a64_emit.specs.declared.label_use.LabelUse.{LabelUse}
+use Rattle.a64_emit.specs.declared.label_use.LabelUse.TheVariants as uses
+use Rattle.a64_emit.specs.Cells.{Cell, Shape, OneWord, Several, Words, FormOf, Data, plain, trap_site, last_cell, branch, branches, data_cell, quiet, sum_shape, address_shape, access_shape, other_shape, shape_of, shape_cells, inst_cells, cells_of}
+use Rattle.a64_emit.specs.FormCells.{IsFormBody, IsFormCell, HasHalfword, HoldsHalfword}
+use Rattle.a64_emit.specs.Faults.{item_fault}
+use Rattle.a64_emit.specs.ControlForms.{jump_form, cond_br_form, trap_if_form, test_bit_and_branch_form, label_address_form, udf_word}
+use Rattle.a64_emit.specs.IntegerForms.{mov_form}
+use Rattle.a64_emit.specs.MemoryForms.{step_forms, addend_register, offset_register, addend, addend_form, sum_form, sum_op}
+use Rattle.a64_emit.proofs.Accesses.{mode_good, byte_size, are_address_parts, address_good, move_good, addend_operands, extend_good}
+use Rattle.a64_emit.proofs.AccessForms.{HoldsOffset, final_holds, plan_forms, final_steps_forms, access_is_form, access_steps_forms, pair_is_form}
+use Rattle.a64_emit.proofs.BranchForms as control
+use Rattle.a64_emit.proofs.ImmediateForms as immediate
+use Rattle.a64_emit.proofs.LogicForms.{alu_rr_imm_logic_within}
+use Rattle.a64_emit.proofs.Operands.{cond_br_parts, test_bit_parts, zero_below, stack_below, register_zero}
+use Rattle.a64_emit.proofs.RegisterForms as register
+
+-- ---- shapes
+
+-- each word of a shape is a form of its row, or data
+abbrev pub AreForms : Shape → Type 0
+AreForms (OneWord form) = IsFormOf form
+AreForms (Several forms body site trap) = All IsFormOf forms × IsFormBody body
+AreForms (Words cells) = All IsFormCell cells
+
+one_cell : (cell : Cell) → IsFormCell cell → All IsFormCell (cell ∷ [])
+one_cell cell is = All-cons IsFormCell cell [] is (All-nil IsFormCell)
+
+two_cells : (first second : Cell) → IsFormCell first → IsFormCell second → All IsFormCell (first ∷ second ∷ [])
+two_cells first second is then_is = All-cons IsFormCell first (second ∷ []) is (one_cell second then_is)
+
+shape_forms : (shape : Shape) → AreForms shape → All IsFormCell (shape_cells shape)
+shape_forms (OneWord form) is = one_cell (plain form) is
+shape_forms (Several forms body site trap) (are, is) =
+    All-append IsFormCell (map plain forms) (last_cell body site trap ∷ []) (All-map IsFormCell plain forms are) (one_cell (last_cell body site trap) is)
+shape_forms (Words cells) are = are
+
+-- ---- addresses
+
+module _ (rd rn : Reg) (numbered : is_register Refused rd ≡ true) (base : is_register_or_stack Refused rn ≡ true) where
+  sum_forms : (offset : ℤ) → unsigned_abs offset < 2 ^ 64 → AreForms (sum_shape rd rn offset)
+  sum_forms offset fits = go (int_eq offset (pos 0)) (is_same_register rd rn) (is_addend (unsigned_abs offset)) refl
+    where
+      d : register_field rd < 32
+      d = zero_below rd (register_zero rd numbered)
+
+      go : (none same small : Bool) → is_addend (unsigned_abs offset) ≡ small → AreForms (if none then (if same then Words [] else quiet [] (mov_form Size64 rd rn)) else if small then quiet [] (addend_form rd rn offset) else quiet (step_forms addend_register (plan_of (unsigned_abs offset))) (sum_form rd rn offset))
+      go true true small e = All-nil IsFormCell
+      go true false small e = (All-nil IsFormOf, register.mov_is_form Size64 rd rn (move_good rd rn numbered base))
+      go false same true e = (All-nil IsFormOf, immediate.alu_rr_imm12_is_form (sum_op offset) Size64 rd rn (addend (unsigned_abs offset)) (addend_operands offset rd rn (addend (unsigned_abs offset)) numbered base e refl))
+      go false same false e =
+          (plan_forms addend_register (lit< tt) (unsigned_abs offset) fits, register.alu_rrr_within (sum_op offset) Size64 rd rn addend_register d (stack_below rn base) (lit< tt))
+
+mode_forms : (rd : Reg) (before : List Form) (mode : FinalMode) → is_register Refused rd ≡ true → All IsFormOf before → are_address_parts mode ≡ true → HoldsOffset mode → AreForms (address_shape rd before mode)
+mode_forms rd before (SignedOffset rn offset) numbered are base holds = sum_forms rd rn numbered base offset holds
+mode_forms rd before (ScaledOffset rn offset ty) numbered are base holds = sum_forms rd rn numbered base (pos offset) holds.0
+mode_forms rd before (Other (modes.RegExtended rn rm extendop)) numbered are parts holds =
+    let (base, index) = and_parts (is_register_or_stack Refused rn) (is_register_or_zero Refused rm) parts in
+    (are, register.alu_rrr_extend_is_form alu.Add Size64 rd rn rm extendop (extend_good rd rn rm numbered base index))
+mode_forms rd before (Other _) numbered are parts holds = All-nil IsFormCell
+
+address_forms : (frame : FrameLayout) (rd : Reg) (mem : AMode) → are_address_operands frame Refused rd mem ≡ true → AreForms (address_shape rd (step_forms offset_register (final_steps frame I8 mem)) (final_mode frame I8 mem))
+unfolding are_address_operands are_mode_operands
+address_forms frame rd mem good =
+    let (numbered, rest) = and_parts (is_register Refused rd) (are_mode_operands frame Refused mem && not (needs_x17_beside 63 (final_mode frame I8 mem))) good in
+    let (operands, _) = and_parts (are_mode_operands frame Refused mem) (not (needs_x17_beside 63 (final_mode frame I8 mem))) rest in
+    mode_forms rd (step_forms offset_register (final_steps frame I8 mem)) (final_mode frame I8 mem) numbered (final_steps_forms offset_register (lit< tt) frame I8 mem)
+    (address_good frame mem operands) (final_holds frame I8 mem byte_size (and_parts (are_mode_parts Refused mem) _ operands).0)
+
+-- ---- branches
+
+branch_pair : (form : Form) (kind : LabelUse) (taken not_taken : BranchTarget) → IsFormOf form → All IsFormCell (branches form kind taken not_taken)
+branch_pair form kind taken not_taken is = two_cells (branch form kind taken) (branch (jump_form not_taken) uses.Branch26 not_taken) is (control.jump_is_form not_taken)
+
+near_result : (rd : Reg) (off : ℤ) → are_adr_operands Refused rd off ≡ true → is_register_or_zero Refused rd ≡ true
+unfolding are_adr_operands
+near_result rd off good = (and_parts (is_register_or_zero Refused rd) (is_near off) good).0
+
+-- ---- instructions
+
+module _ (frame : FrameLayout) (flags : EmitFlags) where
+  other_forms : (inst : Inst) → HasHalfword inst → has_other_operands frame flags Refused inst ≡ true → AreForms (other_shape frame flags inst)
+  other_forms insts.Nop0 fits good = All-nil IsFormCell
+  other_forms insts.Nop4 fits good = control.nop4_is_form
+  other_forms (insts.AluRRR alu_op size rd rn rm) fits good = register.alu_rrr_is_form alu_op size rd rn rm good
+  other_forms (insts.AluRRRR alu_op size rd rn rm ra) fits good = register.alu_rrrr_is_form alu_op size rd rn rm ra good
+  other_forms (insts.AluRRImm12 alu_op size rd rn imm12) fits good = immediate.alu_rr_imm12_is_form alu_op size rd rn imm12 good
+  other_forms (insts.AluRRImmLogic alu_op size rd rn imml) fits good = alu_rr_imm_logic_within alu_op size rd rn imml good
+  other_forms (insts.AluRRImmShift alu_op size rd rn immshift) fits good = immediate.alu_rr_imm_shift_is_form alu_op size rd rn immshift good
+  other_forms (insts.AluRRRShift alu_op size rd rn rm shiftop) fits good = register.alu_rrr_shift_is_form alu_op size rd rn rm shiftop good
+  other_forms (insts.AluRRRExtend alu_op size rd rn rm extendop) fits good = register.alu_rrr_extend_is_form alu_op size rd rn rm extendop good
+  other_forms (insts.BitRR op size rd rn) fits good = register.bit_rr_is_form op size rd rn good
+  other_forms (insts.Mov size rd rm) fits good = register.mov_is_form size rd rm good
+  other_forms (insts.MovFromPReg rd rm) fits good = register.mov_from_preg_is_form rd rm good
+  other_forms (insts.MovToPReg rd rm) fits good = register.mov_to_preg_is_form rd rm good
+  other_forms (insts.MovWide op rd imm size) fits good = immediate.mov_wide_is_form op rd imm size good fits
+  other_forms (insts.MovK rd rn imm size) fits good = immediate.mov_k_is_form rd rn imm size good fits
+  other_forms (insts.CSel rd rn rm cond) fits good = register.csel_is_form rd rn rm cond good
+  other_forms (insts.CSNeg rd rn rm cond) fits good = register.csneg_is_form rd rn rm cond good
+  other_forms (insts.CSet rd cond) fits good = register.cset_is_form rd cond good
+  other_forms (insts.CSetm rd cond) fits good = register.csetm_is_form rd cond good
+  other_forms (insts.CCmp size rn rm nzcv cond) fits good = register.ccmp_is_form size rn rm nzcv cond good
+  other_forms (insts.CCmpImm size rn imm nzcv cond) fits good = register.ccmp_imm_is_form size rn imm nzcv cond good
+  other_forms (insts.Extend rd rn signed from_bits to_bits) fits good = register.extend_is_form rd rn signed from_bits to_bits good
+  other_forms (insts.BitfieldMove size bfm_op rd rn immr imms) fits good = immediate.bitfield_move_is_form size bfm_op rd rn immr imms good
+  other_forms (insts.BitfieldMoveMod size rd ri rn immr imms) fits good = immediate.bitfield_move_mod_is_form size rd ri rn immr imms good
+  other_forms (insts.MovToNZCV rn) fits good = control.mov_to_nzcv_is_form rn good
+  other_forms (insts.MovFromNZCV rd) fits good = control.mov_from_nzcv_is_form rd good
+  other_forms (insts.Adr rd off) fits good = immediate.adr_is_form rd off (near_result rd off good)
+  other_forms (insts.Adrp rd off) fits good = immediate.adrp_is_form rd off (near_result rd off good)
+  other_forms insts.Ret fits good = control.ret_is_form
+  other_forms (insts.Jump dest) fits good = one_cell (branch (jump_form dest) uses.Branch26 dest) (control.jump_is_form dest)
+  other_forms (insts.CondBr taken not_taken kind) fits good =
+      branch_pair (cond_br_form taken kind) uses.Branch19 taken not_taken (control.cond_br_is_form taken kind (cond_br_parts taken not_taken kind good).test)
+  other_forms (insts.TestBitAndBranch kind taken not_taken rn bit) fits good =
+      let parts = test_bit_parts taken not_taken rn bit good in
+      branch_pair (test_bit_and_branch_form kind taken rn bit) uses.Branch14 taken not_taken (control.test_bit_and_branch_is_form kind taken rn bit parts.register parts.below)
+  other_forms (insts.TrapIf kind trap_code) fits good = one_cell (last_cell (FormOf (trap_if_form kind)) (Some (trap_site trap_code)) None) (control.trap_if_is_form kind good)
+  other_forms (insts.EmitIsland needed_space) fits good = All-nil IsFormCell
+  other_forms (insts.IndirectBr rn targets) fits good = control.indirect_br_is_form rn good
+  other_forms insts.Brk fits good = control.brk_is_form
+  other_forms (insts.Udf trap_code) fits good = one_cell (last_cell (Data udf_word) None (Some trap_code)) tt
+  other_forms (insts.Word4 value) fits good = one_cell (data_cell value) tt
+  other_forms (insts.Word8 value) fits good = two_cells (data_cell (value % 2 ^ 32)) (data_cell (value / 2 ^ 32)) tt tt
+  other_forms (insts.LabelAddress dst label) fits good = one_cell (branch (label_address_form dst) uses.Adr21 (Label label)) (control.label_address_is_form dst good)
+  other_forms (insts.LoadP64 rt rt2 mem trap) fits good = (All-nil IsFormOf, pair_is_form 1 rt rt2 mem (lit< tt) good)
+  other_forms (insts.StoreP64 rt rt2 mem trap) fits good = (All-nil IsFormOf, pair_is_form 0 rt rt2 mem (lit< tt) good)
+  other_forms (insts.LoadAddr rd mem) fits good = address_forms frame rd mem good
+  other_forms _ fits good = absurd cc
+
+  access_forms : (access : Access) → are_access_operands frame Refused access ≡ true → has_access_mode access.op access.mem ≡ true → AreForms (access_shape frame access)
+  access_forms access good mode = (access_steps_forms frame access, access_is_form frame access good mode)
+
+  -- those of an instruction whose operands are in their sets and whose mode exists
+  operands_forms : (inst : Inst) → HasHalfword inst → has_operands frame flags Refused inst ≡ true → has_mode inst ≡ true → AreForms (shape_of frame flags inst)
+  operands_forms inst fits good mode = go (access_of inst) good mode
+    where
+      go : (o : Option Access) → (elim o [ None ↦ has_other_operands frame flags Refused inst | Some access ↦ are_access_operands frame Refused access ]) ≡ true
+          → (elim o [ None ↦ has_other_mode inst | Some access ↦ has_access_mode access.op access.mem ]) ≡ true
+          → AreForms (elim o [ None ↦ other_shape frame flags inst | Some access ↦ access_shape frame access ])
+      go None e f = other_forms inst fits e
+      go (Some access) e f = access_forms access e f
+
+  -- those of an instruction without a fault
+  pub inst_forms : (constants : FinMap nat_cmp (List ℕ)) (inst : Inst) → HasHalfword inst → inst_fault frame flags constants Refused inst ≡ None → All IsFormCell (inst_cells frame flags inst)
+  inst_forms constants inst fits none =
+      shape_forms (shape_of frame flags inst) (operands_forms inst fits (operands_good frame flags constants Refused inst none) (mode_good frame flags constants inst none))
+
+  -- and of an item
+  pub item_forms : (constants : FinMap nat_cmp (List ℕ)) (item : Item) → HoldsHalfword item → item_fault frame flags constants item ≡ None → All IsFormCell (cells_of frame flags item)
+  item_forms constants (Bind label) fits none = All-nil IsFormCell
+  item_forms constants (Emit inst map) fits none = inst_forms constants inst fits none
