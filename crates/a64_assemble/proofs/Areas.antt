@@ -37,9 +37,9 @@ use Rattle.a64_emit.specs.LabelUses.{label_kinds, distance_in, adds_distance}
 use Rattle.a64_emit.specs.Emission.{site_of}
 use Rattle.a64_emit.specs.Contents.{ComesBefore, Fills, site_class}
 use Rattle.a64_emit.specs.Leads.{StopsAt}
-use Rattle.a64_emit.proofs.Arrivals.{no_use, IsOutput, use_settled, word_free}
-use Rattle.a64_emit.proofs.Filled.{StandFrom, fills}
-use Rattle.a64_emit.proofs.Pooled.{wanting_kind}
+use Rattle.a64_assemble.proofs.Arrivals.{no_use, IsOutput, use_settled, word_free}
+use Rattle.a64_assemble.proofs.Filled.{StandFrom, fills}
+use Rattle.a64_assemble.proofs.FieldKinds.{wanting_kind}
 use Rattle.a64_assemble.specs.Elements.{elements_of}
 use Rattle.a64_assemble.specs.Progress.{HasPut}
 use Rattle.a64_assemble.specs.Owners.{AreOwned}

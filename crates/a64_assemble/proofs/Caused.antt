@@ -25,7 +25,7 @@ use Rattle.a64_assemble.specs.OpenUses.{is_open_at, SomeOpenAt, IsCaused}
 use Rattle.a64_assemble.specs.Progress.{AreGood, HasPut}
 use Rattle.a64_assemble.specs.Owners.{AreOwned}
 use Rattle.a64_assemble.specs.Placement as placement
-use Rattle.a64_emit.proofs.Arrivals.{no_use, IsOutput, pool_is}
+use Rattle.a64_assemble.proofs.Arrivals.{no_use, IsOutput, pool_is}
 use Rattle.a64_assemble.proofs.Finishing.{code_laid, code_caused, code_forced, code_short}
 use Rattle.a64_assemble.proofs.Itemized.{whole_same}
 use Rattle.a64_assemble.proofs.Needing.{some_same, need_here, need_far, takes_near, takes_far, leaves_far, open_known, open_stands}

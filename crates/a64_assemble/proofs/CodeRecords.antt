@@ -25,9 +25,9 @@ use Rattle.a64_emit.specs.Emission.{site_of, HasUse, IsPut}
 use Rattle.a64_emit.specs.Layout.{standing}
 use Rattle.a64_emit.specs.Contents.{IsCellUse}
 use Rattle.a64_emit.specs.Records.{relocs_of, calls_of, patchable_of, maps_of, reloc_from, number_from, map_from, IsTrapOf, IsDeferredTrap, HasRecords}
-use Rattle.a64_emit.proofs.Arrivals.{no_use, IsOutput, old_site, final_use, final_index, stops_at, site_leads}
-use Rattle.a64_emit.proofs.Recorded.{all_from-nothing, traps_exact}
-use Rattle.a64_emit.proofs.TrapWords.{one_stop}
+use Rattle.a64_assemble.proofs.Arrivals.{no_use, IsOutput, old_site, final_use, final_index, stops_at, site_leads}
+use Rattle.a64_assemble.proofs.Recorded.{all_from-nothing, traps_exact}
+use Rattle.a64_assemble.proofs.FieldKinds.{one_stop}
 use Rattle.a64_emit.proofs.Targets.{IsCodeTarget, IsCodeSite}
 use Rattle.a64_assemble.specs.Elements.{cells_in, elements_of}
 use Rattle.a64_assemble.specs.Progress.{HasPut}

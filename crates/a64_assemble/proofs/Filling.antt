@@ -39,7 +39,7 @@ use Rattle.a64_emit.specs.Layout.{standing}
 use Rattle.a64_emit.specs.Emission.{site_of}
 use Rattle.a64_emit.specs.Contents.{IsCellUse, IsFarOff}
 use Rattle.a64_emit.specs.Leads.{areas, StopsAt}
-use Rattle.a64_emit.proofs.Arrivals.{no_use, IsOutput, old_site, use_settled, end_is, pool_is}
+use Rattle.a64_assemble.proofs.Arrivals.{no_use, IsOutput, old_site, use_settled, end_is, pool_is}
 use Rattle.a64_assemble.specs.Elements.{Element, Binding, Asking, cells_in, element_of, elements_of, element_at}
 use Rattle.a64_assemble.specs.OpenUses.{WasAsked}
 use Rattle.a64_assemble.specs.Progress.{HasPut}

@@ -22,7 +22,7 @@ use Rattle.a64_assemble.specs.Elements.{Element, Binding, Words, Asking, cells_i
 use Rattle.a64_assemble.specs.Stations.{IsLaid, end_of_element}
 use Rattle.a64_assemble.specs.OpenUses.{SomeOpenAt, IsCaused}
 use Rattle.a64_assemble.specs.Progress.{AreGood, AreQuiet, HasPut}
-use Rattle.a64_emit.proofs.Later.{put_later}
+use Rattle.a64_assemble.proofs.Later.{put_later}
 use Rattle.a64_assemble.proofs.Standings.{still}
 use Rattle.a64_assemble.proofs.Forcing.{none_open}
 use Rattle.a64_assemble.proofs.Promoting.{is_caused}

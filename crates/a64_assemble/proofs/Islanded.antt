@@ -28,7 +28,7 @@ use Rattle.a64_emit.specs.Emission.{IsPut}
 use Rattle.a64_assemble.specs.Elements.{Element, Binding, Words, Asking, cells_in, hosts, element_of, elements_of, element_at}
 use Rattle.a64_assemble.specs.Stations.{IsIslandBehind, end_of_element}
 use Rattle.a64_assemble.specs.Progress.{HasPut}
-use Rattle.a64_emit.proofs.Arrivals.{IsOutput, end_is, pool_is, cell_stands}
+use Rattle.a64_assemble.proofs.Arrivals.{IsOutput, end_is, pool_is, cell_stands}
 use Rattle.a64_assemble.proofs.Itemized.{binding_item}
 use Rattle.a64_assemble.proofs.Needing.{some_same}
 use Rattle.a64_assemble.proofs.Placing.{cell_lists, all_cells_are}

@@ -34,10 +34,10 @@ use Rattle.a64_buffer.proofs.Rooms.{wanting_range}
 use Rattle.a64_emit.specs.Contents.{site_class}
 use Rattle.a64_assemble.specs.Elements.{Element, Binding, Asking, element_of, elements_of, cells_in, size_in, charge_in, growth_in, space_in, sizes_in, whole_in, is_bound_by, AreBoundOnce, element_at}
 use Rattle.a64_assemble.specs.LooseUses.{is_alive, is_load, loose_in, charges_in, reach_between, AreAllBound, AreAllNear}
-use Rattle.a64_emit.proofs.Checked.{not_bound_before, among_bindings, uses_bound}
-use Rattle.a64_emit.proofs.Reached.{none_far, within_reach}
-use Rattle.a64_emit.proofs.Sites.{found_in}
-use Rattle.a64_emit.proofs.Spans.{has_binding, first_binding}
+use Rattle.a64_assemble.proofs.Checked.{not_bound_before, among_bindings, uses_bound}
+use Rattle.a64_assemble.proofs.Reached.{none_far, within_reach}
+use Rattle.a64_assemble.proofs.Sites.{found_in}
+use Rattle.a64_assemble.proofs.Spans.{has_binding, first_binding}
 
 -- ---- lists
 

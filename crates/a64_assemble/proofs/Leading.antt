@@ -1,9 +1,8 @@
 -- In finished code the uses of all cells lead to their targets, and each deferred trap has its own trap word.
-use Rattle.std.proofs.Common.{ℕ, ◌≡◌, ◌+◌, ◌*◌, ◌<◌, ◌≤◌, suc, zero, false, List, [], ◌∷◌, ◌++◌, length, get_or, map, Option, None, Some, refl, sym, ap, ◌∙◌, subst, arith, inl, inr}
+use Rattle.std.proofs.Common.{ℕ, ◌≡◌, ◌+◌, ◌*◌, ◌<◌, ◌≤◌, suc, false, List, [], ◌∷◌, ◌++◌, length, get_or, map, Option, None, Some, refl, sym, ap, ◌∙◌, subst, arith, inl, inr}
 use Rattle.std.specs.Prelude.{All, IfSome, MatchOption}
 use Rattle.std.proofs.lemmas.Bool.{cases_lt}
 use Rattle.std.proofs.lemmas.List.{length-map, get_or-map, get_or_append_left}
-use Rattle.std.proofs.lemmas.List.Elements.{All-append}
 use Rattle.a64_inst.specs.declared.emission.EmitFlags.{EmitFlags}
 use Rattle.a64_inst.specs.declared.frame.FrameLayout.{FrameLayout}
 use Rattle.a64_inst.specs.declared.item.Item.{Item}
@@ -21,13 +20,14 @@ use Rattle.a64_emit.specs.declared.site.Site.{Site}
 use Rattle.a64_emit.specs.LabelUses.{label_kinds, adds_distance}
 use Rattle.a64_emit.specs.Cells.{Cell, cell_word, cells_of, sites_of}
 use Rattle.a64_emit.specs.Emission.{HasUse, IsPut}
-use Rattle.a64_emit.specs.Layout.{placed, standing}
+use Rattle.a64_emit.specs.Layout.{standing}
 use Rattle.a64_emit.specs.Leads.{Leads, SiteLeads, UseStops, CellStops, IsTrapUse, IsDeferred, HaveOwnTraps}
-use Rattle.a64_emit.proofs.Arrivals.{no_use, IsOutput, FinalUse, final_use, stops_at, site_leads}
-use Rattle.a64_emit.proofs.Rising.{standing_rising}
-use Rattle.a64_emit.proofs.Sites.{found_in}
+use Rattle.a64_assemble.proofs.Arrivals.{no_use, IsOutput, FinalUse, final_use, stops_at, site_leads}
+use Rattle.a64_assemble.proofs.Everywhere.{standing_all}
+use Rattle.a64_assemble.proofs.Rising.{standing_rising}
+use Rattle.a64_assemble.proofs.Sites.{found_in}
 use Rattle.a64_emit.proofs.Targets.{IsCodeTarget, IsCodeSite, inst_targets}
-use Rattle.a64_emit.proofs.TrapWords.{one_stop}
+use Rattle.a64_assemble.proofs.FieldKinds.{one_stop}
 use Rattle.a64_assemble.specs.Elements.{Asking, cells_in, elements_of, element_of, element_at}
 use Rattle.a64_assemble.specs.Progress.{HasPut}
 use Rattle.a64_assemble.proofs.Placing.{cell_lists, all_cells_are}
@@ -46,11 +46,6 @@ cells_targets cells all k d h = go (get_or cells k d).site refl
         let found = found_in (λ (cell : Cell). cell.site) cells k d site h e in
         subst IsCodeSite (found.is site) (all found.index site found.within)
 
-placed_all : (P : Cell → Type 0) (place : ℕ) (cells : List Cell) → All P cells → All (λ s. P s.1) (placed place cells)
-placed_all P place [] all k d h = absurd (omega arith)
-placed_all P place (c ∷ cs) all zero d h = all 0 c (omega arith)
-placed_all P place (c ∷ cs) all (suc k) d h = placed_all P (place + 4) cs (λ j e l. all (suc j) e (omega arith)) k d (omega arith)
-
 module _ (frame : FrameLayout) (flags : EmitFlags) where
   item_targets : (item : Item) → All HasCodeTarget (cells_of frame flags item)
   item_targets (Bind label) = λ k d h. absurd (omega arith)
@@ -58,11 +53,7 @@ module _ (frame : FrameLayout) (flags : EmitFlags) where
 
   -- the uses of cells that stand are of labels, constants and deferred traps
   pub standing_targets : (items : List Item) (places : List ℕ) → All (λ s. HasCodeTarget s.1) (standing (map (cells_of frame flags) items) places)
-  standing_targets [] places = λ k d h. absurd (omega arith)
-  standing_targets (x ∷ items) [] = λ k d h. absurd (omega arith)
-  standing_targets (x ∷ items) (place ∷ places) =
-      All-append (λ (s : ℕ × Cell). HasCodeTarget s.1) (placed place (cells_of frame flags x)) (standing (map (cells_of frame flags) items) places)
-      (placed_all HasCodeTarget place (cells_of frame flags x) (item_targets x)) (standing_targets items places)
+  standing_targets items places = standing_all HasCodeTarget (cells_of frame flags) items places (λ i d h. item_targets (get_or items i d))
 
 pub code_no_end : (t : Target) (kind : LabelUse) → IsCodeTarget t kind → t ≡ IslandEnd → ⊥
 code_no_end t kind c e = subst (λ (t : Target). IsCodeTarget t kind) e c

@@ -2,7 +2,6 @@
 use Rattle.std.proofs.Common.{ℕ, ◌≡◌, ◌⊎◌, ◌+◌, ◌<◌, ◌≤◌, true, List, [], ◌∷◌, ◌++◌, All, length, get_or, drop, Option, None, Some, refl, sym, ap, ◌∙◌, subst, arith, inl, inr}
 use Rattle.std.specs.Prelude.{IsSome}
 use Rattle.std.specs.FinMap.{get}
-use Rattle.std.proofs.lemmas.Bool.{false≢true}
 use Rattle.std.proofs.lemmas.List.{get_or_push, get_or_append_left, length_push}
 use Rattle.std.proofs.lemmas.List.Elements.{All-push, All-same}
 use Rattle.a64_buffer.specs.declared.force.ForceVeneers.{ForceVeneers}
@@ -16,13 +15,13 @@ use Rattle.a64_emit.specs.declared.label_use.LabelUse.{LabelUse}
 use Rattle.a64_emit.specs.LabelUses.{label_kinds}
 use Rattle.a64_emit.specs.Cells.{Cell}
 use Rattle.a64_emit.specs.Emission.{appended}
-use Rattle.a64_assemble.specs.Elements.{Element, Binding, Words, Asking, size_in, hosts, is_asking, next_room, ahead, element_at}
+use Rattle.a64_assemble.specs.Elements.{Element, Binding, Words, Asking, size_in, hosts, next_room, ahead, element_at}
 use Rattle.a64_assemble.specs.Asks.{AsksNext, PutsWords, Moves}
 use Rattle.a64_assemble.specs.Stations.{HasLabels}
 use Rattle.a64_assemble.specs.OpenUses.{Cause, WasAsked}
 use Rattle.a64_assemble.proofs.BoundLabels.{bound_in_labels, bound_by_labels}
 use Rattle.a64_assemble.proofs.Laying.{island_same}
-use Rattle.a64_emit.proofs.Later.{longer}
+use Rattle.a64_assemble.proofs.Later.{longer}
 
 -- an element wrote an island in this moment
 pub record Moment (force : ForceVeneers) (x : Element) (rest : List Element) (b b' : Buffer LabelUse) : Type 0 where
@@ -34,17 +33,14 @@ pub record Moment (force : ForceVeneers) (x : Element) (rest : List Element) (b 
   pub hosted : hosts x ≡ true
   pub distance : ℕ
   pub distance_is : ahead x rest ≡ Some distance
-  pub force_there : ForceVeneers
-  pub may_force : force_there ≡ Yes → (is_asking x ≡ true) × (force ≡ Yes)
-  pub force_is : is_asking x ≡ true → force_there ≡ force
-  pub has : HasIsland label_kinds distance force_there moment b'
+  pub has : HasIsland label_kinds distance force moment b'
 
 module _ (force : ForceVeneers) where
-  words_moment : (cells : List Cell) (rest : List Element) (b b' : Buffer LabelUse) → PutsWords cells rest b b' → (b'.islands ≡ b.islands) ⊎ Moment force (Words cells) rest b b'
+  words_moment : (cells : List Cell) (rest : List Element) (b b' : Buffer LabelUse) → PutsWords force cells rest b b' → (b'.islands ≡ b.islands) ⊎ Moment force (Words cells) rest b b'
   words_moment [] rest b b' p = inl (ap (λ v. v.islands) p)
   words_moment (c ∷ cs) rest b b' p = next (next_room rest) refl p
     where
-      next : (o : Option ℕ) → next_room rest ≡ o → AsksNext o (appended b (c ∷ cs)) b' → (b'.islands ≡ b.islands) ⊎ Moment force (Words (c ∷ cs)) rest b b'
+      next : (o : Option ℕ) → next_room rest ≡ o → AsksNext force o (appended b (c ∷ cs)) b' → (b'.islands ≡ b.islands) ⊎ Moment force (Words (c ∷ cs)) rest b b'
       next None o e = inl (ap (λ v. v.islands) e)
       next (Some d) o a = elim a.outcome [
         | inr l ↦ inl (ap (λ v. v.islands) l.same)
@@ -57,9 +53,6 @@ module _ (force : ForceVeneers) where
           hosted = refl;
           distance = d;
           distance_is = o;
-          force_there = No;
-          may_force = λ e. absurd (let z : No ≡ Yes = e in cc);
-          force_is = λ e. absurd (false≢true e);
           has = w.island;
         })
       ]
@@ -78,9 +71,6 @@ module _ (force : ForceVeneers) where
       hosted = refl;
       distance = space;
       distance_is = refl;
-      force_there = force;
-      may_force = λ e. (refl, e);
-      force_is = λ e. refl;
       has = w.island;
     })
   ]
@@ -99,9 +89,6 @@ module _ (force : ForceVeneers) (xs : List Element) (k : ℕ) (places : List ℕ
     only = z.only;
     distance = z.distance;
     distance_is = z.distance_is;
-    force_there = z.force_there;
-    may_force = z.may_force;
-    force_is = z.force_is;
     written = z.written;
     ends = z.ends;
     has = z.has;
@@ -132,9 +119,6 @@ module _ (force : ForceVeneers) (xs : List Element) (k : ℕ) (places : List ℕ
           only = λ l p e. bound_by_labels xs (k + 1) k (places ++ (end_of b) ∷ []) b'.labels labels (omega arith) within l p (ap (λ ls. get ls l) m.has.labels ∙ e);
           distance = m.distance;
           distance_is = m.distance_is;
-          force_there = m.force_there;
-          may_force = m.may_force;
-          force_is = m.force_is;
           written = b';
           ends = refl;
           has = m.has;

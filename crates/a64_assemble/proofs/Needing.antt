@@ -36,7 +36,7 @@ use Rattle.a64_assemble.specs.Progress.{HasPut}
 use Rattle.a64_assemble.specs.Owners.{AreOwned}
 use Rattle.a64_assemble.specs.Placement as placement
 use Rattle.a64_assemble.specs.Placement.{IsOpenIn}
-use Rattle.a64_emit.proofs.Arrivals.{no_use, IsOutput, pool_is}
+use Rattle.a64_assemble.proofs.Arrivals.{no_use, IsOutput, pool_is}
 use Rattle.a64_assemble.proofs.BoundLabels.{bound_at, bound_by_is}
 use Rattle.a64_assemble.proofs.Finishing.{all_stop}
 use Rattle.a64_assemble.proofs.Itemized.{binding_item}

@@ -34,10 +34,10 @@ use Rattle.a64_assemble.specs.Stations.{IsLaid, end_of_element}
 use Rattle.a64_assemble.specs.Progress.{HasPut}
 use Rattle.a64_assemble.specs.Owners.{IsGivenJump, AreOwned}
 use Rattle.a64_assemble.specs.Placement.{IsVeneerWord, IsWanting}
-use Rattle.a64_emit.proofs.Arrivals.{no_use, IsOutput, pool_is, use_settled, word_free, old_site}
+use Rattle.a64_assemble.proofs.Arrivals.{no_use, IsOutput, pool_is, use_settled, word_free, old_site}
 use Rattle.a64_assemble.proofs.Finishing.{all_stop}
 use Rattle.a64_assemble.proofs.Itemized.{cells_same}
-use Rattle.a64_emit.proofs.Pooled.{wanting_kind}
+use Rattle.a64_assemble.proofs.FieldKinds.{wanting_kind}
 
 -- ---- where a word leads
 

@@ -12,16 +12,16 @@ use Rattle.a64_buffer.specs.Sound.{IsWhole}
 use Rattle.a64_emit.specs.declared.label_use.LabelUse.{LabelUse}
 use Rattle.a64_emit.specs.LabelUses.{label_kinds}
 use Rattle.a64_assemble.specs.Elements.{Element, Asking, growth_in, space_in, growths_in, whole_in, room_of, element_at}
-use Rattle.a64_assemble.specs.Asks.{Moves, MayMove}
+use Rattle.a64_assemble.specs.Asks.{Moves, MayMove, NeedsNone}
 use Rattle.a64_assemble.specs.OpenUses.{WasAsked, UseIsQuiet}
-use Rattle.a64_assemble.specs.Progress.{AreGood, HasPut}
+use Rattle.a64_assemble.specs.Progress.{AreGood, AreQuiet, HasPut}
 use Rattle.a64_assemble.proofs.Moving.{move_rooms, move_owed, move_later, move_extends}
 use Rattle.a64_assemble.proofs.Laying.{laid_none, laid_step}
 use Rattle.a64_assemble.proofs.BoundLabels.{labels_none, labels_step, unbound_yet}
 use Rattle.a64_assemble.proofs.Standings.{standing_step}
 use Rattle.a64_assemble.proofs.Moments.{asked_step, move_moment}
 use Rattle.a64_assemble.proofs.Forcing.{forced_step}
-use Rattle.a64_assemble.proofs.Quiet.{quiet_step, room_le}
+use Rattle.a64_assemble.proofs.Quiet.{quiet_step, quiet_next, room_le}
 
 pub growth_le_whole : (xs : List Element) → growths_in xs ≤ whole_in xs
 growth_le_whole xs = sum_by-le-sum_by growth_in (λ x. growth_in x + space_in x) xs (λ x. omega arith)
@@ -61,6 +61,12 @@ module _ (force : ForceVeneers) (xs : List Element) (good : AreGood xs) where
 
   whole_split : (k : ℕ) → k < length xs → whole_in xs ≡ whole_in (take k xs) + (growth_in (element_at xs k) + space_in (element_at xs k)) + whole_in (drop (k + 1) xs)
   whole_split k within = omega (arith, sum_by-take-drop (λ x. growth_in x + space_in x) xs (k + 1), sum_by_more (λ x. growth_in x + space_in x) xs k (Asking 0) within)
+
+  -- in quiet code it needs no island behind it
+  pub next_quiet : (k : ℕ) (places : List ℕ) (b : Buffer LabelUse) → k < length xs → HasPut force xs k places b → AreQuiet force xs → NeedsNone force (element_at xs k) (drop (k + 1) xs) b
+  next_quiet k places b within h quiet =
+      quiet_next force (whole_in xs) (element_at xs k) (drop (k + 1) xs) b (quiet k (Asking 0) within) (h.quiet quiet).1
+      (omega (arith, h.bounded, room_le (drop (k + 1) xs), whole_split k within, growth_le_whole (take k xs)))
 
   pub put_step : (k : ℕ) (places : List ℕ) (b b' : Buffer LabelUse) → k < length xs → IsWhole label_kinds b → HasPut force xs k places b → Moves force (element_at xs k) (drop (k + 1) xs) b b' → HasPut force xs (k + 1) (places ++ end_of b ∷ []) b'
   put_step k places b b' within whole h p =

@@ -7,7 +7,6 @@ use Rattle.std.proofs.lemmas.List.{get_or-take, get_or-drop, length-take-le, len
 use Rattle.std.proofs.lemmas.List.Sums.{sum_by-cons, sum_by-take-drop, get_or-le-sum_by}
 use Rattle.a64_buffer.specs.declared.class.Class.TheVariants.{Far}
 use Rattle.a64_buffer.specs.declared.force.ForceVeneers.{ForceVeneers}
-use Rattle.a64_buffer.specs.declared.force.ForceVeneers.TheVariants.{Yes}
 use Rattle.a64_buffer.specs.declared.site.Use.{Use}
 use Rattle.a64_buffer.specs.Buffer.{Buffer, end_of, label_of, goal_of, is_within}
 use Rattle.a64_buffer.specs.Classes.{third, cost, wants, level_of, class, range_of, is_open, weigh, burden, Fits}
@@ -18,7 +17,7 @@ use Rattle.a64_buffer.proofs.Laters.{later_trans, was_open}
 use Rattle.a64_buffer.proofs.Rooms.{open_wants, open_stop, few_bytes}
 use Rattle.a64_emit.specs.declared.label_use.LabelUse.{LabelUse}
 use Rattle.a64_emit.specs.LabelUses.{label_kinds}
-use Rattle.a64_assemble.specs.Elements.{Element, is_asking, is_bound_by, element_at}
+use Rattle.a64_assemble.specs.Elements.{Element, is_bound_by}
 use Rattle.a64_assemble.specs.OpenUses.{stops_from, is_open_in, is_open_at, SomeOpenAt, Needs, NeedsFar, StopsIn, IsLate, Holds, IsCaused, WasAsked}
 use Rattle.a64_assemble.proofs.Opens.{OpenParts, open_parts, parts_open, from_stop, from_to, counts_le, burden_open, misfit, at_bound, at_label, stop_at, some_place, goal_is, still_open, needs_from, some_from}
 use Rattle.a64_assemble.proofs.Forcing.{StopsAtGoal, at_goal, below_or_goal, stop_there}
@@ -50,7 +49,7 @@ one_more p q xs ys j d lo hi here h =
     let one : ones q (get_or (drop n ys) (j - n) d) ≡ 1 = ap (ones q) at ∙ ap (λ b. cond {A = ℕ} b 1 0) here in
     omega (arith, head, tail, one, sum_by-take-drop (ones q) ys n)
 
-module _ (force : ForceVeneers) (xs : List Element) (f : Buffer LabelUse) (k distance : ℕ) (m w : Buffer LabelUse) (there : ForceVeneers) (whole : IsWhole label_kinds m) (has : HasIsland label_kinds distance there m w) (since : IsLater w f) (stops : All (λ u. wants (class label_kinds u) ≡ true → IsSome u.stop) f.uses) (bound : (n : ℕ) → is_bound_by (take (k + 1) xs) n ≡ true → IsSome (get m.labels n)) (only : (label place : ℕ) → get m.labels label ≡ Some place → is_bound_by (take (k + 1) xs) label ≡ true) (may : there ≡ Yes → (is_asking (element_at xs k) ≡ true) × (force ≡ Yes)) (alike : is_asking (element_at xs k) ≡ true → there ≡ force) where
+module _ (force : ForceVeneers) (xs : List Element) (f : Buffer LabelUse) (k distance : ℕ) (m w : Buffer LabelUse) (whole : IsWhole label_kinds m) (has : HasIsland label_kinds distance force m w) (since : IsLater w f) (stops : All (λ u. wants (class label_kinds u) ≡ true → IsSome u.stop) f.uses) (bound : (n : ℕ) → is_bound_by (take (k + 1) xs) n ≡ true → IsSome (get m.labels n)) (only : (label place : ℕ) → get m.labels label ≡ Some place → is_bound_by (take (k + 1) xs) label ≡ true) where
   all_later : IsLater m f
   all_later = later_trans m w f has.later since
 
@@ -109,7 +108,7 @@ module _ (force : ForceVeneers) (xs : List Element) (f : Buffer LabelUse) (k dis
       ] refl
 
   -- none is promoted
-  far_stays : LeavesFar label_kinds distance there has.promotion.before w → All (λ u. class label_kinds u ≡ Far → is_open_in xs f k (end_of m) (end_of w) u ≡ true → stops_from (end_of w) u.stop ≡ true) f.uses
+  far_stays : LeavesFar label_kinds distance force has.promotion.before w → All (λ u. class label_kinds u ≡ Far → is_open_in xs f k (end_of m) (end_of w) u ≡ true → stops_from (end_of w) u.stop ≡ true) f.uses
   far_stays none j d within far o =
       let parts = open_parts xs f k (end_of m) (end_of w) (get_or f.uses j d) o in
       let lt : j < length w.uses = made_by j d within parts in
@@ -211,11 +210,11 @@ module _ (force : ForceVeneers) (xs : List Element) (f : Buffer LabelUse) (k dis
   holds = record {
     near = near_stops;
     far = elim has.promotion.outcome [
-      | inl none ↦ inl (far_stays none, λ island. sym (alike island) ∙ none.unforced)
+      | inl none ↦ inl (far_stays none, none.unforced)
       | inr all ↦ inr (
         far_stops all.closed,
         elim all.cause [
-          | inl forced ↦ inr (may forced)
+          | inl forced ↦ inr forced
           | inr never ↦ inl (needs_far has.promotion.before has.promotion.is has.promotion.then' never)
         ],
       )
@@ -256,9 +255,9 @@ is_caused force xs stations b f island then' stops z =
         | inr forced ↦ inr (forced.0, forced.1, subst (λ a. SomeOpenAt xs f z.after a) z.at (some_from xs m f z.after z.whole later z.bound stops (2 ^ 32 - 1) forced.2))
       ];
       holds = subst (λ b. Holds xs f force z.after z.distance (island.0, b)) z.ends (subst (λ a. Holds xs f force z.after z.distance (a, end_of z.written)) z.at
-          (holds force xs f z.after z.distance m z.written z.force_there z.whole z.has since stops z.bound z.only z.may_force z.force_is));
+          (holds force xs f z.after z.distance m z.written z.whole z.has since stops z.bound z.only));
       served = z.has.served;
-      late = served_late force xs f z.after z.distance m z.written z.force_there z.whole z.has since stops z.bound z.only z.may_force z.force_is;
+      late = served_late force xs f z.after z.distance m z.written z.whole z.has since stops z.bound z.only;
     }
   where
     same_some : (s t : ℕ) → ◌≡◌ {A = Option ℕ} (Some s) (Some t) → s ≡ t

@@ -25,11 +25,11 @@ use Rattle.a64_emit.specs.LabelUses.{label_kinds}
 use Rattle.a64_emit.specs.Cells.{Cell}
 use Rattle.a64_emit.specs.Layout.{placed, standing, trap_at, traps_in}
 use Rattle.a64_emit.specs.Emission.{appended}
-use Rattle.a64_emit.proofs.Arrivals.{no_use}
-use Rattle.a64_emit.proofs.Later.{longer}
-use Rattle.a64_emit.proofs.Marked.{ordered_behind, ordered_more, below_more}
-use Rattle.a64_emit.proofs.Sites.{standing-push}
-use Rattle.a64_emit.proofs.TrapWords.{piece_traps_between}
+use Rattle.a64_assemble.proofs.Arrivals.{no_use}
+use Rattle.a64_assemble.proofs.Later.{longer}
+use Rattle.a64_assemble.proofs.Marked.{ordered_behind, ordered_more, below_more}
+use Rattle.a64_assemble.proofs.Sites.{standing-push}
+use Rattle.a64_assemble.proofs.PieceTraps.{piece_traps_between}
 use Rattle.a64_assemble.specs.Elements.{Element, Binding, Words, Asking, cells_in, next_room, element_at}
 use Rattle.a64_assemble.specs.Asks.{Asks, AsksNext, PutsWords, Moves}
 use Rattle.a64_assemble.specs.TrapRecords.{IsStoppedTrap, HasTraps, AreRecorded}
@@ -142,12 +142,12 @@ pub island_traps : (cells : List (ℕ × Cell)) (distance : ℕ) (force : ForceV
 island_traps cells distance force m b' has h =
     served_traps cells m (pieces.begun label_kinds m) b' refl (omega (arith, length-append m.words (0x14000000 ∷ []))) has.later m.labels m.constants has.served has.serves h
 
-asked_traps : (cells : List (ℕ × Cell)) (x : ℕ) (f : ForceVeneers) (m b' : Buffer LabelUse) → Asks x f m b' → HasTraps cells m → HasTraps cells b'
-asked_traps cells x f m b' a h = elim a.outcome [ inr l ↦ subst (HasTraps cells) (sym l.same) h | inl w ↦ island_traps cells x f m b' w.island h ]
+asked_traps : (cells : List (ℕ × Cell)) (x : ℕ) (f g : ForceVeneers) (m b' : Buffer LabelUse) → Asks x f g m b' → HasTraps cells m → HasTraps cells b'
+asked_traps cells x f g m b' a h = elim a.outcome [ inr l ↦ subst (HasTraps cells) (sym l.same) h | inl w ↦ island_traps cells x g m b' w.island h ]
 
-next_traps : (cells : List (ℕ × Cell)) (o : Option ℕ) (m b' : Buffer LabelUse) → AsksNext o m b' → HasTraps cells m → HasTraps cells b'
-next_traps cells None m b' e h = subst (HasTraps cells) (sym e) h
-next_traps cells (Some x) m b' a h = asked_traps cells x No m b' a h
+next_traps : (cells : List (ℕ × Cell)) (force : ForceVeneers) (o : Option ℕ) (m b' : Buffer LabelUse) → AsksNext force o m b' → HasTraps cells m → HasTraps cells b'
+next_traps cells force None m b' e h = subst (HasTraps cells) (sym e) h
+next_traps cells force (Some x) m b' a h = asked_traps cells x No force m b' a h
 
 module _ (old : List (ℕ × Cell)) (b : Buffer LabelUse) (h : HasTraps old b) where
   module _ (cells : List Cell) where
@@ -174,14 +174,14 @@ module _ (old : List (ℕ × Cell)) (b : Buffer LabelUse) (h : HasTraps old b) w
   none_more : HasTraps (old ++ []) b
   none_more = subst (λ cs. HasTraps cs b) (sym (append-nil old)) h
 
-  words_traps : (cells : List Cell) (rest : List Element) (b' : Buffer LabelUse) → PutsWords cells rest b b' → HasTraps (old ++ placed (end_of b) cells) b'
-  words_traps [] rest b' p = subst (HasTraps (old ++ [])) (sym p) none_more
-  words_traps (c ∷ cs) rest b' p = next_traps (old ++ placed (end_of b) (c ∷ cs)) (next_room rest) (appended b (c ∷ cs)) b' p (cells_traps (c ∷ cs))
+  words_traps : (force : ForceVeneers) (cells : List Cell) (rest : List Element) (b' : Buffer LabelUse) → PutsWords force cells rest b b' → HasTraps (old ++ placed (end_of b) cells) b'
+  words_traps force [] rest b' p = subst (HasTraps (old ++ [])) (sym p) none_more
+  words_traps force (c ∷ cs) rest b' p = next_traps (old ++ placed (end_of b) (c ∷ cs)) force (next_room rest) (appended b (c ∷ cs)) b' p (cells_traps (c ∷ cs))
 
   element_traps : (force : ForceVeneers) (x : Element) (rest : List Element) (b' : Buffer LabelUse) → IsLater b b' → Moves force x rest b b' → HasTraps (old ++ placed (end_of b) (cells_in x)) b'
   element_traps force (Binding label) rest b' later p = traps_kept (old ++ []) b b' later (ap (λ (v : Buffer LabelUse). v.traps) p) none_more
-  element_traps force (Words cells) rest b' later p = words_traps cells rest b' p
-  element_traps force (Asking space) rest b' later p = asked_traps (old ++ []) space force b b' p none_more
+  element_traps force (Words cells) rest b' later p = words_traps force cells rest b' p
+  element_traps force (Asking space) rest b' later p = asked_traps (old ++ []) space force force b b' p none_more
 
 -- ---- element by element
 

@@ -12,9 +12,9 @@ use Rattle.a64_emit.specs.Layout.{placed, standing}
 use Rattle.a64_emit.specs.Emission.{appended, IsPut}
 use Rattle.a64_assemble.specs.Elements.{Element, Binding, Words, Asking, cells_in, next_room, element_at}
 use Rattle.a64_assemble.specs.Asks.{PutsWords, Moves}
-use Rattle.a64_emit.proofs.Later.{IsLater, put_later, all_put}
+use Rattle.a64_assemble.proofs.Later.{IsLater, put_later, all_put}
 use Rattle.a64_assemble.proofs.Moving.{next_later}
-use Rattle.a64_emit.proofs.Sites.{standing-push}
+use Rattle.a64_assemble.proofs.Sites.{standing-push}
 
 -- the uses of a buffer that only grew are those that they were
 pub still : (b b' : Buffer LabelUse) → buffers.IsLater b b' → IsLater b b'
@@ -28,7 +28,7 @@ still b b' l = record {
 
 module _ (force : ForceVeneers) where
   -- an element's own cells stand from the end on
-  words_stand : (cells : List Cell) (rest : List Element) (b b' : Buffer LabelUse) → All (λ u. u.offset < end_of b) b.uses → PutsWords cells rest b b' → All (IsPut b') (placed (end_of b) cells)
+  words_stand : (cells : List Cell) (rest : List Element) (b b' : Buffer LabelUse) → All (λ u. u.offset < end_of b) b.uses → PutsWords force cells rest b b' → All (IsPut b') (placed (end_of b) cells)
   words_stand [] rest b b' before p = λ k d w. absurd (omega arith)
   words_stand (c ∷ cs) rest b b' before p = λ k d w. put_later (appended b (c ∷ cs)) b' (still (appended b (c ∷ cs)) b' (next_later force (next_room rest) (appended b (c ∷ cs)) b' p)) (get_or (placed (end_of b) (c ∷ cs)) k d) (all_put b (c ∷ cs) before k d w)
 

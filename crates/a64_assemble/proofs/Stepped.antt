@@ -1,6 +1,12 @@
 -- One item more is put, by its emission and an island behind it.
-use Rattle.std.proofs.Common.{ℕ, ◌≡◌, ◌≢◌, ◌+◌, ◌^◌, ◌<◌, List, [], ◌∷◌, Option, None, Some, refl, sym, ap, ◌∙◌, subst, arith, Result, Ok, Err}
-use Rattle.std.specs.Prelude.{OnOk}
+use Rattle.std.proofs.Common.{ℕ, ◌≡◌, ◌≢◌, ◌+◌, ◌^◌, ◌<◌, List, [], ◌∷◌, Option, None, Some, refl, sym, ap, ◌∙◌, subst, arith, inl, inr, nat_cmp, Result, Ok, Err}
+use Rattle.std.specs.Prelude.{OnOk, IsSome}
+use Rattle.std.specs.FinMap.{FinMap}
+use Rattle.std.proofs.lemmas.Bool.{false≢true}
+use Rattle.a64_inst.specs.declared.virtuals.VirtualRegisters.TheVariants.{Refused}
+use Rattle.a64_inst.specs.Faults.{inst_fault}
+use Rattle.a64_inst.specs.State.{State}
+use Rattle.a64_emit.proofs.Asked.{asked_words}
 use Rattle.std.proofs.lemmas.List.{append-nil}
 use Rattle.a64_inst.specs.declared.emission.EmitFlags.{EmitFlags}
 use Rattle.a64_inst.specs.declared.frame.FrameLayout.{FrameLayout}
@@ -11,14 +17,15 @@ use Rattle.a64_buffer.specs.declared.force.ForceVeneers.{ForceVeneers}
 use Rattle.a64_buffer.specs.Buffer.{Buffer, end_of}
 use Rattle.a64_buffer.specs.Classes.{owed}
 use Rattle.a64_buffer.specs.Classes as classes
+use Rattle.a64_buffer.specs.Sound.{IsWhole}
+use Rattle.a64_buffer.specs.declared.force.ForceVeneers.TheVariants.{No, Yes}
 use Rattle.a64_emit.specs.declared.label_use.LabelUse.{LabelUse}
 use Rattle.a64_emit.specs.LabelUses.{label_kinds}
 use Rattle.a64_emit.specs.Cells.{Cell, inst_cells}
 use Rattle.a64_emit.specs.Bounds.{asked_of}
-use Rattle.a64_emit.specs.Emission.{appended, HasRoom, CellsFit, Puts}
-use Rattle.a64_emit.proofs.Later.{longer}
+use Rattle.a64_emit.specs.Emission.{appended, HasRoom, CellsFit, IsReady, Puts, Emits}
 use Rattle.a64_assemble.specs.Elements.{Element, Words, Asking, element_of, next_room}
-use Rattle.a64_assemble.specs.Asks.{AsksNext, PutsWords, MayMove}
+use Rattle.a64_assemble.specs.Asks.{AsksNext, PutsWords, MayMove, Moves, HasNextRoom, NeedsNone}
 use Rattle.a64_assemble.proofs.Moving.{appended_none, words_fit, put_owed}
 
 -- what a success says, said otherwise
@@ -41,19 +48,26 @@ module _ (force : ForceVeneers) (rest : List Element) (b : Buffer LabelUse) wher
   cells_fit [] may = subst (λ us. classes.HasRoom label_kinds (end_of b) us 0) (sym (append-nil b.uses)) may.whole.fits
   cells_fit (c ∷ cs) may = words_fit force c cs rest b may
 
-  -- where the end stayed, nothing was put
-  pub nothing_put : (cells : List Cell) (m : Buffer LabelUse) → m ≡ appended b cells → end_of m ≡ end_of b → PutsWords cells rest b m
-  nothing_put [] m e same = e ∙ appended_none b
-  nothing_put (c ∷ cs) m e same = absurd (omega (arith, same, ap (λ (v : Buffer LabelUse). end_of v) e, longer b (c ∷ cs)))
-
-  -- else there are words, and room for an island behind them
+  -- where the end moved, there are words, and room for an island behind them
   pub island_short : (cells : List Cell) (m : Buffer LabelUse) → MayMove (Words cells) rest b → m ≡ appended b cells → end_of m ≢ end_of b → end_of m + owed label_kinds m + 4 < 2 ^ 31
   island_short [] m may e ne = absurd (ne (ap (λ (v : Buffer LabelUse). end_of v) (e ∙ appended_none b)))
   island_short (c ∷ cs) m may e ne = subst (λ (v : Buffer LabelUse). end_of v + owed label_kinds v + 4 < 2 ^ 31) (sym e) (let z = put_owed b (c ∷ cs) in omega (arith, z, may.short))
 
-  pub words_put : (cells : List Cell) (m b' : Buffer LabelUse) (o : Option ℕ) → m ≡ appended b cells → end_of m ≢ end_of b → o ≡ next_room rest → AsksNext o m b' → PutsWords cells rest b b'
+  pub words_put : (cells : List Cell) (m b' : Buffer LabelUse) (o : Option ℕ) → m ≡ appended b cells → end_of m ≢ end_of b → o ≡ next_room rest → AsksNext force o m b' → PutsWords force cells rest b b'
   words_put [] m b' o e ne room a = absurd (ne (ap (λ (v : Buffer LabelUse). end_of v) (e ∙ appended_none b)))
-  words_put (c ∷ cs) m b' o e ne room a = subst (λ o. AsksNext o (appended b (c ∷ cs)) b') room (subst (λ (v : Buffer LabelUse). AsksNext o v b') e a)
+  words_put (c ∷ cs) m b' o e ne room a = subst (λ o. AsksNext force o (appended b (c ∷ cs)) b') room (subst (λ (v : Buffer LabelUse). AsksNext force o v b') e a)
+
+  -- words behind which there is room for what follows ask for no island
+  pub quiet_put : (cells : List Cell) (m : Buffer LabelUse) → m ≡ appended b cells → IsWhole label_kinds m → HasNextRoom cells rest b → PutsWords force cells rest b m
+  quiet_put [] m e whole room = e ∙ appended_none b
+  quiet_put (c ∷ cs) m e whole room = next (next_room rest) refl
+    where
+      next : (o : Option ℕ) → next_room rest ≡ o → AsksNext force o (appended b (c ∷ cs)) m
+      next None is = e
+      next (Some distance) is = record {
+        whole = subst (IsWhole label_kinds) e whole;
+        outcome = inr (record { fits = room distance is; unforced = λ f. let z : No ≡ Yes = f in cc; same = e });
+      }
 
 -- ---- items
 
@@ -64,3 +78,46 @@ module _ (frame : FrameLayout) (flags : EmitFlags) where
 
   pub asking_element : (inst : Inst) (kept : Option UserStackMap) (space : ℕ) → asked_of inst ≡ Some space → element_of frame flags (Emit inst kept) ≡ Asking space
   asking_element inst kept space e = ap (λ (o : Option ℕ). elim o [ None ↦ Words (inst_cells frame flags inst) | Some space ↦ Asking space ]) e
+
+  -- what an item needs is what the emission of its instruction needs
+  pub emit_ready : (constants : FinMap nat_cmp (List ℕ)) (inst : Inst) (kept : Option UserStackMap) (rest : List Element) (b : Buffer LabelUse) → b.constants ≡ constants → inst_fault frame flags constants Refused inst ≡ None → MayMove (element_of frame flags (Emit inst kept)) rest b → IsReady b frame flags inst
+  emit_ready constants inst kept rest b same good may = go (asked_of inst) refl
+    where
+      is_good : inst_fault frame flags b.constants Refused inst ≡ None
+      is_good = subst (λ (cs : FinMap nat_cmp (List ℕ)). inst_fault frame flags cs Refused inst ≡ None) (sym same) good
+
+      go : (o : Option ℕ) → asked_of inst ≡ o → IsReady b frame flags inst
+      go None e =
+          let words : MayMove (Words (inst_cells frame flags inst)) rest b = subst (λ (x : Element). MayMove x rest b) (words_element inst kept e) may in
+          record {
+            room = words_room No rest b (inst_cells frame flags inst) words;
+            island = λ asks. absurd (false≢true (subst (λ (o : Option ℕ). IsSome o) e asks));
+            fits = cells_fit No rest b (inst_cells frame flags inst) words;
+            good = is_good;
+          }
+      go (Some space) e =
+          let asking : MayMove (Asking space) rest b = subst (λ (x : Element). MayMove x rest b) (asking_element inst kept space e) may in
+          record {
+            room = subst (HasRoom b) (sym (asked_words frame flags inst space e)) (omega (arith, asking.short));
+            island = λ asks. omega (arith, asking.short);
+            fits = subst (CellsFit b) (sym (asked_words frame flags inst space e)) (subst (λ us. classes.HasRoom label_kinds (end_of b) us 0) (sym (append-nil b.uses)) asking.whole.fits);
+            good = is_good;
+          }
+
+  -- and in quiet code all that is done
+  pub emit_moves : (force : ForceVeneers) (state : State) (inst : Inst) (kept : Option UserStackMap) (rest : List Element) (b b' : Buffer LabelUse) → state.frame ≡ frame → MayMove (element_of frame flags (Emit inst kept)) rest b → NeedsNone force (element_of frame flags (Emit inst kept)) rest b → IsWhole label_kinds b' → Emits flags state inst b b' → Moves force (element_of frame flags (Emit inst kept)) rest b b'
+  emit_moves force state inst kept rest b b' same may none is_whole emitted = go (asked_of inst) refl emitted
+    where
+      cells_are : inst_cells state.frame flags inst ≡ inst_cells frame flags inst
+      cells_are = ap (λ (f : FrameLayout). inst_cells f flags inst) same
+
+      go : (o : Option ℕ) → asked_of inst ≡ o → Puts o (inst_cells state.frame flags inst) b b' → Moves force (element_of frame flags (Emit inst kept)) rest b b'
+      go None e p =
+          subst (λ (x : Element). Moves force x rest b b') (sym (words_element inst kept e))
+          (quiet_put force rest b (inst_cells frame flags inst) b' (p ∙ ap (appended b) cells_are) is_whole (subst (λ (x : Element). NeedsNone force x rest b) (words_element inst kept e) none))
+      go (Some space) e p =
+          let asks = subst (λ (x : Element). NeedsNone force x rest b) (asking_element inst kept space e) none in
+          subst (λ (x : Element). Moves force x rest b b') (sym (asking_element inst kept space e)) (elim p [
+            | inl fits ↦ record { whole = may.whole; outcome = inr (record { fits = asks.0; unforced = asks.1; same = fits.1 }) }
+            | inr never ↦ absurd (never.0 asks.0)
+          ])

@@ -1,13 +1,13 @@
 -- Branches and loads are counted one use, and one item, after another.
-use Rattle.std.proofs.Common.{ℕ, zero, suc, ◌≡◌, ◌+◌, ◌-◌, ◌*◌, ◌^◌, ◌<◌, ◌≤◌, Bool, true, false, cond, not, eqb, List, [], ◌∷◌, ◌++◌, length, get_or, take, drop, Option, None, Some, refl, sym, ap, ◌∙◌, subst, arith, inl, inr, nat_cmp}
-use Rattle.std.specs.Prelude.{◌&&◌, ◌||◌, nat_eq, nat_lt, count_by, sum_by, option_and_then}
+use Rattle.std.proofs.Common.{ℕ, ◌≡◌, ◌+◌, ◌-◌, ◌≤◌, Bool, true, false, cond, not, eqb, List, [], ◌∷◌, ◌++◌, Option, None, Some, refl, sym, ap, ◌∙◌, arith, inl, inr, nat_cmp}
+use Rattle.std.specs.Prelude.{◌&&◌, ◌||◌, nat_eq, count_by, option_and_then}
 use Rattle.std.specs.Cmp.{nat_cmp_total, unsigned_tied}
 use Rattle.std.specs.FinMap.{FinMap, get, insert, get-insert}
-use Rattle.std.specs.List.{cons_option, list_any, filter_map}
+use Rattle.std.specs.List.{cons_option, list_any}
 use Rattle.std.specs.Option.{unwrap_or}
-use Rattle.std.proofs.lemmas.Bool.{cases_eq, eq-eqb, ne_eqb, lt-ltb}
+use Rattle.std.proofs.lemmas.Bool.{cases_eq, eq-eqb, ne_eqb}
 use Rattle.std.proofs.lemmas.List.Folds.{list_any-append}
-use Rattle.std.proofs.lemmas.List.Sums.{sum_by-cons, sum_by-append, sum_by-take-drop}
+use Rattle.std.proofs.lemmas.List.Sums.{sum_by-cons, sum_by-append}
 use Rattle.a64_base.specs.declared.entity.MachLabel.{MachLabel}
 use Rattle.a64_base.specs.declared.entity.UserStackMap.{UserStackMap}
 use Rattle.a64_buffer.specs.declared.site.Target.{Target}
@@ -17,14 +17,12 @@ use Rattle.a64_inst.specs.declared.frame.FrameLayout.{FrameLayout}
 use Rattle.a64_inst.specs.declared.inst.Inst.{Inst}
 use Rattle.a64_inst.specs.declared.item.Item.{Item}
 use Rattle.a64_inst.specs.declared.item.Item.TheVariants.{Bind, Emit}
-use Rattle.a64_emit.specs.declared.label_use.LabelUse.{LabelUse}
 use Rattle.a64_emit.specs.declared.site.Site.{Site}
 use Rattle.a64_emit.specs.LabelUses.{has_veneer}
 use Rattle.a64_emit.specs.Cells.{Cell, cells_of, sites_of, uses_of, two_uses}
 use Rattle.a64_emit.specs.Reach.{binds}
 use Rattle.a64_emit.proofs.UseLists.{sites_apart}
-use Rattle.a64_assemble.specs.LooseUses.{is_load}
-use Rattle.a64_assemble.specs.Tally.{branch_label, is_alive, every, same, branches, waiting, count_of, alive, loads, IsTally}
+use Rattle.a64_assemble.specs.Tally.{branch_label, is_alive, every, same, branches, count_of, alive, IsTally}
 
 -- ---- counts in lists
 

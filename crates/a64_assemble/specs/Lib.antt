@@ -9,3 +9,7 @@ pub mod Owners
 pub mod TrapRecords
 pub mod Fillings
 pub mod Tally
+pub mod Found
+pub mod Made
+pub mod ReadBack
+pub mod Assembled

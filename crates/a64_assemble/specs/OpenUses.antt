@@ -80,13 +80,14 @@ module _ (xs : List Element) (final : Buffer LabelUse) where
   IsLate k u = IfSome (label_of u.target) (λ label. (is_bound_by (take (k + 1) xs) label ≡ false) ⊎ IfSome (get final.labels label) (λ place. is_within label_kinds u.kind u.offset place ≡ false))
 
   -- whatever is open there and is not of the longest range stops in the island; of the others, veneers in
-  -- the island included, none does, or all do, and that is needed or forced
+  -- the island included, none does, and islands are not forced, or all do, and that is needed, or islands are
+  -- forced
   pub record Holds (force : ForceVeneers) (k space : ℕ) (island : ℕ × ℕ) : Type 0 where
     pub near : All (λ u. (class label_kinds u ≡ Far → ⊥) → StopsIn k island u) final.uses
     pub far : (All (λ u. class label_kinds u ≡ Far → is_open_in k island.0 island.1 u ≡ true → stops_from island.1 u.stop ≡ true) final.uses
-        × (is_asking (element_at xs k) ≡ true → force ≡ No))
+        × (force ≡ No))
         ⊎ (All (λ u. class label_kinds u ≡ Far → StopsIn k island u) final.uses
-        × (NeedsFar k space island ⊎ ((is_asking (element_at xs k) ≡ true) × (force ≡ Yes))))
+        × (NeedsFar k space island ⊎ (force ≡ Yes)))
 
   -- an island is needed where it stands, or forced where one is asked for and some use is open; and the
   -- uses that it serves have labels that are bound later, or are out of their range
@@ -120,12 +121,9 @@ pub record WasAsked (force : ForceVeneers) (xs : List Element) (count : ℕ) (st
   pub only : (label place : ℕ) → get moment.labels label ≡ Some place → is_bound_by (take (after + 1) xs) label ≡ true
   pub distance : ℕ
   pub distance_is : ahead (element_at xs after) (drop (after + 1) xs) ≡ Some distance
-  pub force_there : ForceVeneers
-  pub may_force : force_there ≡ Yes → (is_asking (element_at xs after) ≡ true) × (force ≡ Yes)
-  pub force_is : is_asking (element_at xs after) ≡ true → force_there ≡ force
   pub written : Buffer LabelUse
   pub ends : end_of written ≡ island.1
-  pub has : HasIsland label_kinds distance force_there moment written
+  pub has : HasIsland label_kinds distance force moment written
   pub since : IsLater written now
 
 -- no island was written at one of the first elements, where one is asked for, and no use was open there

@@ -92,7 +92,7 @@ module _ (frame : FrameLayout) (flags : EmitFlags) (items : List Item) (code : C
   LeavesFar k island = (use' : ℕ × Site) (open' : IsOpenIn k island.0 island.1 use') → IsFar use'.1 → island.1 ≤ open'.stop
 
   -- an island stands behind item k: because it was needed there, or forced where one is asked for and a use
-  -- is open; it takes what is near, and what is far where that is needed or forced
+  -- is open; it takes what is near, and what is far where that is needed, or islands are forced
   pub record IsIslandByNeed (force : ForceVeneers) (island : ℕ × ℕ) : Type 0 where
     pub after : ℕ
     pub within : after < length items
@@ -102,8 +102,8 @@ module _ (frame : FrameLayout) (flags : EmitFlags) (items : List Item) (code : C
     pub cause : Need after island.0 island.0 space (λ site. Unit {0})
         ⊎ ((is_asking (element_at (elements_of frame flags items) after) ≡ true) × (force ≡ Yes) × ((place : ℕ) × (site : Site) × IsOpenIn after island.0 island.0 (place, site)))
     pub near : TakesNear after island
-    pub far : (LeavesFar after island × (is_asking (element_at (elements_of frame flags items) after) ≡ true → force ≡ No))
-        ⊎ (TakesFar after island × (Need after island.0 island.1 space IsFar ⊎ ((is_asking (element_at (elements_of frame flags items) after) ≡ true) × (force ≡ Yes))))
+    pub far : (LeavesFar after island × (force ≡ No))
+        ⊎ (TakesFar after island × (Need after island.0 island.1 space IsFar ⊎ (force ≡ Yes)))
 
   -- where islands are forced, one stands wherever one is asked for and a use is open
   abbrev pub AreForced : Type 0

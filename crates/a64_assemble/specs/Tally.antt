@@ -1,5 +1,5 @@
 -- What is counted of items, one after another, to say how far apart a use and its label may come.
-use Rattle.std.specs.Prelude.{ℕ, ◌≡◌, ◌+◌, ◌-◌, ◌*◌, ◌≤◌, ◌<◌, ◌^◌, Bool, true, false, not, ◌&&◌, nat_eq, if◌then◌else◌, List, [], ◌∷◌, length, take, count_by, sum_by, slice_index_or, Option, None, Some, option_and_then}
+use Rattle.std.specs.Prelude.{ℕ, ◌≡◌, ◌+◌, ◌≤◌, ◌<◌, ◌^◌, Bool, true, false, not, ◌&&◌, nat_eq, if◌then◌else◌, List, [], ◌∷◌, length, take, count_by, sum_by, slice_index_or, Option, None, Some}
 use Rattle.std.specs.Ordering.{nat_cmp}
 use Rattle.std.specs.FinMap.{FinMap, get}
 use Rattle.std.specs.List.{list_any}
@@ -12,6 +12,7 @@ use Rattle.a64_inst.specs.declared.item.Item.{Item}
 use Rattle.a64_emit.specs.declared.site.Site.{Site}
 use Rattle.a64_emit.specs.LabelUses.{has_veneer}
 use Rattle.a64_emit.specs.Cells.{cells_of, sites_of}
+use Rattle.a64_emit.specs.Bounds.{whole}
 use Rattle.a64_emit.specs.Reach.{binds, binding_index, sizes, charges}
 use Rattle.a64_assemble.specs.LooseUses.{is_load}
 use Rattle.a64_assemble.specs.declared.marks.Mark.{Mark}
@@ -89,9 +90,14 @@ module _ (frame : FrameLayout) (flags : EmitFlags) where
 abbrev pub HasBindings : List Item → FinMap nat_cmp ℕ → Type 0
 HasBindings items indices = (label : MachLabel) → get indices label.0 ≡ binding_index items label
 
+-- each label has an index of an item that the sums are over
+abbrev pub AreWithin : FinMap nat_cmp ℕ → List Mark → Type 0
+AreWithin indices marks = (label : MachLabel) (i : ℕ) → get indices label.0 ≡ Some i → i + 1 < length marks
+
 -- no sum falls
 pub record AreRising (marks : List Mark) : Type 0 where
   pub sizes : (i j : ℕ) → i ≤ j → j < length marks → (mark_at marks i).size ≤ (mark_at marks j).size
+  pub growths : (i j : ℕ) → i ≤ j → j < length marks → (mark_at marks i).growth ≤ (mark_at marks j).growth
   pub loads : (i j : ℕ) → i ≤ j → j < length marks → (mark_at marks i).loads ≤ (mark_at marks j).loads
 
 -- the first of the items before another behind which those before that one have less than 2^20 bytes
@@ -99,3 +105,11 @@ pub record IsFirstWaiting (marks : List Mark) (index first : ℕ) : Type 0 where
   pub within : first ≤ index
   pub near : first < index → (mark_at marks index).size < (mark_at marks (first + 1)).size + 2 ^ 20
   pub far : 0 < first → (mark_at marks first).size + 2 ^ 20 ≤ (mark_at marks index).size
+
+-- sums of the first of some items, for each number of them, whose code can be addressed
+pub record AreSums (marks : List Mark) : Type 0 where
+  pub frame : FrameLayout
+  pub flags : EmitFlags
+  pub items : List Item
+  pub are : AreMarks frame flags items marks
+  pub short : whole frame flags items < 2 ^ 31

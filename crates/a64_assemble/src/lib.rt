@@ -1,15 +1,20 @@
-//! The assembly of items into a buffer that writes islands.
-//!
-//! What islands owe in whole programs is proved here of items as elements of a layout; `a64_emit`'s
-//! `assemble` does not write islands yet, and does not stand on this crate.
+//! The assembly of lists of items into code, with islands where they are needed or forced.
 #![tactic(auto)]
 
 mod ahead;
 mod asking;
+mod assembly;
+mod checks;
+mod loose;
 mod marks;
+#[cfg(test)]
+mod memory_tests;
 mod putting;
+mod reach;
 mod tally;
+#[cfg(test)]
+mod tests;
+#[cfg(test)]
+mod word_tests;
 
-pub use ahead::next_room;
-pub use asking::ask;
-pub use putting::put_words;
+pub use assembly::assemble;

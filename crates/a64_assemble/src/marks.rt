@@ -10,7 +10,7 @@ use crate::tally::{count_item, wait_counts};
 use a64_emit::{Extent, burden_of};
 use a64_inst::{EmitInfo, FrameLayout, Item};
 use a64_label_map::LabelMap;
-use std::alloc::AllocError;
+use std::alloc::{AllocError, Global};
 
 /// Sums over items.
 #[derive(Clone, Copy)]
@@ -65,4 +65,34 @@ fn next_mark(
         loads: mark.loads + wait_counts(burden.uses),
         branches,
     })
+}
+
+/// The sums over the first items, for each number of them from none to all.
+///
+/// # Errors
+///
+/// Want of memory.
+pub fn marks_of(
+    alloc: Global,
+    items: &[Item],
+    info: &EmitInfo,
+    frame: &FrameLayout,
+) -> Result<Vec<Mark>, AllocError>
+    requires short { whole frame.now info.now items.now < 2 ^ 31 }
+    ensures { IfOk result (λ marks. AreMarks frame.now info.now items.now marks.items) }
+{
+    let mut marks = Vec::with_capacity(alloc, items.len() + 1)?;
+    let mut counts = LabelMap::new(alloc);
+    let mut mark = Mark {
+        size: 0,
+        growth: 0,
+        loads: 0,
+        branches: 0,
+    };
+    marks.push(mark)?;
+    for item in items {
+        mark = next_mark(mark, item, &mut counts, info, frame)?;
+        marks.push(mark)?;
+    }
+    Ok(marks)
 }

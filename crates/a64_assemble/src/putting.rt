@@ -1,46 +1,140 @@
 //! Items in a buffer that writes islands.
 
-ghost use Rattle.std.specs.Prelude.{◌≡◌, None, OnOk};
+ghost use Rattle.std.specs.Prelude.{◌≡◌, ◌^◌, ◌<◌, true, false, None, [], IfOk, OnOk};
+ghost use Rattle.std.specs.FinMap.{empty};
+ghost use Rattle.a64_inst.specs.declared.item.Item.TheVariants.{Emit};
 ghost use Rattle.a64_inst.specs.declared.virtuals.VirtualRegisters.TheVariants.{Refused};
 ghost use Rattle.a64_inst.specs.Faults.{inst_fault};
 ghost use Rattle.a64_emit.specs.Bounds as bounds;
-ghost use Rattle.a64_emit.specs.Cells.{inst_cells};
-ghost use Rattle.a64_assemble.specs.Asks.{PutsWords, MayMove};
-ghost use Rattle.a64_assemble.specs.Elements.{Words, elements_of};
+ghost use Rattle.a64_emit.specs.Bounds.{whole};
+ghost use Rattle.a64_emit.specs.Faults.{item_fault, own_fault, second_binding};
+ghost use Rattle.a64_assemble.specs.Asks.{MayMove, Moves, NeedsNone};
+ghost use Rattle.a64_assemble.specs.Elements.{element_of, elements_of};
+ghost use Rattle.a64_assemble.specs.Made.{HasPutAll};
+ghost use Rattle.a64_assemble.specs.Progress.{AreQuiet};
 
 use crate::ahead::next_room;
 use crate::asking::ask;
 use a64_buffer::{ForceVeneers, MachBuffer};
-use a64_emit::{LabelUse, MachInstEmit};
+use a64_emit::{LabelUse, MachInstEmit, asked_space};
 use a64_inst::{EmitInfo, EmitState, Inst, Item};
-use std::alloc::AllocError;
+use std::alloc::{AllocError, Global};
 
 /// Emits an instruction at the end of a buffer; where it has words, an island comes behind them where the
-/// next words need one.
+/// next words need one, and gives veneers to all far uses where islands are forced. In quiet code none
+/// comes, nor at a place for one.
 ///
 /// # Errors
 ///
 /// Want of memory.
-pub fn put_words(
+#[inline(always)]
+fn put_inst(
     inst: &Inst,
     rest: &[Item],
     buffer: &mut MachBuffer<'_, LabelUse>,
     info: &EmitInfo,
     state: &mut EmitState,
+    force: ForceVeneers,
+    quiet: bool,
 ) -> Result<(), AllocError>
     requires good { inst_fault state.old.frame info.now buffer.old.constants Refused inst.now ≡ None }
-    requires unasked { bounds.asked_of inst.now ≡ None }
-    requires may { MayMove (Words (inst_cells state.old.frame info.now inst.now)) (elements_of state.old.frame info.now rest.now) buffer.old }
-    ensures buffer { OnOk result (PutsWords (inst_cells state.old.frame info.now inst.now) (elements_of state.old.frame info.now rest.now) buffer.old buffer.new) }
+    requires may { MayMove (element_of state.old.frame info.now (Emit inst.now None)) (elements_of state.old.frame info.now rest.now) buffer.old }
+    requires asked { quiet ≡ false → bounds.asked_of inst.now ≡ None }
+    requires quiet { quiet ≡ true → NeedsNone force (element_of state.old.frame info.now (Emit inst.now None)) (elements_of state.old.frame info.now rest.now) buffer.old }
+    ensures buffer { OnOk result (Moves force (element_of state.old.frame info.now (Emit inst.now None)) (elements_of state.old.frame info.now rest.now) buffer.old buffer.new) }
     ensures frame { OnOk result (state.new.frame ≡ state.old.frame) }
 {
     let start = buffer.cur_offset();
     inst.emit(buffer, info, state)?;
-    if buffer.cur_offset() == start {
+    let end = buffer.cur_offset();
+    if quiet {
+        return Ok(());
+    }
+    if end == start {
         return Ok(());
     }
     match next_room(rest, state.frame_layout(), info) {
-        Some(distance) => ask(buffer, distance, ForceVeneers::No),
+        Some(distance) => ask(buffer, distance, ForceVeneers::No, force),
         None => Ok(()),
     }
+}
+
+/// Puts an item at the end of a buffer, and an island behind it where what follows needs one, or where it
+/// asks for one. In quiet code none is needed, nor forced.
+///
+/// # Errors
+///
+/// Want of memory.
+#[inline(always)]
+fn put_item(
+    item: &Item,
+    rest: &[Item],
+    buffer: &mut MachBuffer<'_, LabelUse>,
+    info: &EmitInfo,
+    state: &mut EmitState,
+    force: ForceVeneers,
+    quiet: bool,
+) -> Result<(), AllocError>
+    requires good { item_fault state.old.frame info.now buffer.old.constants item.now ≡ None }
+    requires may { MayMove (element_of state.old.frame info.now item.now) (elements_of state.old.frame info.now rest.now) buffer.old }
+    requires quiet { quiet ≡ true → NeedsNone force (element_of state.old.frame info.now item.now) (elements_of state.old.frame info.now rest.now) buffer.old }
+    ensures buffer { OnOk result (Moves force (element_of state.old.frame info.now item.now) (elements_of state.old.frame info.now rest.now) buffer.old buffer.new) }
+    ensures frame { OnOk result (state.new.frame ≡ state.old.frame) }
+{
+    match item {
+        Item::Bind(label) => buffer.bind_label(*label),
+        Item::Emit { inst, map } => {
+            let asked = if quiet { None } else { asked_space(inst) };
+            if let Some(space) = asked {
+                return ask(buffer, space, force, force);
+            }
+            state.pre_safepoint(*map);
+            put_inst(inst, rest, buffer, info, state, force, quiet)
+        }
+    }
+}
+
+/// Puts items one after another into a buffer without code, with islands between them, and answers their
+/// places. Between items that are quiet no island is asked for.
+///
+/// # Errors
+///
+/// Want of memory.
+pub fn put_items(
+    alloc: Global,
+    items: &[Item],
+    buffer: &mut MachBuffer<'_, LabelUse>,
+    info: &EmitInfo,
+    state: &mut EmitState,
+    force: ForceVeneers,
+    quiet: bool,
+) -> Result<Vec<u32>, AllocError>
+    requires words { buffer.old.words ≡ [] }
+    requires uses { buffer.old.uses ≡ [] }
+    requires labels { buffer.old.labels ≡ empty }
+    requires islands { buffer.old.islands ≡ [] }
+    requires traps { buffer.old.traps ≡ [] }
+    requires good { own_fault state.old.frame info.now buffer.old.constants items.now ≡ None }
+    requires once { second_binding items.now ≡ None }
+    requires short { whole state.old.frame info.now items.now < 2 ^ 31 }
+    requires quiet { quiet ≡ true → AreQuiet force (elements_of state.old.frame info.now items.now) }
+    ensures put { IfOk result (λ places. HasPutAll force (elements_of state.old.frame info.now items.now) places.items buffer.new) }
+    ensures constants { OnOk result (buffer.new.constants ≡ buffer.old.constants) }
+{
+    let mut places = Vec::with_capacity(alloc, items.len())?;
+    let mut place = buffer.cur_offset();
+    for index in 0..items.len() {
+        places.push(place)?;
+        put_item(
+            &items[index],
+            &items[index + 1..],
+            buffer,
+            info,
+            state,
+            force,
+            quiet,
+        )?;
+        place = buffer.cur_offset();
+    }
+    Ok(places)
 }

@@ -3,8 +3,9 @@
 ghost use Rattle.std.specs.Prelude.{◌<◌, ◌^◌, length};
 
 use crate::stream::Stream;
+use a64_assemble::assemble;
 use a64_buffer::ForceVeneers;
-use a64_emit::{Code, EmitError, assemble};
+use a64_emit::{Code, EmitError};
 use std::alloc::Global;
 
 /// The code of a stream. Islands stand only where they are needed.

@@ -1,0 +1,17 @@
+-- What is found of items whose labels are bound and whose code can be addressed.
+use Rattle.std.specs.Prelude.{◌≡◌, ◌<◌, ◌^◌, List, None}
+use Rattle.a64_inst.specs.declared.emission.EmitFlags.{EmitFlags}
+use Rattle.a64_inst.specs.declared.frame.FrameLayout.{FrameLayout}
+use Rattle.a64_inst.specs.declared.item.Item.{Item}
+use Rattle.a64_emit.specs.Bounds.{whole, shortest}
+use Rattle.a64_emit.specs.Faults.{unbound_use, too_large}
+use Rattle.a64_emit.specs.Reach.{has_near}
+use Rattle.a64_assemble.specs.declared.checks.Found.{Found}
+
+pub record IsFound (frame : FrameLayout) (flags : EmitFlags) (items : List Item) (found : Found) : Type 0 where
+  pub all_bound : unbound_use frame flags items ≡ None
+  pub addressed : too_large frame flags items ≡ None
+  pub short : whole frame flags items < 2 ^ 31
+  pub size_is : found.size ≡ whole frame flags items
+  pub shortest_is : found.shortest ≡ shortest frame flags items
+  pub near_is : found.near ≡ has_near frame flags items

@@ -1,0 +1,230 @@
+//! The checks of items before they are emitted.
+
+ghost use Rattle.std.specs.Prelude.{◌≡◌, ◌⊎◌, None, Some, All, OnOk, IfOk, IfErr, MatchResult, [], ℕ};
+ghost use Rattle.std.specs.List.{cons_option, filter_map, list_any};
+ghost use Rattle.a64_emit.specs.declared.error.EmitError.TheVariants.{OutOfMemory};
+ghost use Rattle.a64_emit.specs.Cells.{sites_of, two_uses, uses_of};
+ghost use Rattle.a64_emit.specs.FormCells.{HoldsHalfword};
+ghost use Rattle.a64_inst.specs.Faults as inst_faults;
+ghost use Rattle.a64_emit.specs.Faults as Faults;
+ghost use Rattle.a64_emit.specs.Faults.{own_fault, HasLabels, bindings, second_binding, first_missing, used_label, unbound_use, or_else, too_large};
+ghost use Rattle.a64_emit.specs.Reach.{is_near};
+ghost use Rattle.a64_assemble.specs.Found.{IsFound};
+
+use a64_base::MachLabel;
+use a64_buffer::{Constants, Target};
+use a64_emit::{
+    Burden, EmitError, Site, Uses, burden_of, has_halfword, lesser, light_of, near_label,
+};
+use a64_inst::{EmitInfo, FrameLayout, Group, Inst, Item, OwnFault, VirtualRegisters};
+use a64_label_map::LabelMap;
+use std::alloc::Global;
+
+/// How many bytes the constant has that an instruction loads; `None` where it loads none, or that is not
+/// there.
+#[inline(always)]
+#[tactic(auto, using(crate::proofs::Constants::no_constant))]
+fn constant_size(inst: &Inst, constants: &Constants) -> Option<u32>
+    ensures { result ≡ inst_faults.constant_size constants.now inst.now }
+{
+    match inst.group() {
+        Group::Memory => constants.size_of(inst.constant()?),
+        Group::Immediate | Group::Register | Group::Control => None,
+    }
+}
+
+/// What is wrong with an item by itself.
+fn item_fault(
+    item: &Item,
+    constants: &Constants,
+    info: &EmitInfo,
+    frame: &FrameLayout,
+) -> Option<OwnFault>
+    ensures { result ≡ Faults.item_fault frame.now info.now constants.now item.now }
+{
+    match item {
+        Item::Bind(_) => None,
+        Item::Emit { inst, map: _ } => {
+            let size = constant_size(inst, constants);
+            inst.own_fault(frame, info, size, VirtualRegisters::Refused)
+        }
+    }
+}
+
+/// The refusal because of a fault of the item with this index.
+fn own_error(index: usize, fault: OwnFault) -> EmitError
+    ensures { result ≡ Faults.own_error index fault }
+{
+    match fault {
+        OwnFault::BadOperand => EmitError::BadOperand(index),
+        OwnFault::BadMode => EmitError::BadMode(index),
+        OwnFault::ScratchConflict => EmitError::ScratchConflict(index),
+        OwnFault::UnknownConstant => EmitError::UnknownConstant(index),
+    }
+}
+
+/// That the halfword of an item that is a wide move has 16 bits. The call does nothing else.
+#[inline(always)]
+fn holds_halfword(item: &Item)
+    ensures { HoldsHalfword item.now }
+{
+    match item {
+        Item::Bind(_) => {}
+        Item::Emit { inst, map: _ } => has_halfword(inst),
+    }
+}
+
+/// Whether each item is right by itself. It takes no memory.
+///
+/// # Errors
+///
+/// The fault of the first item that is not.
+pub fn check_items(
+    items: &[Item],
+    constants: &Constants,
+    info: &EmitInfo,
+    frame: &FrameLayout,
+) -> Result<(), EmitError>
+    ensures fault { MatchResult result
+        (λ _. own_fault frame.now info.now constants.now items.now ≡ None)
+        (λ error. own_fault frame.now info.now constants.now items.now ≡ Some error) }
+    ensures halfwords { OnOk result (All HoldsHalfword items.now) }
+{
+    for (i, item) in items.iter().enumerate() {
+        holds_halfword(item);
+        if let Some(fault) = item_fault(item, constants, info, frame) {
+            return Err(own_error(i, fault));
+        }
+    }
+    Ok(())
+}
+
+/// The numbers of the labels that items bind.
+///
+/// # Errors
+///
+/// The first label that is bound twice, or want of memory.
+pub fn bound_labels(alloc: Global, items: &[Item]) -> Result<LabelMap<()>, EmitError>
+    ensures ok { IfOk result (λ bound. (second_binding items.now ≡ None) × HasLabels bound (bindings items.now)) }
+    ensures err { IfErr result (λ error. (error ≡ OutOfMemory) ⊎ (second_binding items.now ≡ Some error)) }
+{
+    let mut bound = LabelMap::new(alloc);
+    for item in items {
+        let Item::Bind(label) = item else {
+            continue;
+        };
+        if bound.insert(label.0, ())?.is_some() {
+            return Err(EmitError::LabelBoundTwice(*label));
+        }
+    }
+    Ok(bound)
+}
+
+/// The label that a use leads to, where it is not bound.
+#[inline(always)]
+fn missing(site: Option<Site>, bound: &LabelMap<()>) -> Option<MachLabel>
+    ensures { (labels : _) → HasLabels bound.now labels → result ≡ first_missing labels (filter_map used_label (cons_option site [])) }
+{
+    match site?.target {
+        Target::Label(label) if !bound.contains(label.0) => Some(label),
+        _ => None,
+    }
+}
+
+/// The first label that one of these uses leads to and that is not bound.
+#[inline(always)]
+fn missing_in(uses: Uses, bound: &LabelMap<()>) -> Option<MachLabel>
+    ensures { (labels : _) → HasLabels bound.now labels
+        → (cells : _) → uses_of 0 cells ≡ two_uses uses.first uses.second → result ≡ first_missing labels (filter_map used_label (sites_of cells)) }
+{
+    match missing(uses.first, bound) {
+        Some(label) => Some(label),
+        None => missing(uses.second, bound),
+    }
+}
+
+/// Whether a use needs its label near.
+#[inline(always)]
+fn near_use(site: Option<Site>) -> bool
+    ensures { result ≡ list_any is_near (cons_option site []) }
+{
+    match site {
+        Some(site) => near_label(site).is_some(),
+        None => false,
+    }
+}
+
+/// Whether one of these uses needs its label near.
+#[inline(always)]
+fn near_in(uses: Uses) -> bool
+    ensures { (cells : _) → uses_of 0 cells ≡ two_uses uses.first uses.second → result ≡ list_any is_near (sites_of cells) }
+{
+    near_use(uses.first) | near_use(uses.second)
+}
+
+/// What is found of the code that items are.
+#[derive(Clone, Copy)]
+pub struct Found {
+    /// How many bytes it may have: below 2^31.
+    pub size: u32,
+    /// The shortest forward range, in bytes, of its uses that may want veneers.
+    pub shortest: Option<u32>,
+    /// Whether some use needs its label near.
+    pub near: bool,
+    /// How many items may have uses. Memory for these is taken at once, so no clause tells it.
+    pub users: usize,
+}
+
+/// How many bytes code of the items may have, the shortest range of its uses that may want veneers, and
+/// whether some use of it needs its label near, where each label that they use is bound, and the code can
+/// be addressed.
+///
+/// # Errors
+///
+/// The first label that is not bound, or else that the code may be too large.
+pub fn check_code(
+    items: &[Item],
+    bound: &LabelMap<()>,
+    info: &EmitInfo,
+    frame: &FrameLayout,
+) -> Result<Found, EmitError>
+    requires { HasLabels bound.now (bindings items.now) }
+    ensures { MatchResult result
+        (IsFound frame.now info.now items.now)
+        (λ error. or_else (unbound_use frame.now info.now items.now) (too_large frame.now info.now items.now) ≡ Some error) }
+{
+    let mut near = false;
+    let mut whole: u64 = 0;
+    let mut shortest = None;
+    let mut users: usize = 0;
+    for item in items {
+        if let Some(light) = light_of(item, frame, info) {
+            if let Some(label) = missing(light.site, bound) {
+                return Err(EmitError::UnboundLabel(label));
+            }
+            whole = whole.saturating_add(light.growth);
+            shortest = lesser(shortest, light.range);
+            users = users.wrapping_add(usize::from(light.site.is_some()));
+            continue;
+        }
+        let Burden { extent, uses } = burden_of(item, frame, info);
+        if let Some(label) = missing_in(uses, bound) {
+            return Err(EmitError::UnboundLabel(label));
+        }
+        near |= near_in(uses);
+        users = users.wrapping_add(1);
+        whole = whole
+            .saturating_add(extent.size)
+            .saturating_add(extent.charge);
+        shortest = lesser(shortest, extent.range);
+    }
+    if whole >= 1 << 31 {
+        return Err(EmitError::TooLarge);
+    }
+    Ok(Found {
+        size: whole as u32,
+        shortest,
+        near,
+        users,
+    })
+}
