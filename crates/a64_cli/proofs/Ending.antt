@@ -3,13 +3,14 @@ use Rattle.std.proofs.Common.{◌≡◌, ◌⊎◌, ℕ, List, refl, sym, ap, �
 use Rattle.a64_emit.specs.declared.code.Code.{Code}
 use Rattle.a64_emit.specs.declared.error.EmitError.{EmitError}
 use Rattle.a64_cli.specs.declared.command.Command.{Command}
-use Rattle.a64_cli.specs.declared.command.Command.TheVariants.{Asm}
+use Rattle.a64_cli.specs.declared.command.Command.TheVariants.{Asm, Gen}
 use Rattle.a64_text.specs.declared.file.File.{File}
 use Rattle.a64_cli.specs.declared.ran.Fault.{Fault}
 use Rattle.a64_cli.specs.declared.ran.Fault.TheVariants as faults
-use Rattle.a64_cli.specs.Commands.{contents_fault, file_fault}
-use Rattle.a64_cli.specs.Run.{IsDue, IsDueForText, IsDueAnswer}
+use Rattle.a64_cli.specs.Commands.{contents_fault, file_fault, HasWords}
+use Rattle.a64_cli.specs.Run.{IsDue, IsDueForText, IsDueAlways, IsDueAnswer}
 use Rattle.a64_cli.specs.Stages.{IsFileOf, IsDueInput, Ends}
+use Rattle.a64_cli.proofs.Faultless.{gen_faultless}
 
 module _ (command : Command) (taken taken' : Option (List ℕ)) (file : File) where
   -- a file with a fault is refused with it
@@ -46,8 +47,22 @@ module _ (command : Command) (taken taken' : Option (List ℕ)) (file : File) wh
     done = λ other l f h. done_due fault code e (sym (ap (contents_fault command) (o.same other f)) ∙ h);
   }
 
+  -- nothing else comes of a file with no fault than that it is done, in part where a write fails, and want of memory
+  done_always : (fault : Option Fault) (code : Option Code) → Ends command taken taken' file fault code
+      → file_fault command file ≡ None → IsDueAlways fault
+  done_always None code e h = inl refl
+  done_always (Some faults.Write) code e h = inr (inl refl)
+  done_always (Some (faults.Assembly other)) code e h = let k = e.0 in absurd (cc)
+  done_always (Some faults.Memory) code e h = inr (inr refl)
+  done_always (Some faults.Usage) code e h = absurd e
+  done_always (Some faults.Read) code e h = absurd e
+  done_always (Some faults.TooLong) code e h = absurd e
+  done_always (Some (faults.Line n)) code e h = absurd e
+
 -- what is due comes: a line for each command
 pub ends_due : (command : Command) (taken taken' : Option (List ℕ)) (file : File) (left : Option (List ℕ)) (fault : Option Fault) (code : Option Code)
-    → IsDueInput command left file → Ends command taken taken' file fault code → IsDueAnswer command left fault
-ends_due Asm taken taken' file None fault code o e = tt
-ends_due Asm taken taken' file (Some text) fault code o e = text_ends_due Asm taken taken' file text fault code o e
+    → HasWords command → IsDueInput command left file → Ends command taken taken' file fault code → IsDueAnswer command left fault
+ends_due (Asm force) taken taken' file None fault code w o e = tt
+ends_due (Asm force) taken taken' file (Some text) fault code w o e = text_ends_due (Asm force) taken taken' file text fault code o e
+ends_due (Gen count force) taken taken' file left fault code w o e =
+    done_always (Gen count force) taken taken' file fault code e (ap (contents_fault (Gen count force)) o ∙ gen_faultless count force w)

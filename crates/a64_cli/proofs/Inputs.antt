@@ -1,5 +1,5 @@
 -- What is answered for the bytes of a file, from what reading them answers.
-use Rattle.std.proofs.Common.{◌≡◌, ℕ, ◌+◌, ◌≤◌, List, [], ◌∷◌, length, refl, sym, ap, ◌∙◌, subst, inl, inr, arith, not, ◌==◌, Option, None, Some, IfSome, Result, Ok, Err, IfOk, IfErr}
+use Rattle.std.proofs.Common.{◌≡◌, ℕ, ◌+◌, ◌≤◌, List, length, refl, sym, ap, ◌∙◌, subst, inl, inr, arith, Option, None, Some, IfSome, Result, Ok, Err, IfOk, IfErr}
 use Rattle.a64_text.specs.declared.file.File.{File}
 use Rattle.a64_text.specs.declared.file.FileError.TheVariants.{BadLine}
 use Rattle.a64_cli.specs.declared.ran.Fault.{Fault}

@@ -1,3 +1,7 @@
+pub mod GenItems
+pub mod Words
+pub mod SummaryParts
+pub mod Faultless
 pub mod Ending
 pub mod Numbered
 pub mod Inputs

@@ -1,4 +1,5 @@
 pub mod Report
+pub mod Gen
 pub mod Streams
 pub mod Commands
 pub mod Run

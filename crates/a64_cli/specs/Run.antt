@@ -5,7 +5,7 @@ use Rattle.a64_emit.specs.declared.code.Code.{Code}
 use Rattle.a64_emit.specs.declared.error.EmitError.{EmitError}
 use Rattle.a64_emit.specs.declared.error.EmitError.TheVariants as errors
 use Rattle.a64_cli.specs.declared.command.Command.{Command}
-use Rattle.a64_cli.specs.declared.command.Command.TheVariants.{Asm}
+use Rattle.a64_cli.specs.declared.command.Command.TheVariants.{Asm, Gen}
 use Rattle.a64_text.specs.declared.file.File.{File}
 use Rattle.a64_cli.specs.declared.ran.Fault.{Fault}
 use Rattle.a64_cli.specs.declared.ran.Fault.TheVariants as faults
@@ -108,6 +108,12 @@ pub record IsDueForText (command : Command) (text : List ℕ) (fault : Option Fa
   pub refused : (file : File) (error : EmitError) → length text ≤ limit → IsFile text file → file_fault command file ≡ Some error → IsDue (Some (faults.Assembly error)) fault
   pub done : (file : File) → length text ≤ limit → IsFile text file → file_fault command file ≡ None → IsDue None fault ⊎ (fault ≡ Some faults.Write)
 
+-- nothing but a failed write or want of memory keeps a command from being done that reads nothing and has a
+-- file without a fault
+abbrev pub IsDueAlways : Option Fault → Type 0
+IsDueAlways fault = (fault ≡ None) ⊎ ((fault ≡ Some faults.Write) ⊎ (fault ≡ Some faults.Memory))
+
 -- which answer is due, for what the source tells
 abbrev pub IsDueAnswer : Command → Option (List ℕ) → Option Fault → Type 0
-IsDueAnswer Asm left fault = IfSome left (λ text. IsDueForText Asm text fault)
+IsDueAnswer (Asm force) left fault = IfSome left (λ text. IsDueForText (Asm force) text fault)
+IsDueAnswer (Gen count force) left fault = IsDueAlways fault

@@ -4,7 +4,7 @@ use Rattle.std.specs.Fmt.{decimal}
 use Rattle.a64_emit.specs.declared.code.Code.{Code}
 use Rattle.a64_emit.specs.declared.error.EmitError.TheVariants as errors
 use Rattle.a64_cli.specs.declared.command.Command.{Command}
-use Rattle.a64_cli.specs.declared.command.Command.TheVariants.{Asm}
+use Rattle.a64_cli.specs.declared.command.Command.TheVariants.{Asm, Gen}
 use Rattle.a64_text.specs.declared.file.File.{File}
 use Rattle.a64_cli.specs.declared.ran.Fault.{Fault}
 use Rattle.a64_cli.specs.declared.ran.Fault.TheVariants as faults
@@ -12,8 +12,9 @@ use Rattle.a64_text.specs.Hex.{hex_digit}
 use Rattle.a64_text.specs.States.{contents_of}
 use Rattle.a64_text.specs.FileText.{IsFile, IsFirstBad}
 use Rattle.a64_cli.specs.declared.making.Made.{Made}
-use Rattle.a64_cli.specs.declared.making.Made.TheVariants.{Report}
+use Rattle.a64_cli.specs.declared.making.Made.TheVariants.{Report, Summary}
 use Rattle.a64_cli.specs.Report.{report_of}
+use Rattle.a64_cli.specs.Gen.{gen_file, summary_of}
 use Rattle.a64_cli.specs.Streams.{HasFailed, Takes, TakesPart}
 use Rattle.a64_cli.specs.Commands.{limit, IsCommand, OfCommand, assembly_fault, file_fault, IsMade}
 use Rattle.a64_cli.specs.Run.{Held, IsDueForText}
@@ -97,7 +98,8 @@ pub record IsParsed (bytes : List ℕ) (result : Result File Fault) : Type 0 whe
 
 -- what was read of the command's file, for an answer that is due
 abbrev pub IsDueInput : Command → Option (List ℕ) → File → Type 0
-IsDueInput Asm left file = IfSome left (λ text. IsFileOf text file)
+IsDueInput (Asm force) left file = IfSome left (λ text. IsFileOf text file)
+IsDueInput (Gen count force) left file = contents_of file ≡ gen_file count
 
 -- why a file has no report
 abbrev pub IsAssemblyFault : Command → File → Fault → Type 0
@@ -108,9 +110,11 @@ IsAssemblyFault command file _ = ⊥
 -- what is kept of what a command made, and what is written of it
 abbrev pub kept_of : Made → Option Code
 kept_of (Report code) = Some code
+kept_of (Summary items code) = Some code
 
 abbrev pub text_of : Made → List ℕ
 text_of (Report code) = report_of code
+text_of (Summary items code) = summary_of items code
 
 -- why a command makes nothing of a file
 abbrev pub IsFileFault : Command → File → Fault → Type 0

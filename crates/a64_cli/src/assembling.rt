@@ -6,7 +6,8 @@ ghost use Rattle.a64_cli.specs.Stages.{IsAssemblyFault};
 
 use crate::command::Command;
 use crate::ran::Fault;
-use a64_emit::{Code, EmitError, assemble};
+use a64_assemble::assemble;
+use a64_emit::{Code, EmitError};
 use a64_text::File;
 use std::alloc::Global;
 

@@ -1,14 +1,15 @@
-//! Reads a file of items from a source.
+//! The file of items on which a command works: read from a source, or made.
 
 ghost use Rattle.std.specs.Prelude.{◌≡◌, ◌+◌, ◌<◌, ◌≤◌, ◌^◌, length, [], false, Some, IfSome, IfOk, IfErr, OnOk, OnErr};
 ghost use Rattle.a64_cli.specs.Streams.{HasFailed};
-ghost use Rattle.a64_cli.specs.Commands.{limit, WasRead, IsInput, reads_source};
+ghost use Rattle.a64_cli.specs.Commands.{limit, WasRead, IsInput, HasWords, reads_source};
 ghost use Rattle.a64_cli.specs.Run.{Held, TakesFew, IsDueAnswer};
 ghost use Rattle.a64_cli.specs.Stages.{HasRead, TakesBehind, TakesAtMost, IsWhole, IsFileOf, IsTextDue, IsParsed, IsReadFault, IsTextFault, IsInputFault, IsDueInput};
 
 use crate::command::Command;
 use crate::ran::Fault;
 use crate::stream::Source;
+use crate::turns::gen_file;
 use a64_text::{File, FileError, read_file};
 use std::alloc::Global;
 
@@ -133,6 +134,7 @@ fn read_input<S: Source>(alloc: Global, source: &mut S) -> Result<File, Fault>
 ///
 /// What was read is no file, a read failed, or want of memory.
 pub fn input_of<S: Source>(alloc: Global, command: Command, source: &mut S) -> Result<File, Fault>
+    requires { HasWords command }
     ensures ok { IfOk result (IsInput command (S.left source.old) (S.left source.new)) }
     ensures items { IfOk result (λ file. length file.items.items < 2 ^ 32) }
     ensures few { TakesFew (S.left source.old) (S.left source.new) }
@@ -143,6 +145,10 @@ pub fn input_of<S: Source>(alloc: Global, command: Command, source: &mut S) -> R
     ensures due_err { IfErr result (λ fault. IsDueAnswer command (S.left source.old) (Some fault)) }
 {
     match command {
-        Command::Asm => read_input(alloc, source),
+        Command::Asm(_) => read_input(alloc, source),
+        Command::Gen { count, .. } => match gen_file(alloc, count) {
+            Ok(made) => Ok(made),
+            Err(_) => Err(Fault::Memory),
+        },
     }
 }

@@ -1,13 +1,17 @@
-//! The program `asm`: reads a file of items from the standard input, and writes the report of its
-//! code to the standard output.
+//! The program: `asm` reads a file of items from the standard input, and writes the report of its code
+//! to the standard output; `gen` makes a file of its own, and writes a summary of its code.
 #![tactic(auto)]
 
 mod adapter;
 mod assembling;
 mod command;
+#[cfg(test)]
+mod command_tests;
 mod fault_lines;
 mod hundred;
 mod input;
+#[cfg(test)]
+mod island_tests;
 mod kept;
 mod line;
 mod making;
@@ -21,8 +25,10 @@ mod report_lines;
 mod report_tests;
 mod run;
 mod stream;
+mod summary;
 #[cfg(test)]
 mod tests;
+mod turns;
 #[cfg(test)]
 mod whole_run_tests;
 

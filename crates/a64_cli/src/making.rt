@@ -11,6 +11,7 @@ use crate::piece::Piece;
 use crate::ran::Fault;
 use crate::report::write_report;
 use crate::stream::{Failed, Sink};
+use crate::summary::write_summary;
 use a64_emit::Code;
 use a64_text::File;
 use std::alloc::Global;
@@ -20,6 +21,13 @@ use std::alloc::Global;
 pub enum Made {
     /// Code, of which the report is written.
     Report(Code),
+    /// Code, of which the summary is written.
+    Summary {
+        /// How many items the code was made of.
+        items: u64,
+        /// The code.
+        code: Code,
+    },
 }
 
 impl Made {
@@ -36,6 +44,7 @@ impl Made {
     {
         match self {
             Made::Report(code) => write_report(sink, piece, code),
+            Made::Summary { items, code } => write_summary(sink, piece, *items, code),
         }
     }
 
@@ -44,7 +53,7 @@ impl Made {
         ensures { result ≡ kept_of self }
     {
         match self {
-            Made::Report(code) => Some(code),
+            Made::Report(code) | Made::Summary { code, .. } => Some(code),
         }
     }
 }
@@ -60,8 +69,15 @@ pub fn make(alloc: Global, command: Command, file: &File) -> Result<Made, Fault>
     ensures err { IfErr result (IsFileFault command file.now) }
 {
     match command {
-        Command::Asm => match assemble_file(alloc, command, file) {
+        Command::Asm(_) => match assemble_file(alloc, command, file) {
             Ok(code) => Ok(Made::Report(code)),
+            Err(fault) => Err(fault),
+        },
+        Command::Gen { .. } => match assemble_file(alloc, command, file) {
+            Ok(code) => Ok(Made::Summary {
+                items: file.items.len() as u64,
+                code,
+            }),
             Err(fault) => Err(fault),
         },
     }

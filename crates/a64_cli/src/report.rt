@@ -63,7 +63,7 @@ fn put_pool<K: Sink>(sink: &mut K, piece: &mut Piece, pool: u32) -> Result<(), F
 
 /// The first word of code, and the bytes behind it.
 #[inline(always)]
-fn first_word(bytes: &[u8]) -> Option<(u32, &[u8])>
+pub fn first_word(bytes: &[u8]) -> Option<(u32, &[u8])>
     ensures some { IfSome result (λ first. words_in bytes.now ≡ first.0 ∷ words_in first.1.now) }
     ensures shorter { IfSome result (λ first. length first.1.now + 4 ≡ length bytes.now) }
     ensures none { IfNone result (words_in bytes.now ≡ []) }

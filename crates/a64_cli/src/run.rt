@@ -4,7 +4,7 @@ ghost use Rattle.std.specs.Prelude.{◌≡◌, ◌≢◌, ◌^◌, ◌<◌, ◌�
 ghost use Rattle.std.specs.String.{string_bytes};
 ghost use Rattle.a64_cli.specs.declared.ran.Fault.TheVariants as faults;
 ghost use Rattle.a64_cli.specs.Streams.{HasFailed, Takes};
-ghost use Rattle.a64_cli.specs.Commands.{IsNoCommand, OfCommand, reads_source};
+ghost use Rattle.a64_cli.specs.Commands.{IsNoCommand, OfCommand, HasWords, reads_source};
 ghost use Rattle.a64_cli.specs.Run.{status_of, fault_line, Keeps, Held, Untouched, TakesFew, IsDueAnswer};
 ghost use Rattle.a64_cli.specs.Stages.{Ends, EndsWriting};
 
@@ -62,6 +62,7 @@ fn run_command<S: Source, K: Sink>(
     source: &mut S,
     sink: &mut K,
 ) -> Ran
+    requires { HasWords command }
     ensures status { result.status ≡ status_of result.fault }
     ensures keeps { Keeps command (S.left source.old) (S.left source.new) (K.taken sink.old) (K.taken sink.new)
         result.fault result.file result.code }
@@ -116,9 +117,10 @@ fn tell<E: Sink>(errs: &mut E, fault: Fault)
     let _ = write_all(errs, line.as_slice());
 }
 
-/// Runs the command that the words are: `asm`, or no word. It reads a file of items from the source
-/// and writes the report of its code to the sink; where it does not, it writes one line to `errs`
-/// that says why.
+/// Runs the command that the words are; no word stands for `asm`. `asm` reads a file of items from the
+/// source and writes the report of its code to the sink. `gen` and a number of turns from 1 to 100,000
+/// makes a file of its own, and writes a summary of its code. `force` behind either forces islands.
+/// Where that is not done, one line is written to `errs` that says why.
 pub fn run<S: Source, K: Sink, E: Sink>(
     alloc: Global,
     words: &[String],

@@ -49,6 +49,18 @@ fn other_words_are_a_usage_error(rt: HostRuntime) -> Result<(), Fail> {
         ["asm", "now"].as_slice(),
         ["ASM"].as_slice(),
         [""].as_slice(),
+        ["force"].as_slice(),
+        ["asm", "force", "force"].as_slice(),
+        ["gen"].as_slice(),
+        ["gen", "force"].as_slice(),
+        ["gen", ""].as_slice(),
+        ["gen", "0"].as_slice(),
+        ["gen", "01"].as_slice(),
+        ["gen", "+1"].as_slice(),
+        ["gen", "1x"].as_slice(),
+        ["gen", "100001"].as_slice(),
+        ["gen", "4294967297"].as_slice(),
+        ["gen", "1", "now"].as_slice(),
     ] {
         let words = words_from(alloc, texts)?;
         let mut source = source_of(alloc, b"Ret\n")?;

@@ -1,4 +1,4 @@
-use Rattle.std.proofs.Common.{◌≡◌, ◌-◌, ◌≤◌, ◌++◌, length, drop, refl, arith, ◌∙◌, length-drop, length-append}
+use Rattle.std.proofs.Common.{◌-◌, ◌≤◌, ◌++◌, length, drop, refl, arith, ◌∙◌, length-drop, length-append}
 use Rattle.a64_cli.proofs.Overlaps.{overlapped}
 use Rattle.a64_cli.proofs.piece.copy_text.Goals as goal
 
