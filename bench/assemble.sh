@@ -24,6 +24,13 @@ def write(name, items):
                 ours.write(f"Jump L{label}\n"); theirs.write(f"b L{label}\n")
             elif kind == "bind":
                 ours.write(f"bind L{label}\n"); theirs.write(f"L{label}:\n")
+            elif kind == "test":
+                ours.write(f"TestBitAndBranch Z L{label} L{label} x1 0\n")
+                theirs.write(f"tbz x1, #0, L{label}\nb L{label}\n")
+            elif kind == "load":
+                ours.write(f"FpuLoad64 v0 Const({label}) -\n"); theirs.write(f"ldr d0, ={label}\n")
+            elif kind == "const":
+                ours.write(f"const {label} {label.to_bytes(8, 'little').hex()}\n")
             else:
                 ours.write("Nop4\n"); theirs.write("nop\n")
 
@@ -37,6 +44,10 @@ again = order[:]
 random.shuffle(again)
 write("shuffled", [("jump", i) for i in order] + [("bind", i) for i in again])
 write("nops", [("nop", 0)] * 1_000_000)
+# Branches ahead over some 40 KB: each needs a veneer, which neither of the two assemblers writes.
+ahead = 3_400
+write("ahead", [x for i in range(n) for x in [("test", i)] + ([("bind", i - ahead)] if i >= ahead else [])] + [("bind", i) for i in range(n - ahead, n)])
+write("loads", [("const", j) for j in range(1_000)] + [("load", i % 1_000) for i in range(n)])
 
 def register():
     return f"x{random.randrange(31)}"
@@ -85,4 +96,13 @@ for name in near far one_label shuffled nops mixed; do
     llvm=$(least llvm-mc -triple=aarch64 -filetype=obj "$work/$name.s" -o "$work/$name.llvm.o")
     printf '| %s | %s | %s | %s | %s | %s |\n' "$name" "$(seconds "$own")" \
         "$(seconds "$gnu")" "$(ratio "$gnu" "$own")" "$(seconds "$llvm")" "$(ratio "$llvm" "$own")"
+done
+
+# What has islands, or a pool: the two assemblers write no veneers, and one pool for each section or where it is asked for.
+echo
+echo "| file | \`asm\` | islands |"
+echo "|---|---|---|"
+for name in ahead loads; do
+    printf '| %s | %s | %s |\n' "$name" "$(seconds "$(least ours "$work/$name.txt")")" \
+        "$("$program" < "$work/$name.txt" | grep -c '^island ' || true)"
 done
