@@ -145,8 +145,8 @@ module _ {X : Type 0} where
         ∙ sym (get-insert nat_cmp_total (whole table others) number value q)))
 
   -- the balance once a number got a value
-  pub balanced_put : (table table' : List (Option X)) (others others' : BTreeMap ℕ X) (count count' number : ℕ) (value : X) (old : Option X) → IsBalanced table others count → AreShared table' others' → length table' ≡ length table → whole table' others' ≡ insert (whole table others) number value → old ≡ get (whole table others) number → count ≤ count' → count' ≤ count + cond (is_some old) 0 1 → IsBalanced table' others' count'
-  balanced_put table table' others others' count count' number value old b s long is was least most = record {
+  pub balanced_put : (table table' : List (Option X)) (others others' : BTreeMap ℕ X) (count count' expected number : ℕ) (value : X) (old : Option X) → IsBalanced table others count expected → AreShared table' others' → length table' ≡ length table → whole table' others' ≡ insert (whole table others) number value → old ≡ get (whole table others) number → count ≤ count' → count' ≤ count + cond (is_some old) 0 1 → IsBalanced table' others' count' expected
+  balanced_put table table' others others' count count' expected number value old b s long is was least most = record {
     shared = s;
     counted =
         let more : len (whole table' others') ≡ cond (is_some old) (len (whole table others)) (len (whole table others) + 1) =

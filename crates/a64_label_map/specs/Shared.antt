@@ -20,8 +20,8 @@ pub record AreShared {X : Type 0} (table : List (Option X)) (others : BTreeMap �
   pub short : length table ≤ 2 ^ 32
   pub apart : (number : ℕ) → number < length table → tree.get nat_cmp others number ≡ None
 
--- and the table is not much longer than the map
-pub record IsBalanced {X : Type 0} (table : List (Option X)) (others : BTreeMap ℕ X) (count : ℕ) : Type 0 where
+-- and the table is not much longer than the map, and the numbers that are expected besides
+pub record IsBalanced {X : Type 0} (table : List (Option X)) (others : BTreeMap ℕ X) (count expected : ℕ) : Type 0 where
   pub shared : AreShared table others
   pub counted : count ≤ len (whole table others)
-  pub few : length table ≤ 2 * (count + 64)
+  pub few : length table ≤ 2 * (count + expected + 64)

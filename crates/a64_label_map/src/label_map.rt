@@ -11,9 +11,9 @@ use std::marker::Model;
 
 /// A map from numbers to values, which contracts see as a finite map.
 ///
-/// The values of small numbers stand in a table, whose length is at most twice that of the map, and
-/// 128 more. So a number costs a step of the table where most numbers are dense, and a search of a
-/// tree where it lies far beyond the others.
+/// The values of small numbers stand in a table, which has two entries at most for each number that has a
+/// value or is expected, and 128 more. So a number costs a step of the table where most numbers are dense,
+/// and a search of a tree where it lies far beyond the others.
 #[derive(Drop)]
 pub struct LabelMap<V> {
     /// The values of the numbers below the table's length.
@@ -22,6 +22,8 @@ pub struct LabelMap<V> {
     others: BTreeMap<u32, V>,
     /// How many numbers have a value.
     count: u64,
+    /// How many numbers more are expected.
+    expected: u64,
 }
 
 impl<V> Model for LabelMap<V> {
@@ -36,7 +38,7 @@ impl<V> Model for LabelMap<V> {
 
     ghost view = { λ a. whole a.table.items a.others };
 
-    ghost invariant = { λ a. IsBalanced a.table.items a.others a.count };
+    ghost invariant = { λ a. IsBalanced a.table.items a.others a.count a.expected };
 }
 
 /// A count, and one more where there was no value before.
@@ -51,8 +53,8 @@ fn counted<V: Copy>(count: u64, old: Option<V>) -> u64
     }
 }
 
-/// The length of a table that gets at least another length, and no more than a bound: an eighth and
-/// eight more than its own where it may, so that it seldom grows and has few numbers without a value.
+/// The length of a table that gets at least another length, and no more than a bound: twice its own and
+/// eight more where it may, so that it seldom grows.
 fn grown(len: usize, least: usize, bound: u64) -> usize
     requires short { least ≤ 2 ^ 32 }
     requires within { least ≤ bound }
@@ -61,7 +63,7 @@ fn grown(len: usize, least: usize, bound: u64) -> usize
     ensures short { result ≤ 2 ^ 32 }
 {
     let most = bound.min(1 << 32) as usize;
-    len.saturating_add(len / 8 + 8).min(most).max(least)
+    len.saturating_mul(2).saturating_add(8).min(most).max(least)
 }
 
 impl<V: Copy> LabelMap<V> {
@@ -73,7 +75,15 @@ impl<V: Copy> LabelMap<V> {
             table: Vec::new(alloc),
             others: BTreeMap::new(alloc),
             count: 0,
+            expected: 0,
         }
+    }
+
+    /// Expects so many numbers more: the table may be as long as if they had values. It takes no memory.
+    pub fn expect(&mut self, more: usize)
+        ensures { self.new ≡ self.old }
+    {
+        self.expected = self.expected.saturating_add(more as u64);
     }
 
     /// The value of a number; `None` where it has none.
@@ -114,7 +124,8 @@ impl<V: Copy> LabelMap<V> {
         if least <= len {
             return Ok(());
         }
-        let bound = self.count.saturating_add(64).saturating_mul(2);
+        let entries = self.count.saturating_add(self.expected);
+        let bound = entries.saturating_add(64).saturating_mul(2);
         if least as u64 > bound {
             return Ok(());
         }
