@@ -1,16 +1,23 @@
 #!/usr/bin/env bash
 # Runs the tests of a64_buffer with their first allocation refused, then their second, and so on. In the
 # test `ends_as_with_enough_memory` each call that finds no memory is made a second time, on the buffer
-# as it then is, so it must pass each time. The other tests have no second tries, and fail where they are
-# refused.
+# as it then is, so it must pass each time, and so must `records_as_with_enough_memory` up to the end of
+# its code. The other tests have no second tries, and fail where they are refused.
 set -eu
 cd "$(dirname "$0")/../crates/a64_buffer"
 calls=${1:-17}
+record_calls=5
 for call in $(seq "$calls"); do
     said=$(rt try --test --fail-alloc "$call" 2>&1) || true
-    if ! grep -q 'ends_as_with_enough_memory \.\.\. ok' <<< "$said"; then
-        printf 'allocation %s refused: the run does not end as with enough memory\n%s\n' "$call" "$said" >&2
-        exit 1
+    tests=(ends_as_with_enough_memory)
+    if [ "$call" -le "$record_calls" ]; then
+        tests+=(records_as_with_enough_memory)
     fi
+    for test in "${tests[@]}"; do
+        if ! grep -q "$test \\.\\.\\. ok" <<< "$said"; then
+            printf 'allocation %s refused: %s does not end as with enough memory\n%s\n' "$call" "$test" "$said" >&2
+            exit 1
+        fi
+    done
 done
-echo "$calls allocations refused in turn: the run ends as with enough memory each time"
+echo "$calls allocations refused in turn: the runs end as with enough memory each time"

@@ -15,13 +15,14 @@ use Rattle.a64_buffer.specs.Buffer.{Buffer, end_of, label_of, goal_of, is_within
 use Rattle.a64_buffer.specs.Areas.{HasUse}
 use Rattle.a64_buffer.specs.declared.class.Class.{Class}
 use Rattle.a64_buffer.specs.Classes.{Level, third, level_of, wants, cost, class, range_of, is_open, weigh, burden, weigh_label}
-use Rattle.a64_buffer.specs.Later.{IsSameUse, IsLater, AreTraps}
+use Rattle.a64_buffer.specs.Later.{IsSameUse, HasMoreRecords, IsLater, AreTraps}
 use Rattle.a64_buffer.specs.Sound.{IsPlaced, AreApart, IsKinded, IsKnown, IsStop, IsRightlyOpen, IsStoppedOrOpen, IsSound}
 use Rattle.a64_buffer.specs.Steps.{stopped, Adds, Within}
 use Rattle.a64_buffer.proofs.Growth.{Grows, stop_stays}
 use Rattle.a64_buffer.proofs.Costs.{SomeOpen}
 use Rattle.a64_buffer.proofs.Rooms.{next_within, widest}
 use Rattle.a64_buffer.proofs.Uses.{apart_map}
+use Rattle.a64_buffer.proofs.Laters.{same_records}
 
 -- two lists of uses that stand apart, one behind the other
 pub apart_append : {K : Type 0} (end : ℕ) (us vs : List (Use K)) → AreApart us → AreApart vs → All (λ u. u.offset < end) us → All (λ u. end ≤ u.offset) vs → AreApart (us ++ vs)
@@ -122,6 +123,7 @@ module _ {K : Type 0} (r : Kinds K) (law : IsLawful r) (b b' : Buffer K) (areas 
         fresh = λ k d h w. let x : end_of b ≤ (get_or fresh (k - length b.uses) d).offset = behind (k - length b.uses) d (omega (arith, added_count)) in omega (arith, ap (λ u. u.offset) (new_use k d h));
         labels = λ label p e. ap (λ m. get m label) a.labels ∙ e;
         constants = a.constants;
+        records = subst (HasMoreRecords b.records) (sym a.records) (same_records b.records);
         traps = record { more = traps; are = a.traps_are; stand = stand };
       }
 

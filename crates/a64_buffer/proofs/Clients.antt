@@ -14,7 +14,7 @@ use Rattle.a64_buffer.specs.declared.force.ForceVeneers.TheVariants.{No}
 use Rattle.a64_buffer.specs.declared.finish.Finished.{Finished}
 use Rattle.a64_buffer.specs.Word.{words_of}
 use Rattle.a64_buffer.specs.Kinds.{Kinds, IsLawful, IsWithin}
-use Rattle.a64_buffer.specs.Buffer.{Buffer, end_of, new_buffer, label_of, made_use, closed_at, IsFree, IsOutside, IsBound, IsReached}
+use Rattle.a64_buffer.specs.Buffer.{Records, Buffer, end_of, new_buffer, label_of, made_use, closed_at, IsFree, IsOutside, IsBound, IsReached}
 use Rattle.a64_buffer.specs.Classes.{Level, first, second, third, level_of, cost, class, range_of, is_open, weigh, burden, HasRoom, Fits}
 use Rattle.a64_buffer.specs.Sound.{IsPlaced, IsWhole}
 use Rattle.a64_buffer.specs.Islands.{IsVeneerUse, HasIsland}
@@ -148,6 +148,9 @@ module _ {K : Type 0} (r : Kinds K) (law : IsLawful r) where
   -- a buffer that grew without more uses of labels than the veneers of those before
   pub grows_none : (b : Buffer K) → GrowsBy r 0 b b
   grows_none b = record { long = omega arith; short = omega arith; easy = λ count h. h; labels = refl; constants = refl }
+
+  pub grows_recorded : (records : Records) (b : Buffer K) → GrowsBy r 0 b (record b { records = records })
+  grows_recorded records b = record { long = omega arith; short = omega arith; easy = λ count h. h; labels = refl; constants = refl }
 
   pub grows_on : (more more' sum : ℕ) (a b c : Buffer K) → more + more' ≤ sum → GrowsBy r more a b → GrowsBy r more' b c → GrowsBy r sum a c
   grows_on more more' sum a b c le g h = record {

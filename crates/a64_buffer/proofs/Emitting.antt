@@ -25,12 +25,12 @@ use Rattle.a64_buffer.proofs.Pays.{label_is}
 use Rattle.a64_buffer.proofs.Growth.{Grows, use_inside}
 use Rattle.a64_buffer.proofs.Rooms.{open_wants, room_from, none_room, less_room}
 use Rattle.a64_buffer.proofs.Adding.{added_later, added_sound, old_use}
-use Rattle.a64_buffer.proofs.Laters.{same_use, later_trans}
+use Rattle.a64_buffer.proofs.Laters.{same_records, later_beside, later_trans}
 use Rattle.a64_buffer.proofs.Serving.{open_none, serves_none, served_behind, serves_join, sites_stopped}
 use Rattle.a64_buffer.proofs.OwnTraps.{label_no_trap, own_later}
 use Rattle.a64_buffer.proofs.Writing.{part_none}
-use Rattle.a64_buffer.proofs.Traps.{same_traps, no_traps}
-use Rattle.a64_buffer.proofs.Islands.{sound_islands, begun_end, begun_later, begun_sound, begun_sound_in, begun_weight, begun_within, open_areas, open_hold, close_areas, jump_reach, islands_more}
+use Rattle.a64_buffer.proofs.Traps.{no_traps}
+use Rattle.a64_buffer.proofs.Islands.{sound_beside, begun_end, begun_later, begun_sound, begun_sound_in, begun_weight, begun_within, open_areas, open_hold, close_areas, jump_reach, islands_more}
 
 -- ---- where a use stops
 
@@ -132,9 +132,6 @@ module _ {K : Type 0} (r : Kinds K) (test : Use K → Bool) (place : ℕ) where
       closed : (o : Bool) → (o ≡ true → ⊥) → o ≡ false
       closed true n = absurd (n refl)
       closed false n = refl
-
-later_islands : {K : Type 0} (b : Buffer K) (islands : List (ℕ × ℕ)) → IsLater b (record b { islands = islands })
-later_islands b islands = record { end = omega arith; words = λ i h. refl; count = omega arith; uses = λ k d h. same_use (end_of b) (get_or b.uses k d); fresh = λ k d h w. absurd (omega arith); labels = λ l p e. e; constants = refl; traps = same_traps (end_of b) (end_of b) b.traps }
 
 far_by_rank : (c : Class) → wants c ≡ true → 4 ≤ rank_of c → c ≡ Far
 far_by_rank Near w h = absurd (omega arith)
@@ -240,7 +237,7 @@ module _ {K : Type 0} (r : Kinds K) (law : IsLawful r) (distance : ℕ) (force :
   listed = record m { uses = map (stopped (stands_at (end_of b)) (end_of m)) m.uses }
 
   adds : Adds (stands_at (end_of b)) (end_of m) [] [] [] m listed
-  adds = record { words = sym (append-nil m.words); uses = sym (append-nil (map (stopped (stands_at (end_of b)) (end_of m)) m.uses)); labels = refl; islands = refl; traps_are = sym (append-nil m.traps); constants = refl }
+  adds = record { words = sym (append-nil m.words); uses = sym (append-nil (map (stopped (stands_at (end_of b)) (end_of m)) m.uses)); labels = refl; islands = refl; traps_are = sym (append-nil m.traps); constants = refl; records = refl }
 
   only_over : (k : ℕ) (d : Use K) → k < length m.uses → stands_at (end_of b) (get_or m.uses k d) ≡ true → get_or m.uses k d ≡ over
   only_over k d h e =
@@ -273,7 +270,7 @@ module _ {K : Type 0} (r : Kinds K) (law : IsLawful r) (distance : ℕ) (force :
   islands_now = ap (λ (is : List (ℕ × ℕ)). is ++ (end_of b, end_of m) ∷ []) islands_are
 
   m_later : IsLater m b'
-  m_later = later_trans m listed b' listed_later (later_islands listed (m.islands ++ (end_of b, end_of m) ∷ []))
+  m_later = later_trans m listed b' listed_later (later_beside listed (m.islands ++ (end_of b, end_of m) ∷ []) m.records (same_records m.records))
 
   w_later : IsLater w b'
   w_later = later_trans w m b' last.part.later m_later
@@ -282,7 +279,7 @@ module _ {K : Type 0} (r : Kinds K) (law : IsLawful r) (distance : ℕ) (force :
   b_later = later_trans b (begun r b) b' (begun_later r law b b.islands whole.sound) (later_trans (begun r b) w b' near.writing.part.later w_later)
 
   sound_end : IsSound r b' (ended (end_of b) m).islands
-  sound_end = subst (IsSound r b') (sym islands_now) (sound_islands r listed (m.islands ++ (end_of b, end_of m) ∷ []) (open_areas r law b) (b.islands ++ (end_of b, end_of m) ∷ []) listed_sound (λ p size h i. close_areas r law b (end_of m) p size h i))
+  sound_end = subst (IsSound r b') (sym islands_now) (sound_beside r listed (m.islands ++ (end_of b, end_of m) ∷ []) m.records (open_areas r law b) (b.islands ++ (end_of b, end_of m) ∷ []) listed_sound (λ p size h i. close_areas r law b (end_of m) p size h i))
 
   over_now : (d : Use K) → get_or (ended (end_of b) m).uses (length b.uses) d ≡ record over { stop = Some (end_of m) }
   over_now d =
@@ -434,6 +431,7 @@ module _ {K : Type 0} (r : Kinds K) (law : IsLawful r) (distance : ℕ) (force :
     long = omega (arith, starts, last.part.later.end);
     islands = islands_now;
     labels = last.part.labels ∙ near.writing.part.labels;
+    records = last.part.records ∙ near.writing.part.records;
     later = b_later;
     given = given_now;
     whole = record { sound = sound_end; islands = islands_more r b b' (end_of m) b_later islands_now whole.islands new_island; fits = less_room r law (end_of m) (ended (end_of b) m).uses distance 0 (omega arith) fits_now; own_traps = own_now };

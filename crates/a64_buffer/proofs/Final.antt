@@ -22,7 +22,7 @@ use Rattle.a64_buffer.specs.Leads.{FarAt, Arrives, JumpAt, LabelLeads, TargetLea
 use Rattle.a64_buffer.specs.Settled.{IsCodeOf, Reaches, MayLead, IsLed, AreSettled, Lists, IsCode}
 use Rattle.a64_buffer.specs.Finished.{JumpsOver, IsSettled, IsFinished}
 use Rattle.a64_buffer.proofs.OwnTraps.{label_no_trap, own_later}
-use Rattle.a64_buffer.proofs.Islands.{sound_islands, in_everywhere, open_areas, open_hold, more_areas, close_areas, later_keeps, island_stays}
+use Rattle.a64_buffer.proofs.Islands.{sound_beside, in_everywhere, open_areas, open_hold, more_areas, close_areas, later_keeps, island_stays}
 use Rattle.a64_buffer.proofs.Emitting.{all_closed, stops_below}
 
 one_place : (o : Option ℕ) (g h : ℕ) → o ≡ Some g → o ≡ Some h → g ≡ h
@@ -45,7 +45,7 @@ stand_at bytes (w ∷ ws) place h =
 -- a buffer whose pool may be written
 pub may_finish : {K : Type 0} (r : Kinds K) (b : Buffer K) → IsWhole r b → end_of b + owed r b < 2 ^ 31 → MayWrite r b
 may_finish r b whole short = record {
-  sound = sound_islands r b b.islands b.islands everywhere whole.sound (λ p size h i. in_everywhere (end_of b) p size whole.sound.short h);
+  sound = sound_beside r b b.islands b.records b.islands everywhere whole.sound (λ p size h i. in_everywhere (end_of b) p size whole.sound.short h);
   room = record { rooms = λ k d w o. let x = whole.fits.rooms k d w o in omega arith };
   short = short;
 }
@@ -58,7 +58,7 @@ module _ {K : Type 0} (r : Kinds K) (law : IsLawful r) (b m : Buffer K) (whole :
   labels_are = w.writing.part.labels
 
   sound : IsSound r m (open_areas r law b)
-  sound = w.writing.sound_in (open_areas r law b) (sound_islands r b b.islands b.islands (open_areas r law b) whole.sound (λ p size h i. more_areas r law b (end_of b, 2 ^ 32) p size i)) (open_hold r law b)
+  sound = w.writing.sound_in (open_areas r law b) (sound_beside r b b.islands b.records b.islands (open_areas r law b) whole.sound (λ p size h i. more_areas r law b (end_of b, 2 ^ 32) p size i)) (open_hold r law b)
 
   -- ---- each label that is used is bound, and each use of a label stops
 
@@ -321,12 +321,13 @@ module _ {K : Type 0} (r : Kinds K) (law : IsLawful r) (b m : Buffer K) (whole :
               (subst (λ q. GoesTo r (get_or m.uses i.index e).kind q (word_at bytes (get_or m.uses i.index e).offset) (get_or m.uses i.index e).offset (get_or b.islands k d).1) put (goes i.index e (get_or b.islands k d).1 i.within (i.stop_is e))));
         }
 
-    pub finished : (code : Finished) → code.bytes.items ≡ bytes → Lists b.labels code.labels.items → code.pool ≡ end_of b → code.islands.items ≡ b.islands → code.traps.items ≡ m.traps → code.relocs.items ≡ [] → code.calls.items ≡ [] → code.patchable.items ≡ [] → code.maps.items ≡ [] → IsFinished r b code
+    pub finished : (code : Finished) → code.bytes.items ≡ bytes → Lists b.labels code.labels.items → code.pool ≡ end_of b → code.islands.items ≡ b.islands → code.traps.items ≡ m.traps → code.relocs.items ≡ b.records.relocs → code.calls.items ≡ b.records.calls → code.patchable.items ≡ b.records.patchable → code.maps.items ≡ b.records.maps → IsFinished r b code
     finished code bytes_are labels pool islands traps relocs calls patchable maps = record {
       final = m;
       sound = whole.sound;
       later = later;
       labels_kept = labels_are;
+      records_kept = w.writing.part.records;
       longest = omega (arith, w.writing.part.owed);
       few_traps = omega (arith, w.writing.traps);
       same_length = ap length bytes_are ∙ (c.same_length ∙ ap (λ n. 4 * n) t.same_length);
@@ -338,7 +339,7 @@ module _ {K : Type 0} (r : Kinds K) (law : IsLawful r) (b m : Buffer K) (whole :
       served = w.writing.served;
       serves = w.writing.serves;
       own_traps = own_later r b.constants b.labels w.writing.served b m w.writing.serves later sound.apart whole.own_traps (stops_below r b b.islands whole.sound) (λ k d low high trap. label_no_trap (get_or m.uses k d).target (w.writing.given k d low high).labelled trap);
-      final_sound = sound_islands r m m.islands (open_areas r law b) areas sound closes;
+      final_sound = sound_beside r m m.islands m.records (open_areas r law b) areas sound closes;
       jumps = subst (λ bs. All (JumpsOver r bs) b.islands) (sym bytes_are) jumps_over;
       labels = labels;
       islands = islands;
@@ -353,4 +354,5 @@ module _ {K : Type 0} (r : Kinds K) (law : IsLawful r) (b m : Buffer K) (whole :
 -- and that is what the buffer with its pool makes
 pub code_finished : {K : Type 0} (r : Kinds K) (law : IsLawful r) (b m : Buffer K) (whole : IsWhole r b) (w : Writes r 5 b m) → All (IsBound b.labels) b.uses → All (λ u. r.veneers u.kind ≡ false → IsReached r b.labels u) b.uses → (code : Finished) → IsCode r m (end_of b) code → IsFinished r b code
 code_finished r law b m whole w bound direct code c =
-    finished r law b m whole w bound direct c.words code.bytes.items c.settled c.bytes code refl (subst (λ ls. Lists ls code.labels.items) w.writing.part.labels c.labels) c.pool_is (c.islands ∙ w.writing.part.islands) c.traps c.relocs c.calls c.patchable c.maps
+    finished r law b m whole w bound direct c.words code.bytes.items c.settled c.bytes code refl (subst (λ ls. Lists ls code.labels.items) w.writing.part.labels c.labels) c.pool_is (c.islands ∙ w.writing.part.islands) c.traps
+    (c.relocs ∙ ap (λ rs. rs.relocs) w.writing.part.records) (c.calls ∙ ap (λ rs. rs.calls) w.writing.part.records) (c.patchable ∙ ap (λ rs. rs.patchable) w.writing.part.records) (c.maps ∙ ap (λ rs. rs.maps) w.writing.part.records)

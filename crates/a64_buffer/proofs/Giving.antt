@@ -136,6 +136,7 @@ module _ {K : Type 0} (r : Kinds K) (law : IsLawful r) (b b' : Buffer K) (areas 
               later = later;
               labels = a.labels;
               islands = a.islands;
+              records = a.records;
               rooms = added_rooms r law b b' areas test place added fresh traps s a later index u within is open'
                   (λ l o. let c = open_after fars l o in omega (arith, end, loses (cost l), pays l c.0 c.1 c.2 c.3))
                   (λ k d h o. ap level_of (fars k d h o));

@@ -7,7 +7,7 @@ use Rattle.std.proofs.lemmas.List.Elements.{All-cons, All-push}
 use Rattle.a64_buffer.specs.declared.site.Use.{Use}
 use Rattle.a64_buffer.specs.declared.class.Class.{Class}
 use Rattle.a64_buffer.specs.Kinds.{Kinds, IsLawful}
-use Rattle.a64_buffer.specs.Buffer.{Buffer, end_of}
+use Rattle.a64_buffer.specs.Buffer.{Records, Buffer, end_of}
 use Rattle.a64_buffer.specs.Areas.{InArea}
 use Rattle.a64_buffer.specs.Classes.{third, level_of, cost, class, range_of, is_open, weight_of, burden, owed, HasRoom}
 use Rattle.a64_buffer.specs.Later.{IsSameUse, IsLater}
@@ -25,10 +25,10 @@ pub in_everywhere : (end p size : ℕ) → end < 2 ^ 31 → p + size ≤ end →
 in_everywhere end p size short h = record { index = 0; within = omega arith; begins = omega arith; ends = omega arith }
 
 module _ {K : Type 0} where
-  -- the same buffer with other islands, and areas that hold what those before held
-  pub sound_islands : (r : Kinds K) (b : Buffer K) (islands areas areas' : List (ℕ × ℕ)) → IsSound r b areas → ((p size : ℕ) → p + size ≤ end_of b → InArea areas p size → InArea areas' p size) → IsSound r (record b { islands = islands }) areas'
-  sound_islands r b islands areas areas' s moves =
-      let grows : Grows b (record b { islands = islands }) areas areas' = record { end = omega arith; words = λ i h. refl; uses = λ p t k h. h; free = λ p h i f. f; labels = λ l p e. e; constants = refl; traps = λ t h. h; moves = moves } in
+  -- the same buffer with other islands and records, and areas that hold what those before held
+  pub sound_beside : (r : Kinds K) (b : Buffer K) (islands : List (ℕ × ℕ)) (records : Records) (areas areas' : List (ℕ × ℕ)) → IsSound r b areas → ((p size : ℕ) → p + size ≤ end_of b → InArea areas p size → InArea areas' p size) → IsSound r (record b { islands = islands; records = records }) areas'
+  sound_beside r b islands records areas areas' s moves =
+      let grows : Grows b (record b { islands = islands; records = records }) areas areas' = record { end = omega arith; words = λ i h. refl; uses = λ p t k h. h; free = λ p h i f. f; labels = λ l p e. e; constants = refl; traps = λ t h. h; moves = moves } in
       record {
         short = s.short;
         placed = s.placed;
@@ -39,9 +39,9 @@ module _ {K : Type 0} where
         stops = λ k d h. go grows (get_or b.uses k d) (get_or b.uses k d).stop (s.stops k d h);
       }
     where
-      go : Grows b (record b { islands = islands }) areas areas' → (u : Use K) (o : Option ℕ) → MatchOption o (IsRightlyOpen r b areas u.target u.kind u.offset) (IsStop r b areas u.target u.kind u.offset) → MatchOption o (IsRightlyOpen r (record b { islands = islands }) areas' u.target u.kind u.offset) (IsStop r (record b { islands = islands }) areas' u.target u.kind u.offset)
+      go : Grows b (record b { islands = islands; records = records }) areas areas' → (u : Use K) (o : Option ℕ) → MatchOption o (IsRightlyOpen r b areas u.target u.kind u.offset) (IsStop r b areas u.target u.kind u.offset) → MatchOption o (IsRightlyOpen r (record b { islands = islands; records = records }) areas' u.target u.kind u.offset) (IsStop r (record b { islands = islands; records = records }) areas' u.target u.kind u.offset)
       go grows u None h = h
-      go grows u (Some t) h = stop_stays r b (record b { islands = islands }) areas areas' s.placed grows u u.target u.kind u.offset t h
+      go grows u (Some t) h = stop_stays r b (record b { islands = islands; records = records }) areas areas' s.placed grows u u.target u.kind u.offset t h
 
   pub map_none : (place : ℕ) (us : List (Use K)) → map (stopped (λ (v : Use K). false) place) us ≡ us
   map_none place [] = refl
@@ -51,7 +51,7 @@ module _ {K : Type 0} where
 
   module _ (r : Kinds K) (law : IsLawful r) (b : Buffer K) where
     adds_begun : Adds (λ (v : Use K). false) (end_of b) (r.jump_word ∷ []) (over_use r (end_of b) ∷ []) [] b (begun r b)
-    adds_begun = record { words = refl; uses = ap (λ us. us ++ over_use r (end_of b) ∷ []) (sym (map_none (end_of b) b.uses)); labels = refl; islands = refl; traps_are = sym (append-nil b.traps); constants = refl }
+    adds_begun = record { words = refl; uses = ap (λ us. us ++ over_use r (end_of b) ∷ []) (sym (map_none (end_of b) b.uses)); labels = refl; islands = refl; traps_are = sym (append-nil b.traps); constants = refl; records = refl }
 
     pub begun_end : end_of (begun r b) ≡ end_of b + 4
     begun_end = omega (arith, length_push b.words r.jump_word)
@@ -85,7 +85,7 @@ module _ {K : Type 0} where
 
     pub may_begin : IsWhole r b → end_of b + owed r b + 4 < 2 ^ 31 → MayWrite r (begun r b)
     may_begin whole short = record {
-      sound = sound_islands r (begun r b) b.islands b.islands everywhere (begun_sound b.islands whole.sound (omega arith)) (λ p size h i. in_everywhere (end_of (begun r b)) p size (omega (arith, begun_end)) h);
+      sound = sound_beside r (begun r b) b.islands b.records b.islands everywhere (begun_sound b.islands whole.sound (omega arith)) (λ p size h i. in_everywhere (end_of (begun r b)) p size (omega (arith, begun_end)) h);
       room = begun_within 0 whole.fits;
       short = omega (arith, begun_end, begun_weight (cost third));
     }
@@ -115,7 +115,7 @@ module _ {K : Type 0} where
         }
 
     pub begun_sound_in : IsWhole r b → end_of b + 4 < 2 ^ 31 → IsSound r (begun r b) open_areas
-    begun_sound_in whole short = sound_islands r (begun r b) b.islands b.islands open_areas (begun_sound b.islands whole.sound short) (λ p size h i. more_areas (end_of b, 2 ^ 32) p size i)
+    begun_sound_in whole short = sound_beside r (begun r b) b.islands b.records b.islands open_areas (begun_sound b.islands whole.sound short) (λ p size h i. more_areas (end_of b, 2 ^ 32) p size i)
 
     -- an area that ends with the code is as good
     pub close_areas : (end p size : ℕ) → p + size ≤ end → InArea open_areas p size → InArea (b.islands ++ (end_of b, end) ∷ []) p size

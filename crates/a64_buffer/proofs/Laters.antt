@@ -1,12 +1,16 @@
 -- Buffers later on.
-use Rattle.std.proofs.Common.{ℕ, ◌≡◌, ◌≤◌, true, length, get_or, None, Some, refl, sym, ap, ◌∙◌, arith, inl, inr}
+use Rattle.std.proofs.Common.{ℕ, ℤ, ◌≡◌, ◌≤◌, true, List, [], ◌∷◌, ◌++◌, length, get_or, None, Some, refl, sym, ap, ◌∙◌, arith, inl, inr}
 use Rattle.std.specs.Prelude.{◌&&◌, is_none}
 use Rattle.std.proofs.lemmas.Bool.{cases_lt}
+use Rattle.std.proofs.lemmas.List.{append-nil, append_assoc}
+use Rattle.a64_base.specs.declared.entity.ExternalName.{ExternalName}
+use Rattle.a64_base.specs.declared.entity.Reloc.{Reloc}
+use Rattle.a64_base.specs.declared.entity.UserStackMap.{UserStackMap}
 use Rattle.a64_buffer.specs.declared.site.Use.{Use}
 use Rattle.a64_buffer.specs.Kinds.{Kinds}
-use Rattle.a64_buffer.specs.Buffer.{Buffer, end_of}
+use Rattle.a64_buffer.specs.Buffer.{Records, Buffer, end_of}
 use Rattle.a64_buffer.specs.Classes.{wants, class, class_of, is_open}
-use Rattle.a64_buffer.specs.Later.{IsSameUse, IsLaterFrom, IsLater}
+use Rattle.a64_buffer.specs.Later.{IsSameUse, HasMore, HasMoreRecords, IsLaterFrom, IsLater}
 use Rattle.a64_buffer.proofs.Rooms.{open_wants, open_stop}
 use Rattle.a64_buffer.proofs.Traps.{same_traps, more_traps}
 
@@ -25,8 +29,45 @@ same_use_trans a b u v w le p q = record {
   ] refl;
 }
 
+-- ---- records
+
+same_items : {A : Type 0} (xs : List A) → HasMore xs xs
+same_items xs = record { more = []; are = sym (append-nil xs) }
+
+more_items : {A : Type 0} (xs ys zs : List A) → HasMore xs ys → HasMore ys zs → HasMore xs zs
+more_items xs ys zs p q = record { more = p.more ++ q.more; are = q.are ∙ (ap (λ is. is ++ q.more) p.are ∙ append_assoc xs p.more q.more) }
+
+pub same_records : (rs : Records) → HasMoreRecords rs rs
+same_records rs = record { relocs = same_items rs.relocs; calls = same_items rs.calls; patchable = same_items rs.patchable; maps = same_items rs.maps }
+
+pub more_records : (rs ss ts : Records) → HasMoreRecords rs ss → HasMoreRecords ss ts → HasMoreRecords rs ts
+more_records rs ss ts p q = record {
+  relocs = more_items rs.relocs ss.relocs ts.relocs p.relocs q.relocs;
+  calls = more_items rs.calls ss.calls ts.calls p.calls q.calls;
+  patchable = more_items rs.patchable ss.patchable ts.patchable p.patchable q.patchable;
+  maps = more_items rs.maps ss.maps ts.maps p.maps q.maps;
+}
+
+pub one_reloc : (rs : Records) (reloc : ℕ × Reloc × ExternalName × ℤ) → HasMoreRecords rs (record rs { relocs = rs.relocs ++ reloc ∷ [] })
+one_reloc rs reloc = record { relocs = record { more = reloc ∷ []; are = refl }; calls = same_items rs.calls; patchable = same_items rs.patchable; maps = same_items rs.maps }
+
+pub one_call : (rs : Records) (place : ℕ) → HasMoreRecords rs (record rs { calls = rs.calls ++ place ∷ [] })
+one_call rs place = record { relocs = same_items rs.relocs; calls = record { more = place ∷ []; are = refl }; patchable = same_items rs.patchable; maps = same_items rs.maps }
+
+pub one_patchable : (rs : Records) (call : ℕ × ℕ) → HasMoreRecords rs (record rs { patchable = rs.patchable ++ call ∷ [] })
+one_patchable rs call = record { relocs = same_items rs.relocs; calls = same_items rs.calls; patchable = record { more = call ∷ []; are = refl }; maps = same_items rs.maps }
+
+pub one_map : (rs : Records) (map : ℕ × UserStackMap) → HasMoreRecords rs (record rs { maps = rs.maps ++ map ∷ [] })
+one_map rs map = record { relocs = same_items rs.relocs; calls = same_items rs.calls; patchable = same_items rs.patchable; maps = record { more = map ∷ []; are = refl } }
+
+-- ---- buffers
+
+-- the same buffer, with other islands and more records
+pub later_beside : {K : Type 0} (b : Buffer K) (islands : List (ℕ × ℕ)) (records : Records) → HasMoreRecords b.records records → IsLater b (record b { islands = islands; records = records })
+later_beside b islands records more = record { end = omega arith; words = λ i h. refl; count = omega arith; uses = λ k d h. same_use (end_of b) (get_or b.uses k d); fresh = λ k d h w. absurd (omega arith); labels = λ l p e. e; constants = refl; traps = same_traps (end_of b) (end_of b) b.traps; records = more }
+
 pub later_none : {K : Type 0} (b : Buffer K) → IsLater b b
-later_none b = record { end = omega arith; words = λ i h. refl; count = omega arith; uses = λ k d h. same_use (end_of b) (get_or b.uses k d); fresh = λ k d h w. absurd (omega arith); labels = λ l p e. e; constants = refl; traps = same_traps (end_of b) (end_of b) b.traps }
+later_none b = later_beside b b.islands b.records (same_records b.records)
 
 pub later_from_trans : {K : Type 0} (from p q : ℕ) (a b c : Buffer K) → from ≤ p → from ≤ q → IsLaterFrom p a b → IsLaterFrom q b c → IsLaterFrom from a c
 later_from_trans from p q a b c low high first' second' = record {
@@ -41,6 +82,7 @@ later_from_trans from p q a b c low high first' second' = record {
   labels = λ l g e. second'.labels l g (first'.labels l g e);
   constants = second'.constants ∙ first'.constants;
   traps = more_traps (end_of a) (end_of b) (end_of c) a.traps b.traps c.traps first'.end second'.end first'.traps second'.traps;
+  records = more_records a.records b.records c.records first'.records second'.records;
 }
 
 pub later_trans : {K : Type 0} (a b c : Buffer K) → IsLater a b → IsLater b c → IsLater a c

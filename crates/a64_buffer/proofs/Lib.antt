@@ -25,6 +25,7 @@ pub mod Sounds
 pub mod Chains
 pub mod Stops
 pub mod Queued
+pub mod Idle
 pub mod Reaching
 pub mod Burdens
 pub mod Loads

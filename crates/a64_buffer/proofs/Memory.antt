@@ -1,12 +1,15 @@
 -- How much memory is taken, and what buffers are by their parts.
-use Rattle.std.proofs.Common.{ℕ, ◌≡◌, ◌*◌, ◌≤◌, Bool, true, false, cond, List, [], ◌∷◌, refl, arith, nat_cmp}
+use Rattle.std.proofs.Common.{ℕ, ℤ, ◌≡◌, ◌*◌, ◌≤◌, Bool, true, false, cond, List, [], ◌∷◌, refl, arith, nat_cmp}
 use Rattle.std.specs.FinMap.{FinMap}
+use Rattle.a64_base.specs.declared.entity.ExternalName.{ExternalName}
+use Rattle.a64_base.specs.declared.entity.Reloc.{Reloc}
 use Rattle.a64_base.specs.declared.entity.TrapCode.{TrapCode}
+use Rattle.a64_base.specs.declared.entity.UserStackMap.{UserStackMap}
 use Rattle.a64_buffer.specs.declared.site.Use.{Use}
 use Rattle.a64_buffer.specs.declared.class.Class.{Class}
 use Rattle.a64_buffer.specs.declared.class.Class.TheVariants.{Near, Middle, Load, Trapping, Far, Direct}
 use Rattle.a64_buffer.specs.Kinds.{Kinds}
-use Rattle.a64_buffer.specs.Buffer.{Buffer}
+use Rattle.a64_buffer.specs.Buffer.{Records, Buffer}
 use Rattle.a64_buffer.specs.Classes.{third, cost, veneer_uses, trap_words, class, is_open, weight_of}
 use Rattle.a64_buffer.proofs.Costs.{weight-cons}
 
@@ -44,5 +47,8 @@ module _ {K : Type 0} (r : Kinds K) where
       one true = traps_cost (class r u)
       one false = omega arith
 
-pub same_buffer : {K : Type 0} (words words' : List ℕ) (uses uses' : List (Use K)) (labels labels' : FinMap nat_cmp ℕ) (islands islands' : List (ℕ × ℕ)) (traps traps' : List (ℕ × TrapCode)) (constants constants' : FinMap nat_cmp (List ℕ)) → words ≡ words' → uses ≡ uses' → labels ≡ labels' → islands ≡ islands' → traps ≡ traps' → constants ≡ constants' → ◌≡◌ {A = Buffer K} (record { words = words; uses = uses; labels = labels; islands = islands; traps = traps; constants = constants }) (record { words = words'; uses = uses'; labels = labels'; islands = islands'; traps = traps'; constants = constants' })
-same_buffer words words' uses uses' labels labels' islands islands' traps traps' constants constants' a b c d e f = rw (a, b, c, d, e, f) refl
+pub same_buffer : {K : Type 0} (words words' : List ℕ) (uses uses' : List (Use K)) (labels labels' : FinMap nat_cmp ℕ) (islands islands' : List (ℕ × ℕ)) (traps traps' : List (ℕ × TrapCode)) (constants constants' : FinMap nat_cmp (List ℕ)) (records records' : Records) → words ≡ words' → uses ≡ uses' → labels ≡ labels' → islands ≡ islands' → traps ≡ traps' → constants ≡ constants' → records ≡ records' → ◌≡◌ {A = Buffer K} (record { words = words; uses = uses; labels = labels; islands = islands; traps = traps; constants = constants; records = records }) (record { words = words'; uses = uses'; labels = labels'; islands = islands'; traps = traps'; constants = constants'; records = records' })
+same_buffer words words' uses uses' labels labels' islands islands' traps traps' constants constants' records records' a b c d e f g = rw (a, b, c, d, e, f, g) refl
+
+pub same_recorded : (relocs relocs' : List (ℕ × Reloc × ExternalName × ℤ)) (calls calls' : List ℕ) (patchable patchable' : List (ℕ × ℕ)) (maps maps' : List (ℕ × UserStackMap)) → relocs ≡ relocs' → calls ≡ calls' → patchable ≡ patchable' → maps ≡ maps' → ◌≡◌ {A = Records} (record { relocs = relocs; calls = calls; patchable = patchable; maps = maps }) (record { relocs = relocs'; calls = calls'; patchable = patchable'; maps = maps' })
+same_recorded relocs relocs' calls calls' patchable patchable' maps maps' a b c d = rw (a, b, c, d) refl

@@ -434,6 +434,27 @@ module _ {K : Type 0} (r : Kinds K) where
             })
       ]
 
+  -- uses were closed, but not the one of the limit
+  pub kept_limit : (rank : ℕ) (us us' : List (Use K)) (limit index : ℕ) → Closes us us' → ((d : Use K) → index < length us → rank_of (class r (get_or us index d)) ≡ rank → get_or us' index d ≡ get_or us index d) → IsLimit r rank us limit index → IsLimit r rank us' limit index
+  kept_limit rank us us' limit index c stays h = record {
+    least = λ k d w o e.
+        let l : k < length us = omega (arith, w, c.same_length) in
+        let x : limit ≤ limit_of r (get_or us k d) = h.least k d l (c.opens k d l o) (ap rank_of (sym (c.class_is k d l)) ∙ e) in
+        omega (arith, x, c.limit k d l);
+    some = go h.some;
+  }
+    where
+      go : (limit ≡ 2 ^ 64 - 1) ⊎ IsLimitOf r rank us limit index → (limit ≡ 2 ^ 64 - 1) ⊎ IsLimitOf r rank us' limit index
+      go (inl e) = inl e
+      go (inr s) =
+          let same : (d : Use K) → get_or us' index d ≡ get_or us index d = λ d. stays d s.within (s.rank_is d) in
+          inr (record {
+            within = omega (arith, s.within, c.same_length);
+            open' = λ d. ap (is_open r) (same d) ∙ s.open' d;
+            rank_is = λ d. ap (λ u. rank_of (class r u)) (same d) ∙ s.rank_is d;
+            is = λ d. s.is d ∙ ap (limit_of r) (sym (same d));
+          })
+
 -- ---- all queues
 
 -- a queue was changed, which lost no room
@@ -617,6 +638,14 @@ module _ {K : Type 0} (r : Kinds K) where
       subst (AllHold r (take from uses)) (sym is)
       (subst (λ us. AllHold r us queues') (ap (take (length b.uses)) (sym now) ∙ ap (λ n. take n uses) (sym at))
       (all_closed_hold b.uses (take (length b.uses) b'.uses) queues' (later_closes b b' later) (same_hold b.uses queues queues' same h)))
+
+  -- and each rank whose uses were spared has the limit that it had
+  pub island_limit : (b b' : Buffer K) (uses : List (Use K)) (rank from limit index : ℕ) → IsLater b b' → uses ≡ b'.uses → from ≡ length b.uses → ((k : ℕ) (d : Use K) → k < length b.uses → rank_of (class r (get_or b.uses k d)) ≡ rank → get_or b'.uses k d ≡ get_or b.uses k d) → IsLimit r rank b.uses limit index → IsLimit r rank (take from uses) limit index
+  island_limit b b' uses rank from limit index later now at spared h =
+      subst (λ us. IsLimit r rank us limit index) (ap (take (length b.uses)) (sym now) ∙ ap (λ n. take n uses) (sym at))
+      (kept_limit r rank b.uses (take (length b.uses) b'.uses) limit index (later_closes b b' later)
+      (λ d w e. get_or-take (length b.uses) b'.uses index d w ∙ spared index d w e)
+      h)
 
   -- the same, with other queues of the same entries
   pub same_waits : (uses uses' : List (Use K)) (queues queues' : List Queue) (b b' : Burdens) → AreWaiting r uses queues b → uses' ≡ uses → ((rank : ℕ) (q : Queue) → IsSameQueue (get_or queues rank q) (get_or queues' rank q)) → b' ≡ b → AreWaiting r uses' queues' b'

@@ -13,7 +13,7 @@ use Rattle.a64_buffer.specs.declared.site.Target.{Target}
 use Rattle.a64_buffer.specs.declared.site.Target.TheVariants.{Label, Constant, Trap, IslandEnd}
 use Rattle.a64_buffer.specs.declared.class.Class.{Class}
 use Rattle.a64_buffer.specs.Kinds.{Kinds, IsLawful}
-use Rattle.a64_buffer.specs.Buffer.{Buffer, end_of, new_buffer, label_of, leads_to, goal_of, is_within, reached, made_use, closed_at, IsFree, IsOutside}
+use Rattle.a64_buffer.specs.Buffer.{Records, Buffer, end_of, new_buffer, label_of, leads_to, goal_of, is_within, reached, made_use, closed_at, IsFree, IsOutside}
 use Rattle.a64_buffer.specs.Classes.{level_of, wants, cost, class, is_open, weigh, weight_of, burden, range_of, HasRoom, Fits}
 use Rattle.a64_buffer.specs.Later.{IsSameUse, IsLaterFrom, IsLater}
 use Rattle.a64_buffer.specs.Sound.{IsPlaced, IsTrap, HaveOwnTraps, IsKinded, IsKnown, IsStop, IsRightlyOpen, IsStoppedOrOpen, IsWhole}
@@ -23,10 +23,10 @@ use Rattle.a64_buffer.proofs.Uses.{apart_push, apart_map, leads_same, leads_othe
 use Rattle.a64_buffer.proofs.Growth.{Grows, stop_stays}
 use Rattle.a64_buffer.proofs.Adding.{added_later, added_sound}
 use Rattle.a64_buffer.proofs.Giving.{made_stop}
-use Rattle.a64_buffer.proofs.Laters.{same_use}
+use Rattle.a64_buffer.proofs.Laters.{same_use, same_records}
 use Rattle.a64_buffer.proofs.Traps.{no_traps, one_trap, same_traps}
 use Rattle.a64_buffer.proofs.OwnTraps.{trap_made, trap_closed}
-use Rattle.a64_buffer.proofs.Islands.{map_none, Keeps, later_keeps, islands_stay}
+use Rattle.a64_buffer.proofs.Islands.{map_none, sound_beside, Keeps, later_keeps, islands_stay}
 
 module _ {K : Type 0} (r : Kinds K) where
   -- binding a label makes no use weigh more
@@ -75,7 +75,7 @@ module _ {K : Type 0} (r : Kinds K) where
       put_end = omega (arith, length-append b.words added)
 
       adds : Adds (λ (v : Use K). false) (end_of b) added [] [] b put
-      adds = record { words = refl; uses = sym (append-nil (map (stopped (λ (v : Use K). false) (end_of b)) b.uses) ∙ map_none (end_of b) b.uses); labels = refl; islands = refl; traps_are = sym (append-nil b.traps); constants = refl }
+      adds = record { words = refl; uses = sym (append-nil (map (stopped (λ (v : Use K). false) (end_of b)) b.uses) ∙ map_none (end_of b) b.uses); labels = refl; islands = refl; traps_are = sym (append-nil b.traps); constants = refl; records = refl }
 
       pub put_later : IsLater b (record b { words = b.words ++ added })
       put_later = added_later r law b put b.islands (λ v. false) (end_of b) added [] [] whole.sound adds (λ k d h. absurd (omega arith)) (λ k d h e. absurd (false≢true e)) (omega arith) (no_traps (end_of b) (end_of put))
@@ -95,7 +95,7 @@ module _ {K : Type 0} (r : Kinds K) where
       trapped = record b { traps = b.traps ++ (end_of b, code) ∷ [] }
 
       adds_trap : Adds (λ (v : Use K). false) (end_of b) [] [] ((end_of b, code) ∷ []) b trapped
-      adds_trap = record { words = sym (append-nil b.words); uses = sym (append-nil (map (stopped (λ (v : Use K). false) (end_of b)) b.uses) ∙ map_none (end_of b) b.uses); labels = refl; islands = refl; traps_are = refl; constants = refl }
+      adds_trap = record { words = sym (append-nil b.words); uses = sym (append-nil (map (stopped (λ (v : Use K). false) (end_of b)) b.uses) ∙ map_none (end_of b) b.uses); labels = refl; islands = refl; traps_are = refl; constants = refl; records = refl }
 
       pub trap_later : IsLater b (record b { traps = b.traps ++ (end_of b, code) ∷ [] })
       trap_later = added_later r law b trapped b.islands (λ v. false) (end_of b) [] [] ((end_of b, code) ∷ []) whole.sound adds_trap (λ k d h. absurd (omega arith)) (λ k d h e. absurd (false≢true e)) (omega arith) (one_trap (end_of b) (end_of b) (end_of b, code) (omega arith) (omega arith))
@@ -104,6 +104,17 @@ module _ {K : Type 0} (r : Kinds K) where
       whole_trap = record {
         sound = added_sound r law b trapped b.islands (λ v. false) (end_of b) [] [] ((end_of b, code) ∷ []) whole.sound adds_trap (λ k d h. absurd (omega arith)) (λ k d h e. absurd (false≢true e)) whole.sound.short (λ k d h. absurd (omega arith)) (λ j k d lt h. absurd (omega arith)) (λ k d h. absurd (omega arith)) (λ k d h. absurd (omega arith)) (λ k d h. absurd (omega arith));
         islands = islands_stay r b trapped (later_keeps b trapped trap_later) refl whole.islands;
+        fits = record { rooms = λ k d w o. whole.fits.rooms k d w o };
+        own_traps = whole.own_traps;
+      }
+
+    -- ---- more records
+
+    module _ (records : Records) where
+      pub whole_records : IsWhole r (record b { records = records })
+      whole_records = record {
+        sound = sound_beside r b b.islands records b.islands b.islands whole.sound (λ p size h i. i);
+        islands = islands_stay r b (record b { records = records }) (record { end = omega arith; words = λ i h. refl; count = omega arith; uses = λ k d h. same_use (end_of b) (get_or b.uses k d) }) refl whole.islands;
         fits = record { rooms = λ k d w o. whole.fits.rooms k d w o };
         own_traps = whole.own_traps;
       }
@@ -153,6 +164,7 @@ module _ {K : Type 0} (r : Kinds K) where
         labels = λ l p e. e;
         constants = refl;
         traps = same_traps (end_of b) (end_of b) b.traps;
+        records = same_records b.records;
       }
 
       used_own : HaveOwnTraps (b.uses ++ made_use r b.labels offset target kind ∷ [])
@@ -262,6 +274,7 @@ module _ {K : Type 0} (r : Kinds K) where
         labels = still;
         constants = refl;
         traps = same_traps (end_of b) (end_of b) b.traps;
+        records = same_records b.records;
       }
 
       -- where a use stops once the label is bound

@@ -35,13 +35,14 @@ use Rattle.a64_buffer.proofs.Given.{wants_veneer, jump_given, far_given, trap_gi
 
 module _ {K : Type 0} (r : Kinds K) where
   pub part_none : (b : Buffer K) → IsPart r b b
-  part_none b = record { later = later_none b; labels = refl; islands = refl; rooms = λ more h. h; owed = omega arith; owed_to = λ t. omega arith }
+  part_none b = record { later = later_none b; labels = refl; islands = refl; records = refl; rooms = λ more h. h; owed = omega arith; owed_to = λ t. omega arith }
 
   pub part_trans : (a b c : Buffer K) → IsPart r a b → IsPart r b c → IsPart r a c
   part_trans a b c p q = record {
     later = later_trans a b c p.later q.later;
     labels = q.labels ∙ p.labels;
     islands = q.islands ∙ p.islands;
+    records = q.records ∙ p.records;
     rooms = λ more h. q.rooms more (p.rooms more h);
     owed = omega (arith, p.owed, q.owed);
     owed_to = λ t. omega (arith, p.owed_to t, q.owed_to t);

@@ -1,19 +1,35 @@
 -- What a buffer of code is to its callers.
-use Rattle.std.specs.Prelude.{ℕ, ◌≡◌, ◌≢◌, ◌⊎◌, ◌*◌, ◌+◌, ◌<◌, ◌≤◌, ◌&&◌, Bool, nat_eq, nat_le, if◌then◌else◌, List, [], All, length, Option, None, Some, is_none, option_and_then, IsSome, IfSome, IsSomeAnd, MatchOption, Any}
+use Rattle.std.specs.Prelude.{ℕ, ℤ, ◌≡◌, ◌≢◌, ◌⊎◌, ◌*◌, ◌+◌, ◌<◌, ◌≤◌, ◌&&◌, Bool, nat_eq, nat_le, if◌then◌else◌, List, [], All, length, Option, None, Some, is_none, option_and_then, IsSome, IfSome, IsSomeAnd, MatchOption, Any}
 use Rattle.std.specs.Option.{option_eq}
 use Rattle.std.specs.Ordering.{nat_cmp}
 use Rattle.std.specs.FinMap.{FinMap, get, empty}
+use Rattle.a64_base.specs.declared.entity.ExternalName.{ExternalName}
 use Rattle.a64_base.specs.declared.entity.MachLabel.{MachLabel}
+use Rattle.a64_base.specs.declared.entity.Reloc.{Reloc}
 use Rattle.a64_base.specs.declared.entity.TrapCode.{TrapCode}
+use Rattle.a64_base.specs.declared.entity.UserStackMap.{UserStackMap}
 use Rattle.a64_buffer.specs.declared.site.Target.{Target}
 use Rattle.a64_buffer.specs.declared.site.Target.TheVariants.{Label, Constant, Trap, IslandEnd}
 use Rattle.a64_buffer.specs.declared.site.Use.{Use}
 use Rattle.a64_buffer.specs.Kinds.{Kinds, IsWithin}
 
+-- what is recorded at places of the code, in the order in which it came: relocations with their kinds, names
+-- and addends; the places behind calls; those behind patchable calls, with the calls' lengths in bytes; and
+-- the stack maps by the places behind their calls
+pub record Records : Type 0 where
+  pub relocs : List (ℕ × Reloc × ExternalName × ℤ)
+  pub calls : List ℕ
+  pub patchable : List (ℕ × ℕ)
+  pub maps : List (ℕ × UserStackMap)
+
+-- nothing is recorded
+abbrev pub no_records : Records
+no_records = record { relocs = []; calls = []; patchable = []; maps = [] }
+
 -- the words as they were put, those of islands included; the uses in the order in which they were
 -- made, veneers included; the places of the bound labels by their numbers; the islands, where each
 -- begins and ends; the traps with their codes, those recorded and the trap words of islands, in the order in
--- which they came; and the bytes of the constants by their numbers
+-- which they came; the bytes of the constants by their numbers; and what else is recorded
 pub record Buffer (K : Type 0) : Type 0 where
   pub words : List ℕ
   pub uses : List (Use K)
@@ -21,6 +37,7 @@ pub record Buffer (K : Type 0) : Type 0 where
   pub islands : List (ℕ × ℕ)
   pub traps : List (ℕ × TrapCode)
   pub constants : FinMap nat_cmp (List ℕ)
+  pub records : Records
 
 -- the length of the code, in bytes
 abbrev pub end_of : {K : Type 0} → Buffer K → ℕ
@@ -28,7 +45,7 @@ end_of b = 4 * length b.words
 
 -- a buffer without code
 abbrev pub new_buffer : {K : Type 0} → FinMap nat_cmp (List ℕ) → Buffer K
-new_buffer constants = record { words = []; uses = []; labels = empty; islands = []; traps = []; constants = constants }
+new_buffer constants = record { words = []; uses = []; labels = empty; islands = []; traps = []; constants = constants; records = no_records }
 
 -- the number of the label that a target is, where it is one
 abbrev pub label_of : Target → Option ℕ

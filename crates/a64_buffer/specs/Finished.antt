@@ -32,6 +32,7 @@ module _ {K : Type 0} (r : Kinds K) where
     pub sound : IsSound r b b.islands
     pub later : IsLater b final
     pub labels_kept : final.labels ≡ b.labels
+    pub records_kept : final.records ≡ b.records
     pub longest : end_of final ≤ end_of b + owed r b
     pub few_traps : length final.traps ≤ length b.traps + weight_of r trap_words b.uses
     pub same_length : length code.bytes.items ≡ end_of final
@@ -48,7 +49,7 @@ module _ {K : Type 0} (r : Kinds K) where
     pub islands : code.islands.items ≡ b.islands
     pub pool : code.pool ≡ end_of b
     pub traps : code.traps.items ≡ final.traps
-    pub relocs : code.relocs.items ≡ []
-    pub calls : code.calls.items ≡ []
-    pub patchable : code.patchable.items ≡ []
-    pub maps : code.maps.items ≡ []
+    pub relocs : code.relocs.items ≡ b.records.relocs
+    pub calls : code.calls.items ≡ b.records.calls
+    pub patchable : code.patchable.items ≡ b.records.patchable
+    pub maps : code.maps.items ≡ b.records.maps

@@ -66,6 +66,7 @@ module _ {K : Type 0} (r : Kinds K) where
     pub long : end_of b + 4 ≤ end_of b'
     pub islands : b'.islands ≡ b.islands ++ (end_of b, end_of b') ∷ []
     pub labels : b'.labels ≡ b.labels
+    pub records : b'.records ≡ b.records
     pub later : IsLater b b'
     pub given : (k : ℕ) (d : Use K) → length b.uses ≤ k → k < length b'.uses → IsNewUse b (slice_index_or b'.uses k d)
     pub whole : IsWhole r b'

@@ -6,7 +6,7 @@ use Rattle.std.specs.FinMap.{FinMap, get}
 use Rattle.a64_base.specs.declared.entity.TrapCode.{TrapCode}
 use Rattle.a64_buffer.specs.declared.site.Use.{Use}
 use Rattle.a64_buffer.specs.declared.site.Target.TheVariants.{IslandEnd}
-use Rattle.a64_buffer.specs.Buffer.{Buffer, end_of, goal_of}
+use Rattle.a64_buffer.specs.Buffer.{Records, Buffer, end_of, goal_of}
 
 -- a use later on: the same use; a stop that it has stays, and one that it gets is at the end from which
 -- it waited, or behind it
@@ -29,8 +29,20 @@ pub record HasMoreTraps (from to : ℕ) (traps traps' : List (ℕ × TrapCode)) 
   pub are : traps' ≡ traps ++ more
   pub stand : AreTraps from to more
 
--- a buffer later on: its words, uses, labels and traps stay, new uses stand at a place or behind it, and
--- new traps at its old end or behind it
+-- a list later on: the items of before, and more behind them
+pub record HasMore {A : Type 0} (items items' : List A) : Type 0 where
+  pub more : List A
+  pub are : items' ≡ items ++ more
+
+-- records later on: those of before, and more behind them
+pub record HasMoreRecords (records records' : Records) : Type 0 where
+  pub relocs : HasMore records.relocs records'.relocs
+  pub calls : HasMore records.calls records'.calls
+  pub patchable : HasMore records.patchable records'.patchable
+  pub maps : HasMore records.maps records'.maps
+
+-- a buffer later on: its words, uses, labels, traps and records stay, new uses stand at a place or behind it,
+-- and new traps at its old end or behind it
 pub record IsLaterFrom {K : Type 0} (from : ℕ) (b b' : Buffer K) : Type 0 where
   pub end : end_of b ≤ end_of b'
   pub words : (i : ℕ) → i < length b.words → slice_index b'.words i ≡ slice_index b.words i
@@ -40,6 +52,7 @@ pub record IsLaterFrom {K : Type 0} (from : ℕ) (b b' : Buffer K) : Type 0 wher
   pub labels : (label place : ℕ) → get b.labels label ≡ Some place → get b'.labels label ≡ Some place
   pub constants : b'.constants ≡ b.constants
   pub traps : HasMoreTraps (end_of b) (end_of b') b.traps b'.traps
+  pub records : HasMoreRecords b.records b'.records
 
 -- a buffer later on, all of whose new uses stand at its old end or behind it
 abbrev pub IsLater : {K : Type 0} → Buffer K → Buffer K → Type 0

@@ -5,6 +5,7 @@ use Rattle.std.specs.Ordering.{nat_cmp, ordering_then}
 use Rattle.std.specs.BinaryHeap.{IsHeap, heap_items, heap_len, heap_capacity}
 use Rattle.a64_buffer.specs.declared.site.Use.{Use}
 use Rattle.a64_buffer.specs.declared.class.Class.{Class}
+use Rattle.a64_buffer.specs.declared.class.Class.TheVariants.{Near, Middle, Load, Trapping, Far, Direct}
 use Rattle.a64_buffer.specs.declared.queue.Queue.{Queue}
 use Rattle.a64_buffer.specs.declared.room.Burdens.{Burdens}
 use Rattle.a64_buffer.specs.Kinds.{Kinds}
@@ -71,6 +72,15 @@ IsFoundBelow limit queues result = MatchOption result
 -- an index is that of the first stray
 abbrev pub IsFirstStray : List (ℕ × ℕ) → Option ℕ → Type 0
 IsFirstStray strays result = MatchOption result (strays ≡ []) (λ i. (0 < length strays) × ((slice_index_or strays 0 (0, 0)).1 ≡ i))
+
+-- the sums show that no use of a class is open
+abbrev pub ShowNone : Class → Burdens → Type 0
+ShowNone Near b = b.first ≡ 0
+ShowNone Load b = b.second ≡ 0
+ShowNone Trapping b = b.second ≡ 0
+ShowNone Middle b = b.second ≡ 0
+ShowNone Far b = b.third ≡ b.second
+ShowNone Direct b = b.third ≡ 0
 
 module _ {K : Type 0} (r : Kinds K) where
   -- a class is that of a use, if that is open, and else wants nothing

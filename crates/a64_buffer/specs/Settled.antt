@@ -1,5 +1,5 @@
 -- How the words of uses come to lead to their stops.
-use Rattle.std.specs.Prelude.{ℕ, ◌≡◌, ◌≢◌, ◌↔◌, ◌*◌, ◌/◌, ◌%◌, ◌<◌, List, [], All, Contains, map, length, slice_index, IfSome, Some}
+use Rattle.std.specs.Prelude.{ℕ, ◌≡◌, ◌≢◌, ◌⊎◌, ◌↔◌, ◌+◌, ◌*◌, ◌/◌, ◌%◌, ◌<◌, ◌≤◌, List, [], All, Contains, map, length, slice_index, IfSome, Some}
 use Rattle.std.specs.List.Sorted.{IsStrictlyIncreasing}
 use Rattle.std.specs.Ordering.{nat_cmp}
 use Rattle.std.specs.FinMap.{FinMap, get}
@@ -36,6 +36,12 @@ module _ {K : Type 0} (r : Kinds K) where
     pub rest : outside (r.mask kind) (slice_index new (offset / 4)) ≡ outside (r.mask kind) (slice_index old (offset / 4))
     pub leads : GoesTo r kind (slice_index old (offset / 4)) (slice_index new (offset / 4)) offset place
 
+  -- the word at an offset of code was made to lead to a place, and those apart from it stayed
+  pub record PatchesCode (kind : K) (offset place : ℕ) (old new : List ℕ) : Type 0 where
+    pub others : (p : ℕ) → (p + 4 ≤ offset) ⊎ (offset + 4 ≤ p) → word_at new p ≡ word_at old p
+    pub rest : outside (r.mask kind) (word_at new offset) ≡ outside (r.mask kind) (word_at old offset)
+    pub leads : GoesTo r kind (word_at old offset) (word_at new offset) offset place
+
   -- the word of a use leads to its stop, where it has one, and is otherwise as it was put
   pub record IsLed (put : ℕ) (u : Use K) (word : ℕ) : Type 0 where
     pub rest : outside (r.mask u.kind) word ≡ outside (r.mask u.kind) put
@@ -47,6 +53,12 @@ module _ {K : Type 0} (r : Kinds K) where
     pub free : (i : ℕ) → i < length put → IsFree uses (4 * i) → slice_index words i ≡ slice_index put i
     pub settled : All (λ u. IsLed (slice_index put (u.offset / 4)) u (slice_index words (u.offset / 4))) uses
 
+  -- code of such words
+  pub record IsSettledCode (put : List ℕ) (uses : List (Use K)) (code : List ℕ) : Type 0 where
+    pub words : List ℕ
+    pub settled : AreSettled put uses words
+    pub bytes : IsCodeOf words code
+
   -- code of a buffer in which each use leads to its stop, where it has one
   pub record IsCode (b : Buffer K) (pool : ℕ) (code : Finished) : Type 0 where
     pub words : List ℕ
@@ -56,7 +68,7 @@ module _ {K : Type 0} (r : Kinds K) where
     pub islands : code.islands.items ≡ b.islands
     pub pool_is : code.pool ≡ pool
     pub traps : code.traps.items ≡ b.traps
-    pub relocs : code.relocs.items ≡ []
-    pub calls : code.calls.items ≡ []
-    pub patchable : code.patchable.items ≡ []
-    pub maps : code.maps.items ≡ []
+    pub relocs : code.relocs.items ≡ b.records.relocs
+    pub calls : code.calls.items ≡ b.records.calls
+    pub patchable : code.patchable.items ≡ b.records.patchable
+    pub maps : code.maps.items ≡ b.records.maps

@@ -18,7 +18,7 @@ use Rattle.a64_buffer.specs.Queues.{AreWaiting}
 
 -- what the parts of a buffer are to its callers
 abbrev pub seen : {K : Type 0} → Parts K → Buffer K
-seen p = record { words = p.words.items; uses = p.uses.items; labels = p.labels; islands = p.islands.items; traps = p.traps.items; constants = p.constants.now }
+seen p = record { words = p.words.items; uses = p.uses.items; labels = p.labels; islands = p.islands.items; traps = p.traps.items; constants = p.constants.now; records = record { relocs = p.records.relocs.items; calls = p.records.calls.items; patchable = p.records.patchable.items; maps = p.records.maps.items } }
 
 -- a use stands on a word of code that ends there
 pub record IsPlaced {K : Type 0} (end : ℕ) (u : Use K) : Type 0 where

@@ -53,6 +53,7 @@ pub record Adds {K : Type 0} (test : Use K → Bool) (place : ℕ) (added : List
   pub islands : b'.islands ≡ b.islands
   pub traps_are : b'.traps ≡ b.traps ++ traps
   pub constants : b'.constants ≡ b.constants
+  pub records : b'.records ≡ b.records
 
 -- an island from a place on is ended
 abbrev pub ended : {K : Type 0} → ℕ → Buffer K → Buffer K
@@ -107,6 +108,7 @@ module _ {K : Type 0} (r : Kinds K) where
     pub later : IsLater b b'
     pub labels : b'.labels ≡ b.labels
     pub islands : b'.islands ≡ b.islands
+    pub records : b'.records ≡ b.records
     pub rooms : (more : ℕ) → Within (end_of b) b.uses more → Within (end_of b') b'.uses more
     pub owed : end_of b' + owed r b' ≤ end_of b + owed r b
     pub owed_to : (test : ℕ → Bool) → owed_to r test b' ≤ owed_to r test b

@@ -13,7 +13,7 @@ use crate::force::ForceVeneers;
 use crate::label_use::MachInstLabelUse;
 use crate::parts::Parts;
 use crate::site::Target;
-use a64_base::{MachLabel, TrapCode, VCodeConstant};
+use a64_base::{ExternalName, MachLabel, Reloc, TrapCode, UserStackMap, VCodeConstant};
 use std::alloc::{AllocError, Global};
 use std::marker::Model;
 
@@ -131,6 +131,29 @@ impl<'c, K: MachInstLabelUse> MachBuffer<'c, K> {
         self.parts.put_data(bytes)
     }
 
+    /// Records a relocation at the end (Cranelift's `MachBuffer::add_reloc`): the word that comes next, or the
+    /// eight bytes of an absolute address, are to lead to the symbol of the name, plus the addend in bytes.
+    ///
+    /// # Errors
+    ///
+    /// Want of memory, and then nothing has changed.
+    pub fn add_reloc(
+        &mut self,
+        kind: Reloc,
+        name: ExternalName,
+        addend: i64,
+    ) -> Result<(), AllocError>
+        ensures ok { OnOk result (self.new ≡ record self.old {
+          records = record self.old.records {
+            relocs = self.old.records.relocs ++ (end_of self.old, kind, name, addend) ∷ [];
+          };
+        }) }
+        ensures err { OnErr result (self.new ≡ self.old) }
+        ensures later { OnOk result (IsLater self.old self.new) }
+    {
+        self.parts.add_reloc(kind, name, addend)
+    }
+
     /// Records a trap at the end: the word that comes next may trap, for the reason of the code.
     ///
     /// # Errors
@@ -143,6 +166,59 @@ impl<'c, K: MachInstLabelUse> MachBuffer<'c, K> {
         ensures later { OnOk result (IsLater self.old self.new) }
     {
         self.parts.add_trap(code)
+    }
+
+    /// Records a call that ends here (Cranelift's `MachBuffer::add_call_site`): the end is where it returns to.
+    ///
+    /// # Errors
+    ///
+    /// Want of memory, and then nothing has changed.
+    pub fn add_call_site(&mut self) -> Result<(), AllocError>
+        ensures ok { OnOk result (self.new ≡ record self.old {
+          records = record self.old.records {
+            calls = self.old.records.calls ++ end_of self.old ∷ [];
+          };
+        }) }
+        ensures err { OnErr result (self.new ≡ self.old) }
+        ensures later { OnOk result (IsLater self.old self.new) }
+    {
+        self.parts.add_call_site()
+    }
+
+    /// Records a patchable call that ends here (Cranelift's `MachBuffer::add_patchable_call_site`): its words are
+    /// the last `len` bytes before the end.
+    ///
+    /// # Errors
+    ///
+    /// Want of memory, and then nothing has changed.
+    pub fn add_patchable_call_site(&mut self, len: u32) -> Result<(), AllocError>
+        ensures ok { OnOk result (self.new ≡ record self.old {
+          records = record self.old.records {
+            patchable = self.old.records.patchable ++ (end_of self.old, len) ∷ [];
+          };
+        }) }
+        ensures err { OnErr result (self.new ≡ self.old) }
+        ensures later { OnOk result (IsLater self.old self.new) }
+    {
+        self.parts.add_patchable_call_site(len)
+    }
+
+    /// Records the stack map of the call that ends here (Cranelift's `MachBuffer::push_user_stack_map`, for a call
+    /// that returns to the end).
+    ///
+    /// # Errors
+    ///
+    /// Want of memory, and then nothing has changed.
+    pub fn push_user_stack_map(&mut self, map: UserStackMap) -> Result<(), AllocError>
+        ensures ok { OnOk result (self.new ≡ record self.old {
+          records = record self.old.records {
+            maps = self.old.records.maps ++ (end_of self.old, map) ∷ [];
+          };
+        }) }
+        ensures err { OnErr result (self.new ≡ self.old) }
+        ensures later { OnOk result (IsLater self.old self.new) }
+    {
+        self.parts.push_user_stack_map(map)
     }
 
     /// Makes a word that was put, and that has no use yet, a use of a label. With it all open uses still
@@ -180,6 +256,7 @@ impl<'c, K: MachInstLabelUse> MachBuffer<'c, K> {
     /// # Errors
     ///
     /// Want of memory, and then nothing has changed.
+    #[inline(always)]
     pub fn use_constant(
         &mut self,
         offset: u32,
@@ -248,6 +325,7 @@ impl<'c, K: MachInstLabelUse> MachBuffer<'c, K> {
 
     /// Whether an island has to be written before so many bytes more: else some open use would no longer
     /// reach what it gets there.
+    #[inline(always)]
     pub fn island_needed(&self, distance: u32) -> bool
         ensures { MatchBool result (Fits K.kinds self.now distance → ⊥) (Fits K.kinds self.now distance) }
     {

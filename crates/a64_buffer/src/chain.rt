@@ -69,7 +69,8 @@ fn close_use<K: MachInstLabelUse>(
     let class = site.class();
     if class.wants() {
         burdens.lose(class);
-        close_queued(queues, uses, class, site.limit());
+        let none = burdens.has_none(class);
+        close_queued(queues, uses, class, site.limit(), none);
     }
 }
 

@@ -87,6 +87,7 @@ impl<'c, K: MachInstLabelUse> Parts<'c, K> {
     }
 
     /// Gives all open loads of a constant a copy of it at the end.
+    #[inline(never)]
     pub fn give_copy(&mut self, constant: VCodeConstant)
         requires known { IsSome (finmap.get (seen self.old).constants constant.0) }
         requires short { end_of (seen self.old) + 28 < 2 ^ 31 }

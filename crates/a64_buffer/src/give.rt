@@ -51,6 +51,7 @@ impl<'c, K: MachInstLabelUse> Parts<'c, K> {
     ghost use Rattle.a64_buffer.specs.Space.{SameRoom};
 
     /// Lets the use at an index, which loads no constant, stop at a place.
+    #[inline(always)]
     pub fn stop_at(&mut self, index: usize, place: u32)
         requires index { index < length self.old.uses.items }
         requires target { (d : _) → constant_of (slice_index_or self.old.uses.items index d).target ≡ None }
@@ -71,6 +72,7 @@ impl<'c, K: MachInstLabelUse> Parts<'c, K> {
 
     /// Adds a use, for which there is room, of no constant: its label, if it has one, is that of an older
     /// use.
+    #[inline(always)]
     pub fn push_use(&mut self, site: Use<K>)
         requires uses { vec_len self.old.uses < vec_capacity self.old.uses }
         requires earlier { vec_len self.old.earlier < vec_capacity self.old.earlier }
@@ -94,6 +96,7 @@ impl<'c, K: MachInstLabelUse> Parts<'c, K> {
     }
 
     /// Makes the use that is added next the last of its label, and answers which was the last before.
+    #[inline(always)]
     fn link(&mut self, site: Use<K>) -> usize
         requires len { vec_len self.old.uses < 2 ^ 63 }
         requires known { IfSome (label_of site.target) (λ label. IsSome (finmap.get self.old.heads label)) }
@@ -110,6 +113,7 @@ impl<'c, K: MachInstLabelUse> Parts<'c, K> {
     }
 
     /// Gives an open use a jump word at the end.
+    #[inline(always)]
     pub fn give_jump(&mut self, index: usize)
         requires within { index < length self.old.uses.items }
         requires target { (d : _) → constant_of (slice_index_or self.old.uses.items index d).target ≡ None }
@@ -140,6 +144,7 @@ impl<'c, K: MachInstLabelUse> Parts<'c, K> {
     }
 
     /// Gives an open use a far veneer at the end.
+    #[inline(never)]
     pub fn give_far(&mut self, index: usize)
         requires within { index < length self.old.uses.items }
         requires target { (d : _) → constant_of (slice_index_or self.old.uses.items index d).target ≡ None }
@@ -172,6 +177,7 @@ impl<'c, K: MachInstLabelUse> Parts<'c, K> {
     }
 
     /// Gives a use of a trap its trap word at the end.
+    #[inline(never)]
     pub fn give_trap(&mut self, index: usize, code: TrapCode)
         requires within { index < length self.old.uses.items }
         requires target { (d : _) → constant_of (slice_index_or self.old.uses.items index d).target ≡ None }

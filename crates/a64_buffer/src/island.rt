@@ -23,6 +23,7 @@ impl<'c, K: MachInstLabelUse> Parts<'c, K> {
     ghost use Rattle.a64_buffer.specs.Islands.{HasIsland};
 
     /// The open use that comes first in the order of islands, where its rank is below a limit.
+    #[inline(always)]
     fn next_open(&self, limit: u64) -> Option<usize>
         requires limit { limit ≤ 5 }
         requires limits { AllLimits K.kinds self.now.uses.items self.now.queues }
@@ -34,6 +35,7 @@ impl<'c, K: MachInstLabelUse> Parts<'c, K> {
     }
 
     /// Gives an open use of a label its veneer.
+    #[inline(always)]
     fn give_veneer(&mut self, index: usize)
         requires ready { IsReady K.kinds self.old index }
         requires burdens { AreBurdens K.kinds self.old.uses.items self.old.burdens }
@@ -54,6 +56,7 @@ impl<'c, K: MachInstLabelUse> Parts<'c, K> {
     }
 
     /// Gives the open use that comes first what it waits for.
+    #[inline(always)]
     fn give(&mut self, index: usize)
         requires ready { IsReady K.kinds self.old index }
         requires burdens { AreBurdens K.kinds self.old.uses.items self.old.burdens }
@@ -73,9 +76,11 @@ impl<'c, K: MachInstLabelUse> Parts<'c, K> {
     }
 
     /// Gives the open use that comes first what it waits for, and keeps what waits then.
+    #[inline(always)]
     fn serve(&mut self, index: usize)
         requires ready { IsReady K.kinds self.old index }
         requires hold { AllHold K.kinds self.old.uses.items self.old.queues }
+        requires limits { AllLimits K.kinds self.old.uses.items self.old.queues }
         requires burdens { AreBurdens K.kinds self.old.uses.items self.old.burdens }
         requires queued { HaveRoomFor (weight_of K.kinds veneer_uses self.old.uses.items) self.old.queues }
         ensures gives { (d : _) → GivesAll K.kinds (class K.kinds (slice_index_or self.old.uses.items index d)) (seen self.old) (seen self.new) }
@@ -87,7 +92,9 @@ impl<'c, K: MachInstLabelUse> Parts<'c, K> {
         ensures queued { HaveRoomFor (weight_of K.kinds veneer_uses self.new.uses.items) self.new.queues }
     {
         let from = self.uses.len();
+        let class = self.uses[index].class();
         self.give(index);
+        self.settle_class(from, class);
         self.queue_new(from);
     }
 
@@ -145,6 +152,7 @@ impl<'c, K: MachInstLabelUse> Parts<'c, K> {
         requires earlier { vec_len self.old.earlier < vec_capacity self.old.earlier }
         requires chained { AreChained self.old.uses.items self.old.earlier.items self.old.heads self.old.loads }
         requires hold { AllHold K.kinds self.old.uses.items self.old.queues }
+        requires limits { AllLimits K.kinds self.old.uses.items self.old.queues }
         requires burdens { AreBurdens K.kinds self.old.uses.items self.old.burdens }
         requires queued { HaveRoomFor (weight_of K.kinds veneer_uses self.old.uses.items + 1) self.old.queues }
         requires few { self.old.burdens.third < 2 ^ 32 }

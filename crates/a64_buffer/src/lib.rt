@@ -19,6 +19,9 @@ mod parts;
 mod queue;
 mod queues;
 #[cfg(test)]
+mod record_tests;
+mod records;
+#[cfg(test)]
 mod refusal_tests;
 mod room;
 mod settle;

@@ -15,7 +15,7 @@ use a64_base::{MachLabel, VCodeConstant};
 use std::alloc::{AllocError, Global};
 
 /// Writes an island where one is needed before so many bytes.
-fn make_room<K: MachInstLabelUse>(
+pub fn make_room<K: MachInstLabelUse>(
     buffer: &mut MachBuffer<'_, K>,
     distance: u32,
 ) -> Result<(), AllocError>
@@ -29,7 +29,7 @@ fn make_room<K: MachInstLabelUse>(
 }
 
 /// Adds a word that is a use of a label, behind an island where one is needed.
-fn add_use<K: MachInstLabelUse>(
+pub fn add_use<K: MachInstLabelUse>(
     buffer: &mut MachBuffer<'_, K>,
     word: u32,
     label: MachLabel,
@@ -169,7 +169,10 @@ fn add_item_and_uses<K: MachInstLabelUse>(
 }
 
 /// A buffer without code.
-fn started<'c, K: MachInstLabelUse>(alloc: Global, constants: &'c Constants) -> MachBuffer<'c, K>
+pub fn started<'c, K: MachInstLabelUse>(
+    alloc: Global,
+    constants: &'c Constants,
+) -> MachBuffer<'c, K>
     ensures grown { IsGrown K.kinds 0 0 1 0 result }
     ensures constants { result.constants ≡ constants.now }
 {
@@ -177,7 +180,7 @@ fn started<'c, K: MachInstLabelUse>(alloc: Global, constants: &'c Constants) -> 
 }
 
 /// The finished code of a buffer with one label, which is bound.
-fn finished<K: MachInstLabelUse>(buffer: MachBuffer<'_, K>) -> Result<Finished, AllocError>
+pub fn finished<K: MachInstLabelUse>(buffer: MachBuffer<'_, K>) -> Result<Finished, AllocError>
     requires { IsGrown K.kinds 0 10000 1 1 buffer }
 {
     // what is true of every buffer is told where its end is

@@ -14,8 +14,9 @@ use crate::give::push_words;
 use crate::label_use::MachInstLabelUse;
 use crate::queue::Queue;
 use crate::queues::{no_queues, reserve_queue};
+use crate::records::Records;
 use crate::room::Burdens;
-use crate::settle::{bytes_of, labels_in_order, settle};
+use crate::settle::{code_of, labels_in_order};
 use crate::site::{Target, Use};
 use a64_base::{MachLabel, TrapCode};
 use a64_label_map::LabelMap;
@@ -47,6 +48,8 @@ pub struct Parts<'c, K> {
     pub traps: Vec<(u32, TrapCode)>,
     /// The constants that the code may load.
     pub constants: &'c Constants,
+    /// What else is recorded at places of the code.
+    pub records: Records,
     /// Where memory comes from.
     pub alloc: Global,
 }
@@ -114,16 +117,19 @@ impl<'c, K: MachInstLabelUse> Parts<'c, K> {
             islands: Vec::new(alloc),
             traps: Vec::new(alloc),
             constants,
+            records: Records::new(alloc),
             alloc,
         }
     }
 
-    /// Takes the memory for so many words and uses more.
+    /// Takes the memory for so many words and uses more, and expects as many labels as uses.
     pub fn reserve(&mut self, words: usize, uses: usize) -> Result<(), AllocError>
         requires sound { AreSound K.kinds self.old }
         ensures sound { AreSound K.kinds self.new }
         ensures seen { seen self.new ≡ seen self.old }
     {
+        self.labels.expect(uses);
+        self.heads.expect(uses);
         self.words.reserve(words)?;
         self.uses.reserve(uses)?;
         self.earlier.reserve(uses)
@@ -323,6 +329,7 @@ impl<'c, K: MachInstLabelUse> Parts<'c, K> {
     }
 
     /// Whether an island is needed before so many bytes more.
+    #[inline(always)]
     pub fn island_needed(&self, distance: u32) -> bool
         requires { AreSound K.kinds self.now }
         ensures { MatchBool result (Fits K.kinds (seen self.now) distance → ⊥) (Fits K.kinds (seen self.now) distance) }
@@ -354,25 +361,31 @@ impl<'c, K: MachInstLabelUse> Parts<'c, K> {
         ensures { IfOk result (λ code. IsCode K.kinds (seen self.entry) pool code) }
     {
         let Parts {
-            mut words,
+            words,
             uses,
             labels,
             islands,
             traps,
+            records,
             alloc,
             ..
         } = self;
-        settle(&mut words, &uses);
+        let Records {
+            relocs,
+            calls,
+            patchable,
+            maps,
+        } = records;
         Ok(Finished {
-            bytes: bytes_of(alloc, &words)?,
+            bytes: code_of(alloc, &words, &uses)?,
             labels: labels_in_order(alloc, &labels)?,
             islands,
             pool,
-            relocs: Vec::new(alloc),
+            relocs,
             traps,
-            calls: Vec::new(alloc),
-            patchable: Vec::new(alloc),
-            maps: Vec::new(alloc),
+            calls,
+            patchable,
+            maps,
         })
     }
 }

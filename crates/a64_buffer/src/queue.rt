@@ -1,9 +1,9 @@
 //! The open uses of one rank, the one of the least limit first.
 
-ghost use Rattle.std.specs.Prelude.{◌≡◌, ◌≢◌, ℕ, All, IfSome, MatchOption, ◌+◌, ◌-◌, ◌^◌, ◌<◌, ◌≤◌, [], ◌∷◌, ◌++◌, OnOk, None, Some, length, min, slice_index_or, IsPermutation};
+ghost use Rattle.std.specs.Prelude.{true, ◌≡◌, ◌≢◌, ℕ, All, IfSome, MatchOption, ◌+◌, ◌-◌, ◌^◌, ◌<◌, ◌≤◌, [], ◌∷◌, ◌++◌, OnOk, None, Some, length, min, slice_index_or, IsPermutation};
 ghost use Rattle.std.specs.BinaryHeap.{IsHeap, heap_len, heap_capacity};
 ghost use Rattle.a64_buffer.specs.Classes.{class, rank_of};
-ghost use Rattle.a64_buffer.specs.Queues.{entry_cmp, entry_of, entries, LosesRoom, IsSameQueue, HasRoomFor, IsFirstStray, HoldsIn, IsNextWaiting, WaitsAt, IsLimitAt, IsFirstOf, IsLimit};
+ghost use Rattle.a64_buffer.specs.Queues.{entry_cmp, entry_of, entries, LosesRoom, IsSameQueue, HasRoomFor, IsFirstStray, HoldsIn, NoneWaits, IsNextWaiting, WaitsAt, IsLimitAt, IsFirstOf, IsLimit};
 
 use crate::label_use::MachInstLabelUse;
 use crate::site::Use;
@@ -141,18 +141,46 @@ impl Queue {
         }
     }
 
-    /// A use with a limit was closed.
+    /// A use with a limit was closed; where it is told so, none is open.
     #[inline(always)]
-    pub fn close<K: MachInstLabelUse>(&mut self, uses: &[Use<K>], rank: u64, limit: u64)
+    pub fn close<K: MachInstLabelUse>(&mut self, uses: &[Use<K>], rank: u64, limit: u64, none: bool)
         requires rank { rank < 5 }
         requires holds { HoldsIn K.kinds rank uses.now self.old }
+        requires none { none ≡ true → NoneWaits K.kinds rank uses.now 0 (length uses.now) }
         requires limit { limit ≢ self.old.limit → IsLimit K.kinds rank uses.now self.old.limit self.old.first }
         ensures holds { HoldsIn K.kinds rank uses.now self.new }
         ensures limit { IsLimit K.kinds rank uses.now self.new.limit self.new.first }
     {
         if limit == self.limit {
-            self.settle(uses, rank);
+            self.leave_closed(uses, rank, none);
         }
+    }
+
+    /// Leaves closed uses behind, which are all of them where it is told so, and finds the least limit.
+    #[inline(always)]
+    pub fn leave_closed<K: MachInstLabelUse>(&mut self, uses: &[Use<K>], rank: u64, none: bool)
+        requires rank { rank < 5 }
+        requires holds { HoldsIn K.kinds rank uses.now self.old }
+        requires none { none ≡ true → NoneWaits K.kinds rank uses.now 0 (length uses.now) }
+        ensures holds { HoldsIn K.kinds rank uses.now self.new }
+        ensures limit { IsLimit K.kinds rank uses.now self.new.limit self.new.first }
+        ensures room { LosesRoom 0 self.old self.new }
+    {
+        if none {
+            self.leave_all();
+            return;
+        }
+        self.settle(uses, rank);
+    }
+
+    /// Leaves all uses behind, of which none is open.
+    #[inline(always)]
+    fn leave_all(&mut self)
+        ensures { self.new ≡ record self.old { limit = 2 ^ 64 - 1; first = 0; next = None } }
+    {
+        self.limit = u64::MAX;
+        self.first = 0;
+        self.next = None;
     }
 
     /// Leaves closed uses behind, until open ones are first, and finds the least limit.

@@ -1,9 +1,9 @@
 //! The open uses of all ranks, each in the queue of its rank.
 
-ghost use Rattle.std.specs.Prelude.{◌≡◌, ◌≢◌, ◌⊎◌, ◌-◌, ◌^◌, ◌<◌, ◌≤◌, ◌↔◌, ◌++◌, ◌∷◌, [], ℕ, IsTrue, OnOk, None, length, take, slice_index_or};
+ghost use Rattle.std.specs.Prelude.{◌≡◌, ◌≢◌, ◌⊎◌, ◌-◌, ◌^◌, ◌<◌, ◌≤◌, ◌↔◌, ◌++◌, ◌∷◌, [], ℕ, true, IsTrue, OnOk, None, length, take, slice_index_or};
 ghost use Rattle.std.specs.BinaryHeap.{IsHeap};
 ghost use Rattle.a64_buffer.specs.Classes.{wants, rank_of};
-ghost use Rattle.a64_buffer.specs.Queues.{entry_cmp, entries, IsSameQueue, HaveRoomFor, LoseRoom, HaveRoomForOne, ReachLimits, IsFoundBelow, IsWaitingClass, limit_of, IsLimit, AllHold, AllLimits};
+ghost use Rattle.a64_buffer.specs.Queues.{entry_cmp, entries, IsSameQueue, HaveRoomFor, LoseRoom, HaveRoomForOne, ReachLimits, IsFoundBelow, NoneWaits, IsWaitingClass, limit_of, IsLimit, AllHold, AllLimits};
 ghost use Rattle.a64_buffer.specs.declared.queue.Queue.{Queue};
 
 use crate::class::Class;
@@ -75,11 +75,14 @@ pub fn queue_use<K: MachInstLabelUse>(
 }
 
 /// Puts the open uses from an index on into their queues.
+#[inline(always)]
 pub fn queue_from<K: MachInstLabelUse>(queues: &mut [Queue; 5], uses: &[Use<K>], from: usize)
     requires from { from ≤ length uses.now }
     requires hold { AllHold K.kinds (take from uses.now) queues.old }
+    requires limits { AllLimits K.kinds (take from uses.now) queues.old }
     requires room { HaveRoomFor (length uses.now - from) queues.old }
     ensures hold { AllHold K.kinds uses.now queues.new }
+    ensures limits { AllLimits K.kinds uses.now queues.new }
     ensures room { LoseRoom (length uses.now - from) queues.old queues.new }
 {
     for index in from..uses.len() {
@@ -88,22 +91,44 @@ pub fn queue_from<K: MachInstLabelUse>(queues: &mut [Queue; 5], uses: &[Use<K>],
     }
 }
 
-/// An open use of a class and a limit was closed.
+/// An open use of a class and a limit was closed; where it is told so, no use of the class is open.
 #[inline(always)]
 pub fn close_queued<K: MachInstLabelUse>(
     queues: &mut [Queue; 5],
     uses: &[Use<K>],
     class: Class,
     limit: u64,
+    none: bool,
 )
     requires wants { IsTrue (wants class) }
+    requires none { none ≡ true → NoneWaits K.kinds (rank_of class) uses.now 0 (length uses.now) }
     requires hold { AllHold K.kinds uses.now queues.old }
     requires limits { (rank : ℕ) (q : Queue) → rank < 5 → (rank_of class ≢ rank) ⊎ (limit ≢ (slice_index_or queues.old rank q).limit) → IsLimit K.kinds rank uses.now (slice_index_or queues.old rank q).limit (slice_index_or queues.old rank q).first }
     ensures hold { AllHold K.kinds uses.now queues.new }
     ensures limits { AllLimits K.kinds uses.now queues.new }
 {
     let rank = class.rank();
-    queues[rank as usize].close(uses, rank, limit);
+    queues[rank as usize].close(uses, rank, limit, none);
+}
+
+/// Leaves closed uses behind in the queue of a class; where it is told so, no use of the class is open.
+#[inline(always)]
+pub fn settle_queue<K: MachInstLabelUse>(
+    queues: &mut [Queue; 5],
+    uses: &[Use<K>],
+    class: Class,
+    none: bool,
+)
+    requires wants { IsTrue (wants class) }
+    requires none { none ≡ true → NoneWaits K.kinds (rank_of class) uses.now 0 (length uses.now) }
+    requires hold { AllHold K.kinds uses.now queues.old }
+    requires limits { (rank : ℕ) (q : Queue) → rank < 5 → rank_of class ≢ rank → IsLimit K.kinds rank uses.now (slice_index_or queues.old rank q).limit (slice_index_or queues.old rank q).first }
+    ensures hold { AllHold K.kinds uses.now queues.new }
+    ensures limits { AllLimits K.kinds uses.now queues.new }
+    ensures room { LoseRoom 0 queues.old queues.new }
+{
+    let rank = class.rank();
+    queues[rank as usize].leave_closed(uses, rank, none);
 }
 
 /// Leaves closed uses behind in all queues.
@@ -119,6 +144,7 @@ pub fn settle_queues<K: MachInstLabelUse>(queues: &mut [Queue; 5], uses: &[Use<K
 }
 
 /// The use of the least limit in the first queue below a limit that has an open use.
+#[inline(always)]
 pub fn first_below(queues: &[Queue; 5], limit: u64) -> Option<usize>
     requires { limit ≤ 5 }
     ensures ranks { length queues.now ≡ 5 }
@@ -134,6 +160,7 @@ pub fn first_below(queues: &[Queue; 5], limit: u64) -> Option<usize>
 }
 
 /// Whether each open use reaches a place and the burden of its urgency behind it: the limits decide.
+#[inline(always)]
 pub fn have_room(queues: &[Queue; 5], from: u64, burdens: Burdens) -> bool
     requires from { from < 2 ^ 40 }
     requires first { burdens.first < 2 ^ 40 }

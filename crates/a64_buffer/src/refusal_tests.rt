@@ -8,9 +8,10 @@ ghost use Rattle.a64_buffer.specs.Constants.{IsConstant, inserted};
 ghost use Rattle.a64_buffer.specs.Classes.{owed, Fits};
 ghost use Rattle.a64_buffer.specs.Buffer.{end_of, IsFree, IsOutside, made_use};
 
+use crate::record_tests::is_call;
 use crate::test_use::TestUse;
 use crate::{Constants, ForceVeneers, MachBuffer, MachInstLabelUse};
-use a64_base::{MachLabel, TrapCode, VCodeConstant};
+use a64_base::{ExternalName, MachLabel, Reloc, TrapCode, UserStackMap, VCodeConstant};
 use std::alloc::AllocError;
 
 /// Adds a constant, at the second try if need be.
@@ -112,6 +113,73 @@ fn branch<K: MachInstLabelUse>(
     buffer.use_label_at_offset(offset, label, kind)
 }
 
+/// Records a relocation, at the second try if need be.
+fn relocation<K: MachInstLabelUse>(
+    buffer: &mut MachBuffer<'_, K>,
+    kind: Reloc,
+    name: ExternalName,
+    addend: i64,
+) -> Result<(), AllocError>
+    ensures { OnOk result (buffer.new ≡ record buffer.old {
+      records = record buffer.old.records {
+        relocs = buffer.old.records.relocs ++ (end_of buffer.old, kind, name, addend) ∷ [];
+      };
+    }) }
+{
+    if buffer.add_reloc(kind, name, addend).is_ok() {
+        return Ok(());
+    }
+    buffer.add_reloc(kind, name, addend)
+}
+
+/// Records a call, at the second try if need be.
+fn call<K: MachInstLabelUse>(buffer: &mut MachBuffer<'_, K>) -> Result<(), AllocError>
+    ensures { OnOk result (buffer.new ≡ record buffer.old {
+      records = record buffer.old.records {
+        calls = buffer.old.records.calls ++ end_of buffer.old ∷ [];
+      };
+    }) }
+{
+    if buffer.add_call_site().is_ok() {
+        return Ok(());
+    }
+    buffer.add_call_site()
+}
+
+/// Records a patchable call, at the second try if need be.
+fn patchable_call<K: MachInstLabelUse>(
+    buffer: &mut MachBuffer<'_, K>,
+    len: u32,
+) -> Result<(), AllocError>
+    ensures { OnOk result (buffer.new ≡ record buffer.old {
+      records = record buffer.old.records {
+        patchable = buffer.old.records.patchable ++ (end_of buffer.old, len) ∷ [];
+      };
+    }) }
+{
+    if buffer.add_patchable_call_site(len).is_ok() {
+        return Ok(());
+    }
+    buffer.add_patchable_call_site(len)
+}
+
+/// Records a stack map, at the second try if need be.
+fn stack_map<K: MachInstLabelUse>(
+    buffer: &mut MachBuffer<'_, K>,
+    map: UserStackMap,
+) -> Result<(), AllocError>
+    ensures { OnOk result (buffer.new ≡ record buffer.old {
+      records = record buffer.old.records {
+        maps = buffer.old.records.maps ++ (end_of buffer.old, map) ∷ [];
+      };
+    }) }
+{
+    if buffer.push_user_stack_map(map).is_ok() {
+        return Ok(());
+    }
+    buffer.push_user_stack_map(map)
+}
+
 /// Writes an island, at the second try if need be.
 fn island<K: MachInstLabelUse>(buffer: &mut MachBuffer<'_, K>) -> Result<(), AllocError>
     requires { end_of buffer.old + owed K.kinds buffer.old + 4 < 2 ^ 31 }
@@ -141,5 +209,26 @@ fn ends_as_with_enough_memory(rt: HostRuntime) -> Result<(), AllocError> {
     // three words, the jump over the island, that of the branch, a zero word, the constant, a trap word,
     // and the far veneer of the branch's jump
     assert_eq!(rt; buffer.cur_offset(), 12 + 4 + 4 + 4 + 8 + 4 + 20);
+    Ok(())
+}
+
+#[test]
+fn records_as_with_enough_memory(rt: HostRuntime) -> Result<(), AllocError> {
+    let constants = Constants::new(rt.alloc());
+    let mut buffer: MachBuffer<'_, TestUse> = MachBuffer::new(rt.alloc(), &constants);
+    relocation(&mut buffer, Reloc::Arm64Call, ExternalName(1), -3)?;
+    put(&mut buffer, 0x9400_0000)?;
+    call(&mut buffer)?;
+    patchable_call(&mut buffer, 4)?;
+    stack_map(&mut buffer, UserStackMap(7))?;
+    // the end of the code asks for memory once more, and has no second try
+    let code = buffer.finish()?;
+    let [reloc] = code.relocs.as_slice() else {
+        return Err(AllocError);
+    };
+    assert!(rt; is_call(*reloc, 0, ExternalName(1), -3));
+    assert_eq!(rt; code.calls.as_slice(), [4].as_slice());
+    assert_eq!(rt; code.patchable.as_slice(), [(4, 4)].as_slice());
+    assert_eq!(rt; code.maps.as_slice(), [(4, UserStackMap(7))].as_slice());
     Ok(())
 }

@@ -1,6 +1,6 @@
 //! Whether open uses still reach what they get in islands.
 
-ghost use Rattle.std.specs.Prelude.{◌≡◌, ◌+◌, ◌^◌, ◌<◌, ◌≤◌};
+ghost use Rattle.std.specs.Prelude.{true, ◌≡◌, ◌+◌, ◌^◌, ◌<◌, ◌≤◌};
 ghost use Rattle.a64_buffer.specs.Classes.{first, second, third};
 
 use crate::class::Class;
@@ -18,6 +18,7 @@ pub struct Burdens {
 
 impl Burdens {
     ghost use Rattle.a64_buffer.specs.Classes.{cost};
+    ghost use Rattle.a64_buffer.specs.Queues.{ShowNone};
 
     /// An open use of a class came to be.
     #[inline(always)]
@@ -47,5 +48,18 @@ impl Burdens {
         self.first -= class.first_cost();
         self.second -= class.second_cost();
         self.third -= class.third_cost();
+    }
+
+    /// Whether it shows that no use of a class is open.
+    #[inline(always)]
+    pub fn has_none(&self, class: Class) -> bool
+        ensures { result ≡ true → ShowNone class self.now }
+    {
+        match class {
+            Class::Near => self.first == 0,
+            Class::Load | Class::Trapping | Class::Middle => self.second == 0,
+            Class::Far => self.third == self.second,
+            Class::Direct => self.third == 0,
+        }
     }
 }

@@ -1,12 +1,10 @@
 //! Words that lead to the stops of their uses, and what finished code is made of.
 
-ghost use Rattle.std.specs.Prelude.{◌≡◌, ◌*◌, ◌/◌, ◌%◌, ◌^◌, ◌<◌, length, All, IfOk};
+ghost use Rattle.std.specs.Prelude.{◌≡◌, ◌+◌, ◌*◌, ◌^◌, ◌<◌, ◌≤◌, length, All, IfOk};
 ghost use Rattle.std.specs.Int.{w32, to_le_bytes};
 ghost use Rattle.std.specs.List.{flat_map};
-ghost use Rattle.a64_buffer.specs.Word.{outside};
-ghost use Rattle.a64_buffer.specs.Kinds.{IsWithin, GoesTo};
 ghost use Rattle.a64_buffer.specs.Sound.{IsPlaced, AreApart};
-ghost use Rattle.a64_buffer.specs.Settled.{IsCodeOf, Reaches, MayLead, Patches, AreSettled, Lists};
+ghost use Rattle.a64_buffer.specs.Settled.{IsCodeOf, Reaches, MayLead, PatchesCode, IsSettledCode, Lists};
 
 use crate::label_use::MachInstLabelUse;
 use crate::site::Use;
@@ -14,41 +12,32 @@ use a64_base::MachLabel;
 use a64_label_map::LabelMap;
 use std::alloc::{AllocError, Global};
 
-/// The word of a use, made to lead to a place.
-#[inline(always)]
-fn patched<K: MachInstLabelUse>(word: u32, kind: K, use_offset: u32, place: u32) -> u32
-    requires { Reaches K.kinds kind use_offset place }
-    ensures rest { outside (K.kinds.mask kind) result ≡ outside (K.kinds.mask kind) word }
-    ensures leads { GoesTo K.kinds kind word result use_offset place }
-{
-    let mut bytes = word.to_le_bytes();
-    kind.patch(&mut bytes, use_offset, place);
-    u32::from_le_bytes(bytes)
-}
-
 /// Makes the word of one use lead to a place.
 #[inline(always)]
-fn settle_use<K: MachInstLabelUse>(words: &mut [u32], kind: K, use_offset: u32, place: u32)
-    requires inside { use_offset / 4 < length words.old }
+fn settle_use<K: MachInstLabelUse>(bytes: &mut [u8], kind: K, use_offset: u32, place: u32)
+    requires inside { use_offset + 4 ≤ length bytes.old }
     requires reaches { Reaches K.kinds kind use_offset place }
-    ensures { Patches K.kinds kind use_offset place words.old words.new }
+    ensures { PatchesCode K.kinds kind use_offset place bytes.old bytes.new }
 {
-    let index = (use_offset / 4) as usize;
-    words[index] = patched(words[index], kind, use_offset, place);
+    let at = use_offset as usize;
+    kind.patch(&mut bytes[at..at + 4], use_offset, place);
 }
 
-/// Makes the words of all uses lead to their stops, where they have one.
-pub fn settle<K: MachInstLabelUse>(words: &mut [u32], uses: &[Use<K>])
-    requires placed { All (IsPlaced (4 * length words.old)) uses.now }
+/// Makes the words of all uses lead to their stops, where they have one, in the bytes of words as they
+/// were put.
+fn settle<K: MachInstLabelUse>(bytes: &mut [u8], words: &[u32], uses: &[Use<K>])
+    requires code { IsCodeOf words.now bytes.old }
+    requires placed { All (IsPlaced (4 * length words.now)) uses.now }
     requires apart { AreApart uses.now }
     requires able { All (MayLead K.kinds) uses.now }
-    ensures { AreSettled K.kinds words.old uses.now words.new }
+    ensures { IsSettledCode K.kinds words.now uses.now bytes.new }
 {
+    let _ = words;
     for site in uses {
         let Some(place) = site.stop else {
             continue;
         };
-        settle_use(words, site.kind, site.offset, place);
+        settle_use(bytes, site.kind, site.offset, place);
     }
 }
 
@@ -64,12 +53,29 @@ fn write_words(bytes: &mut [u8], words: &[u32])
 }
 
 /// The words as bytes, each with its least byte first.
-pub fn bytes_of(alloc: Global, words: &[u32]) -> Result<Vec<u8>, AllocError>
+fn bytes_of(alloc: Global, words: &[u32]) -> Result<Vec<u8>, AllocError>
     requires { length words.now < 2 ^ 29 }
     ensures { IfOk result (λ bytes. IsCodeOf words.now bytes.items) }
 {
     let mut bytes = vec![in alloc; 0; 4 * words.len()]?;
     write_words(&mut bytes, words);
+    Ok(bytes)
+}
+
+/// The words as bytes, those of uses made to lead to their stops, where they have one.
+pub fn code_of<K: MachInstLabelUse>(
+    alloc: Global,
+    words: &[u32],
+    uses: &[Use<K>],
+) -> Result<Vec<u8>, AllocError>
+    requires short { length words.now < 2 ^ 29 }
+    requires placed { All (IsPlaced (4 * length words.now)) uses.now }
+    requires apart { AreApart uses.now }
+    requires able { All (MayLead K.kinds) uses.now }
+    ensures { IfOk result (λ bytes. IsSettledCode K.kinds words.now uses.now bytes.items) }
+{
+    let mut bytes = bytes_of(alloc, words)?;
+    settle(&mut bytes, words, uses);
     Ok(bytes)
 }
 

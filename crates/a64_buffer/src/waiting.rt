@@ -1,15 +1,17 @@
 //! What is kept of the uses that wait for islands.
 
-ghost use Rattle.std.specs.Prelude.{◌≡◌, ◌+◌, ◌^◌, ◌<◌, ◌≤◌, ◌↔◌, ◌++◌, ◌∷◌, [], ℕ, All, IsTrue, OnOk, ◌-◌, length, take, slice_index_or};
+ghost use Rattle.std.specs.Prelude.{◌≡◌, ◌+◌, ◌^◌, ◌<◌, ◌≤◌, ◌≢◌, ◌↔◌, ◌++◌, ◌∷◌, [], ℕ, All, IsTrue, OnOk, ◌-◌, length, take, slice_index_or};
 ghost use Rattle.a64_buffer.specs.Buffer.{end_of};
-ghost use Rattle.a64_buffer.specs.Classes.{third, veneer_uses, weight_of, burden, owed, Fits};
-ghost use Rattle.a64_buffer.specs.Queues.{IsSameQueue, HaveRoomFor, LoseRoom, HaveRoomForOne, IsWaitingClass, limit_of, AllHold, AllLimits, AreBurdens, AreWaiting};
+ghost use Rattle.a64_buffer.specs.Classes.{wants, rank_of, third, veneer_uses, weight_of, burden, owed, Fits};
+ghost use Rattle.a64_buffer.specs.Queues.{IsSameQueue, HaveRoomFor, LoseRoom, HaveRoomForOne, IsWaitingClass, limit_of, IsLimit, AllHold, AllLimits, AreBurdens, AreWaiting};
 ghost use Rattle.a64_buffer.specs.declared.queue.Queue.{Queue};
 
 use crate::class::Class;
 use crate::label_use::MachInstLabelUse;
 use crate::parts::Parts;
-use crate::queues::{have_room, queue_from, queue_use, reserve_queues, settle_queues};
+use crate::queues::{
+    have_room, queue_from, queue_use, reserve_queues, settle_queue, settle_queues,
+};
 use crate::site::Use;
 use std::alloc::AllocError;
 
@@ -49,10 +51,29 @@ impl<'c, K: MachInstLabelUse> Parts<'c, K> {
         Ok(())
     }
 
-    /// Keeps the open uses from an index on, and leaves closed uses behind.
+    /// Leaves closed uses of a class behind, among those before an index.
+    #[inline(always)]
+    pub fn settle_class(&mut self, from: usize, class: Class)
+        requires from { from ≤ length self.old.uses.items }
+        requires wants { IsTrue (wants class) }
+        requires burdens { AreBurdens K.kinds self.old.uses.items self.old.burdens }
+        requires hold { AllHold K.kinds (take from self.old.uses.items) self.old.queues }
+        requires limits { (rank : ℕ) (q : Queue) → rank < 5 → rank_of class ≢ rank → IsLimit K.kinds rank (take from self.old.uses.items) (slice_index_or self.old.queues rank q).limit (slice_index_or self.old.queues rank q).first }
+        ensures hold { AllHold K.kinds (take from self.old.uses.items) self.new.queues }
+        ensures limits { AllLimits K.kinds (take from self.old.uses.items) self.new.queues }
+        ensures room { LoseRoom 0 self.old.queues self.new.queues }
+        ensures rest { self.new ≡ record self.old { queues = self.new.queues } }
+    {
+        let none = self.burdens.has_none(class);
+        settle_queue(&mut self.queues, &self.uses[..from], class, none);
+    }
+
+    /// Keeps the open uses from an index on.
+    #[inline(always)]
     pub fn queue_new(&mut self, from: usize)
         requires from { from ≤ length self.old.uses.items }
         requires hold { AllHold K.kinds (take from self.old.uses.items) self.old.queues }
+        requires limits { AllLimits K.kinds (take from self.old.uses.items) self.old.queues }
         requires room { HaveRoomFor (length self.old.uses.items - from) self.old.queues }
         ensures hold { AllHold K.kinds self.old.uses.items self.new.queues }
         ensures limits { AllLimits K.kinds self.old.uses.items self.new.queues }
@@ -60,7 +81,6 @@ impl<'c, K: MachInstLabelUse> Parts<'c, K> {
         ensures rest { self.new ≡ record self.old { queues = self.new.queues } }
     {
         queue_from(&mut self.queues, &self.uses, from);
-        settle_queues(&mut self.queues, &self.uses);
     }
 
     /// Keeps what waits once an island stands.
@@ -75,6 +95,7 @@ impl<'c, K: MachInstLabelUse> Parts<'c, K> {
 
     /// Whether each open use reaches what it gets in the worst island, if that begins so many bytes
     /// behind the end: it looks at the first of each rank alone.
+    #[inline(always)]
     pub fn has_room(&self, more: u32) -> bool
         requires short { end_of (seen self.now) < 2 ^ 31 }
         requires owed { owed K.kinds (seen self.now) < 2 ^ 32 }

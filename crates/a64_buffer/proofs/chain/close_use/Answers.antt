@@ -1,9 +1,13 @@
-use Rattle.std.proofs.Common.{◌≡◌, true, false, not, get_or, sym, ◌∙◌, ap, inl, inr}
+use Rattle.std.proofs.Common.{◌≡◌, true, false, not, get_or, set, is_some, sym, ◌∙◌, ap, inl, inr}
+use Rattle.std.specs.Prelude.{◌&&◌, is_none}
+use Rattle.a64_buffer.specs.declared.site.Use.{Use}
 use Rattle.std.proofs.lemmas.List.{get_or_default}
-use Rattle.a64_buffer.specs.Classes.{wants, class, rank_of}
-use Rattle.a64_buffer.specs.Queues.{limit_of}
+use Rattle.a64_buffer.specs.Classes.{wants, class, rank_of, is_open}
+use Rattle.a64_buffer.specs.Queues.{limit_of, IsWaitingClass, AreBurdens}
 use Rattle.a64_buffer.proofs.Rooms.{open_wants}
-use Rattle.a64_buffer.proofs.Queued.{stopped_hold, stopped_limit}
+use Rattle.a64_buffer.proofs.Queued.{stopped_hold, stopped_limit, stopped_closed}
+use Rattle.a64_buffer.proofs.Burdens.{stopped_burdens}
+use Rattle.a64_buffer.proofs.Idle.{none_waits}
 use Rattle.a64_buffer.proofs.chain.close_use.Goals as goal
 
 pub close_queued-requires-clause-hold : goal.close_queued-requires-clause-hold
@@ -33,3 +37,14 @@ returns-else-wants-clause-limits g c =
     let x : false ≡ true = sym c.if-wants.false ∙ (c.wants.ensures ∙ (ap wants (c.class-class.ensures ∙ ap (class g.K.MachInstLabelUse.kinds) here) ∙ open_wants g.K.MachInstLabelUse.kinds (get_or c.args.uses.now c.args.index d) o)) in
     cc)
     (c.requires.waiting.limits rank q l)
+
+pub close_queued-requires-clause-none : goal.close_queued-requires-clause-none
+close_queued-requires-clause-none g c =
+    let u : Use g.row.K.Denot = c.index-uses-index.result in
+    let v : Use g.row.K.Denot = record (get_or c.args.uses.now c.args.index c.index-uses-index-2.result) { stop = c.reached-stop.result } in
+    let wanted : wants c.class-class.result ≡ true = sym c.wants.ensures ∙ c.if-wants.true in
+    let some : is_some u.stop ≡ false = sym c.is_some.ensures ∙ c.if-is_some.false in
+    let open' : is_open g.K.MachInstLabelUse.kinds u ≡ true = ap (λ w. w && is_none u.stop) (ap wants (sym c.class-class.ensures) ∙ wanted) ∙ ap not some in
+    let waiting : IsWaitingClass g.K.MachInstLabelUse.kinds u c.class-class.result = record { open' = open' ∙ sym wanted; is = λ w. sym c.class-class.ensures } in
+    let burdens : AreBurdens g.K.MachInstLabelUse.kinds (set c.args.uses.now c.args.index v) c.lose.new.self = stopped_burdens g.K.MachInstLabelUse.kinds c.args.uses.now c.args.index u v c.class-class.result c.args.burdens.now c.lose.new.self c.requires.index c.index-uses-index.is waiting (stopped_closed g.K.MachInstLabelUse.kinds v (ap not (c.is_none.ensures ∙ ap not c.if-is_none.false))) c.requires.waiting.burdens c.lose.ensures.first c.lose.ensures.second c.lose.ensures.third in
+    λ none. none_waits g.K.MachInstLabelUse.kinds c.class-class.result (set c.args.uses.now c.args.index v) c.lose.new.self wanted burdens (c.has_none-none.ensures none)

@@ -1,6 +1,9 @@
-use Rattle.std.proofs.Common.{take}
-use Rattle.a64_buffer.specs.Settled.{AreSettled}
+use Rattle.std.proofs.Common.{◌≡◌, length, take}
+use Rattle.a64_buffer.specs.Settled.{IsSettledCode}
 use Rattle.a64_buffer.proofs.settle.settle.Given as goal
 
 abbrev pub invariant-loop-site : goal.invariant-loop-site
-invariant-loop-site g l = AreSettled g.K.MachInstLabelUse.kinds l.fn.words (take l.site-index l.uses) l.words
+invariant-loop-site g l = record {
+  settled : IsSettledCode g.K.MachInstLabelUse.kinds l.words (take l.site-index l.uses) l.bytes;
+  long : length l.bytes ≡ length l.fn.bytes;
+}

@@ -19,7 +19,7 @@ returns-clause-sound g c =
     let closed : (with_items c.args.self.now.uses c.close_label.new.uses).items ≡ map (closed_at g.K.MachInstLabelUse.kinds c.args.label.0 (end_of (seen c.args.self.now))) c.args.self.now.uses.items = closed_in_place g.K.MachInstLabelUse.kinds c.args.self.now.uses c.args.label.0 c.end-place.result (end_of (seen c.args.self.now)) c.close_label.new.uses c.deref_mut.result.now length_is c.close_label.ensures.uses c.deref_mut.ensures.value c.end-place.ensures in
     record {
       whole = subst (IsWhole g.K.MachInstLabelUse.kinds)
-          (sym (same_buffer _ _ _ _ _ _ _ _ _ _ _ _ refl closed (c.in_ok-insert.ensures.ok ∙ ap (finmap.insert c.args.self.now.labels c.args.label.0) c.end-place.ensures) refl refl refl))
+          (sym (same_buffer _ _ _ _ _ _ _ _ _ _ _ _ _ _ refl closed (c.in_ok-insert.ensures.ok ∙ ap (finmap.insert c.args.self.now.labels c.args.label.0) c.end-place.ensures) refl refl refl refl))
           (whole_bind g.K.MachInstLabelUse.kinds g.met.K.MachInstLabelUse.lawful (seen c.args.self.now) c.requires.sound.whole c.args.label.0 c.requires.unbound);
       chained =
           chained_same c.args.self.now.uses.items _ c.args.self.now.earlier.items c.args.self.now.heads c.args.self.now.loads
@@ -33,13 +33,13 @@ returns-clause-sound g c =
 pub returns-clause-ok : goal.returns-clause-ok
 returns-clause-ok g c =
     let length_is : length c.close_label.new.uses ≡ c.args.self.now.uses.len = omega (arith, c.close_label.auto.uses, c.deref_mut.ensures.len) in
-    same_buffer _ _ _ _ _ _ _ _ _ _ _ _ refl
+    same_buffer _ _ _ _ _ _ _ _ _ _ _ _ _ _ refl
     (closed_in_place g.K.MachInstLabelUse.kinds c.args.self.now.uses c.args.label.0 c.end-place.result (end_of (seen c.args.self.now)) c.close_label.new.uses c.deref_mut.result.now length_is c.close_label.ensures.uses c.deref_mut.ensures.value c.end-place.ensures)
-    (c.in_ok-insert.ensures.ok ∙ ap (finmap.insert c.args.self.now.labels c.args.label.0) c.end-place.ensures) refl refl refl
+    (c.in_ok-insert.ensures.ok ∙ ap (finmap.insert c.args.self.now.labels c.args.label.0) c.end-place.ensures) refl refl refl refl
 
 pub returns-clause-later : goal.returns-clause-later
 returns-clause-later g c =
     let length_is : length c.close_label.new.uses ≡ c.args.self.now.uses.len = omega (arith, c.close_label.auto.uses, c.deref_mut.ensures.len) in
     let closed : (with_items c.args.self.now.uses c.close_label.new.uses).items ≡ map (closed_at g.K.MachInstLabelUse.kinds c.args.label.0 (end_of (seen c.args.self.now))) c.args.self.now.uses.items = closed_in_place g.K.MachInstLabelUse.kinds c.args.self.now.uses c.args.label.0 c.end-place.result (end_of (seen c.args.self.now)) c.close_label.new.uses c.deref_mut.result.now length_is c.close_label.ensures.uses c.deref_mut.ensures.value c.end-place.ensures in
-    subst (IsLater (seen c.args.self.now)) (sym (same_buffer _ _ _ _ _ _ _ _ _ _ _ _ refl closed (c.in_ok-insert.ensures.ok ∙ ap (finmap.insert c.args.self.now.labels c.args.label.0) c.end-place.ensures) refl refl refl))
+    subst (IsLater (seen c.args.self.now)) (sym (same_buffer _ _ _ _ _ _ _ _ _ _ _ _ _ _ refl closed (c.in_ok-insert.ensures.ok ∙ ap (finmap.insert c.args.self.now.labels c.args.label.0) c.end-place.ensures) refl refl refl refl))
     (bind_later g.K.MachInstLabelUse.kinds g.met.K.MachInstLabelUse.lawful (seen c.args.self.now) c.requires.sound.whole c.args.label.0 c.requires.unbound)

@@ -1,16 +1,16 @@
-use Rattle.std.proofs.Common.{◌≡◌, get_or, sym, ◌∙◌, ap, subst, arith}
+use Rattle.std.proofs.Common.{◌≡◌, length, get_or, sym, ◌∙◌, ap, subst, arith}
 use Rattle.a64_buffer.specs.Buffer.{end_of}
 use Rattle.a64_buffer.specs.Classes.{veneer_uses, weight_of}
-use Rattle.a64_buffer.specs.Chain.{AreChained}
-use Rattle.a64_buffer.specs.Queues.{IsSameQueue, AllHold, AreBurdens, AreWaiting}
+use Rattle.a64_buffer.specs.Chain.{constant_of, AreChained}
+use Rattle.a64_buffer.specs.Queues.{IsSameQueue, AllHold, AllLimits, AreBurdens, AreWaiting}
 use Rattle.a64_buffer.specs.Islands.{HasIsland}
 use Rattle.a64_buffer.specs.Sound.{seen, IsWhole}
-use Rattle.a64_buffer.specs.Pieces.{begun}
+use Rattle.a64_buffer.specs.Pieces.{over_use, begun}
 use Rattle.a64_buffer.specs.Steps.{MayWrite, Writes, stands_at, ended}
 use Rattle.a64_buffer.proofs.Writing.{may_write_on}
 use Rattle.a64_buffer.proofs.Islands.{may_begin}
-use Rattle.a64_buffer.proofs.Emitting.{sound_m, island_made}
-use Rattle.a64_buffer.proofs.Queued.{stopped_closes, all_closed_hold, same_hold}
+use Rattle.a64_buffer.proofs.Emitting.{sound_m, at_m, island_made}
+use Rattle.a64_buffer.proofs.Queued.{stopped_closes, all_closed_hold, same_hold, same_limits}
 use Rattle.a64_buffer.proofs.parts.Parts.emit_island.Goals as goal
 
 pub write_until-requires-clause-may : goal.write_until-requires-clause-may
@@ -38,6 +38,14 @@ begin_island-requires-clause-hold g c =
     (λ rank q. subst (λ qs. IsSameQueue (get_or qs rank q) (get_or c.reserve_queues.new.self.queues rank q)) c.in_ok-reserve_all.ensures.queues (c.reserve_queues.ensures.kept rank q))
     c.requires.sound.waiting.hold)
 
+pub begin_island-requires-clause-limits : goal.begin_island-requires-clause-limits
+begin_island-requires-clause-limits g c =
+    let same : seen c.reserve_queues.new.self ≡ seen c.args.self.now = ap (λ p. seen p) c.reserve_queues.ensures.rest ∙ c.in_ok-reserve_all.ensures.rest in
+    subst (λ us. AllLimits g.K.MachInstLabelUse.kinds us c.reserve_queues.new.self.queues) (sym (ap (λ b. b.uses) same))
+    (same_limits g.K.MachInstLabelUse.kinds c.args.self.now.uses.items c.args.self.now.queues c.reserve_queues.new.self.queues
+    (λ rank q. subst (λ qs. IsSameQueue (get_or qs rank q) (get_or c.reserve_queues.new.self.queues rank q)) c.in_ok-reserve_all.ensures.queues (c.reserve_queues.ensures.kept rank q))
+    c.requires.sound.waiting.limits)
+
 pub begin_island-requires-clause-burdens : goal.begin_island-requires-clause-burdens
 begin_island-requires-clause-burdens g c =
     subst (λ p. AreBurdens g.K.MachInstLabelUse.kinds p.uses.items p.burdens) (sym c.reserve_queues.ensures.rest)
@@ -50,6 +58,26 @@ pub begin_island-requires-clause-queued : goal.begin_island-requires-clause-queu
 begin_island-requires-clause-queued g c =
     let weight : weight_of g.K.MachInstLabelUse.kinds veneer_uses c.reserve_queues.new.self.uses.items ≡ weight_of g.K.MachInstLabelUse.kinds veneer_uses c.reserve_all.new.self.uses.items = ap (λ p. weight_of g.K.MachInstLabelUse.kinds veneer_uses p.uses.items) c.reserve_queues.ensures.rest in
     λ rank q l. omega (arith, c.in_ok-reserve_queues.ensures.ok rank q l, weight)
+
+pub end_island-requires-clause-target : goal.end_island-requires-clause-target
+end_island-requires-clause-target g c = λ d.
+    let same : seen c.reserve_queues.new.self ≡ seen c.args.self.now = ap (λ p. seen p) c.reserve_queues.ensures.rest ∙ c.in_ok-reserve_all.ensures.rest in
+    let begun_is = c.begin_island.ensures.begun ∙ ap (begun g.K.MachInstLabelUse.kinds) same in
+    let near = subst (λ b. Writes g.K.MachInstLabelUse.kinds 4 b (seen c.write_until.new.self)) begun_is c.write_until.ensures.writes in
+    let index : c.len-index.result ≡ length c.args.self.now.uses.items = omega (arith, c.len-index.ensures, ap (λ b. length b.uses) same) in
+    let over : get_or c.promote.new.self.uses.items c.len-index.result d ≡ over_use g.K.MachInstLabelUse.kinds (end_of (seen c.args.self.now)) =
+    ap (λ k. get_or c.promote.new.self.uses.items k d) index ∙ at_m g.K.MachInstLabelUse.kinds g.met.K.MachInstLabelUse.lawful c.args.distance c.args.force (seen c.args.self.now) (seen c.write_until.new.self) (seen c.promote.new.self) c.requires.sound.whole c.requires.short near c.promote.ensures.promotes d in
+    ap (λ u. constant_of u.target) over
+
+pub end_island-requires-clause-start : goal.end_island-requires-clause-start
+end_island-requires-clause-start g c = λ d.
+    let same : seen c.reserve_queues.new.self ≡ seen c.args.self.now = ap (λ p. seen p) c.reserve_queues.ensures.rest ∙ c.in_ok-reserve_all.ensures.rest in
+    let begun_is = c.begin_island.ensures.begun ∙ ap (begun g.K.MachInstLabelUse.kinds) same in
+    let near = subst (λ b. Writes g.K.MachInstLabelUse.kinds 4 b (seen c.write_until.new.self)) begun_is c.write_until.ensures.writes in
+    let index : c.len-index.result ≡ length c.args.self.now.uses.items = omega (arith, c.len-index.ensures, ap (λ b. length b.uses) same) in
+    let over : get_or c.promote.new.self.uses.items c.len-index.result d ≡ over_use g.K.MachInstLabelUse.kinds (end_of (seen c.args.self.now)) =
+    ap (λ k. get_or c.promote.new.self.uses.items k d) index ∙ at_m g.K.MachInstLabelUse.kinds g.met.K.MachInstLabelUse.lawful c.args.distance c.args.force (seen c.args.self.now) (seen c.write_until.new.self) (seen c.promote.new.self) c.requires.sound.whole c.requires.short near c.promote.ensures.promotes d in
+    ap (λ u. u.offset) over ∙ sym (c.end-start.ensures ∙ ap end_of same)
 
 pub await_island-requires : goal.await_island-requires
 await_island-requires g c =

@@ -10,7 +10,7 @@ use Rattle.a64_buffer.proofs.parts.Parts.end_island.Goals as goal
 pub returns-clause-ended : goal.returns-clause-ended
 returns-clause-ended g c = λ apart.
     let d : Use g.row.K.Denot = record { offset = 0; target = IslandEnd; kind = g.K.MachInstLabelUse.kinds.jump; stop = None } in
-    same_buffer _ _ _ _ _ _ _ _ _ _ _ _
+    same_buffer _ _ _ _ _ _ _ _ _ _ _ _ _ _
     (ap (λ p. p.words.items) c.stop_at.ensures.rest)
     (c.stop_at.ensures.uses d apart
     ∙ ap (λ place. map (stopped (stands_at (get_or c.args.self.now.uses.items c.args.index d).offset) place) c.args.self.now.uses.items) c.end-end.ensures
@@ -19,3 +19,4 @@ returns-clause-ended g c = λ apart.
     (c.push_reserved.ensures.items ∙ ap (λ p. p.islands.items ++ (c.args.start, c.end-end.result) ∷ []) c.stop_at.ensures.rest ∙ ap (λ end. c.args.self.now.islands.items ++ (c.args.start, end) ∷ []) c.end-end.ensures)
     (ap (λ p. p.traps.items) c.stop_at.ensures.rest)
     (ap (λ p. p.constants.now) c.stop_at.ensures.rest)
+    (ap (λ p. (seen p).records) c.stop_at.ensures.rest)

@@ -31,4 +31,5 @@ returns-clause-gives g c = λ d apart.
       islands = ap (λ p. p.islands.items) c.push_use.ensures.rest ∙ ap (λ p. p.islands.items) c.stop_at.ensures.rest;
       traps_are = ap (λ p. p.traps.items) c.push_use.ensures.rest ∙ (ap (λ p. p.traps.items) c.stop_at.ensures.rest ∙ sym (append-nil c.args.self.now.traps.items));
       constants = ap (λ p. p.constants.now) c.push_use.ensures.rest ∙ ap (λ p. p.constants.now) c.stop_at.ensures.rest;
+      records = ap (λ p. (seen p).records) c.push_use.ensures.rest ∙ ap (λ p. (seen p).records) c.stop_at.ensures.rest;
     }

@@ -13,4 +13,5 @@ returns-clause-gives g c = λ d apart. record {
   islands = ap (λ p. p.islands.items) c.stop_at.ensures.rest;
   traps_are = c.push_reserved-2.ensures.items ∙ (ap (λ p. p.traps.items ++ (c.end-place.result, c.args.code) ∷ []) c.stop_at.ensures.rest ∙ ap (λ n. c.args.self.now.traps.items ++ (n, c.args.code) ∷ []) c.end-place.ensures);
   constants = ap (λ p. p.constants.now) c.stop_at.ensures.rest;
+  records = ap (λ p. (seen p).records) c.stop_at.ensures.rest;
 }
