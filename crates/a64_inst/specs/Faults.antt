@@ -10,10 +10,11 @@ use Rattle.a64_inst.specs.declared.inst.Inst.{Inst}
 use Rattle.a64_inst.specs.declared.inst.Inst.TheVariants as insts
 use Rattle.a64_inst.specs.declared.fault.OwnFault.{OwnFault}
 use Rattle.a64_inst.specs.declared.fault.OwnFault.TheVariants as own
-use Rattle.a64_inst.specs.Operands.{is_register_or_zero}
+use Rattle.a64_inst.specs.Operands.{is_any_register, is_register, is_register_or_zero}
 use Rattle.a64_inst.specs.IntegerOperands as integer
 use Rattle.a64_inst.specs.ControlOperands as control
 use Rattle.a64_inst.specs.MemoryOperands as memory
+use Rattle.a64_inst.specs.SequenceOperands as sequence
 use Rattle.a64_inst.specs.Accesses.{access_of}
 use Rattle.a64_inst.specs.Modes.{constant_in}
 
@@ -75,6 +76,15 @@ module _ (frame : FrameLayout) (flags : EmitFlags) (virtuals : VirtualRegisters)
   has_other_operands (insts.Word8 value) = true
   has_other_operands (insts.EmitIsland needed_space) = true
   has_other_operands (insts.LabelAddress dst label) = is_register_or_zero virtuals dst
+  has_other_operands (insts.Args args) = sequence.are_args virtuals args
+  has_other_operands (insts.Rets rets) = sequence.are_rets virtuals rets
+  has_other_operands (insts.DummyUse reg) = is_any_register virtuals reg
+  has_other_operands insts.SequencePoint = true
+  has_other_operands (insts.JTSequence default targets ridx rtmp1 rtmp2) = sequence.are_table_operands virtuals ridx rtmp1 rtmp2
+  has_other_operands (insts.LoadExtNameGot rd name) = is_register virtuals rd
+  has_other_operands (insts.LoadExtNameNear rd name offset) = is_register virtuals rd
+  has_other_operands (insts.LoadExtNameFar rd name offset) = is_register virtuals rd
+  has_other_operands (insts.StackProbeLoop start end step) = sequence.are_probe_operands flags virtuals start end step
   has_other_operands (insts.LoadP64 rt rt2 mem flags) = memory.are_pair_operands virtuals rt rt2 mem
   has_other_operands (insts.StoreP64 rt rt2 mem flags) = memory.are_pair_operands virtuals rt rt2 mem
   has_other_operands (insts.LoadAddr rd mem) = memory.are_address_operands frame virtuals rd mem

@@ -4,6 +4,7 @@ pub mod Groups
 pub mod Operands
 pub mod IntegerOperands
 pub mod ControlOperands
+pub mod SequenceOperands
 pub mod Faults
 pub mod Modes
 pub mod Addresses

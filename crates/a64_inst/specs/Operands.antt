@@ -54,10 +54,20 @@ is_same_class Int Int = true
 is_same_class Float Float = true
 is_same_class _ _ = false
 
+-- a register of either class, the zero register and the stack pointer among them
+abbrev pub is_any_register : VirtualRegisters → Reg → Bool
+is_any_register virtuals (Real p) = true
+is_any_register virtuals (Virtual index class) = are_allowed virtuals
+
 -- two registers may be one: a virtual one may be any
 abbrev pub is_same_register : Reg → Reg → Bool
 is_same_register (Real p) (Real q) = is_same_class p.class q.class && nat_eq p.number q.number
 is_same_register _ _ = true
+
+-- two registers may be two: a virtual one may be any
+abbrev pub is_other_register : Reg → Reg → Bool
+is_other_register (Real p) (Real q) = not (is_same_class p.class q.class && nat_eq p.number q.number)
+is_other_register _ _ = true
 
 -- ---- immediates and offsets
 

@@ -1,13 +1,14 @@
 //! Loads and stores of one register, and of the types of values.
 
 ghost use Rattle.std.specs.Prelude.{◌≡◌, true, Some, option_map};
-ghost use Rattle.a64_inst.specs.Accesses.{type_has_load_form, inst_with, load_op, store_op};
+ghost use Rattle.a64_inst.specs.Accesses.{type_has_load_form, inst_with, load_op, store_op, access_type};
 ghost use Rattle.a64_inst.specs.Faults.{named_constant};
 
 use crate::inst::Inst;
 use crate::mode::AMode;
 use a64_base::{IrType, MemFlagsData, Reg, VCodeConstant, Writable};
 use a64_ops::AccessOp;
+use std::marker::Model;
 
 /// A load or a store of one register, as data.
 #[derive(Clone, Copy, Debug)]
@@ -22,6 +23,44 @@ pub struct Access {
     pub flags: MemFlagsData,
 }
 
+/// A load or a store of one register, as data, whose address stands in the instruction.
+#[derive(Drop)]
+pub struct AccessRef<'i> {
+    /// What it does.
+    pub op: AccessOp,
+    /// What is loaded or stored: x0 to x30 or the zero register, or a vector register, by `op`.
+    pub reg: Reg,
+    /// The address.
+    pub mem: &'i AMode,
+    /// What is known of the access.
+    pub flags: MemFlagsData,
+}
+
+impl<'i> Model for AccessRef<'i> {
+    ghost use Rattle.a64_inst.specs.declared.access.Access.{Access};
+
+    ghost Value = { Access };
+
+    ghost view = { λ a. record { op = a.op; reg = a.reg; mem = a.mem.now; flags = a.flags } };
+}
+
+/// The type of the value that an access moves.
+#[inline(always)]
+fn type_of(op: AccessOp) -> IrType
+    ensures { result ≡ access_type op }
+{
+    match op {
+        AccessOp::ULoad8 | AccessOp::SLoad8 | AccessOp::Store8 => IrType::I8,
+        AccessOp::ULoad16 | AccessOp::SLoad16 | AccessOp::Store16 => IrType::I16,
+        AccessOp::ULoad32 | AccessOp::SLoad32 | AccessOp::Store32 => IrType::I32,
+        AccessOp::ULoad64 | AccessOp::Store64 => IrType::I64,
+        AccessOp::FpuLoad16 | AccessOp::FpuStore16 => IrType::F16,
+        AccessOp::FpuLoad32 | AccessOp::FpuStore32 => IrType::F32,
+        AccessOp::FpuLoad64 | AccessOp::FpuStore64 => IrType::F64,
+        AccessOp::FpuLoad128 | AccessOp::FpuStore128 => IrType::I8X16,
+    }
+}
+
 impl Access {
     ghost use Rattle.a64_inst.specs.Accesses.{access_type};
 
@@ -29,16 +68,19 @@ impl Access {
     pub fn ty(&self) -> IrType
         ensures { result ≡ access_type self.now.op }
     {
-        match self.op {
-            AccessOp::ULoad8 | AccessOp::SLoad8 | AccessOp::Store8 => IrType::I8,
-            AccessOp::ULoad16 | AccessOp::SLoad16 | AccessOp::Store16 => IrType::I16,
-            AccessOp::ULoad32 | AccessOp::SLoad32 | AccessOp::Store32 => IrType::I32,
-            AccessOp::ULoad64 | AccessOp::Store64 => IrType::I64,
-            AccessOp::FpuLoad16 | AccessOp::FpuStore16 => IrType::F16,
-            AccessOp::FpuLoad32 | AccessOp::FpuStore32 => IrType::F32,
-            AccessOp::FpuLoad64 | AccessOp::FpuStore64 => IrType::F64,
-            AccessOp::FpuLoad128 | AccessOp::FpuStore128 => IrType::I8X16,
-        }
+        type_of(self.op)
+    }
+}
+
+impl<'i> AccessRef<'i> {
+    ghost use Rattle.a64_inst.specs.Accesses.{access_type};
+
+    /// The type of the value that is moved, from `I8` to `I64`, from `F16` to `F64`, or `I8X16`.
+    #[inline(always)]
+    pub fn ty(&self) -> IrType
+        ensures { result ≡ access_type self.now.op }
+    {
+        type_of(self.op)
     }
 }
 
@@ -83,8 +125,10 @@ fn store_of(ty: IrType) -> AccessOp
 impl Inst {
     ghost use Rattle.a64_inst.specs.Accesses.{access_of, inst_of, access_type};
 
-    /// The load or store of one register that the instruction is, where it is one.
-    pub fn access(&self) -> Option<Access>
+    /// The load or store of one register that the instruction is, where it is one. The address is not
+    /// copied.
+    #[inline(always)]
+    pub fn access_ref(&self) -> Option<AccessRef<'_>>
         ensures { result ≡ access_of self.now }
     {
         let (op, reg, mem, flags) = match self {
@@ -109,12 +153,27 @@ impl Inst {
             Inst::FpuStore128 { rd, mem, flags } => (AccessOp::FpuStore128, *rd, mem, flags),
             _ => return None,
         };
-        Some(Access {
+        Some(AccessRef {
             op,
             reg,
-            mem: *mem,
+            mem,
             flags: *flags,
         })
+    }
+
+    /// The load or store of one register that the instruction is, where it is one.
+    pub fn access(&self) -> Option<Access>
+        ensures { result ≡ access_of self.now }
+    {
+        match self.access_ref() {
+            Some(access) => Some(Access {
+                op: access.op,
+                reg: access.reg,
+                mem: *access.mem,
+                flags: access.flags,
+            }),
+            None => None,
+        }
     }
 
     /// The instruction of a load or a store of one register.
@@ -235,17 +294,18 @@ impl Inst {
     pub fn mem_type(&self) -> Option<IrType>
         ensures { result ≡ option_map (λ access. access_type access.op) (access_of self.now) }
     {
-        match self.access() {
+        match self.access_ref() {
             Some(access) => Some(access.ty()),
             None => None,
         }
     }
 
     /// The constant that the instruction loads, where it loads one.
+    #[inline(always)]
     pub fn constant(&self) -> Option<VCodeConstant>
         ensures { result ≡ named_constant self.now }
     {
-        match self.access() {
+        match self.access_ref() {
             Some(access) => access.mem.constant(),
             None => None,
         }

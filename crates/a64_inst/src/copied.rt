@@ -90,6 +90,45 @@ fn copied_control(alloc: Global, inst: &Inst) -> Result<Inst, AllocError>
     )
 }
 
+/// An equal sequence around a table, a symbol or the stack, or what has no word.
+fn copied_sequence(alloc: Global, inst: &Inst) -> Result<Inst, AllocError>
+    requires { group_of inst.now ≡ groups.Sequence }
+    ensures { IfOk result (λ copy. copy ≡ inst.now) }
+{
+    match inst {
+        Inst::Args { args } => Ok(Inst::Args {
+            args: args.try_clone(alloc)?,
+        }),
+        Inst::Rets { rets } => Ok(Inst::Rets {
+            rets: rets.try_clone(alloc)?,
+        }),
+        Inst::JTSequence {
+            default,
+            targets,
+            ridx,
+            rtmp1,
+            rtmp2,
+        } => {
+            let targets = targets.try_clone(alloc)?;
+            Ok(Inst::JTSequence {
+                default: *default,
+                targets,
+                ridx: *ridx,
+                rtmp1: *rtmp1,
+                rtmp2: *rtmp2,
+            })
+        }
+        other => copied!(other;
+            DummyUse { reg },
+            SequencePoint {},
+            LoadExtNameGot { rd, name },
+            LoadExtNameNear { rd, name, offset },
+            LoadExtNameFar { rd, name, offset },
+            StackProbeLoop { start, end, step }
+        ),
+    }
+}
+
 /// An equal load or store.
 fn copied_memory(inst: &Inst) -> Result<Inst, AllocError>
     requires { group_of inst.now ≡ groups.Memory }
@@ -118,6 +157,7 @@ impl Inst {
             Group::Immediate => copied_immediate(self),
             Group::Register => copied_register(self),
             Group::Control => copied_control(alloc, self),
+            Group::Sequence => copied_sequence(alloc, self),
             Group::Memory => copied_memory(self),
         }
     }

@@ -3,6 +3,7 @@
 pub mod control;
 pub mod integer;
 pub mod memory;
+pub mod sequence;
 
 /// What is wrong with an instruction by itself: the first of these that applies.
 #[derive(Clone, Copy, Debug, PartialEq, Eq)]

@@ -12,6 +12,8 @@ pub enum Group {
     Register,
     /// Branches, hints, accesses to system registers, data, and addresses of labels.
     Control,
+    /// Sequences around tables, symbols and the stack, and what has no word.
+    Sequence,
     /// Loads and stores.
     Memory,
 }

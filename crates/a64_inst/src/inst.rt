@@ -5,9 +5,10 @@ ghost use Rattle.a64_inst.specs.Groups.{group_of};
 
 use crate::group::Group;
 use crate::mode::{AMode, PairAMode};
+use crate::pair::{ArgPair, RetPair};
 use a64_base::{
-    BranchTarget, Cond, CondBrKind, ExtendOp, MachLabel, MemFlagsData, OperandSize, PReg, Reg,
-    ShiftOpAndAmt, TestBitAndBranchKind, TrapCode, Writable,
+    BranchTarget, Cond, CondBrKind, ExtendOp, ExternalName, MachLabel, MemFlagsData, OperandSize,
+    PReg, Reg, ShiftOpAndAmt, TestBitAndBranchKind, TrapCode, Writable,
 };
 use a64_imms::{Imm12, ImmLogic, ImmShift, MoveWideConst, NZCV, UImm5, UImm6};
 use a64_list::ListVec;
@@ -375,6 +376,76 @@ pub enum Inst {
         /// The label, whose address it is.
         label: MachLabel,
     },
+    /// The arguments with which a function is entered. It has no word.
+    Args {
+        /// The arguments.
+        args: ListVec<ArgPair>,
+    },
+    /// The results with which a function is left. It has no word, and stands before a `Ret`.
+    Rets {
+        /// The results.
+        rets: ListVec<RetPair>,
+    },
+    /// A use of a register that keeps its value. It has no word.
+    DummyUse {
+        /// The register, of either class.
+        reg: Reg,
+    },
+    /// A point that code is not moved across. It has no word.
+    SequencePoint,
+    /// A jump through a table of labels, and behind it the table: four bytes for each target, and then for
+    /// the default.
+    ///
+    /// The condition flags are to be those of a comparison of the index with the number of targets: where
+    /// `lo` holds, the index chooses among the targets, and else the default is taken.
+    JTSequence {
+        /// Where it goes unless `lo` holds.
+        default: MachLabel,
+        /// The targets, from index 0 on.
+        targets: ListVec<MachLabel>,
+        /// The index, x0 to x30 or the zero register, of which the low 32 bits count.
+        ridx: Reg,
+        /// A register that the jump changes, x0 to x30.
+        rtmp1: Writable<Reg>,
+        /// Another one, x0 to x30, which is not the index either.
+        rtmp2: Writable<Reg>,
+    },
+    /// The address of a symbol, from the global offset table: `adrp` and `ldr`.
+    LoadExtNameGot {
+        /// The result, x0 to x30.
+        rd: Writable<Reg>,
+        /// The symbol.
+        name: ExternalName,
+    },
+    /// The address of a symbol within 4 GiB of the code: `adrp` and `add`.
+    LoadExtNameNear {
+        /// The result, x0 to x30.
+        rd: Writable<Reg>,
+        /// The symbol.
+        name: ExternalName,
+        /// How many bytes behind the symbol.
+        offset: i64,
+    },
+    /// The address of a symbol anywhere: a load of the eight bytes that stand behind it, and a branch over
+    /// these.
+    LoadExtNameFar {
+        /// The result, x0 to x30.
+        rd: Writable<Reg>,
+        /// The symbol.
+        name: ExternalName,
+        /// How many bytes behind the symbol.
+        offset: i64,
+    },
+    /// A loop that stores to the stack at each step down to an offset, so that a guard page is met.
+    /// It may stand only where the settings have `enable_probestack`.
+    StackProbeLoop {
+        /// The offset from the stack pointer of the last store, which the loop counts down; x0 to x30.
+        start: Writable<Reg>,
+        /// The amount below the stack pointer at which the loop ends.
+        end: Reg,
+        /// How many bytes each step goes down.
+        step: Imm12,
+    },
     /// `ldp` of two 64-bit registers.
     LoadP64 {
         /// What is loaded from the address.
@@ -636,6 +707,15 @@ impl Inst {
             | Inst::Word8 { .. }
             | Inst::EmitIsland { .. }
             | Inst::LabelAddress { .. } => Group::Control,
+            Inst::Args { .. }
+            | Inst::Rets { .. }
+            | Inst::DummyUse { .. }
+            | Inst::SequencePoint
+            | Inst::JTSequence { .. }
+            | Inst::LoadExtNameGot { .. }
+            | Inst::LoadExtNameNear { .. }
+            | Inst::LoadExtNameFar { .. }
+            | Inst::StackProbeLoop { .. } => Group::Sequence,
             Inst::LoadP64 { .. }
             | Inst::StoreP64 { .. }
             | Inst::LoadAddr { .. }

@@ -1,7 +1,8 @@
 //! Addressing modes of loads and stores.
 
-ghost use Rattle.std.specs.Prelude.{◌≡◌};
-ghost use Rattle.a64_inst.specs.Modes.{IsRegisterAlone, constant_in};
+ghost use Rattle.std.specs.Prelude.{◌≡◌, is_some};
+ghost use Rattle.a64_inst.specs.declared.frame.FrameLayout.{FrameLayout};
+ghost use Rattle.a64_inst.specs.Modes.{IsRegisterAlone, constant_in, base_offset_of};
 
 use a64_base::{ExtendOp, IrType, MachLabel, Reg, VCodeConstant};
 use a64_imms::{SImm7Scaled, SImm9, UImm12Scaled};
@@ -144,7 +145,23 @@ impl AMode {
         }
     }
 
+    /// Whether the mode has an offset of 64 bits, which no instruction holds.
+    #[inline(always)]
+    pub fn has_wide_offset(&self) -> bool
+        ensures { (frame : FrameLayout) → result ≡ is_some (base_offset_of frame self.now) }
+    {
+        match self {
+            AMode::RegOffset { .. }
+            | AMode::SPOffset { .. }
+            | AMode::FPOffset { .. }
+            | AMode::IncomingArg { .. }
+            | AMode::SlotOffset { .. } => true,
+            _ => false,
+        }
+    }
+
     /// The constant that a load in this mode loads, where it loads one.
+    #[inline(always)]
     pub fn constant(&self) -> Option<VCodeConstant>
         ensures { result ≡ constant_in self.now }
     {

@@ -72,6 +72,16 @@ pub fn is_stack_pointer(virtuals: VirtualRegisters, reg: &Reg) -> bool
     }
 }
 
+/// Whether a register is one of the machine, of either class, or may be virtual.
+pub fn is_any_register(virtuals: VirtualRegisters, reg: Reg) -> bool
+    ensures { result ≡ operands.is_any_register virtuals reg }
+{
+    match reg {
+        Reg::Real(_) => true,
+        Reg::Virtual { .. } => virtuals.are_allowed(),
+    }
+}
+
 /// Whether two registers may be one; a virtual one may be any.
 pub fn is_same_register(a: &Reg, b: &Reg) -> bool
     ensures { result ≡ operands.is_same_register a.now b.now }
@@ -79,6 +89,19 @@ pub fn is_same_register(a: &Reg, b: &Reg) -> bool
     match a {
         Reg::Real(p) => match b {
             Reg::Real(q) => p.class() == q.class() && p.hw_enc() == q.hw_enc(),
+            Reg::Virtual { .. } => true,
+        },
+        Reg::Virtual { .. } => true,
+    }
+}
+
+/// Whether two registers may be two; a virtual one may be any.
+pub fn is_other_register(a: &Reg, b: &Reg) -> bool
+    ensures { result ≡ operands.is_other_register a.now b.now }
+{
+    match a {
+        Reg::Real(p) => match b {
+            Reg::Real(q) => !(p.class() == q.class() && p.hw_enc() == q.hw_enc()),
             Reg::Virtual { .. } => true,
         },
         Reg::Virtual { .. } => true,

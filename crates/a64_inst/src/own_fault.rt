@@ -9,6 +9,7 @@ use crate::fault::OwnFault;
 use crate::fault::control::has_control_operands;
 use crate::fault::integer::{has_immediate_operands, has_register_operands};
 use crate::fault::memory::memory_fault;
+use crate::fault::sequence::has_sequence_operands;
 use crate::frame::FrameLayout;
 use crate::group::Group;
 use crate::inst::Inst;
@@ -46,6 +47,7 @@ impl Inst {
             }
             Group::Register => operand_fault(has_register_operands(self, frame, info, virtuals)),
             Group::Control => operand_fault(has_control_operands(self, frame, info, virtuals)),
+            Group::Sequence => operand_fault(has_sequence_operands(self, frame, info, virtuals)),
             Group::Memory => memory_fault(self, frame, info, constant, virtuals),
         }
     }

@@ -39,6 +39,7 @@ pub fn frame_bytes(frame: &FrameLayout) -> u64
 }
 
 /// The base and the offset of a mode that no instruction holds.
+#[inline(always)]
 pub fn place_of(frame: &FrameLayout, mem: &AMode) -> Option<Place>
     ensures { MatchOption result (sets.base_offset_of frame.now mem.now ≡ None)
         (λ place. sets.base_offset_of frame.now mem.now ≡ Some (record { base = place.base; offset = place.offset })) }
@@ -66,6 +67,7 @@ fn is_signed_64(offset: i128) -> bool
 }
 
 /// Whether the offset from the base, where a mode has one, has 64 bits.
+#[inline(always)]
 pub fn has_offset(frame: &FrameLayout, mem: &AMode) -> bool
     ensures { result ≡ memory.has_offset frame.now mem.now }
 {
@@ -98,6 +100,7 @@ pub fn is_far(ty: IrType, offset: i128) -> bool
 }
 
 /// Whether no instruction holds the offset of a mode, so that x16 is needed for it.
+#[inline(always)]
 pub fn needs_x16(frame: &FrameLayout, ty: IrType, mem: &AMode) -> bool
     ensures { result ≡ finals.needs_x16 frame.now ty mem.now }
 {
@@ -121,6 +124,7 @@ pub fn is_numbered(number: u8, reg: &Reg) -> bool
 }
 
 /// Whether the base of a mode with an offset of 64 bits is the register with a number.
+#[inline(always)]
 pub fn has_base(number: u8, frame: &FrameLayout, mem: &AMode) -> bool
     ensures { result ≡ memory.has_base number frame.now mem.now }
 {

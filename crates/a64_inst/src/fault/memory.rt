@@ -16,7 +16,7 @@ ghost use Rattle.a64_inst.specs.Faults.{first_of, fault_with, has_operands, has_
 ghost use Rattle.a64_inst.specs.Modes.{constant_in};
 ghost use Rattle.a64_inst.specs.MemoryOperands as sets;
 
-use crate::access::Access;
+use crate::access::AccessRef;
 use crate::emission::EmitInfo;
 use crate::fault::OwnFault;
 use crate::frame::FrameLayout;
@@ -24,8 +24,9 @@ use crate::inst::Inst;
 use crate::virtuals::VirtualRegisters;
 
 /// What is wrong with a load or a store of one register by itself.
+#[inline(always)]
 fn access_fault(
-    access: &Access,
+    access: &AccessRef<'_>,
     frame: &FrameLayout,
     constant: Option<u32>,
     virtuals: VirtualRegisters,
@@ -39,13 +40,13 @@ fn access_fault(
     if !operand::access(frame, virtuals, access) || !constant::is_within(constant, access) {
         return Some(OwnFault::BadOperand);
     }
-    if !mode::has_access_mode(access.op, &access.mem) {
+    if !mode::has_access_mode(access.op, access.mem) {
         return Some(OwnFault::BadMode);
     }
     if !scratch::access(frame, access) {
         return Some(OwnFault::ScratchConflict);
     }
-    if !constant::is_known(constant, &access.mem) {
+    if !constant::is_known(constant, access.mem) {
         return Some(OwnFault::UnknownConstant);
     }
     None
@@ -139,7 +140,7 @@ pub fn memory_fault(
     requires { group_of inst.now ≡ Memory }
     ensures { result ≡ fault_with frame.now info.now constant virtuals inst.now }
 {
-    match inst.access() {
+    match inst.access_ref() {
         Some(access) => access_fault(&access, frame, constant, virtuals),
         None => other_fault(inst, frame, info, virtuals),
     }

@@ -4,12 +4,13 @@ ghost use Rattle.std.specs.Prelude.{◌≡◌, ◌||◌, is_none, is_some};
 ghost use Rattle.a64_inst.specs.Modes.{constant_in};
 ghost use Rattle.a64_inst.specs.MemoryOperands as sets;
 
-use crate::access::Access;
+use crate::access::AccessRef;
 use crate::mode::AMode;
 
 /// Whether the load of a literal is no longer than its constant, where it loads one and that has a
 /// size.
-pub fn is_within(constant: Option<u32>, access: &Access) -> bool
+#[inline(always)]
+pub fn is_within(constant: Option<u32>, access: &AccessRef<'_>) -> bool
     ensures { result ≡ sets.is_within constant access.now }
 {
     if access.mem.constant().is_none() || access.op.literal_field().is_none() {
@@ -22,6 +23,7 @@ pub fn is_within(constant: Option<u32>, access: &Access) -> bool
 }
 
 /// Whether the constant of a mode, where it loads one, has a size.
+#[inline(always)]
 pub fn is_known(constant: Option<u32>, mem: &AMode) -> bool
     ensures { result ≡ (is_none (constant_in mem.now) || is_some constant) }
 {

@@ -14,6 +14,7 @@ use a64_imms::{SImm7Scaled, SImm9, UImm12Scaled};
 use a64_ops::AccessOp;
 
 /// Whether the frame has fewer than 2^32 bytes where a mode is counted from its upper end.
+#[inline(always)]
 fn fits_frame(frame: &FrameLayout, mem: &AMode) -> bool
     ensures { result ≡ sets.fits_frame frame.now mem.now }
 {
@@ -41,6 +42,7 @@ fn is_literal(label: MemLabel) -> bool
 }
 
 /// Whether the registers and the immediate of a mode are in their sets.
+#[inline(always)]
 fn are_parts(virtuals: VirtualRegisters, mem: &AMode) -> bool
     ensures { result ≡ sets.are_mode_parts virtuals mem.now }
 {
@@ -68,6 +70,7 @@ fn are_parts(virtuals: VirtualRegisters, mem: &AMode) -> bool
 
 /// Whether the operands of a mode are in their sets.
 #[tactic(auto, unfolding(crate::specs::MemoryOperands::are_mode_operands))]
+#[inline(always)]
 pub fn are_operands(frame: &FrameLayout, virtuals: VirtualRegisters, mem: &AMode) -> bool
     ensures { result ≡ sets.are_mode_operands frame.now virtuals mem.now }
 {
@@ -84,6 +87,7 @@ fn is_in_units(bytes: u32, uimm12: UImm12Scaled) -> bool
 }
 
 /// Whether a mode is in units of so many bytes, where it has a scale of its own.
+#[inline(always)]
 pub fn has_units(bytes: u32, mem: &AMode) -> bool
     ensures { result ≡ sets.has_units bytes mem.now }
 {
@@ -101,6 +105,7 @@ fn is_index_extend(extendop: ExtendOp) -> bool
 }
 
 /// Whether an access has such a mode.
+#[inline(always)]
 pub fn has_access_mode(op: AccessOp, mem: &AMode) -> bool
     ensures { result ≡ sets.has_access_mode op mem.now }
 {

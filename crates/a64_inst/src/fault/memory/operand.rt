@@ -3,7 +3,7 @@
 ghost use Rattle.std.specs.Prelude.{◌≡◌};
 ghost use Rattle.a64_inst.specs.MemoryOperands as sets;
 
-use crate::access::Access;
+use crate::access::AccessRef;
 use crate::fault::memory::mode::{are_operands, are_pair_parts, has_units};
 use crate::fault::memory::scratch::needs_x17_beside;
 use crate::frame::FrameLayout;
@@ -14,6 +14,7 @@ use a64_base::{IrType, Reg};
 use a64_ops::AccessOp;
 
 /// Whether a load or a store of this kind has such a register.
+#[inline(always)]
 fn is_data_register(virtuals: VirtualRegisters, op: AccessOp, reg: Reg) -> bool
     ensures { result ≡ sets.is_data_register virtuals op reg }
 {
@@ -26,12 +27,13 @@ fn is_data_register(virtuals: VirtualRegisters, op: AccessOp, reg: Reg) -> bool
 
 /// Of a load or a store of one register.
 #[tactic(auto, unfolding(crate::specs::MemoryOperands::are_access_operands))]
-pub fn access(frame: &FrameLayout, virtuals: VirtualRegisters, access: &Access) -> bool
+#[inline(always)]
+pub fn access(frame: &FrameLayout, virtuals: VirtualRegisters, access: &AccessRef<'_>) -> bool
     ensures { result ≡ sets.are_access_operands frame.now virtuals access.now }
 {
     is_data_register(virtuals, access.op, access.reg)
-        && are_operands(frame, virtuals, &access.mem)
-        && has_units(access.ty().bytes(), &access.mem)
+        && are_operands(frame, virtuals, access.mem)
+        && has_units(access.ty().bytes(), access.mem)
 }
 
 /// Of a pair of 64-bit registers.

@@ -7,26 +7,28 @@ ghost use Rattle.a64_inst.specs.Addresses.{is_numbered};
 ghost use Rattle.a64_inst.specs.FinalModes.{final_mode};
 ghost use Rattle.a64_inst.specs.MemoryOperands as sets;
 
-use crate::access::Access;
+use crate::access::AccessRef;
 use crate::frame::FrameLayout;
 use crate::mode::AMode;
 use crate::place::{has_base, is_numbered, needs_x16};
 use a64_base::{IrType, Reg};
 
 /// Whether x16 is the base of an access, or what is stored.
-fn is_x16_in_use(frame: &FrameLayout, access: &Access) -> bool
+#[inline(always)]
+fn is_x16_in_use(frame: &FrameLayout, access: &AccessRef<'_>) -> bool
     ensures { result ≡ (sets.has_base 16 frame.now access.now.mem
         || (not (loads access.now.op) && is_numbered 16 access.now.reg)) }
 {
-    has_base(16, frame, &access.mem) || !access.op.is_load() && is_numbered(16, &access.reg)
+    has_base(16, frame, access.mem) || !access.op.is_load() && is_numbered(16, &access.reg)
 }
 
 /// Of a load or a store of one register.
 #[tactic(auto, unfolding(crate::specs::MemoryOperands::has_access_scratch))]
-pub fn access(frame: &FrameLayout, access: &Access) -> bool
+#[inline(always)]
+pub fn access(frame: &FrameLayout, access: &AccessRef<'_>) -> bool
     ensures { result ≡ sets.has_access_scratch frame.now access.now }
 {
-    !(needs_x16(frame, access.ty(), &access.mem) && is_x16_in_use(frame, access))
+    !(needs_x16(frame, access.ty(), access.mem) && is_x16_in_use(frame, access))
 }
 
 /// Whether an addition holds a number.
