@@ -71,7 +71,7 @@ module _ (rd : Reg) (d : register_field rd < 32) where
   movks_are_forms size [] are = All-nil IsFormOf
   movks_are_forms size (step ∷ rest) (is, are) = All-cons IsFormOf (step_form rd step) (step_forms rd rest) (movk_is_form size step is) (movks_are_forms size rest are)
 
-  shape_forms : (plan : List ConstStep) → IsShape plan → All IsFormOf (step_forms rd plan)
+  pub shape_forms : (plan : List ConstStep) → IsShape plan → All IsFormOf (step_forms rd plan)
   shape_forms [] is = elim is [ ]
   shape_forms (steps.MovZ imm size ∷ rest) (is, are) =
       All-cons IsFormOf (step_form rd (steps.MovZ imm size)) (step_forms rd rest) (mov_wide_within wide.MovZ rd imm size is d) (movks_are_forms size rest are)
@@ -173,11 +173,11 @@ module _ (op : AccessOp) (rt rn : Reg) (t : register_field rt < 32) (n : registe
   imm9_is_form mode offset m a =
       let f = fields_below op in ((f.0, (f.1, (f.2, (simm9_below offset, (m, (n, (t, tt))))))), rw (are_access_fields op, a) refl)
 
-  unsigned_is_form : (units : ℕ) → units < 2 ^ 12 → IsFormOf (unsigned_form op rt rn units)
+  pub unsigned_is_form : (units : ℕ) → units < 2 ^ 12 → IsFormOf (unsigned_form op rt rn units)
   unfolding unsigned_form
   unsigned_is_form units u = let f = fields_below op in ((f.0, (f.1, (f.2, (u, (n, (t, tt)))))), are_access_fields op)
 
-  indexed_is_form : (rm : Reg) (ext s : ℕ) → register_field rm < 32 → ext < 2 ^ 3 → limits.is_index_extend ext ≡ true → s < 2 → IsFormOf (indexed_form op rt rn rm ext s)
+  pub indexed_is_form : (rm : Reg) (ext s : ℕ) → register_field rm < 32 → ext < 2 ^ 3 → limits.is_index_extend ext ≡ true → s < 2 → IsFormOf (indexed_form op rt rn rm ext s)
   unfolding indexed_form
   indexed_is_form rm ext s m e is b =
       let f = fields_below op in ((f.0, (f.1, (f.2, (m, (e, (b, (n, (t, tt)))))))), rw (are_access_fields op, is) refl)
@@ -185,7 +185,7 @@ module _ (op : AccessOp) (rt rn : Reg) (t : register_field rt < 32) (n : registe
 literal_opc : (op : AccessOp) → nat_le (option_or_zero (literal_of op)) 2 ≡ true
 literal_opc op = grind arith
 
-literal_is_form : (op : AccessOp) (rt : Reg) (words : ℕ) → register_field rt < 32 → words < 2 ^ 19 → IsFormOf (literal_form op rt words)
+pub literal_is_form : (op : AccessOp) (rt : Reg) (words : ℕ) → register_field rt < 32 → words < 2 ^ 19 → IsFormOf (literal_form op rt words)
 unfolding literal_form
 literal_is_form op rt words t w = ((literal_below op, ((fields_below op).1, (w, (t, tt)))), literal_opc op)
 

@@ -15,9 +15,10 @@ use Rattle.a64_emit.specs.declared.label_use.LabelUse.{LabelUse}
 use Rattle.a64_emit.specs.declared.site.Site.{Site}
 use Rattle.a64_emit.specs.LabelUses.{label_kinds}
 use Rattle.a64_emit.specs.Cells.{Cell, Shape, OneWord, Several, Words, body_word, cell_word, plain, last_cell, branch_site, other_cells}
-use Rattle.a64_emit.specs.Layout.{placed, trap_at, traps_in}
+use Rattle.a64_emit.specs.Layout.{placed, reloc_at, relocs_in, trap_at, traps_in}
 use Rattle.a64_emit.specs.Emission.{use_at, uses_from, appended, IsAppendedInPart, HasRoom, CellsFit}
 use Rattle.a64_emit.specs.Words.{AreSeveral, MayBePut, put_cell, put_cells, as_put}
+use Rattle.a64_emit.proofs.Holding.{same_holding}
 
 -- ---- nothing that emission makes of cells depends on their rows
 
@@ -33,6 +34,10 @@ put_traps : (place : ℕ) (cells : List Cell) → traps_in (placed place (map as
 put_traps place [] = refl
 put_traps place (c ∷ cs) = ap (λ ts. cons_option (trap_at (place, c)) ts) (put_traps (place + 4) cs)
 
+put_relocs : (place : ℕ) (cells : List Cell) → relocs_in (placed place (map as_put cells)) ≡ relocs_in (placed place cells)
+put_relocs place [] = refl
+put_relocs place (c ∷ cs) = ap (λ rs. cons_option (reloc_at (place, c)) rs) (put_relocs (place + 4) cs)
+
 put_take : (k : ℕ) (cells : List Cell) → take k (map as_put cells) ≡ map as_put (take k cells)
 put_take zero cells = refl
 put_take (suc k) [] = refl
@@ -41,9 +46,9 @@ put_take (suc k) (c ∷ cs) = ap (λ zs. as_put c ∷ zs) (put_take k cs)
 module _ (b : Buffer LabelUse) (cells : List Cell) where
   pub put_appended : appended b (map as_put cells) ≡ appended b cells
   put_appended =
-      ap (λ ws. record b { words = b.words ++ ws; uses = b.uses ++ uses_from b.labels (end_of b) (map as_put cells); traps = b.traps ++ traps_in (placed (end_of b) (map as_put cells)) }) (put_words cells)
-      ∙ ap (λ us. record b { words = b.words ++ map cell_word cells; uses = b.uses ++ us; traps = b.traps ++ traps_in (placed (end_of b) (map as_put cells)) }) (put_uses b.labels (end_of b) cells)
-      ∙ ap (λ ts. record b { words = b.words ++ map cell_word cells; uses = b.uses ++ uses_from b.labels (end_of b) cells; traps = b.traps ++ ts }) (put_traps (end_of b) cells)
+      same_holding b _ _ _ _ _ _ _ _
+      (ap (λ ws. b.words ++ ws) (put_words cells)) (ap (λ us. b.uses ++ us) (put_uses b.labels (end_of b) cells))
+      (ap (λ ts. b.traps ++ ts) (put_traps (end_of b) cells)) (ap (λ rs. b.records.relocs ++ rs) (put_relocs (end_of b) cells))
 
   pub put_part : (b' : Buffer LabelUse) → IsAppendedInPart b b' (map as_put cells) → IsAppendedInPart b b' cells
   put_part b' p = record {
@@ -55,6 +60,12 @@ module _ (b : Buffer LabelUse) (cells : List Cell) where
     words = p.words ∙ ap (λ zs. b.words ++ map cell_word zs) (put_take p.count cells) ∙ ap (λ ws. b.words ++ ws) (put_words (take p.count cells));
     uses = p.uses ∙ ap (λ zs. b.uses ++ uses_from b.labels (end_of b) zs) (put_take p.used cells) ∙ ap (λ us. b.uses ++ us) (put_uses b.labels (end_of b) (take p.used cells));
     traps = p.traps ∙ ap (λ zs. b.traps ++ traps_in (placed (end_of b) zs)) (put_take p.marked cells) ∙ ap (λ ts. b.traps ++ ts) (put_traps (end_of b) (take p.marked cells));
+    related = p.related;
+    next_related = p.next_related;
+    records =
+        p.records
+        ∙ ap (λ zs. record b.records { relocs = b.records.relocs ++ relocs_in (placed (end_of b) zs) }) (put_take p.related cells)
+        ∙ ap (λ rs. record b.records { relocs = b.records.relocs ++ rs }) (put_relocs (end_of b) (take p.related cells));
     labels = p.labels;
     constants = p.constants;
   }
@@ -75,7 +86,7 @@ branch_puttable constants kind (branch_targets.ResolvedOffset offset) = tt
 
 -- ---- the words of several cells
 
-plain_put : (forms : List Form) → map (λ word. put_cell word None None) (map form_word forms) ≡ map as_put (map plain forms)
+pub plain_put : (forms : List Form) → map (λ word. put_cell word None None) (map form_word forms) ≡ map as_put (map plain forms)
 plain_put [] = refl
 plain_put (f ∷ forms) = ap (λ cells. as_put (plain f) ∷ cells) (plain_put forms)
 

@@ -1,6 +1,5 @@
 -- Places for islands: items without words that ask for space.
-use Rattle.std.proofs.Common.{ℕ, ◌≡◌, ◌+◌, ◌*◌, ◌≤◌, inl, [], length, Option, None, Some, refl, sym, ap, ◌∙◌, subst, arith}
-use Rattle.std.proofs.lemmas.List.{append-nil}
+use Rattle.std.proofs.Common.{ℕ, ◌≡◌, ◌+◌, ◌*◌, ◌≤◌, [], length, Option, None, Some, refl, sym, ap, subst, arith}
 use Rattle.a64_base.specs.declared.entity.UserStackMap.{UserStackMap}
 use Rattle.a64_inst.specs.declared.emission.EmitFlags.{EmitFlags}
 use Rattle.a64_inst.specs.declared.frame.FrameLayout.{FrameLayout}
@@ -15,6 +14,7 @@ use Rattle.a64_emit.specs.Cells.{shape_of, only_word, inst_cells, cells_of}
 use Rattle.a64_emit.specs.Bounds.{ranges_in, charge_of, asked_of, item_charge}
 use Rattle.a64_emit.specs.Emission.{appended, IsAppendedInPart, IslandsIfNeeded, Puts, Emits}
 use Rattle.a64_emit.proofs.Burdens.{charge_least, charge_some}
+use Rattle.a64_emit.proofs.Holding.{none_put}
 
 module _ (frame : FrameLayout) (flags : EmitFlags) where
   -- a place for an island has no words
@@ -60,15 +60,4 @@ module _ (flags : EmitFlags) (state : State) (inst : Inst) (b b' : Buffer LabelU
 
   -- nothing was emitted
   pub none_emitted : b' ≡ b → IsAppendedInPart b b' (inst_cells state.frame flags inst)
-  none_emitted e = record {
-    count = 0;
-    used = 0;
-    last = inl refl;
-    marked = 0;
-    next = inl refl;
-    words = ap (λ (c : Buffer LabelUse). c.words) e ∙ sym (append-nil b.words);
-    uses = ap (λ (c : Buffer LabelUse). c.uses) e ∙ sym (append-nil b.uses);
-    traps = ap (λ (c : Buffer LabelUse). c.traps) e ∙ sym (append-nil b.traps);
-    labels = ap (λ (c : Buffer LabelUse). c.labels) e;
-    constants = ap (λ (c : Buffer LabelUse). c.constants) e;
-  }
+  none_emitted e = none_put b b' (inst_cells state.frame flags inst) e

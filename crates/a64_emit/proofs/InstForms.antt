@@ -47,6 +47,7 @@ use Rattle.a64_emit.proofs.ImmediateForms as immediate
 use Rattle.a64_emit.proofs.LogicForms.{alu_rr_imm_logic_within}
 use Rattle.a64_emit.proofs.Operands.{cond_br_parts, test_bit_parts, zero_below, stack_below, register_zero}
 use Rattle.a64_emit.proofs.RegisterForms as register
+use Rattle.a64_emit.proofs.SequenceForms.{sequence_forms}
 
 -- ---- shapes
 
@@ -156,6 +157,15 @@ module _ (frame : FrameLayout) (flags : EmitFlags) where
   other_forms (insts.Word4 value) fits good = one_cell (data_cell value) tt
   other_forms (insts.Word8 value) fits good = two_cells (data_cell (value % 2 ^ 32)) (data_cell (value / 2 ^ 32)) tt tt
   other_forms (insts.LabelAddress dst label) fits good = one_cell (branch (label_address_form dst) uses.Adr21 (Label label)) (control.label_address_is_form dst good)
+  other_forms (insts.Args args) fits good = sequence_forms frame flags (insts.Args args) refl good
+  other_forms (insts.Rets rets) fits good = sequence_forms frame flags (insts.Rets rets) refl good
+  other_forms (insts.DummyUse reg) fits good = sequence_forms frame flags (insts.DummyUse reg) refl good
+  other_forms insts.SequencePoint fits good = sequence_forms frame flags insts.SequencePoint refl good
+  other_forms (insts.JTSequence default targets ridx rtmp1 rtmp2) fits good = sequence_forms frame flags (insts.JTSequence default targets ridx rtmp1 rtmp2) refl good
+  other_forms (insts.LoadExtNameGot rd name) fits good = sequence_forms frame flags (insts.LoadExtNameGot rd name) refl good
+  other_forms (insts.LoadExtNameNear rd name offset) fits good = sequence_forms frame flags (insts.LoadExtNameNear rd name offset) refl good
+  other_forms (insts.LoadExtNameFar rd name offset) fits good = sequence_forms frame flags (insts.LoadExtNameFar rd name offset) refl good
+  other_forms (insts.StackProbeLoop start end step) fits good = sequence_forms frame flags (insts.StackProbeLoop start end step) refl good
   other_forms (insts.LoadP64 rt rt2 mem trap) fits good = (All-nil IsFormOf, pair_is_form 1 rt rt2 mem (lit< tt) good)
   other_forms (insts.StoreP64 rt rt2 mem trap) fits good = (All-nil IsFormOf, pair_is_form 0 rt rt2 mem (lit< tt) good)
   other_forms (insts.LoadAddr rd mem) fits good = address_forms frame rd mem good

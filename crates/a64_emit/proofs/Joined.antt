@@ -13,8 +13,9 @@ use Rattle.a64_emit.specs.declared.label_use.LabelUse.{LabelUse}
 use Rattle.a64_emit.specs.LabelUses.{label_kinds}
 use Rattle.a64_emit.specs.LabelLaws.{label_kinds_lawful}
 use Rattle.a64_emit.specs.Cells.{Cell, cell_word}
-use Rattle.a64_emit.specs.Layout.{placed, trap_at, traps_in}
+use Rattle.a64_emit.specs.Layout.{placed, reloc_at, relocs_in, trap_at, traps_in}
 use Rattle.a64_emit.specs.Emission.{use_at, uses_from, appended, IsAppendedInPart, HasRoom, CellsFit}
+use Rattle.a64_emit.proofs.Holding.{same_holding}
 
 -- ---- what two lists of cells are together
 
@@ -35,6 +36,9 @@ placed-append place (c ∷ cs) ys =
 
 traps_in-append : (place : ℕ) (xs ys : List Cell) → traps_in (placed place (xs ++ ys)) ≡ traps_in (placed place xs) ++ traps_in (placed (place + 4 * length xs) ys)
 traps_in-append place xs ys = ap traps_in (placed-append place xs ys) ∙ filter_map-append trap_at (placed place xs) (placed (place + 4 * length xs) ys)
+
+relocs_in-append : (place : ℕ) (xs ys : List Cell) → relocs_in (placed place (xs ++ ys)) ≡ relocs_in (placed place xs) ++ relocs_in (placed (place + 4 * length xs) ys)
+relocs_in-append place xs ys = ap relocs_in (placed-append place xs ys) ∙ filter_map-append reloc_at (placed place xs) (placed (place + 4 * length xs) ys)
 
 -- ---- first parts of two lists
 
@@ -69,12 +73,16 @@ module _ (b : Buffer LabelUse) (xs ys : List Cell) where
       ∙ ap (λ n. b.traps ++ (traps_in (placed (end_of b) xs) ++ traps_in (placed n zs))) end_behind
       ∙ ap (λ ts. b.traps ++ ts) (sym (traps_in-append (end_of b) xs zs))
 
+  relocs_behind : (zs : List Cell) → (b.records.relocs ++ relocs_in (placed (end_of b) xs)) ++ relocs_in (placed (end_of (appended b xs)) zs) ≡ b.records.relocs ++ relocs_in (placed (end_of b) (xs ++ zs))
+  relocs_behind zs =
+      append_assoc b.records.relocs (relocs_in (placed (end_of b) xs)) (relocs_in (placed (end_of (appended b xs)) zs))
+      ∙ ap (λ n. b.records.relocs ++ (relocs_in (placed (end_of b) xs) ++ relocs_in (placed n zs))) end_behind
+      ∙ ap (λ rs. b.records.relocs ++ rs) (sym (relocs_in-append (end_of b) xs zs))
+
   -- cells behind cells are both lists
   pub appended_twice : appended (appended b xs) ys ≡ appended b (xs ++ ys)
   appended_twice =
-      ap (λ ws. record b { words = ws; uses = (b.uses ++ uses_from b.labels (end_of b) xs) ++ uses_from b.labels (end_of (appended b xs)) ys; traps = (b.traps ++ traps_in (placed (end_of b) xs)) ++ traps_in (placed (end_of (appended b xs)) ys) }) (words_behind ys)
-      ∙ ap (λ us. record b { words = b.words ++ map cell_word (xs ++ ys); uses = us; traps = (b.traps ++ traps_in (placed (end_of b) xs)) ++ traps_in (placed (end_of (appended b xs)) ys) }) (uses_behind ys)
-      ∙ ap (λ ts. record b { words = b.words ++ map cell_word (xs ++ ys); uses = b.uses ++ uses_from b.labels (end_of b) (xs ++ ys); traps = ts }) (traps_behind ys)
+      same_holding b _ _ _ _ _ _ _ _ (words_behind ys) (uses_behind ys) (traps_behind ys) (relocs_behind ys)
 
   pub joined : (b1 b2 : Buffer LabelUse) → b1 ≡ appended b xs → b2 ≡ appended b1 ys → b2 ≡ appended b (xs ++ ys)
   joined b1 b2 e f = f ∙ ap (λ c. appended c ys) e ∙ appended_twice
@@ -86,10 +94,13 @@ module _ (b : Buffer LabelUse) (xs ys : List Cell) where
     used = min p.used (length xs);
     last = last p.last;
     marked = min p.marked (length xs);
-    next = next p.next;
+    next = next p.marked p.next;
     words = p.words ∙ ap (λ cells. b.words ++ map cell_word cells) (sym (first_taken p.count xs ys));
     uses = p.uses ∙ ap (λ cells. b.uses ++ uses_from b.labels (end_of b) cells) (sym (first_taken p.used xs ys));
     traps = p.traps ∙ ap (λ cells. b.traps ++ traps_in (placed (end_of b) cells)) (sym (first_taken p.marked xs ys));
+    related = min p.related (length xs);
+    next_related = next p.related p.next_related;
+    records = p.records ∙ ap (λ cells. record b.records { relocs = b.records.relocs ++ relocs_in (placed (end_of b) cells) }) (sym (first_taken p.related xs ys));
     labels = p.labels;
     constants = p.constants;
   }
@@ -98,9 +109,9 @@ module _ (b : Buffer LabelUse) (xs ys : List Cell) where
       last (inl same) = inl (ap (λ n. min n (length xs)) same)
       last (inr less) = elim (cases_lt p.used (length xs)) [ inl lt ↦ inr (omega arith) | inr ge ↦ inl (omega arith) ]
 
-      next : (p.marked ≡ p.count) ⊎ (p.marked ≡ p.count + 1) → (min p.marked (length xs) ≡ min p.count (length xs)) ⊎ (min p.marked (length xs) ≡ min p.count (length xs) + 1)
-      next (inl same) = inl (ap (λ n. min n (length xs)) same)
-      next (inr more) = elim (cases_lt p.count (length xs)) [ inl lt ↦ inr (omega arith) | inr ge ↦ inl (omega arith) ]
+      next : (k : ℕ) → (k ≡ p.count) ⊎ (k ≡ p.count + 1) → (min k (length xs) ≡ min p.count (length xs)) ⊎ (min k (length xs) ≡ min p.count (length xs) + 1)
+      next k (inl same) = inl (ap (λ n. min n (length xs)) same)
+      next k (inr more) = elim (cases_lt p.count (length xs)) [ inl lt ↦ inr (omega arith) | inr ge ↦ inl (omega arith) ]
 
   -- and so is all of it with a first part of the second
   pub part_second : (b1 b' : Buffer LabelUse) → b1 ≡ appended b xs → IsAppendedInPart b1 b' ys → IsAppendedInPart b b' (xs ++ ys)
@@ -112,10 +123,15 @@ module _ (b : Buffer LabelUse) (xs ys : List Cell) where
         used = length xs + p.used;
         last = last p.last;
         marked = length xs + p.marked;
-        next = next p.next;
+        next = next p.marked p.next;
         words = p.words ∙ words_behind (take p.count ys) ∙ ap (λ cells. b.words ++ map cell_word cells) (sym (take-append-add p.count xs ys));
         uses = p.uses ∙ uses_behind (take p.used ys) ∙ ap (λ cells. b.uses ++ uses_from b.labels (end_of b) cells) (sym (take-append-add p.used xs ys));
         traps = p.traps ∙ traps_behind (take p.marked ys) ∙ ap (λ cells. b.traps ++ traps_in (placed (end_of b) cells)) (sym (take-append-add p.marked xs ys));
+        related = length xs + p.related;
+        next_related = next p.related p.next_related;
+        records =
+            p.records ∙ ap (λ rs. record b.records { relocs = rs }) (relocs_behind (take p.related ys))
+            ∙ ap (λ cells. record b.records { relocs = b.records.relocs ++ relocs_in (placed (end_of b) cells) }) (sym (take-append-add p.related xs ys));
         labels = p.labels;
         constants = p.constants;
       }
@@ -124,9 +140,9 @@ module _ (b : Buffer LabelUse) (xs ys : List Cell) where
           last (inl same) = inl (omega arith)
           last (inr less) = inr (omega arith)
 
-          next : (p.marked ≡ p.count) ⊎ (p.marked ≡ p.count + 1) → (length xs + p.marked ≡ length xs + p.count) ⊎ (length xs + p.marked ≡ length xs + p.count + 1)
-          next (inl same) = inl (omega arith)
-          next (inr more) = inr (omega arith)
+          next : (k : ℕ) → (k ≡ p.count) ⊎ (k ≡ p.count + 1) → (length xs + k ≡ length xs + p.count) ⊎ (length xs + k ≡ length xs + p.count + 1)
+          next k (inl same) = inl (omega arith)
+          next k (inr more) = inr (omega arith)
 
   -- ---- room
 

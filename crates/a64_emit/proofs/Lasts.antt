@@ -1,7 +1,9 @@
 -- Words that are put: some without uses, and one that may be a use and may trap.
-use Rattle.std.proofs.Common.{ℕ, ◌≡◌, ◌+◌, ◌*◌, ◌^◌, ◌<◌, ◌⊎◌, inl, inr, suc, zero, List, [], ◌∷◌, ◌++◌, length, take, map, Option, None, Some, refl, sym, ap, ◌∙◌, subst, arith, nat_cmp}
+use Rattle.std.proofs.Common.{ℕ, ℤ, ◌≡◌, ◌+◌, ◌*◌, ◌^◌, ◌<◌, ◌⊎◌, inl, inr, suc, zero, List, [], ◌∷◌, ◌++◌, length, take, map, Option, None, Some, refl, sym, ap, ◌∙◌, subst, arith, nat_cmp}
 use Rattle.std.specs.FinMap.{FinMap}
 use Rattle.std.proofs.lemmas.List.{append-nil, length-append, length-map}
+use Rattle.a64_base.specs.declared.entity.ExternalName.{ExternalName}
+use Rattle.a64_base.specs.declared.entity.Reloc.{Reloc}
 use Rattle.a64_base.specs.declared.entity.TrapCode.{TrapCode}
 use Rattle.a64_buffer.specs.declared.site.Target.{Target}
 use Rattle.a64_buffer.specs.declared.site.Use.{Use}
@@ -11,10 +13,11 @@ use Rattle.a64_buffer.specs.Classes.{Fits}
 use Rattle.a64_emit.specs.declared.label_use.LabelUse.{LabelUse}
 use Rattle.a64_emit.specs.declared.site.Site.{Site}
 use Rattle.a64_emit.specs.LabelUses.{label_kinds}
-use Rattle.a64_emit.specs.Cells.{Cell, cell_word}
-use Rattle.a64_emit.specs.Layout.{placed, traps_in}
+use Rattle.a64_emit.specs.Cells.{Data, Cell, cell_word, reloc_cell}
+use Rattle.a64_emit.specs.Layout.{placed, relocs_in, traps_in}
 use Rattle.a64_emit.specs.Emission.{uses_from, appended, trapped, PutsInPart, IsAppendedInPart, HasRoom, CellsFit}
 use Rattle.a64_emit.specs.Words.{put_cell}
+use Rattle.a64_emit.proofs.Holding.{none_put, same_holding}
 
 -- ---- words without uses
 
@@ -34,6 +37,10 @@ silent_traps : (place : ℕ) (words : List ℕ) → traps_in (placed place (sile
 silent_traps place [] = refl
 silent_traps place (w ∷ ws) = silent_traps (place + 4) ws
 
+silent_relocs : (place : ℕ) (words : List ℕ) → relocs_in (placed place (silent words)) ≡ []
+silent_relocs place [] = refl
+silent_relocs place (w ∷ ws) = silent_relocs (place + 4) ws
+
 silent_take : (k : ℕ) (words : List ℕ) → take k (silent words) ≡ silent (take k words)
 silent_take zero words = refl
 silent_take (suc k) [] = refl
@@ -42,9 +49,12 @@ silent_take (suc k) (w ∷ ws) = ap (λ cells. put_cell w None None ∷ cells) (
 module _ (b b' : Buffer LabelUse) (words : List ℕ) where
   pub silent_appended : b' ≡ record b { words = b.words ++ words } → b' ≡ appended b (silent words)
   silent_appended e =
-      e ∙ ap (λ ws. record b { words = b.words ++ ws }) (sym (silent_words words))
-      ∙ ap (λ us. record b { words = b.words ++ map cell_word (silent words); uses = us }) (sym (ap (λ us. b.uses ++ us) (silent_uses b.labels (end_of b) words) ∙ append-nil b.uses))
-      ∙ ap (λ ts. record b { words = b.words ++ map cell_word (silent words); uses = b.uses ++ uses_from b.labels (end_of b) (silent words); traps = ts }) (sym (ap (λ ts. b.traps ++ ts) (silent_traps (end_of b) words) ∙ append-nil b.traps))
+      e
+      ∙ same_holding b _ _ _ _ _ _ _ _
+      (ap (λ ws. b.words ++ ws) (sym (silent_words words)))
+      (sym (ap (λ us. b.uses ++ us) (silent_uses b.labels (end_of b) words) ∙ append-nil b.uses))
+      (sym (ap (λ ts. b.traps ++ ts) (silent_traps (end_of b) words) ∙ append-nil b.traps))
+      (sym (ap (λ rs. b.records.relocs ++ rs) (silent_relocs (end_of b) words) ∙ append-nil b.records.relocs))
 
   pub silent_part : PutsInPart b b' words → IsAppendedInPart b b' (silent words)
   silent_part p = record {
@@ -56,6 +66,12 @@ module _ (b b' : Buffer LabelUse) (words : List ℕ) where
     words = ap (λ (c : Buffer LabelUse). c.words) p.is ∙ ap (λ ws. b.words ++ ws) (sym (silent_words (take p.count words)) ∙ ap (map cell_word) (sym (silent_take p.count words)));
     uses = ap (λ (c : Buffer LabelUse). c.uses) p.is ∙ sym (ap (λ cells. b.uses ++ uses_from b.labels (end_of b) cells) (silent_take p.count words) ∙ ap (λ us. b.uses ++ us) (silent_uses b.labels (end_of b) (take p.count words)) ∙ append-nil b.uses);
     traps = ap (λ (c : Buffer LabelUse). c.traps) p.is ∙ sym (ap (λ cells. b.traps ++ traps_in (placed (end_of b) cells)) (silent_take p.count words) ∙ ap (λ ts. b.traps ++ ts) (silent_traps (end_of b) (take p.count words)) ∙ append-nil b.traps);
+    related = p.count;
+    next_related = inl refl;
+    records =
+        ap (λ (c : Buffer LabelUse). c.records) p.is
+        ∙ ap (λ rs. record b.records { relocs = rs })
+        (sym (ap (λ cells. b.records.relocs ++ relocs_in (placed (end_of b) cells)) (silent_take p.count words) ∙ ap (λ rs. b.records.relocs ++ rs) (silent_relocs (end_of b) (take p.count words)) ∙ append-nil b.records.relocs));
     labels = ap (λ (c : Buffer LabelUse). c.labels) p.is;
     constants = ap (λ (c : Buffer LabelUse). c.constants) p.is;
   }
@@ -84,6 +100,10 @@ trapped_is None b place = ap (λ ts. record b { traps = ts }) (sym (append-nil b
 trapped_is (Some code) b place = refl
 
 module _ (b : Buffer LabelUse) (word : ℕ) (trap : Option TrapCode) where
+  -- it adds no relocation
+  no_relocs : b.records ≡ record b.records { relocs = b.records.relocs ++ [] }
+  no_relocs = ap (λ rs. record b.records { relocs = rs }) (sym (append-nil b.records.relocs))
+
   with_word_is : (site : Option Site) → trapped trap (record b { words = b.words ++ word ∷ [] }) (end_of b) ≡ record b { words = b.words ++ word ∷ []; traps = b.traps ++ traps_in (placed (end_of b) (put_cell word site trap ∷ [])) }
   with_word_is site =
       trapped_is trap (record b { words = b.words ++ word ∷ [] }) (end_of b)
@@ -93,22 +113,11 @@ module _ (b : Buffer LabelUse) (word : ℕ) (trap : Option TrapCode) where
   pub word_done : (b' : Buffer LabelUse) → b' ≡ trapped trap (record b { words = b.words ++ word ∷ [] }) (end_of b) → b' ≡ appended b (put_cell word None trap ∷ [])
   word_done b' e =
       e ∙ with_word_is None
-      ∙ ap (λ us. record b { words = b.words ++ word ∷ []; uses = us; traps = b.traps ++ traps_in (placed (end_of b) (put_cell word None trap ∷ [])) }) (sym (append-nil b.uses))
+      ∙ same_holding b _ _ _ _ _ _ _ _ refl (sym (append-nil b.uses)) refl (sym (append-nil b.records.relocs))
 
   -- nothing was put, or the trap alone
   pub word_begun : (b' : Buffer LabelUse) (site : Option Site) → (b' ≡ b) ⊎ (b' ≡ trapped trap b (end_of b)) → IsAppendedInPart b b' (put_cell word site trap ∷ [])
-  word_begun b' site (inl e) = record {
-    count = 0;
-    used = 0;
-    last = inl refl;
-    marked = 0;
-    next = inl refl;
-    words = ap (λ (c : Buffer LabelUse). c.words) e ∙ sym (append-nil b.words);
-    uses = ap (λ (c : Buffer LabelUse). c.uses) e ∙ sym (append-nil b.uses);
-    traps = ap (λ (c : Buffer LabelUse). c.traps) e ∙ sym (append-nil b.traps);
-    labels = ap (λ (c : Buffer LabelUse). c.labels) e;
-    constants = ap (λ (c : Buffer LabelUse). c.constants) e;
-  }
+  word_begun b' site (inl e) = none_put b b' (put_cell word site trap ∷ []) e
   word_begun b' site (inr e) =
       let is : b' ≡ record b { traps = b.traps ++ trap_list (end_of b) trap } = e ∙ trapped_is trap b (end_of b) in
       record {
@@ -120,6 +129,9 @@ module _ (b : Buffer LabelUse) (word : ℕ) (trap : Option TrapCode) where
         words = ap (λ (c : Buffer LabelUse). c.words) is ∙ sym (append-nil b.words);
         uses = ap (λ (c : Buffer LabelUse). c.uses) is ∙ sym (append-nil b.uses);
         traps = ap (λ (c : Buffer LabelUse). c.traps) is ∙ ap (λ ts. b.traps ++ ts) (sym (one_trap (end_of b) word site trap));
+        related = 0;
+        next_related = inl refl;
+        records = ap (λ (c : Buffer LabelUse). c.records) is ∙ no_relocs;
         labels = ap (λ (c : Buffer LabelUse). c.labels) is;
         constants = ap (λ (c : Buffer LabelUse). c.constants) is;
       }
@@ -141,6 +153,9 @@ module _ (b : Buffer LabelUse) (word : ℕ) (trap : Option TrapCode) where
           words = ap (λ (c : Buffer LabelUse). c.words) is;
           uses = ap (λ (c : Buffer LabelUse). c.uses) is ∙ sym (append-nil b.uses);
           traps = ap (λ (c : Buffer LabelUse). c.traps) is;
+          related = 1;
+          next_related = inl refl;
+          records = ap (λ (c : Buffer LabelUse). c.records) is ∙ no_relocs;
           labels = ap (λ (c : Buffer LabelUse). c.labels) is;
           constants = ap (λ (c : Buffer LabelUse). c.constants) is;
         }
@@ -158,7 +173,7 @@ module _ (b : Buffer LabelUse) (word : ℕ) (trap : Option TrapCode) where
       with_use : record b1 { uses = b1.uses ++ made_use label_kinds b1.labels offset target site.kind ∷ [] } ≡ appended b (put_cell word (Some site) trap ∷ [])
       with_use =
           ap (λ (c : Buffer LabelUse). record c { uses = c.uses ++ made_use label_kinds c.labels offset target site.kind ∷ [] }) there
-          ∙ ap (λ u. record b { words = b.words ++ word ∷ []; uses = b.uses ++ u ∷ []; traps = b.traps ++ traps_in (placed (end_of b) (put_cell word (Some site) trap ∷ [])) }) same_use
+          ∙ same_holding b _ _ _ _ _ _ _ _ refl (ap (λ u. b.uses ++ u ∷ []) same_use) refl (sym (append-nil b.records.relocs))
 
       pub word_used : b2 ≡ record b1 { uses = b1.uses ++ made_use label_kinds b1.labels offset target site.kind ∷ [] } → b2 ≡ appended b (put_cell word (Some site) trap ∷ [])
       word_used e = e ∙ with_use
@@ -168,3 +183,34 @@ module _ (b : Buffer LabelUse) (word : ℕ) (trap : Option TrapCode) where
       use_fits h =
           subst (λ (c : Buffer LabelUse). Fits label_kinds c 0) (sym with_use)
           (record { rooms = λ k d w o. let y = h.rooms k d w o in omega (arith, y, length-append b.words (word ∷ [])) })
+
+-- ---- one word at which a relocation is recorded
+
+module _ (b : Buffer LabelUse) (word : ℕ) (kind : Reloc) (name : ExternalName) (addend : ℤ) where
+  abbrev related : Buffer LabelUse
+  related = record b { records = record b.records { relocs = b.records.relocs ++ (end_of b, kind, name, addend) ∷ [] } }
+
+  pub reloc_done : (b1 b2 : Buffer LabelUse) → b1 ≡ related → b2 ≡ record b1 { words = b1.words ++ word ∷ [] } → b2 ≡ appended b (reloc_cell (Data word) kind name addend ∷ [])
+  reloc_done b1 b2 e f =
+      f ∙ ap (λ (c : Buffer LabelUse). record c { words = c.words ++ word ∷ [] }) e
+      ∙ same_holding b _ _ _ _ _ _ _ _ refl (sym (append-nil b.uses)) (sym (append-nil b.traps)) refl
+
+  -- the relocation was recorded, and the word not put
+  pub reloc_begun : (b1 b2 : Buffer LabelUse) → b1 ≡ related → b2 ≡ b1 → IsAppendedInPart b b2 (reloc_cell (Data word) kind name addend ∷ [])
+  reloc_begun b1 b2 e f =
+      let is : b2 ≡ related = f ∙ e in
+      record {
+        count = 0;
+        used = 0;
+        last = inl refl;
+        marked = 0;
+        next = inl refl;
+        words = ap (λ (c : Buffer LabelUse). c.words) is ∙ sym (append-nil b.words);
+        uses = ap (λ (c : Buffer LabelUse). c.uses) is ∙ sym (append-nil b.uses);
+        traps = ap (λ (c : Buffer LabelUse). c.traps) is ∙ sym (append-nil b.traps);
+        related = 1;
+        next_related = inr refl;
+        records = ap (λ (c : Buffer LabelUse). c.records) is;
+        labels = ap (λ (c : Buffer LabelUse). c.labels) is;
+        constants = ap (λ (c : Buffer LabelUse). c.constants) is;
+      }

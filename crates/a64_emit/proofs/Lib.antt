@@ -2,7 +2,10 @@ pub mod Burdens
 pub mod Asked
 pub mod Fitting
 pub mod UseLists
+pub mod TableUses
+pub mod OneLights
 pub mod MemoryWords
+pub mod Holding
 pub mod Joined
 pub mod AsPut
 pub mod Lasts
@@ -16,8 +19,14 @@ pub mod RegisterForms
 pub mod BranchForms
 pub mod LogicForms
 pub mod AccessForms
+pub mod SequenceOperands
+pub mod Tables
+pub mod Behind
+pub mod Names
+pub mod SequenceForms
 pub mod InstForms
 pub mod Shapes
 pub mod WrongAnswers
 pub mod FarJumps
 pub mod TwoFields
+pub mod Lights

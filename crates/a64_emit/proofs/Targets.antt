@@ -2,7 +2,9 @@
 use Rattle.std.proofs.Common.{◌≡◌, suc, zero, List, [], ◌∷◌, Option, None, Some, refl, sym, subst, arith}
 use Rattle.std.specs.Prelude.{All, IfSome}
 use Rattle.std.specs.List.{cons_option}
-use Rattle.std.proofs.lemmas.List.Elements.{All-append}
+use Rattle.std.proofs.lemmas.List.Elements.{All-append, All-map}
+use Rattle.a64_base.specs.declared.entity.MachLabel.{MachLabel}
+use Rattle.a64_base.specs.declared.reg.Reg.{Reg}
 use Rattle.a64_base.specs.declared.ir_type.IrType.TheVariants.{I8}
 use Rattle.a64_base.specs.declared.target.BranchTarget.{BranchTarget}
 use Rattle.a64_base.specs.declared.target.BranchTarget.TheVariants as branch_targets
@@ -22,8 +24,9 @@ use Rattle.a64_emit.specs.declared.label_use.LabelUse.{LabelUse}
 use Rattle.a64_emit.specs.declared.label_use.LabelUse.TheVariants as uses
 use Rattle.a64_emit.specs.declared.site.Site.{Site}
 use Rattle.a64_emit.specs.MemoryForms.{step_forms, offset_register, access_steps, access_form}
-use Rattle.a64_emit.specs.Cells.{FormOf, branch_site, trap_site, mode_site, shape_cells, access_shape, other_shape, inst_cells, sites_of}
+use Rattle.a64_emit.specs.Cells.{FormOf, table_labels, entry_site, table_jump, branch_site, trap_site, mode_site, shape_cells, access_shape, other_shape, inst_cells, sites_of}
 use Rattle.a64_emit.proofs.Several.{several_sites, address_sites}
+use Rattle.a64_emit.proofs.TableUses.{table_jump_sites}
 
 -- a use of a label of any kind, the load of a constant, or a deferred trap
 abbrev pub IsCodeTarget : Target → LabelUse → Type 0
@@ -56,6 +59,12 @@ branch_targets_of kind dest = one_more (branch_site kind dest) [] (branch_target
 branches_targets : (kind : LabelUse) (taken not_taken : BranchTarget) → All IsCodeSite (cons_option (branch_site kind taken) (cons_option (branch_site uses.Branch26 not_taken) []))
 branches_targets kind taken not_taken = one_more (branch_site kind taken) (cons_option (branch_site uses.Branch26 not_taken) []) (branch_target kind taken) (branch_targets_of uses.Branch26 not_taken)
 
+-- the entries of a table are of labels
+table_targets : (flags : EmitFlags) (default : MachLabel) (targets : List MachLabel) (ridx rtmp1 rtmp2 : Reg) → All IsCodeSite (sites_of (table_jump flags default targets ridx rtmp1 rtmp2))
+table_targets flags default targets ridx rtmp1 rtmp2 =
+    subst (All IsCodeSite) (sym (table_jump_sites flags default targets ridx rtmp1 rtmp2))
+    (All-map IsCodeSite entry_site (table_labels default targets) (λ k d w. tt))
+
 mode_target : (mem : AMode) → IfSome (mode_site mem) IsCodeSite
 mode_target (modes.Label (PCRel offset)) = tt
 mode_target (modes.Label (Mach label)) = tt
@@ -70,6 +79,7 @@ module _ (frame : FrameLayout) (flags : EmitFlags) where
   other_targets (insts.TestBitAndBranch kind taken not_taken rn bit) = branches_targets uses.Branch14 taken not_taken
   other_targets (insts.TrapIf kind trap_code) = one_more (Some (trap_site trap_code)) [] refl no_sites
   other_targets (insts.LabelAddress dst label) = branch_targets_of uses.Adr21 (branch_targets.Label label)
+  other_targets (insts.JTSequence default targets ridx rtmp1 rtmp2) = table_targets flags default targets ridx rtmp1 rtmp2
   other_targets (insts.LoadAddr rd mem) = subst (All IsCodeSite) (sym (address_sites rd (step_forms offset_register (final_steps frame I8 mem)) (final_mode frame I8 mem))) no_sites
   other_targets _ = no_sites
 

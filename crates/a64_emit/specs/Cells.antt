@@ -1,10 +1,19 @@
 -- The words that items are made of.
-use Rattle.std.specs.Prelude.{ℕ, ℤ, pos, ◌+◌, ◌/◌, ◌%◌, ◌^◌, List, [], ◌∷◌, ◌++◌, map, if◌then◌else◌, Option, None, Some}
+use Rattle.std.specs.Prelude.{ℕ, ℤ, pos, negsuc, false, ◌+◌, ◌*◌, ◌/◌, ◌%◌, ◌^◌, ◌&&◌, List, [], ◌∷◌, ◌++◌, length, map, if◌then◌else◌, Option, None, Some}
 use Rattle.std.specs.Ordering.{int_eq}
 use Rattle.std.specs.Int.RustNames.{unsigned_abs}
+use Rattle.a64_base.specs.declared.cond.Cond.TheVariants.{Gt, Lo}
+use Rattle.a64_base.specs.declared.cond.CondBrKind.TheVariants.{Cond}
+use Rattle.a64_base.specs.declared.entity.ExternalName.{ExternalName}
+use Rattle.a64_base.specs.declared.entity.MachLabel.{MachLabel}
+use Rattle.a64_base.specs.declared.entity.Reloc.{Reloc}
+use Rattle.a64_base.specs.declared.entity.Reloc.TheVariants.{Abs8, Aarch64AdrGotPage21, Aarch64Ld64GotLo12Nc, Aarch64AdrPrelPgHi21, Aarch64AddAbsLo12Nc}
 use Rattle.a64_base.specs.declared.entity.TrapCode.{TrapCode}
 use Rattle.a64_base.specs.declared.reg.Reg.{Reg}
 use Rattle.a64_base.specs.declared.ir_type.IrType.TheVariants.{I8}
+use Rattle.a64_base.specs.Registers.{integer_register}
+use Rattle.a64_imms.specs.declared.imm12.Imm12.{Imm12}
+use Rattle.a64_ops.specs.declared.access.AccessOp.TheVariants.{SLoad32, Store32, ULoad64}
 use Rattle.a64_ops.specs.declared.operator.ALUOp.TheVariants as alu
 use Rattle.a64_plan.specs.Plans.{plan_of}
 use Rattle.a64_inst.specs.declared.access.Access.{Access}
@@ -30,6 +39,7 @@ use Rattle.a64_emit.specs.declared.label_use.LabelUse.{LabelUse}
 use Rattle.a64_emit.specs.declared.label_use.LabelUse.TheVariants as uses
 use Rattle.a64_emit.specs.declared.site.Site.{Site}
 use Rattle.a64_emit.specs.declared.site.CellUse.{CellUse}
+use Rattle.a64_emit.specs.declared.site.Uses.{Uses}
 use Rattle.a64_inst.specs.declared.item.Item.{Item}
 use Rattle.a64_inst.specs.declared.item.Item.TheVariants.{Bind, Emit}
 use Rattle.a64_rows.specs.Forms.{Form, form_word}
@@ -42,12 +52,17 @@ pub data Body : Type 0 where
   FormOf : Form → Body
   Data : ℕ → Body
 
+-- a relocation: its kind, the symbol and the addend
+abbrev pub Relocation : Type 0
+Relocation = Reloc × ExternalName × ℤ
+
 -- what is recorded at the place of a word
 pub record Marks : Type 0 where
   pub trap : Option TrapCode
+  pub reloc : Option Relocation
 
 abbrev pub no_marks : Marks
-no_marks = record { trap = None }
+no_marks = record { trap = None; reloc = None }
 
 -- one word of an item, with at most one use, and what is recorded at it. The field of a use is zero; a
 -- use that adds its distance has its addend there.
@@ -71,7 +86,11 @@ plain form = record { body = FormOf form; site = None; marks = no_marks }
 
 -- a word that may be a use, and may trap
 abbrev pub last_cell : Body → Option Site → Option TrapCode → Cell
-last_cell body site trap = record { body = body; site = site; marks = record { trap = trap } }
+last_cell body site trap = record { body = body; site = site; marks = record { trap = trap; reloc = None } }
+
+-- a word without a use, at which a relocation is recorded
+abbrev pub reloc_cell : Body → Reloc → ExternalName → ℤ → Cell
+reloc_cell body kind name addend = record { body = body; site = None; marks = record { trap = None; reloc = Some (kind, name, addend) } }
 
 -- words of which only the last may be a use, and may trap
 abbrev pub several : List Form → Body → Option Site → Option TrapCode → List Cell
@@ -142,6 +161,71 @@ abbrev pub access_shape : FrameLayout → Access → Shape
 access_shape frame access =
     Several (memory.access_steps frame access) (FormOf (memory.access_form frame access)) (mode_site access.mem) access.flags
 
+-- ---- sequences around tables, symbols and the stack
+
+-- the labels of a table: its targets, and behind them the default
+abbrev pub table_labels : MachLabel → List MachLabel → List MachLabel
+table_labels default targets = targets ++ default ∷ []
+
+-- the use that an entry of a table is
+abbrev pub entry_site : MachLabel → Site
+entry_site label = record { kind = uses.PCRel32; target = Label label }
+
+-- the entries of a table from the one with this index on: each holds how far it stands from the first, and its use adds the distance to
+-- its label
+abbrev pub table_cells : ℕ → List MachLabel → List Cell
+table_cells k [] = []
+table_cells k (label ∷ labels) = last_cell (Data (4 * k)) (Some (entry_site label)) None ∷ table_cells (k + 1) labels
+
+-- a barrier, where the settings ask for one behind the choice of an index
+abbrev pub barrier_forms : EmitFlags → List Form
+barrier_forms flags = if flags.enable_table_access_spectre_mitigation && flags.use_csdb then control.csdb_form ∷ [] else []
+
+-- a jump through a table of so many targets, which stands behind it: the index, or the number of targets where it is none of theirs
+-- by the flags; the table's address; the entry; and both added
+abbrev pub table_forms : EmitFlags → ℕ → Reg → Reg → Reg → List Form
+table_forms flags n ridx rtmp1 rtmp2 =
+    memory.step_forms rtmp2 (plan_of n)
+    ++ integer.csel_form rtmp2 ridx rtmp2 Lo
+    ∷ barrier_forms flags
+    ++ integer.adr_form rtmp1 (pos 16)
+    ∷ memory.indexed_form SLoad32 rtmp2 rtmp1 rtmp2 2 1
+    ∷ integer.alu_rrr_form alu.Add Size64 rtmp1 rtmp1 rtmp2
+    ∷ control.indirect_br_form rtmp1 ∷ []
+
+abbrev pub table_jump : EmitFlags → MachLabel → List MachLabel → Reg → Reg → Reg → List Cell
+table_jump flags default targets ridx rtmp1 rtmp2 =
+    map plain (table_forms flags (length targets) ridx rtmp1 rtmp2) ++ table_cells 0 (table_labels default targets)
+
+-- the address of a symbol: of the page of its entry in the global offset table, and the entry
+abbrev pub got_cells : Reg → ExternalName → List Cell
+got_cells rd name =
+    reloc_cell (FormOf (integer.adrp_form rd (pos 0))) Aarch64AdrGotPage21 name (pos 0)
+    ∷ reloc_cell (FormOf (memory.unsigned_form ULoad64 rd rd 0)) Aarch64Ld64GotLo12Nc name (pos 0) ∷ []
+
+-- of its page, and its place there
+abbrev pub near_cells : Reg → ExternalName → ℤ → List Cell
+near_cells rd name offset =
+    reloc_cell (FormOf (integer.adrp_form rd (pos 0))) Aarch64AdrPrelPgHi21 name offset
+    ∷ reloc_cell (FormOf (integer.alu_rr_imm12_form alu.Add Size64 rd rd (record { bits = 0; shift12 = false }))) Aarch64AddAbsLo12Nc name offset ∷ []
+
+-- of eight bytes that hold it, behind a branch over them
+abbrev pub far_cells : Reg → ExternalName → ℤ → List Cell
+far_cells rd name offset =
+    plain (memory.literal_form ULoad64 rd 2)
+    ∷ plain (control.jump_form (branch_targets.ResolvedOffset (pos 12)))
+    ∷ reloc_cell (Data 0) Abs8 name offset
+    ∷ data_cell 0 ∷ []
+
+-- a step down, a store of zero there, a comparison with the negated end, and a branch out of the loop behind the one that goes on
+abbrev pub probe_forms : Reg → Reg → Imm12 → List Form
+probe_forms start end step =
+    integer.alu_rr_imm12_form alu.Sub Size64 start start step
+    ∷ memory.indexed_form Store32 (integer_register 31) (integer_register 63) start 3 0
+    ∷ integer.alu_rrr_form alu.AddS Size64 (integer_register 31) start end
+    ∷ control.cond_br_form (branch_targets.ResolvedOffset (negsuc 11)) (Cond Gt)
+    ∷ control.jump_form (branch_targets.ResolvedOffset (pos 4)) ∷ []
+
 -- an instruction that is no load or store of one register. Those have the shape of their access, and none here.
 abbrev pub other_shape : FrameLayout → EmitFlags → Inst → Shape
 other_shape frame flags insts.Nop0 = Words []
@@ -184,6 +268,15 @@ other_shape frame flags (insts.Udf trap_code) = Words (last_cell (Data control.u
 other_shape frame flags (insts.Word4 value) = Words (data_cell value ∷ [])
 other_shape frame flags (insts.Word8 value) = Words (data_cell (value % 2 ^ 32) ∷ data_cell (value / 2 ^ 32) ∷ [])
 other_shape frame flags (insts.LabelAddress dst label) = Words (branch (control.label_address_form dst) uses.Adr21 (branch_targets.Label label) ∷ [])
+other_shape frame flags (insts.Args args) = Words []
+other_shape frame flags (insts.Rets rets) = Words []
+other_shape frame flags (insts.DummyUse reg) = Words []
+other_shape frame flags insts.SequencePoint = Words []
+other_shape frame flags (insts.JTSequence default targets ridx rtmp1 rtmp2) = Words (table_jump flags default targets ridx rtmp1 rtmp2)
+other_shape frame flags (insts.LoadExtNameGot rd name) = Words (got_cells rd name)
+other_shape frame flags (insts.LoadExtNameNear rd name offset) = Words (near_cells rd name offset)
+other_shape frame flags (insts.LoadExtNameFar rd name offset) = Words (far_cells rd name offset)
+other_shape frame flags (insts.StackProbeLoop start end step) = Words (map plain (probe_forms start end step))
 other_shape frame flags (insts.LoadP64 rt rt2 mem trap) = Several [] (FormOf (memory.pair_form 1 rt rt2 mem)) None trap
 other_shape frame flags (insts.StoreP64 rt rt2 mem trap) = Several [] (FormOf (memory.pair_form 0 rt rt2 mem)) None trap
 other_shape frame flags (insts.LoadAddr rd mem) = address_shape rd (memory.step_forms memory.offset_register (final_steps frame I8 mem)) (final_mode frame I8 mem)
@@ -263,3 +356,15 @@ inst_uses frame flags inst = uses_of 0 (inst_cells frame flags inst)
 -- the uses of words of which only the first two may be uses
 abbrev pub two_uses : Option Site → Option Site → List CellUse
 two_uses first second = use_of 0 first ++ use_of 1 second
+
+-- the uses of the entries of a table, of which the first is the word with this index
+abbrev pub table_uses : ℕ → List MachLabel → List CellUse
+table_uses n [] = []
+table_uses n (label ∷ labels) = use_of n (Some (entry_site label)) ++ table_uses (n + 1) labels
+
+-- the uses of an instruction's words: of the first two, or of the entries of a table behind those
+abbrev pub listed_uses : Uses → List CellUse
+listed_uses uses = two_uses uses.first uses.second ++ elim uses.table [
+  | None ↦ []
+  | Some table ↦ table_uses table.first (table_labels table.default table.targets.now)
+]

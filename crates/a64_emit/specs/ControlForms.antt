@@ -10,7 +10,7 @@ use Rattle.a64_base.specs.Target.{offset_field}
 use Rattle.a64_enc_int.specs.Branches.{conditional_form, nonzero_of}
 use Rattle.a64_enc_int.specs.Registers.{register_field}
 use Rattle.a64_rows.specs.Forms.{Form}
-use Rattle.a64_rows.specs.Control.{branch26, branch_reg, brk, test_branch}
+use Rattle.a64_rows.specs.Control.{branch26, branch_reg, brk, hint, test_branch}
 use Rattle.a64_emit.specs.IntegerForms.{adr_form}
 
 -- a branch by the return class to x30 (Unconditional branch (register), RET)
@@ -46,6 +46,10 @@ brk_form = brk
 -- the address of a label, as long as this has none (PC-rel. addressing, ADR)
 unfoldable pub label_address_form : Reg → Form
 label_address_form dst = adr_form dst (pos 0)
+
+-- a barrier against what was guessed before it (Hints, CSDB)
+unfoldable pub csdb_form : Form
+csdb_form = hint (record { crm = 2; op2 = 4 })
 
 -- the data word that is no instruction
 abbrev pub udf_word : ℕ

@@ -20,7 +20,7 @@ use Rattle.a64_emit.specs.declared.site.Site.{Site}
 use Rattle.a64_emit.specs.LabelUses.{label_kinds}
 use Rattle.a64_emit.specs.Cells.{Cell, cell_word, inst_cells}
 use Rattle.a64_emit.specs.Bounds.{asked_of}
-use Rattle.a64_emit.specs.Layout.{placed, traps_in}
+use Rattle.a64_emit.specs.Layout.{placed, relocs_in, traps_in}
 
 -- ---- what emitting an instruction does
 
@@ -40,6 +40,7 @@ appended b cells = record b {
   words = b.words ++ map cell_word cells;
   uses = b.uses ++ uses_from b.labels (end_of b) cells;
   traps = b.traps ++ traps_in (placed (end_of b) cells);
+  records = record b.records { relocs = b.records.relocs ++ relocs_in (placed (end_of b) cells) };
 }
 
 -- a buffer with a trap recorded at a place, where there is one
@@ -54,7 +55,7 @@ pub record PutsInPart (b b' : Buffer LabelUse) (words : List ℕ) : Type 0 where
   pub is : b' ≡ record b { words = b.words ++ take count words }
 
 -- a buffer that has got a first part of some cells: the words of the first so many, and their uses,
--- but maybe not that of the last of these words; and what is recorded at them, and maybe at the next word
+-- but maybe not that of the last of these words; and what is recorded at them, and maybe at the next word: traps, and relocations
 pub record IsAppendedInPart (b b' : Buffer LabelUse) (cells : List Cell) : Type 0 where
   pub count : ℕ
   pub used : ℕ
@@ -64,6 +65,9 @@ pub record IsAppendedInPart (b b' : Buffer LabelUse) (cells : List Cell) : Type 
   pub words : b'.words ≡ b.words ++ map cell_word (take count cells)
   pub uses : b'.uses ≡ b.uses ++ uses_from b.labels (end_of b) (take used cells)
   pub traps : b'.traps ≡ b.traps ++ traps_in (placed (end_of b) (take marked cells))
+  pub related : ℕ
+  pub next_related : (related ≡ count) ⊎ (related ≡ count + 1)
+  pub records : b'.records ≡ record b.records { relocs = b.records.relocs ++ relocs_in (placed (end_of b) (take related cells)) }
   pub labels : b'.labels ≡ b.labels
   pub constants : b'.constants ≡ b.constants
 

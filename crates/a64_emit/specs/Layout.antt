@@ -1,7 +1,9 @@
 -- Where the items of finished code stand.
-use Rattle.std.specs.Prelude.{ℕ, ◌≡◌, ◌≢◌, ◌⊎◌, ◌↔◌, ◌+◌, ◌*◌, ◌%◌, ◌<◌, ◌≤◌, List, [], ◌∷◌, ◌++◌, All, Contains, map, length, slice_index, slice_index_or, slice_get, Option, None, Some, IsSome, option_map, option_and_then}
+use Rattle.std.specs.Prelude.{ℕ, ℤ, ◌≡◌, ◌≢◌, ◌⊎◌, ◌↔◌, ◌+◌, ◌*◌, ◌%◌, ◌<◌, ◌≤◌, List, [], ◌∷◌, ◌++◌, All, Contains, map, length, slice_index, slice_index_or, slice_get, Option, None, Some, IsSome, option_map, option_and_then}
 use Rattle.std.specs.List.{filter_map}
 use Rattle.std.specs.List.Sorted.{IsStrictlyIncreasing}
+use Rattle.a64_base.specs.declared.entity.ExternalName.{ExternalName}
+use Rattle.a64_base.specs.declared.entity.Reloc.{Reloc}
 use Rattle.a64_base.specs.declared.entity.TrapCode.{TrapCode}
 use Rattle.a64_base.specs.declared.entity.MachLabel.{MachLabel}
 use Rattle.a64_inst.specs.declared.emission.EmitFlags.{EmitFlags}
@@ -12,7 +14,7 @@ use Rattle.a64_inst.specs.declared.item.Item.TheVariants.{Bind}
 use Rattle.a64_emit.specs.declared.code.Code.{Code}
 use Rattle.a64_emit.specs.LabelUses.{mask_for}
 use Rattle.a64_emit.specs.declared.site.Site.{Site}
-use Rattle.a64_emit.specs.Cells.{Cell, cell_word, cells_of}
+use Rattle.a64_emit.specs.Cells.{Relocation, Cell, cell_word, cells_of}
 use Rattle.a64_emit.specs.Leads.{JumpsTo}
 use Rattle.a64_emit.specs.Bounds.{asked}
 
@@ -33,6 +35,14 @@ trap_at s = option_map (λ code. (s.0, code)) s.1.marks.trap
 -- the traps of cells at their places
 abbrev pub traps_in : List (ℕ × Cell) → List (ℕ × TrapCode)
 traps_in cells = filter_map trap_at cells
+
+-- the relocation that is recorded at a cell's place, where there is one
+abbrev pub reloc_at : ℕ × Cell → Option (ℕ × Reloc × ExternalName × ℤ)
+reloc_at s = option_map (λ (reloc : Relocation). (s.0, reloc.0, reloc.1, reloc.2)) s.1.marks.reloc
+
+-- the relocations of cells at their places
+abbrev pub relocs_in : List (ℕ × Cell) → List (ℕ × Reloc × ExternalName × ℤ)
+relocs_in cells = filter_map reloc_at cells
 
 -- the bits of a cell's word that its use may change
 abbrev pub site_mask : Option Site → ℕ

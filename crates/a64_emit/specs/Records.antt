@@ -13,13 +13,13 @@ use Rattle.a64_emit.specs.declared.code.Code.{Code}
 use Rattle.a64_emit.specs.declared.label_use.LabelUse.{LabelUse}
 use Rattle.a64_emit.specs.Cells.{Cell, cell_word, cells_of}
 use Rattle.a64_emit.specs.Leads.{StopsAt}
-use Rattle.a64_emit.specs.Layout.{placed, standing, traps_in}
+use Rattle.a64_emit.specs.Layout.{placed, standing, relocs_in, traps_in}
 
--- the records of an item, by their offsets from the item's place; none that exists makes any but traps, and those of deferred
--- traps are where these stop
+-- the records of an item, by their offsets from the item's place; none that exists makes any but relocations and traps, and those of
+-- deferred traps are where these stop
 module _ (frame : FrameLayout) (flags : EmitFlags) where
   abbrev pub relocs_of : Item → List (ℕ × Reloc × ExternalName × ℤ)
-  relocs_of item = []
+  relocs_of item = relocs_in (placed 0 (cells_of frame flags item))
 
   abbrev pub traps_of : Item → List (ℕ × TrapCode)
   traps_of item = traps_in (placed 0 (cells_of frame flags item))

@@ -13,13 +13,14 @@ ghost use Rattle.a64_buffer.specs.Classes.{Fits};
 ghost use Rattle.a64_emit.specs.declared.label_use.LabelUse.{LabelUse};
 ghost use Rattle.a64_rows.specs.Forms.{Form, form_word};
 ghost use Rattle.a64_emit.specs.Cells as cells;
-ghost use Rattle.a64_emit.specs.Cells.{plain, data_cell, shape_of, only_word};
+ghost use Rattle.a64_emit.specs.Cells.{Data, plain, data_cell, reloc_cell, shape_of, only_word};
 ghost use Rattle.a64_emit.specs.Words.{MayBePut, IsThere, put_cell, put_cells, put_branches, put_for};
 ghost use Rattle.a64_emit.specs.LabelUses.{label_kinds};
 ghost use Rattle.a64_emit.specs.Emission.{trapped, PutsInPart, appended, IslandsIfNeeded, Emits, EmitsInPart, IsAppendedInPart, HasRoom, CellsFit, HasIslandRoom, IsReady};
 
 use crate::extent::asked_space;
 use crate::label_use::LabelUse;
+use crate::sequence::emit_sequence;
 use crate::site::Site;
 use crate::uses::{branch_site, trap_site};
 use crate::word::control::{
@@ -27,8 +28,8 @@ use crate::word::control::{
     test_bit_and_branch_word, trap_if_word,
 };
 use crate::word::integer::{only_immediate_word, only_register_word};
-use crate::word::memory::{SeveralWords, memory_words};
-use a64_base::{BranchTarget, TrapCode};
+use crate::word::memory::{SeveralWords, held_memory_word, memory_words};
+use a64_base::{BranchTarget, ExternalName, Reloc, TrapCode};
 use a64_buffer::{ForceVeneers, MachBuffer, Target};
 use a64_inst::{EmitInfo, EmitState, FrameLayout, Group, Inst};
 use std::alloc::AllocError;
@@ -71,7 +72,7 @@ fn only_word(inst: &Inst, frame: &FrameLayout, info: &EmitInfo) -> Option<u32>
         Group::Immediate => only_immediate_word(inst, frame, info),
         Group::Register => only_register_word(inst, frame, info),
         Group::Control => only_control_word(inst, frame, info),
-        Group::Memory => None,
+        Group::Sequence | Group::Memory => None,
     }
 }
 
@@ -86,7 +87,7 @@ fn emit_plain(sink: &mut MachBuffer<'_, LabelUse>, word: u32) -> Result<(), Allo
 }
 
 /// Words without uses, one behind the other.
-fn put_words(sink: &mut MachBuffer<'_, LabelUse>, words: &[u32]) -> Result<(), AllocError>
+pub fn put_words(sink: &mut MachBuffer<'_, LabelUse>, words: &[u32]) -> Result<(), AllocError>
     requires short { end_of sink.old + 4 * length words.now < 2 ^ 31 }
     requires fits { Fits label_kinds sink.old (4 * length words.now) }
     ensures ok { OnOk result (sink.new ≡ record sink.old { words = sink.old.words ++ words.now }) }
@@ -116,9 +117,26 @@ fn put_trapping(
     sink.put4(word)
 }
 
+/// One word without a use, at which a relocation is recorded.
+pub fn put_reloc(
+    sink: &mut MachBuffer<'_, LabelUse>,
+    word: u32,
+    kind: Reloc,
+    name: ExternalName,
+    addend: i64,
+) -> Result<(), AllocError>
+    requires short { end_of sink.old + 4 < 2 ^ 31 }
+    requires fits { Fits label_kinds sink.old 4 }
+    ensures ok { OnOk result (sink.new ≡ appended sink.old (reloc_cell (Data word) kind name addend ∷ [])) }
+    ensures err { OnErr result (IsAppendedInPart sink.old sink.new (reloc_cell (Data word) kind name addend ∷ [])) }
+{
+    sink.add_reloc(kind, name, addend)?;
+    sink.put4(word)
+}
+
 /// One word with its use, at which a trap is recorded where it may trap.
 #[inline(always)]
-fn put_using(
+pub fn put_using(
     sink: &mut MachBuffer<'_, LabelUse>,
     word: u32,
     site: Site,
@@ -142,7 +160,7 @@ fn put_using(
 
 /// One word that may be a use, and may trap.
 #[inline(always)]
-fn emit_last(
+pub fn emit_last(
     sink: &mut MachBuffer<'_, LabelUse>,
     word: u32,
     site: Option<Site>,
@@ -188,9 +206,9 @@ fn emit_branch(
     emit_last(sink, word, branch_site(kind, dest), None)
 }
 
-/// A load or a store, or an address.
+/// The words of a load or a store, or of an address.
 #[inline(never)]
-fn emit_memory(
+fn emit_memory_words(
     inst: &Inst,
     sink: &mut MachBuffer<'_, LabelUse>,
     info: &EmitInfo,
@@ -209,6 +227,30 @@ fn emit_memory(
     match memory_words(inst, state.frame_layout(), info) {
         Some(words) => emit_several(sink, &words),
         None => Ok(()),
+    }
+}
+
+/// A load or a store, or an address: most are one word.
+#[inline(always)]
+fn emit_memory(
+    inst: &Inst,
+    sink: &mut MachBuffer<'_, LabelUse>,
+    info: &EmitInfo,
+    state: &mut EmitState,
+) -> Result<(), AllocError>
+    requires group { group_of inst.now ≡ Memory }
+    requires room { HasRoom sink.old (put_for state.old.frame info.now inst.now) }
+    requires fits { CellsFit sink.old (put_for state.old.frame info.now inst.now) }
+    requires good { has_operands state.old.frame info.now Refused inst.now ≡ true }
+    requires mode { has_mode inst.now ≡ true }
+    requires there { IsThere sink.old.constants inst.now }
+    ensures ok { OnOk result (sink.new ≡ appended sink.old (put_for state.old.frame info.now inst.now)) }
+    ensures state { OnOk result (state.new ≡ state.old) }
+    ensures err { OnErr result (IsAppendedInPart sink.old sink.new (put_for state.old.frame info.now inst.now)) }
+{
+    match held_memory_word(inst, state.frame_layout(), info) {
+        Some(last) => emit_last(sink, last.word, last.site, last.trap),
+        None => emit_memory_words(inst, sink, info, state),
     }
 }
 
@@ -324,6 +366,7 @@ fn emit_other(
     match inst.group() {
         Group::Memory => emit_memory(inst, sink, info, state),
         Group::Control => emit_control(inst, sink, info, state),
+        Group::Sequence => emit_sequence(inst, sink, info, state),
         Group::Immediate | Group::Register => Ok(()),
     }
 }

@@ -1,24 +1,25 @@
 //! How much an item adds to code.
 
-ghost use Rattle.std.specs.Prelude.{◌≡◌, ◌+◌, [], ◌∷◌, None, length, option_and_then, IfSome};
+ghost use Rattle.std.specs.Prelude.{◌≡◌, ◌+◌, [], ◌∷◌, true, None, length, option_and_then, IfSome};
 ghost use Rattle.std.specs.List.{cons_option};
-ghost use Rattle.a64_inst.specs.declared.group.Group.TheVariants.{Control};
+ghost use Rattle.a64_inst.specs.declared.group.Group.TheVariants.{Control, Sequence};
 ghost use Rattle.a64_inst.specs.declared.item.Item.TheVariants.{Emit};
 ghost use Rattle.a64_inst.specs.Groups.{group_of};
 ghost use Rattle.a64_emit.specs.Bounds as bounds;
-ghost use Rattle.a64_emit.specs.Bounds.{IsExtent, AreExtent, ranges_in, least, saturated, charge_of, growth_of, size_of, asked_of};
+ghost use Rattle.a64_emit.specs.Bounds.{asked, IsExtent, AreExtent, ranges_in, least, saturated, charge_of, growth_of, size_of, asked_of};
 ghost use Rattle.a64_rows.specs.Forms.{Form};
 ghost use Rattle.a64_emit.specs.declared.label_use.LabelUse.TheVariants as uses;
-ghost use Rattle.a64_emit.specs.Cells.{branch, cells_of, inst_cells, inst_uses, two_uses, uses_of};
-ghost use Rattle.a64_emit.specs.Lights.{IsLight};
+ghost use Rattle.a64_emit.specs.Cells.{branch, branches, cells_of, inst_cells, inst_uses, listed_uses, two_uses, uses_of};
+ghost use Rattle.a64_emit.specs.LabelUses.{has_veneer};
+ghost use Rattle.a64_emit.specs.Lights.{IsLight, IsModeLight};
 
 use crate::label_use::LabelUse;
 use crate::site::{Site, Uses};
-use crate::uses::{control_uses, memory_uses, only_use};
+use crate::uses::{control_uses, memory_uses, only_use, sequence_uses, table_start};
 use crate::word::memory::memory_count;
 use a64_base::BranchTarget;
 use a64_buffer::{MachInstLabelUse, Target};
-use a64_inst::{EmitInfo, FrameLayout, Group, Inst, Item};
+use a64_inst::{AMode, EmitInfo, FrameLayout, Group, Inst, Item};
 
 /// How much an item may add to code, in bytes. Numbers past those of 64 bits stand at the greatest.
 #[derive(Clone, Copy)]
@@ -33,11 +34,11 @@ pub struct Extent {
 
 /// How much an item may add to code, and the uses of its words.
 #[derive(Clone, Copy)]
-pub struct Burden {
+pub struct Burden<'a> {
     /// How much it may add.
     pub extent: Extent,
     /// The uses.
-    pub uses: Uses,
+    pub uses: Uses<'a>,
 }
 
 /// The uses of an instruction that may want veneers.
@@ -96,8 +97,8 @@ fn count_of(first: Option<u32>, second: Option<u32>) -> u64
 /// Which of these uses may want veneers.
 #[inline(always)]
 fn wanting_in(uses: Uses) -> Wanting
-    ensures count { (cells : _) → uses_of 0 cells ≡ two_uses uses.first uses.second → result.count ≡ length (ranges_in cells) }
-    ensures range { (cells : _) → uses_of 0 cells ≡ two_uses uses.first uses.second → result.range ≡ least (ranges_in cells) }
+    ensures count { (cells : _) → uses_of 0 cells ≡ listed_uses uses.entry → result.count ≡ length (ranges_in cells) }
+    ensures range { (cells : _) → uses_of 0 cells ≡ listed_uses uses.entry → result.range ≡ least (ranges_in cells) }
 {
     let first = range_of(uses.first);
     let second = range_of(uses.second);
@@ -130,6 +131,23 @@ fn control_count(inst: &Inst, _frame: &FrameLayout, _info: &EmitInfo) -> u64
     }
 }
 
+/// How many words a sequence has.
+fn sequence_count(inst: &Inst, _frame: &FrameLayout, info: &EmitInfo) -> u64
+    requires { group_of inst.now ≡ Sequence }
+    ensures { result ≡ length (inst_cells _frame.now info.now inst.now) }
+{
+    match inst {
+        Inst::JTSequence { targets, .. } => {
+            let targets = targets.as_slice().len();
+            table_start(targets, info) as u64 + targets as u64 + 1
+        }
+        Inst::LoadExtNameGot { .. } | Inst::LoadExtNameNear { .. } => 2,
+        Inst::LoadExtNameFar { .. } => 4,
+        Inst::StackProbeLoop { .. } => 5,
+        _ => 0,
+    }
+}
+
 /// How much an instruction of so many words may add to code, beside these.
 #[inline(always)]
 fn charge(words: u64, wanting: u64) -> u64
@@ -157,7 +175,7 @@ fn quiet_extent(words: u64) -> Extent
 /// How much an instruction of so many words may add to code, which have these uses.
 #[inline(always)]
 fn using_extent(words: u64, uses: Uses) -> Extent
-    ensures { (cells : _) → words ≡ length cells → uses_of 0 cells ≡ two_uses uses.first uses.second → AreExtent cells result.size result.charge result.range }
+    ensures { (cells : _) → words ≡ length cells → uses_of 0 cells ≡ listed_uses uses.entry → AreExtent cells result.size result.charge result.range }
 {
     let wanting = wanting_in(uses);
     Extent {
@@ -169,9 +187,9 @@ fn using_extent(words: u64, uses: Uses) -> Extent
 
 /// How much the words of an instruction may add to code, and their uses.
 #[inline(always)]
-fn words_burden(inst: &Inst, frame: &FrameLayout, info: &EmitInfo) -> Burden
+fn words_burden<'a>(inst: &'a Inst, frame: &FrameLayout, info: &EmitInfo) -> Burden<'a>
     ensures extent { AreExtent (inst_cells frame.now info.now inst.now) result.extent.size result.extent.charge result.extent.range }
-    ensures uses { inst_uses frame.now info.now inst.now ≡ two_uses result.uses.first result.uses.second }
+    ensures uses { inst_uses frame.now info.now inst.now ≡ listed_uses result.uses }
 {
     match inst.group() {
         Group::Immediate | Group::Register => Burden {
@@ -182,6 +200,13 @@ fn words_burden(inst: &Inst, frame: &FrameLayout, info: &EmitInfo) -> Burden
             let uses = control_uses(inst, frame, info);
             Burden {
                 extent: using_extent(control_count(inst, frame, info), uses),
+                uses,
+            }
+        }
+        Group::Sequence => {
+            let uses = sequence_uses(inst, frame, info);
+            Burden {
+                extent: using_extent(sequence_count(inst, frame, info), uses),
                 uses,
             }
         }
@@ -197,9 +222,9 @@ fn words_burden(inst: &Inst, frame: &FrameLayout, info: &EmitInfo) -> Burden
 
 /// How much an instruction may add to code, and its uses.
 #[inline(always)]
-fn inst_burden(inst: &Inst, frame: &FrameLayout, info: &EmitInfo) -> Burden
+fn inst_burden<'a>(inst: &'a Inst, frame: &FrameLayout, info: &EmitInfo) -> Burden<'a>
     ensures extent { (kept : _) → IsExtent frame.now info.now (Emit inst.now kept) result.extent.size result.extent.charge result.extent.range }
-    ensures uses { inst_uses frame.now info.now inst.now ≡ two_uses result.uses.first result.uses.second }
+    ensures uses { inst_uses frame.now info.now inst.now ≡ listed_uses result.uses }
 {
     match asked_space(inst) {
         Some(space) => Burden {
@@ -214,25 +239,29 @@ fn inst_burden(inst: &Inst, frame: &FrameLayout, info: &EmitInfo) -> Burden
     }
 }
 
-/// What an item adds to code that has one use at most, and needs no label near.
+/// What an item adds to code that is no place for an island, and needs no label near.
 #[derive(Clone, Copy)]
 pub struct Light {
-    /// How many bytes it may add to code.
+    /// How many bytes it may add to code: nothing where it has no words, else four more than its words and
+    /// what their uses may want.
     pub growth: u64,
-    /// Its use.
-    pub site: Option<Site>,
-    /// The forward range of the use in bytes, where it may want a veneer.
+    /// The use that the first word is, where it is one.
+    pub first: Option<Site>,
+    /// The use that the second word is, where it is one. No other word is one.
+    pub second: Option<Site>,
+    /// The shortest forward range of the uses that may want veneers, in bytes.
     pub range: Option<u32>,
 }
 
 /// What an item adds that has no use.
 #[inline(always)]
 fn without_use(growth: u64) -> Light
-    ensures { result ≡ record { growth = growth; site = None; range = None } }
+    ensures { result ≡ record { growth = growth; first = None; second = None; range = None } }
 {
     Light {
         growth,
-        site: None,
+        first: None,
+        second: None,
         range: None,
     }
 }
@@ -245,17 +274,41 @@ fn jump_light(dest: BranchTarget) -> Light
     match dest {
         BranchTarget::Label(label) => Light {
             growth: 36,
-            site: Some(Site {
+            first: Some(Site {
                 kind: LabelUse::Branch26,
                 target: Target::Label(label),
             }),
+            second: None,
             range: Some((1 << 27) - 1),
         },
         BranchTarget::ResolvedOffset(_) => without_use(8),
     }
 }
 
-/// What an instruction adds that is a jump, or one word and no branch.
+/// What a conditional branch with a jump behind it adds, where both go to labels.
+#[inline(always)]
+fn branches_light(kind: LabelUse, taken: BranchTarget, not_taken: BranchTarget) -> Option<Light>
+    requires { has_veneer kind ≡ true }
+    ensures { IfSome result (λ light. (form : Form) → IsLight (branches form kind taken not_taken) (size_of (branches form kind taken not_taken) + charge_of (branches form kind taken not_taken)) light) }
+{
+    match (taken, not_taken) {
+        (BranchTarget::Label(near), BranchTarget::Label(far)) => Some(Light {
+            growth: 68,
+            first: Some(Site {
+                kind,
+                target: Target::Label(near),
+            }),
+            second: Some(Site {
+                kind: LabelUse::Branch26,
+                target: Target::Label(far),
+            }),
+            range: Some(kind.max_pos_range().min((1 << 27) - 1)),
+        }),
+        _ => None,
+    }
+}
+
+/// What an instruction adds that is a branch, or one word and no use.
 #[inline(always)]
 fn control_light(inst: &Inst, _frame: &FrameLayout, _info: &EmitInfo) -> Option<Light>
     requires { group_of inst.now ≡ Control }
@@ -270,30 +323,80 @@ fn control_light(inst: &Inst, _frame: &FrameLayout, _info: &EmitInfo) -> Option<
         | Inst::Brk
         | Inst::Word4 { .. } => Some(without_use(8)),
         Inst::Jump { dest } => Some(jump_light(*dest)),
+        Inst::CondBr {
+            taken,
+            not_taken,
+            ..
+        } => branches_light(LabelUse::Branch19, *taken, *not_taken),
+        Inst::TestBitAndBranch {
+            taken,
+            not_taken,
+            ..
+        } => branches_light(LabelUse::Branch14, *taken, *not_taken),
         _ => None,
     }
 }
 
-/// What an item adds, where a look at it says that it has one use at most and needs no label near.
+/// What an access adds in a mode that an instruction holds, where its word is no use of a label.
+#[inline(always)]
+fn mode_light(mem: &AMode) -> Option<Light>
+    ensures { IfSome result (IsModeLight mem.now) }
+{
+    match *mem {
+        AMode::RegReg { .. }
+        | AMode::RegScaled { .. }
+        | AMode::RegScaledExtended { .. }
+        | AMode::RegExtended { .. }
+        | AMode::Unscaled { .. }
+        | AMode::UnsignedOffset { .. }
+        | AMode::SPPreIndexed { .. }
+        | AMode::SPPostIndexed { .. } => Some(without_use(8)),
+        AMode::Const { addr } => Some(Light {
+            growth: 36,
+            first: Some(Site {
+                kind: LabelUse::Ldr19,
+                target: Target::Constant(addr),
+            }),
+            second: None,
+            range: Some((1 << 20) - 1),
+        }),
+        _ => None,
+    }
+}
+
+/// What a load or a store of one register adds, in a mode that an instruction holds.
+#[inline(always)]
+fn memory_light(inst: &Inst, _frame: &FrameLayout, _info: &EmitInfo) -> Option<Light>
+    ensures { IfSome result (λ light. (asked_of inst.now ≡ None) × IsLight (inst_cells _frame.now _info.now inst.now) (size_of (inst_cells _frame.now _info.now inst.now) + charge_of (inst_cells _frame.now _info.now inst.now)) light) }
+{
+    match inst.access_ref() {
+        Some(access) => mode_light(access.mem),
+        None => None,
+    }
+}
+
+/// What an item adds, where a look at it says that it is no place for an island and needs no label near.
 #[inline(always)]
 pub fn light_of(item: &Item, frame: &FrameLayout, info: &EmitInfo) -> Option<Light>
-    ensures { IfSome result (IsLight (cells_of frame.now info.now item.now) (growth_of frame.now info.now item.now)) }
+    ensures light { IfSome result (IsLight (cells_of frame.now info.now item.now) (growth_of frame.now info.now item.now)) }
+    ensures place { IfSome result (λ _. asked item.now ≡ None) }
 {
     match item {
         Item::Bind(_) => Some(without_use(0)),
         Item::Emit { inst, map: _ } => match inst.group() {
             Group::Immediate | Group::Register => Some(without_use(8)),
             Group::Control => control_light(inst, frame, info),
-            Group::Memory => None,
+            Group::Sequence => None,
+            Group::Memory => memory_light(inst, frame, info),
         },
     }
 }
 
 /// How much an item may add to code, and its uses.
 #[inline(always)]
-pub fn burden_of(item: &Item, frame: &FrameLayout, info: &EmitInfo) -> Burden
+pub fn burden_of<'a>(item: &'a Item, frame: &FrameLayout, info: &EmitInfo) -> Burden<'a>
     ensures extent { IsExtent frame.now info.now item.now result.extent.size result.extent.charge result.extent.range }
-    ensures uses { uses_of 0 (cells_of frame.now info.now item.now) ≡ two_uses result.uses.first result.uses.second }
+    ensures uses { uses_of 0 (cells_of frame.now info.now item.now) ≡ listed_uses result.uses }
 {
     match item {
         Item::Bind(_) => Burden {

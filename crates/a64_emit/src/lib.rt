@@ -8,6 +8,7 @@ mod extent;
 mod halfword;
 mod label_use;
 mod mode;
+mod sequence;
 mod site;
 mod state;
 #[cfg(test)]
@@ -22,6 +23,6 @@ pub use error::EmitError;
 pub use extent::{Burden, Extent, Light, asked_space, burden_of, lesser, light_of};
 pub use halfword::has_halfword;
 pub use label_use::LabelUse;
-pub use site::{Site, Uses, near_label};
+pub use site::{Site, Table, Uses, near_label};
 pub use state::MachInstEmitState;
 pub use uses::uses_in;

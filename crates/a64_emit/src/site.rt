@@ -25,15 +25,26 @@ pub struct CellUse {
     pub site: Site,
 }
 
-/// The uses of the words of an instruction: no word behind the second is one.
-///
-/// An instruction with a table of targets, of which each entry is a use, is to have its list here too.
+/// A table of labels in the words of an instruction, of which each entry is a use.
 #[derive(Clone, Copy)]
-pub struct Uses {
+pub struct Table<'a> {
+    /// The index of the first entry among the words of the instruction.
+    pub first: usize,
+    /// The labels of the entries.
+    pub targets: &'a [MachLabel],
+    /// The label of the entry behind them.
+    pub default: MachLabel,
+}
+
+/// The uses of the words of an instruction: of the first two words, or of a table behind those.
+#[derive(Clone, Copy)]
+pub struct Uses<'a> {
     /// The use that the first word is, where it is one.
     pub first: Option<Site>,
     /// The use that the second word is, where it is one.
     pub second: Option<Site>,
+    /// The table, where there is one.
+    pub table: Option<Table<'a>>,
 }
 
 /// The label of a use that can have no veneer and has a range that code may outgrow.

@@ -1,17 +1,19 @@
 //! The uses of the words of instructions.
 
-ghost use Rattle.std.specs.Prelude.{◌≡◌, None};
-ghost use Rattle.a64_inst.specs.declared.group.Group.TheVariants.{Control, Memory};
+ghost use Rattle.std.specs.Prelude.{◌≡◌, ◌≤◌, None, length};
+ghost use Rattle.a64_base.specs.declared.reg.Reg.{Reg};
+ghost use Rattle.a64_inst.specs.declared.group.Group.TheVariants.{Control, Memory, Sequence};
 ghost use Rattle.a64_inst.specs.Groups.{group_of};
 ghost use Rattle.a64_rows.specs.Forms.{Form};
 ghost use Rattle.a64_emit.specs.Cells as cells;
-ghost use Rattle.a64_emit.specs.Cells.{branches, uses_of, two_uses, inst_uses};
+ghost use Rattle.a64_emit.specs.Cells.{branches, uses_of, listed_uses, inst_uses, table_forms};
 
 use crate::label_use::LabelUse;
-use crate::site::{Site, Uses};
+use crate::site::{Site, Table, Uses};
+use crate::word::sequence::has_barrier;
 use a64_base::{BranchTarget, TrapCode};
 use a64_buffer::Target;
-use a64_inst::{AMode, EmitInfo, FrameLayout, Group, Inst, MemLabel};
+use a64_inst::{AMode, EmitInfo, FrameLayout, Group, Inst, MemLabel, const_plan};
 
 /// The use that a branch is: none where it has its offset already.
 #[inline(always)]
@@ -40,31 +42,33 @@ pub fn trap_site(code: TrapCode) -> Site
 
 /// The uses of words of which only the first may be one.
 #[inline(always)]
-pub fn only_use(first: Option<Site>) -> Uses
-    ensures { result ≡ record { first = first; second = None } }
+pub fn only_use<'a>(first: Option<Site>) -> Uses<'a>
+    ensures { result ≡ record { first = first; second = None; table = None } }
 {
     Uses {
         first,
         second: None,
+        table: None,
     }
 }
 
 /// The uses of a conditional branch with a jump behind it.
 #[inline(always)]
-fn branches_uses(kind: LabelUse, taken: BranchTarget, not_taken: BranchTarget) -> Uses
-    ensures { (form : Form) → uses_of 0 (branches form kind taken not_taken) ≡ two_uses result.first result.second }
+fn branches_uses<'a>(kind: LabelUse, taken: BranchTarget, not_taken: BranchTarget) -> Uses<'a>
+    ensures { (form : Form) → uses_of 0 (branches form kind taken not_taken) ≡ listed_uses result }
 {
     Uses {
         first: branch_site(kind, taken),
         second: branch_site(LabelUse::Branch26, not_taken),
+        table: None,
     }
 }
 
 /// The uses of the words of a branch, an address or data.
 #[inline(always)]
-pub fn control_uses(inst: &Inst, _frame: &FrameLayout, _info: &EmitInfo) -> Uses
+pub fn control_uses<'a>(inst: &'a Inst, _frame: &FrameLayout, _info: &EmitInfo) -> Uses<'a>
     requires { group_of inst.now ≡ Control }
-    ensures { inst_uses _frame.now _info.now inst.now ≡ two_uses result.first result.second }
+    ensures { inst_uses _frame.now _info.now inst.now ≡ listed_uses result }
 {
     match inst {
         Inst::Jump { dest } => only_use(branch_site(LabelUse::Branch26, *dest)),
@@ -146,21 +150,54 @@ fn memory_site(inst: &Inst) -> Option<Site>
 
 /// The uses of the words of a load or a store, or of an address.
 #[inline(always)]
-pub fn memory_uses(inst: &Inst, _frame: &FrameLayout, _info: &EmitInfo) -> Uses
+pub fn memory_uses<'a>(inst: &'a Inst, _frame: &FrameLayout, _info: &EmitInfo) -> Uses<'a>
     requires { group_of inst.now ≡ Memory }
-    ensures { inst_uses _frame.now _info.now inst.now ≡ two_uses result.first result.second }
+    ensures { inst_uses _frame.now _info.now inst.now ≡ listed_uses result }
 {
     only_use(memory_site(inst))
 }
 
+/// How many words stand before the table of a jump through so many targets: the steps of their number, the
+/// choice of an index, a barrier where the settings ask for one, and the jump to the entry.
+pub fn table_start(targets: usize, info: &EmitInfo) -> usize
+    ensures start { (ridx rtmp1 rtmp2 : Reg) → result ≡ length (table_forms info.now targets ridx rtmp1 rtmp2) }
+    ensures few { result ≤ 10 }
+{
+    const_plan(targets as u64).len() + 5 + usize::from(has_barrier(info))
+}
+
+/// The uses of the words of a sequence: the entries of the table behind a jump through one.
+pub fn sequence_uses<'a>(inst: &'a Inst, _frame: &FrameLayout, info: &EmitInfo) -> Uses<'a>
+    requires { group_of inst.now ≡ Sequence }
+    ensures { inst_uses _frame.now info.now inst.now ≡ listed_uses result }
+{
+    match inst {
+        Inst::JTSequence {
+            default,
+            targets,
+            ..
+        } => Uses {
+            first: None,
+            second: None,
+            table: Some(Table {
+                first: table_start(targets.len(), info),
+                targets: targets.as_slice(),
+                default: *default,
+            }),
+        },
+        _ => only_use(None),
+    }
+}
+
 /// The uses of the words of an instruction.
 #[inline(always)]
-pub fn uses_in(inst: &Inst, frame: &FrameLayout, info: &EmitInfo) -> Uses
-    ensures { inst_uses frame.now info.now inst.now ≡ two_uses result.first result.second }
+pub fn uses_in<'a>(inst: &'a Inst, frame: &FrameLayout, info: &EmitInfo) -> Uses<'a>
+    ensures { inst_uses frame.now info.now inst.now ≡ listed_uses result }
 {
     match inst.group() {
         Group::Immediate | Group::Register => only_use(None),
         Group::Control => control_uses(inst, frame, info),
+        Group::Sequence => sequence_uses(inst, frame, info),
         Group::Memory => memory_uses(inst, frame, info),
     }
 }

@@ -3,3 +3,4 @@
 pub mod control;
 pub mod integer;
 pub mod memory;
+pub mod sequence;

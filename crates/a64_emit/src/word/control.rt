@@ -102,7 +102,7 @@ pub fn test_bit_and_branch_word(
 
 /// The word of an `IndirectBr`.
 #[tactic(auto, using(crate::proofs::Operands::general), unfolding(crate::specs::ControlForms::indirect_br_form))]
-fn indirect_br_word(rn: Reg) -> u32
+pub fn indirect_br_word(rn: Reg) -> u32
     requires { is_register_or_zero Refused rn ≡ true }
     ensures { result ≡ form_word (forms.indirect_br_form rn) }
 {

@@ -1,26 +1,27 @@
 //! The words of loads and stores, and of addresses.
 
-mod access;
+pub mod access;
 mod address;
-mod step;
+pub mod step;
 
-ghost use Rattle.std.specs.Prelude.{◌≡◌, [], length, true, MatchOption};
+ghost use Rattle.std.specs.Prelude.{◌≡◌, [], length, true, false, is_some, IfSome, MatchOption};
 ghost use Rattle.a64_inst.specs.declared.group.Group.TheVariants.{Memory};
 ghost use Rattle.a64_inst.specs.declared.virtuals.VirtualRegisters.TheVariants.{Refused};
 ghost use Rattle.a64_inst.specs.Groups.{group_of};
 ghost use Rattle.a64_inst.specs.Faults.{has_operands, has_mode};
 ghost use Rattle.a64_inst.specs.MemoryOperands as memory;
+ghost use Rattle.a64_inst.specs.Modes.{base_offset_of};
 ghost use Rattle.a64_emit.specs.Cells.{Words, shape_of, access_shape, inst_cells};
 ghost use Rattle.a64_emit.specs.Words.{AreSeveral};
 
 use crate::mode::{final_mode, final_steps};
 use crate::site::Site;
 use crate::uses::mode_site;
-use crate::word::memory::access::{held_word, pair_word};
+use crate::word::memory::access::{held_word, in_code_word, pair_word};
 use crate::word::memory::address::{address_count, address_words};
 use crate::word::memory::step::step_words;
 use a64_base::{TrapCode, writable_spilltmp_reg};
-use a64_inst::{Access, EmitInfo, FrameLayout, Inst};
+use a64_inst::{AccessRef, EmitInfo, FrameLayout, Inst};
 use arrayvec::ArrayVec;
 
 /// Words of which only the last may be a use, and may trap.
@@ -38,20 +39,62 @@ pub struct SeveralWords {
 
 /// The words of a load or a store of one register.
 #[tactic(auto, unfolding(a64_inst::specs::MemoryOperands::are_access_operands))]
-fn access_words(access: &Access, frame: &FrameLayout) -> SeveralWords
+fn access_words(access: &AccessRef<'_>, frame: &FrameLayout) -> SeveralWords
     requires operands { memory.are_access_operands frame.now Refused access.now ≡ true }
     requires mode { memory.has_access_mode access.now.op access.now.mem ≡ true }
     ensures { AreSeveral result.first.items result.last result.site result.trap (access_shape frame.now access.now) }
 {
     let ty = access.ty();
-    let steps = final_steps(frame, ty, &access.mem);
-    let mode = final_mode(frame, ty, &access.mem);
+    let steps = final_steps(frame, ty, access.mem);
+    let mode = final_mode(frame, ty, access.mem);
     SeveralWords {
         first: step_words(writable_spilltmp_reg(), steps.as_slice()),
         last: held_word(access.op, access.reg, &mode),
-        site: mode_site(&access.mem),
+        site: mode_site(access.mem),
         trap: access.flags.trap_code(),
     }
+}
+
+/// A word that may be a use, and may trap.
+#[derive(Clone, Copy)]
+pub struct LastWord {
+    /// The word.
+    pub word: u32,
+    /// The use that it is, where it is one.
+    pub site: Option<Site>,
+    /// The code of the trap that is recorded at it.
+    pub trap: Option<TrapCode>,
+}
+
+/// The word of a load or a store of one register in a mode that an instruction holds.
+#[tactic(auto, unfolding(a64_inst::specs::MemoryOperands::are_access_operands))]
+#[inline(always)]
+fn held_access(access: &AccessRef<'_>, _frame: &FrameLayout) -> LastWord
+    requires operands { memory.are_access_operands _frame.now Refused access.now ≡ true }
+    requires mode { memory.has_access_mode access.now.op access.now.mem ≡ true }
+    requires held { is_some (base_offset_of _frame.now access.now.mem) ≡ false }
+    ensures { AreSeveral [] result.word result.site result.trap (access_shape _frame.now access.now) }
+{
+    LastWord {
+        word: in_code_word(access.op, access.reg, access.mem),
+        site: mode_site(access.mem),
+        trap: access.flags.trap_code(),
+    }
+}
+
+/// The word of an instruction that is a load or a store of one register in a mode that an instruction
+/// holds.
+#[inline(always)]
+pub fn held_memory_word(inst: &Inst, frame: &FrameLayout, _info: &EmitInfo) -> Option<LastWord>
+    requires good { has_operands frame.now _info.now Refused inst.now ≡ true }
+    requires mode { has_mode inst.now ≡ true }
+    ensures { IfSome result (λ last. AreSeveral [] last.word last.site last.trap (shape_of frame.now _info.now inst.now)) }
+{
+    let access = inst.access_ref()?;
+    if access.mem.has_wide_offset() {
+        return None;
+    }
+    Some(held_access(&access, frame))
 }
 
 /// The words of a load or a store, or of an address, where there are any.
@@ -62,7 +105,7 @@ pub fn memory_words(inst: &Inst, frame: &FrameLayout, info: &EmitInfo) -> Option
     ensures { MatchOption result (shape_of frame.now info.now inst.now ≡ Words [])
         (λ words. AreSeveral words.first.items words.last words.site words.trap (shape_of frame.now info.now inst.now)) }
 {
-    if let Some(access) = inst.access() {
+    if let Some(access) = inst.access_ref() {
         return Some(access_words(&access, frame));
     }
     let (last, flags) = match inst {
@@ -94,8 +137,8 @@ pub fn memory_count(inst: &Inst, frame: &FrameLayout, info: &EmitInfo) -> u64
     requires { group_of inst.now ≡ Memory }
     ensures { result ≡ length (inst_cells frame.now info.now inst.now) }
 {
-    if let Some(access) = inst.access() {
-        return final_steps(frame, access.ty(), &access.mem).len() as u64 + 1;
+    if let Some(access) = inst.access_ref() {
+        return final_steps(frame, access.ty(), access.mem).len() as u64 + 1;
     }
     match inst {
         Inst::LoadAddr { rd, mem } => address_count(&rd.to_reg(), frame, mem),

@@ -6,7 +6,7 @@ ghost use Rattle.a64_imms.specs.ScaledOffsets.{uimm12_value, uimm12_scale};
 ghost use Rattle.a64_imms.specs.Scales.{type_bytes};
 ghost use Rattle.a64_base.specs.declared.ir_type.IrType.TheVariants.{I64};
 ghost use Rattle.a64_inst.specs.declared.virtuals.VirtualRegisters.TheVariants.{Refused};
-ghost use Rattle.a64_inst.specs.FinalModes.{parts_of};
+ghost use Rattle.a64_inst.specs.FinalModes.{held_mode, parts_of};
 ghost use Rattle.a64_inst.specs.MemoryOperands.{is_data_register, are_pair_operands, is_simm7_of};
 ghost use Rattle.a64_inst.specs.Operands.{is_offset, is_register_or_zero};
 ghost use Rattle.a64_ops.specs.Accesses.{size_of, vector_of, opc_of, literal_of};
@@ -44,7 +44,7 @@ fn imm9_word(op: AccessOp, rt: Reg, mode: u32, rn: Reg, simm9: SImm9) -> u32
 }
 
 /// The word of an access with an unsigned offset.
-fn unsigned_word(op: AccessOp, rt: Reg, rn: Reg, uimm12: UImm12Scaled) -> u32
+pub fn unsigned_word(op: AccessOp, rt: Reg, rn: Reg, uimm12: UImm12Scaled) -> u32
     requires rt { is_data_register Refused op rt ≡ true }
     requires rn { IsGeneral rn }
     ensures { result ≡ form_word (forms.unsigned_form op rt rn (uimm12_value uimm12 / type_bytes (uimm12_scale uimm12))) }
@@ -53,7 +53,7 @@ fn unsigned_word(op: AccessOp, rt: Reg, rn: Reg, uimm12: UImm12Scaled) -> u32
 }
 
 /// The word of an access with an index.
-fn indexed_word(
+pub fn indexed_word(
     op: AccessOp,
     rt: Reg,
     rn: Reg,
@@ -89,7 +89,7 @@ fn literal_bits(op: AccessOp) -> u32
 }
 
 /// The word of the load of a literal.
-fn literal_word(op: AccessOp, rt: Reg, words: u32) -> u32
+pub fn literal_word(op: AccessOp, rt: Reg, words: u32) -> u32
     requires rt { is_data_register Refused op rt ≡ true }
     requires words { words < 2 ^ 19 }
     ensures { result ≡ form_word (forms.literal_form op rt words) }
@@ -124,6 +124,20 @@ pub fn held_word(op: AccessOp, rt: Reg, mode: &AMode) -> u32
         | AMode::SlotOffset { .. }
         | AMode::RegOffset { .. }
         | AMode::Const { .. } => nop4_word(),
+    }
+}
+
+/// The word of a load or a store of one register in a mode without an offset of 64 bits: a constant is a
+/// literal in the pool.
+#[inline(always)]
+pub fn in_code_word(op: AccessOp, rt: Reg, mem: &AMode) -> u32
+    requires rt { is_data_register Refused op rt ≡ true }
+    requires mode { are_held_parts op (parts_of (held_mode true mem.now)) ≡ true }
+    ensures { result ≡ form_word (forms.held_form op rt (parts_of (held_mode true mem.now))) }
+{
+    match mem {
+        AMode::Const { addr: _ } => literal_word(op, rt, 0),
+        _ => held_word(op, rt, mem),
     }
 }
 
