@@ -13,7 +13,7 @@ use Rattle.a64_buffer.specs.declared.site.Target.{Target}
 use Rattle.a64_buffer.specs.declared.site.Target.TheVariants.{Trap}
 use Rattle.a64_buffer.specs.declared.finish.Finished.{Finished}
 use Rattle.a64_buffer.specs.declared.force.ForceVeneers.{ForceVeneers}
-use Rattle.a64_buffer.specs.Buffer.{Buffer, label_of, IsFree}
+use Rattle.a64_buffer.specs.Buffer.{Records, Buffer, label_of, IsFree}
 use Rattle.a64_buffer.specs.Classes.{wants, class, class_of}
 use Rattle.a64_buffer.specs.Finished.{IsFinished}
 use Rattle.a64_emit.specs.declared.code.Code.{Code}
@@ -24,15 +24,16 @@ use Rattle.a64_emit.specs.Cells.{Cell, cell_word, cells_of}
 use Rattle.a64_emit.specs.Emission.{site_of, HasUse, IsPut}
 use Rattle.a64_emit.specs.Layout.{standing}
 use Rattle.a64_emit.specs.Contents.{IsCellUse}
-use Rattle.a64_emit.specs.Records.{relocs_of, calls_of, patchable_of, maps_of, reloc_from, number_from, map_from, IsTrapOf, IsDeferredTrap, HasRecords}
+use Rattle.a64_emit.specs.Records.{calls_of, patchable_of, maps_of, number_from, map_from, IsTrapOf, IsDeferredTrap, HasRecords}
 use Rattle.a64_assemble.proofs.Arrivals.{no_use, IsOutput, old_site, final_use, final_index, stops_at, site_leads}
-use Rattle.a64_assemble.proofs.Recorded.{all_from-nothing, traps_exact}
+use Rattle.a64_assemble.proofs.Recorded.{all_from-nothing, relocs_from_items, traps_exact}
 use Rattle.a64_assemble.proofs.FieldKinds.{one_stop}
 use Rattle.a64_emit.proofs.Targets.{IsCodeTarget, IsCodeSite}
 use Rattle.a64_assemble.specs.Elements.{cells_in, elements_of}
 use Rattle.a64_assemble.specs.Progress.{HasPut}
 use Rattle.a64_assemble.specs.Owners.{AreOwned}
-use Rattle.a64_assemble.specs.TrapRecords.{IsStoppedTrap, HasTraps, AreRecorded}
+use Rattle.a64_assemble.specs.CellRecords.{records_in, AreRecorded}
+use Rattle.a64_assemble.specs.TrapRecords.{IsStoppedTrap, HasTraps}
 use Rattle.a64_assemble.proofs.Leading.{standing_targets, trap_kind, code_no_end, all_put}
 use Rattle.a64_assemble.proofs.Placing.{all_cells_are}
 use Rattle.a64_assemble.proofs.Recording.{served_traps}
@@ -47,7 +48,7 @@ module _ (frame : FrameLayout) (flags : EmitFlags) (items : List Item) (force : 
   -- the pool's trap words included
   all_traps : HasTraps cells f.final
   all_traps = subst (λ cs. HasTraps cs f.final) (all_cells_are frame flags items out.places.items)
-      (served_traps (standing (map cells_in (take (length (elements_of frame flags items)) (elements_of frame flags items))) out.places.items) b b f.final refl (omega arith) f.later b.labels b.constants f.served f.serves recorded)
+      (served_traps (standing (map cells_in (take (length (elements_of frame flags items)) (elements_of frame flags items))) out.places.items) b b f.final refl (omega arith) f.later b.labels b.constants f.served f.serves recorded.traps)
 
   traps_are : out.traps.items ≡ f.final.traps
   traps_are = o.traps ∙ f.traps
@@ -122,13 +123,17 @@ module _ (frame : FrameLayout) (flags : EmitFlags) (items : List Item) (force : 
     ],
   )
 
+  -- what else the buffer has recorded
+  records_are : b.records ≡ records_in cells
+  records_are = subst (λ cs. b.records ≡ records_in cs) (all_cells_are frame flags items out.places.items) recorded.records
+
   -- the code has the records of its items, and no others, by place
   pub code_records : out.relocs.items ≡ code.relocs.items → out.calls.items ≡ code.calls.items → out.patchable.items ≡ code.patchable.items → out.maps.items ≡ code.maps.items → HasRecords frame flags items out
   code_records relocs calls patchable maps = record {
-    relocs = relocs ∙ f.relocs ∙ sym (all_from-nothing reloc_from (relocs_of frame flags) (λ item. refl) out.places.items items);
+    relocs = relocs ∙ f.relocs ∙ ap (λ (rs : Records). rs.relocs) records_are ∙ relocs_from_items frame flags out.places.items items;
     traps_ordered = code_traps_ordered;
     traps = code_traps;
-    calls = calls ∙ f.calls ∙ sym (all_from-nothing ◌+◌ (calls_of frame flags) (λ item. refl) out.places.items items);
-    patchable = patchable ∙ f.patchable ∙ sym (all_from-nothing number_from (patchable_of frame flags) (λ item. refl) out.places.items items);
-    maps = maps ∙ f.maps ∙ sym (all_from-nothing map_from (maps_of frame flags) (λ item. refl) out.places.items items);
+    calls = calls ∙ f.calls ∙ ap (λ (rs : Records). rs.calls) records_are ∙ sym (all_from-nothing ◌+◌ (calls_of frame flags) (λ item. refl) out.places.items items);
+    patchable = patchable ∙ f.patchable ∙ ap (λ (rs : Records). rs.patchable) records_are ∙ sym (all_from-nothing number_from (patchable_of frame flags) (λ item. refl) out.places.items items);
+    maps = maps ∙ f.maps ∙ ap (λ (rs : Records). rs.maps) records_are ∙ sym (all_from-nothing map_from (maps_of frame flags) (λ item. refl) out.places.items items);
   }

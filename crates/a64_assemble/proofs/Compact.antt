@@ -4,9 +4,11 @@ use Rattle.std.specs.Prelude.{All}
 use Rattle.std.specs.List.{cons_option}
 use Rattle.std.proofs.lemmas.Bool.{false≢true}
 use Rattle.std.proofs.lemmas.List.Elements.{All-cons, All-map}
+use Rattle.a64_base.specs.declared.entity.MachLabel.{MachLabel}
 use Rattle.a64_base.specs.declared.entity.TrapCode.{TrapCode}
 use Rattle.a64_base.specs.declared.ir_type.IrType.{IrType}
 use Rattle.a64_base.specs.declared.ir_type.IrType.TheVariants.{I8}
+use Rattle.a64_base.specs.declared.reg.Reg.{Reg}
 use Rattle.a64_base.specs.declared.target.BranchTarget.{BranchTarget}
 use Rattle.a64_base.specs.declared.target.BranchTarget.TheVariants as branch_targets
 use Rattle.a64_inst.specs.declared.access.Access.{Access}
@@ -27,11 +29,12 @@ use Rattle.a64_emit.specs.declared.site.Site.{Site}
 use Rattle.a64_emit.specs.LabelUses.{label_kinds}
 use Rattle.a64_emit.specs.ControlForms as control
 use Rattle.a64_emit.specs.MemoryForms.{step_forms, offset_register, access_form}
-use Rattle.a64_emit.specs.Cells.{Cell, FormOf, branch, branches, mode_site, shape_cells, access_shape, other_shape, several, inst_cells}
+use Rattle.a64_emit.specs.Cells.{Cell, FormOf, branch, branches, entry_site, table_labels, table_jump, mode_site, shape_cells, access_shape, other_shape, several, inst_cells}
 use Rattle.a64_emit.specs.Bounds.{ranges_in, size_of, asked_of}
 use Rattle.a64_emit.specs.Contents.{site_class}
 use Rattle.a64_assemble.specs.Elements.{Words, Asking, element_of, elements_of, AreCompact, IsCompact}
 use Rattle.a64_emit.proofs.Several.{several_sites, address_sites}
+use Rattle.a64_emit.proofs.TableUses.{table_jump_sites}
 use Rattle.a64_rows.specs.Forms.{Form}
 
 -- a use of cells that is compact
@@ -63,6 +66,12 @@ middle_compact form (branch_targets.Label a) (branch_targets.ResolvedOffset n) =
 middle_compact form (branch_targets.ResolvedOffset m) (branch_targets.Label b) = one_site (branches form uses.Branch19 (branch_targets.ResolvedOffset m) (branch_targets.Label b)) _ (λ w. omega arith)
 middle_compact form (branch_targets.ResolvedOffset m) (branch_targets.ResolvedOffset n) = no_sites (branches form uses.Branch19 (branch_targets.ResolvedOffset m) (branch_targets.ResolvedOffset n))
 
+-- no entry of a table wants anything
+table_compact : (flags : EmitFlags) (default : MachLabel) (targets : List MachLabel) (ridx rtmp1 rtmp2 : Reg) → AreCompact (table_jump flags default targets ridx rtmp1 rtmp2)
+table_compact flags default targets ridx rtmp1 rtmp2 =
+    subst (All (SiteIsCompact (table_jump flags default targets ridx rtmp1 rtmp2))) (sym (table_jump_sites flags default targets ridx rtmp1 rtmp2))
+    (All-map (SiteIsCompact (table_jump flags default targets ridx rtmp1 rtmp2)) entry_site (table_labels default targets) (λ k d w want. absurd (false≢true want)))
+
 module _ (frame : FrameLayout) (flags : EmitFlags) where
   -- a label of a literal wants nothing; a constant's load is one word
   access_compact : (ty : IrType) (form : Form) (mem : AMode) (trap : Option TrapCode) → AreCompact (several (step_forms offset_register (final_steps frame ty mem)) (FormOf form) (mode_site mem) trap)
@@ -82,6 +91,7 @@ module _ (frame : FrameLayout) (flags : EmitFlags) where
   other_compact (insts.TestBitAndBranch kind taken not_taken rn bit) = near_compact (control.test_bit_and_branch_form kind taken rn bit) taken not_taken
   other_compact (insts.LabelAddress dst label) = one_site (shape_cells (other_shape frame flags (insts.LabelAddress dst label))) _ (λ w. absurd (false≢true w))
   other_compact (insts.TrapIf kind code) = one_site (shape_cells (other_shape frame flags (insts.TrapIf kind code))) _ (λ w. omega arith)
+  other_compact (insts.JTSequence default targets ridx rtmp1 rtmp2) = table_compact flags default targets ridx rtmp1 rtmp2
   other_compact (insts.LoadAddr rd mem) = subst (All (SiteIsCompact (shape_cells (other_shape frame flags (insts.LoadAddr rd mem))))) (sym (address_sites rd (step_forms offset_register (final_steps frame I8 mem)) (final_mode frame I8 mem))) (no_sites (shape_cells (other_shape frame flags (insts.LoadAddr rd mem))))
   other_compact _ = λ k d w. absurd (omega arith)
 

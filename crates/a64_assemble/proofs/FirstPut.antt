@@ -6,7 +6,7 @@ use Rattle.a64_inst.specs.declared.emission.EmitFlags.{EmitFlags}
 use Rattle.a64_inst.specs.declared.frame.FrameLayout.{FrameLayout}
 use Rattle.a64_inst.specs.declared.item.Item.{Item}
 use Rattle.a64_buffer.specs.declared.force.ForceVeneers.{ForceVeneers}
-use Rattle.a64_buffer.specs.Buffer.{Buffer, end_of}
+use Rattle.a64_buffer.specs.Buffer.{Buffer, end_of, no_records}
 use Rattle.a64_buffer.specs.Later.{IsLater}
 use Rattle.a64_buffer.specs.Sound.{IsWhole}
 use Rattle.a64_emit.specs.declared.label_use.LabelUse.{LabelUse}
@@ -29,13 +29,13 @@ use Rattle.a64_assemble.proofs.Recording.{recorded_none, recorded_step}
 
 module _ (force : ForceVeneers) (xs : List Element) (good : AreGood xs) where
   -- before the first
-  pub first_none : (b : Buffer LabelUse) → IsWhole label_kinds b → b.words ≡ [] → b.uses ≡ [] → b.labels ≡ empty → b.islands ≡ [] → b.traps ≡ [] → HasPutFirst force xs 0 [] b
-  first_none b is_whole words uses labels islands traps = record {
+  pub first_none : (b : Buffer LabelUse) → IsWhole label_kinds b → b.words ≡ [] → b.uses ≡ [] → b.labels ≡ empty → b.islands ≡ [] → b.traps ≡ [] → b.records ≡ no_records → HasPutFirst force xs 0 [] b
+  first_none b is_whole words uses labels islands traps records = record {
     whole = is_whole;
     put = put_none force xs good b words uses labels islands;
     distances = distances_none xs b words uses;
     owned = owned_none xs b uses;
-    recorded = recorded_none xs b traps;
+    recorded = recorded_none xs b traps records;
   }
 
   module _ (k : ℕ) (places : List ℕ) (b b' : Buffer LabelUse) (within : k < length xs) (h : HasPutFirst force xs k places b) where

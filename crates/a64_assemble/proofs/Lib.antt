@@ -1,6 +1,7 @@
 pub mod Sizes
 pub mod Bindings
 pub mod Constants
+pub mod MissingLabels
 pub mod Nears
 pub mod Checked
 pub mod Spans

@@ -8,7 +8,10 @@ use Rattle.a64_inst.specs.declared.frame.FrameLayout.{FrameLayout}
 use Rattle.a64_inst.specs.declared.inst.Inst.TheVariants as insts
 use Rattle.a64_inst.specs.declared.item.Item.{Item}
 use Rattle.a64_inst.specs.declared.item.Item.TheVariants.{Bind, Emit}
-use Rattle.a64_emit.specs.Bounds.{IsExtent, item_charge, asked}
+use Rattle.a64_emit.specs.declared.extent.Light.{Light}
+use Rattle.a64_emit.specs.Bounds.{IsExtent, item_charge, charge_of, growth_of, asked}
+use Rattle.a64_emit.specs.Cells.{Cell, cells_of, inst_cells}
+use Rattle.a64_emit.specs.Lights.{IsLight}
 use Rattle.a64_assemble.specs.Elements.{Element, Binding, Words, Asking, size_in, charge_in, space_in, growth_in, add_more, element_of, elements_of, whole_in, next_room}
 use Rattle.a64_assemble.proofs.Itemized.{cells_same}
 
@@ -54,6 +57,17 @@ module _ (frame : FrameLayout) (flags : EmitFlags) where
   charge_same (Bind label) = refl
   charge_same (Emit (insts.EmitIsland space) kept) = refl
   charge_same (Emit _ kept) = refl
+
+  -- an item without words that is no place for an island is charged for nothing
+  sized : (x : Item) → asked x ≡ None → size_in (element_of frame flags x) ≡ 0 → charge_in (element_of frame flags x) + space_in (element_of frame flags x) ≡ 0
+  sized (Bind label) none s = refl
+  sized (Emit inst kept) none s =
+      let is : element_of frame flags (Emit inst kept) ≡ Words (inst_cells frame flags inst) = ap (λ o. elim o [ None ↦ Words (inst_cells frame flags inst) | Some space ↦ Asking space ]) none in
+      ap (λ x. charge_in x + space_in x) is ∙ empty (inst_cells frame flags inst) (sym (ap size_in is) ∙ s)
+    where
+      empty : (cells : List Cell) → size_in (Words cells) ≡ 0 → charge_of cells + 0 ≡ 0
+      empty [] s = refl
+      empty (c ∷ cs) s = absurd (omega (arith, s))
 
   abbrev xs_from : List Item → ℕ → List Element
   xs_from items i = elements_of frame flags (drop i items)
@@ -115,3 +129,25 @@ module _ (frame : FrameLayout) (flags : EmitFlags) where
 
     pub charge_exact : charge ≡ charge_in (element_of frame flags x) + space_in (element_of frame flags x)
     charge_exact = omega (arith, e.charge_is, small, charge_same x)
+
+  -- the same of one of which a look says what it adds
+  module _ (items : List Item) (i places : ℕ) (x : Item) (within : i < length items) (is : x ≡ get_or items i x) (whole : whole_in (elements_of frame flags items) < 2 ^ 31) (h : HasPassed items i places) (light : Light) (e : IsLight (cells_of frame flags x) (growth_of frame flags x) light) (place : asked x ≡ None) where
+    growth_split : light.growth ≡ size_in (element_of frame flags x) + (charge_in (element_of frame flags x) + space_in (element_of frame flags x))
+    growth_split = omega (arith, e.growth_is, ap length (cells_same frame flags x), charge_same x)
+
+    some : light.growth ≢ 0 → size_in (element_of frame flags x) ≢ 0
+    some ne = λ s. ne (omega (arith, growth_split, s, sized x place s))
+
+    pub light_short : places + light.growth < 2 ^ 31
+    light_short = let z = short_here items i places x within is whole h (size_in (element_of frame flags x)) (charge_in (element_of frame flags x) + space_in (element_of frame flags x)) refl refl in omega (arith, z, growth_split)
+
+    pub light_four : light.growth ≢ 0 → 4 ≤ light.growth
+    light_four ne = let z = charged_here items i places x within is whole h (size_in (element_of frame flags x)) (charge_in (element_of frame flags x) + space_in (element_of frame flags x)) refl refl (some ne) in omega (arith, z, growth_split)
+
+    pub light_found : light.growth ≢ 0 → next_room (elements_of frame flags items) ≡ Some (light.growth - 4 + places)
+    light_found ne =
+        found_here items i places x within is whole h (size_in (element_of frame flags x)) (charge_in (element_of frame flags x) + space_in (element_of frame flags x)) refl refl (some ne)
+        ∙ ap (λ n. Some n) (omega (arith, growth_split))
+
+    pub light_pass : light.growth ≡ 0 → HasPassed items (i + 1) places
+    light_pass z = pass_by items i places x within is whole h (size_in (element_of frame flags x)) (charge_in (element_of frame flags x) + space_in (element_of frame flags x)) refl refl (omega (arith, growth_split, z)) (omega (arith, growth_split, z))

@@ -1,10 +1,11 @@
 -- The uses of instructions' words are of fields that their rows have.
-use Rattle.std.proofs.Common.{ℕ, pos, ◌≡◌, ◌⊎◌, suc, zero, List, [], ◌∷◌, Option, None, Some, refl, sym, subst, arith, inl, inr}
+use Rattle.std.proofs.Common.{ℕ, pos, ◌≡◌, ◌⊎◌, ◌+◌, ◌*◌, suc, zero, List, [], ◌∷◌, ◌++◌, length, map, Option, None, Some, refl, sym, subst, arith, inl, inr}
 use Rattle.std.specs.Prelude.{All}
 use Rattle.std.specs.List.{cons_option}
 use Rattle.a64_base.specs.declared.cond.CondBrKind.{CondBrKind}
 use Rattle.a64_base.specs.declared.cond.CondBrKind.TheVariants.{Zero, NotZero, Cond}
 use Rattle.a64_base.specs.declared.cond.TestBitAndBranchKind.{TestBitAndBranchKind}
+use Rattle.a64_base.specs.declared.entity.MachLabel.{MachLabel}
 use Rattle.a64_base.specs.declared.entity.TrapCode.{TrapCode}
 use Rattle.a64_base.specs.declared.ir_type.IrType.{IrType}
 use Rattle.a64_base.specs.declared.ir_type.IrType.TheVariants.{I8}
@@ -32,7 +33,7 @@ use Rattle.a64_emit.specs.LabelUses.{mask_for}
 use Rattle.a64_emit.specs.IntegerForms.{adr_form}
 use Rattle.a64_emit.specs.ControlForms.{jump_form, cond_br_form, trap_if_form, test_bit_and_branch_form, label_address_form}
 use Rattle.a64_emit.specs.MemoryForms.{step_forms, offset_register, literal_form, held_form, access_steps, access_form}
-use Rattle.a64_emit.specs.Cells.{Body, FormOf, Data, Cell, branch, trap_site, last_cell, several, mode_site, shape_cells, access_shape, other_shape, inst_cells, cells_of, sites_of}
+use Rattle.a64_emit.specs.Cells.{Body, FormOf, Data, Cell, plain, branch, trap_site, last_cell, several, entry_site, table_labels, table_cells, table_forms, table_jump, mode_site, shape_cells, access_shape, other_shape, inst_cells, cells_of, sites_of}
 use Rattle.a64_emit.proofs.Several.{address_sites}
 use Rattle.a64_assemble.proofs.ReadingBack.{IsOpenTo, IsOpenUse, IsOpenCell, open_branch26, open_branch_cond, open_compare_branch, open_test_branch, open_adr, open_ld_literal}
 
@@ -62,6 +63,20 @@ several_cells : (forms : List Form) (body : Body) (site : Option Site) (trap : O
 several_cells [] body site trap last k d h = only_cell (last_cell body site trap) last k d h
 several_cells (f ∷ forms) body site trap last zero d h = tt
 several_cells (f ∷ forms) body site trap last (suc k) d h = several_cells forms body site trap last k d (omega arith)
+
+-- ---- tables
+
+plain_open : (forms : List Form) (cells : List Cell) → All IsOpenCell cells → All IsOpenCell (map plain forms ++ cells)
+plain_open [] cells all = all
+plain_open (f ∷ forms) cells all = one_more (plain f) (map plain forms ++ cells) tt (plain_open forms cells all)
+
+entries_open : (k : ℕ) (labels : List MachLabel) → All IsOpenCell (table_cells k labels)
+entries_open k [] = λ j d h. absurd (omega arith)
+entries_open k (label ∷ labels) = one_more (last_cell (Data (4 * k)) (Some (entry_site label)) None) (table_cells (k + 1) labels) tt (entries_open (k + 1) labels)
+
+-- the words before a table are no uses, and its entries are data
+table_open : (flags : EmitFlags) (default : MachLabel) (targets : List MachLabel) (ridx rtmp1 rtmp2 : Reg) → All IsOpenCell (table_jump flags default targets ridx rtmp1 rtmp2)
+table_open flags default targets ridx rtmp1 rtmp2 = plain_open (table_forms flags (length targets) ridx rtmp1 rtmp2) (table_cells 0 (table_labels default targets)) (entries_open 0 (table_labels default targets))
 
 -- ---- branches, and addresses of labels
 
@@ -120,6 +135,7 @@ module _ (frame : FrameLayout) (flags : EmitFlags) where
   other_open (insts.TrapIf kind trap_code) = inr (only_cell (last_cell (FormOf (trap_if_form kind)) (Some (trap_site trap_code)) None) (trap_if_open kind))
   other_open (insts.LabelAddress dst label) =
       inr (only_cell (branch (label_address_form dst) uses.Adr21 (branch_targets.Label label)) (branch_open (label_address_form dst) uses.Adr21 (branch_targets.Label label) (address_open dst)))
+  other_open (insts.JTSequence default targets ridx rtmp1 rtmp2) = inr (table_open flags default targets ridx rtmp1 rtmp2)
   other_open (insts.LoadAddr rd mem) = inl (address_sites rd (step_forms offset_register (final_steps frame I8 mem)) (final_mode frame I8 mem))
   other_open _ = inl refl
 

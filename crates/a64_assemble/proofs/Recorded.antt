@@ -1,16 +1,16 @@
--- Records of items: of items that make none, and the traps of all.
+-- Records of items: of items that make none, and the relocations and traps of all.
 use Rattle.std.proofs.Common.{ℕ, ◌≡◌, ◌+◌, ◌<◌, suc, zero, List, [], ◌∷◌, ◌++◌, map, Option, None, Some, ap, ◌∙◌, refl, sym, subst, arith, inl, inr}
 use Rattle.std.specs.Prelude.{Contains, option_map, ◌↔◌}
-use Rattle.std.specs.List.{slice_get, cons_option}
+use Rattle.std.specs.List.{filter_map, slice_get, cons_option}
 use Rattle.std.proofs.lemmas.List.{get_or-map, length-map}
 use Rattle.std.proofs.lemmas.List.Elements.{filter_map-append, Contains-append_cases, Contains-append_left, Contains-append_right}
 use Rattle.a64_base.specs.declared.entity.TrapCode.{TrapCode}
 use Rattle.a64_inst.specs.declared.emission.EmitFlags.{EmitFlags}
 use Rattle.a64_inst.specs.declared.frame.FrameLayout.{FrameLayout}
 use Rattle.a64_inst.specs.declared.item.Item.{Item}
-use Rattle.a64_emit.specs.Cells.{Cell, cells_of}
-use Rattle.a64_emit.specs.Layout.{placed, standing, trap_at, traps_in}
-use Rattle.a64_emit.specs.Records.{all_from, traps_of, IsTrapOf}
+use Rattle.a64_emit.specs.Cells.{Marks, Cell, cells_of}
+use Rattle.a64_emit.specs.Layout.{placed, standing, relocs_in, traps_in}
+use Rattle.a64_emit.specs.Records.{all_from, reloc_from, relocs_of, traps_of, IsTrapOf}
 
 pub all_from-nothing : {R : Type 0} (moved : ℕ → R → R) (records : Item → List R) → ((item : Item) → records item ≡ []) → (places : List ℕ) (items : List Item) → all_from moved records places items ≡ []
 all_from-nothing moved records none [] items = refl
@@ -18,17 +18,43 @@ all_from-nothing moved records none (place ∷ places) [] = refl
 all_from-nothing moved records none (place ∷ places) (item ∷ items) =
     ap (λ rs. map (moved place) rs ++ all_from moved records places items) (none item) ∙ all_from-nothing moved records none places items
 
+-- what is recorded at the places of cells, by their marks, and how a record is moved to its place in the code
+module _ {M R : Type 0} (mark : Marks → Option M) (at : ℕ → M → R) (moved : ℕ → R → R) (moves : (place offset : ℕ) (m : M) → at (place + offset) m ≡ moved place (at offset m)) where
+  abbrev marked_at : ℕ × Cell → Option R
+  marked_at s = option_map (at s.0) (mark s.1.marks)
+
+  abbrev marked_in : List (ℕ × Cell) → List R
+  marked_in cells = filter_map marked_at cells
+
+  moved_marks : (place offset from : ℕ) (cells : List Cell) → from ≡ place + offset → marked_in (placed from cells) ≡ map (moved place) (marked_in (placed offset cells))
+  moved_marks place offset from [] e = refl
+  moved_marks place offset from (c ∷ cs) e = go (moved_marks place (offset + 4) (from + 4) cs (omega (arith, e))) (mark c.marks)
+    where
+      go : marked_in (placed (from + 4) cs) ≡ map (moved place) (marked_in (placed (offset + 4) cs)) → (o : Option M) → cons_option (option_map (at from) o) (marked_in (placed (from + 4) cs)) ≡ map (moved place) (cons_option (option_map (at offset) o) (marked_in (placed (offset + 4) cs)))
+      go rest None = rest
+      go rest (Some m) = ap (λ rs. at from m ∷ rs) rest ∙ ap (λ r. r ∷ map (moved place) (marked_in (placed (offset + 4) cs))) (ap (λ n. at n m) e ∙ moves place offset m)
+
+  -- what all cells record at their places is what the items do
+  marks_from_items : (frame : FrameLayout) (flags : EmitFlags) (places : List ℕ) (items : List Item) → marked_in (standing (map (cells_of frame flags) items) places) ≡ all_from moved (λ item. marked_in (placed 0 (cells_of frame flags item))) places items
+  marks_from_items frame flags [] [] = refl
+  marks_from_items frame flags [] (x ∷ items) = refl
+  marks_from_items frame flags (place ∷ places) [] = refl
+  marks_from_items frame flags (place ∷ places) (x ∷ items) =
+      filter_map-append marked_at (placed place (cells_of frame flags x)) (standing (map (cells_of frame flags) items) places)
+      ∙ ap (λ rs. rs ++ marked_in (standing (map (cells_of frame flags) items) places)) (moved_marks place 0 place (cells_of frame flags x) (omega arith))
+      ∙ ap (λ rs. map (moved place) (marked_in (placed 0 (cells_of frame flags x))) ++ rs) (marks_from_items frame flags places items)
+
+-- ---- relocations
+
+-- the relocations of all cells at their places are those of the items
+pub relocs_from_items : (frame : FrameLayout) (flags : EmitFlags) (places : List ℕ) (items : List Item) → relocs_in (standing (map (cells_of frame flags) items) places) ≡ all_from reloc_from (relocs_of frame flags) places items
+relocs_from_items = marks_from_items (λ m. m.reloc) (λ n r. (n, r.0, r.1, r.2)) reloc_from (λ place offset r. refl)
+
+-- ---- traps
+
 -- a trap at its place in the code, for an item that stands at a place
 abbrev trap_from : ℕ → ℕ × TrapCode → ℕ × TrapCode
 trap_from place t = (place + t.0, t.1)
-
-moved_traps : (place offset from : ℕ) (cells : List Cell) → from ≡ place + offset → traps_in (placed from cells) ≡ map (trap_from place) (traps_in (placed offset cells))
-moved_traps place offset from [] e = refl
-moved_traps place offset from (c ∷ cs) e = go (moved_traps place (offset + 4) (from + 4) cs (omega (arith, e))) c.marks.trap
-  where
-    go : traps_in (placed (from + 4) cs) ≡ map (trap_from place) (traps_in (placed (offset + 4) cs)) → (o : Option TrapCode) → cons_option (option_map (λ code. (from, code)) o) (traps_in (placed (from + 4) cs)) ≡ map (trap_from place) (cons_option (option_map (λ code. (offset, code)) o) (traps_in (placed (offset + 4) cs)))
-    go rest None = rest
-    go rest (Some code) = ap (λ ts. (from, code) ∷ ts) rest ∙ ap (λ n. (n, code) ∷ map (trap_from place) (traps_in (placed (offset + 4) cs))) e
 
 -- an element of a list of which each element was moved
 moved_back : {X Y : Type 0} (f : X → Y) (xs : List X) (y : Y) → Contains (map f xs) y → (x : X) × Contains xs x × (f x ≡ y)
@@ -43,14 +69,8 @@ moved_there f xs x c = (c.0, omega (arith, c.1, length-map xs f), get_or-map f x
 
 module _ (frame : FrameLayout) (flags : EmitFlags) where
   -- the traps of all cells at their places are those of the items
-  pub traps_from_items : (places : List ℕ) (items : List Item) → traps_in (standing (map (cells_of frame flags) items) places) ≡ all_from trap_from (traps_of frame flags) places items
-  traps_from_items [] [] = refl
-  traps_from_items [] (x ∷ items) = refl
-  traps_from_items (place ∷ places) [] = refl
-  traps_from_items (place ∷ places) (x ∷ items) =
-      filter_map-append trap_at (placed place (cells_of frame flags x)) (standing (map (cells_of frame flags) items) places)
-      ∙ ap (λ ts. ts ++ traps_in (standing (map (cells_of frame flags) items) places)) (moved_traps place 0 place (cells_of frame flags x) (omega arith))
-      ∙ ap (λ ts. map (trap_from place) (traps_of frame flags x) ++ ts) (traps_from_items places items)
+  traps_from_items : (places : List ℕ) (items : List Item) → traps_in (standing (map (cells_of frame flags) items) places) ≡ all_from trap_from (traps_of frame flags) places items
+  traps_from_items = marks_from_items (λ m. m.trap) (λ n code. (n, code)) trap_from (λ place offset code. refl) frame flags
 
   is_trap_of : (places : List ℕ) (items : List Item) (place : ℕ) (code : TrapCode) → Contains (all_from trap_from (traps_of frame flags) places items) (place, code) → IsTrapOf frame flags items places place code
   is_trap_of [] items place code c = absurd (let w : c.0 < 0 = c.1 in omega arith)

@@ -1,4 +1,4 @@
--- What is recorded of traps as elements are put, with islands between them.
+-- What is recorded as elements are put, with islands between them.
 use Rattle.std.proofs.Common.{ℕ, ◌≡◌, ◌⊎◌, ◌+◌, ◌*◌, ◌<◌, ◌≤◌, suc, zero, List, [], ◌∷◌, ◌++◌, length, get_or, map, take, drop, Option, None, Some, refl, sym, ap, ◌∙◌, subst, arith, inl, inr}
 use Rattle.std.specs.Prelude.{All, Contains}
 use Rattle.std.specs.List.{flat_map}
@@ -14,7 +14,7 @@ use Rattle.a64_buffer.specs.declared.site.Target.{Target}
 use Rattle.a64_buffer.specs.declared.site.Target.TheVariants.{Label, Constant, Trap, IslandEnd}
 use Rattle.a64_buffer.specs.declared.force.ForceVeneers.{ForceVeneers}
 use Rattle.a64_buffer.specs.declared.force.ForceVeneers.TheVariants.{No}
-use Rattle.a64_buffer.specs.Buffer.{Buffer, end_of}
+use Rattle.a64_buffer.specs.Buffer.{Records, Buffer, end_of, no_records}
 use Rattle.a64_buffer.specs.Classes.{class, class_of}
 use Rattle.a64_buffer.specs.Later.{IsLater}
 use Rattle.a64_buffer.specs.Islands.{HasIsland}
@@ -23,7 +23,7 @@ use Rattle.a64_buffer.specs.Pieces.{Serves, IsServed, StopsAtPiece}
 use Rattle.a64_emit.specs.declared.label_use.LabelUse.{LabelUse}
 use Rattle.a64_emit.specs.LabelUses.{label_kinds}
 use Rattle.a64_emit.specs.Cells.{Cell}
-use Rattle.a64_emit.specs.Layout.{placed, standing, trap_at, traps_in}
+use Rattle.a64_emit.specs.Layout.{placed, standing, reloc_at, relocs_in, trap_at, traps_in}
 use Rattle.a64_emit.specs.Emission.{appended}
 use Rattle.a64_assemble.proofs.Arrivals.{no_use}
 use Rattle.a64_assemble.proofs.Later.{longer}
@@ -32,7 +32,8 @@ use Rattle.a64_assemble.proofs.Sites.{standing-push}
 use Rattle.a64_assemble.proofs.PieceTraps.{piece_traps_between}
 use Rattle.a64_assemble.specs.Elements.{Element, Binding, Words, Asking, cells_in, next_room, element_at}
 use Rattle.a64_assemble.specs.Asks.{Asks, AsksNext, PutsWords, Moves}
-use Rattle.a64_assemble.specs.TrapRecords.{IsStoppedTrap, HasTraps, AreRecorded}
+use Rattle.a64_assemble.specs.CellRecords.{records_in, HasRecorded, AreRecorded}
+use Rattle.a64_assemble.specs.TrapRecords.{IsStoppedTrap, HasTraps}
 use Rattle.a64_assemble.proofs.Moving.{put_later}
 
 -- ---- what stays
@@ -183,16 +184,47 @@ module _ (old : List (ℕ × Cell)) (b : Buffer LabelUse) (h : HasTraps old b) w
   element_traps force (Words cells) rest b' later p = words_traps force cells rest b' p
   element_traps force (Asking space) rest b' later p = asked_traps (old ++ []) space force force b b' p none_more
 
+-- ---- what is recorded beside traps: islands and bindings leave it
+
+asked_records : (x : ℕ) (f g : ForceVeneers) (m b' : Buffer LabelUse) → Asks x f g m b' → b'.records ≡ m.records
+asked_records x f g m b' a = elim a.outcome [ inr l ↦ ap (λ (v : Buffer LabelUse). v.records) l.same | inl w ↦ w.island.records ]
+
+next_records : (force : ForceVeneers) (o : Option ℕ) (m b' : Buffer LabelUse) → AsksNext force o m b' → b'.records ≡ m.records
+next_records force None m b' e = ap (λ (v : Buffer LabelUse). v.records) e
+next_records force (Some x) m b' a = asked_records x No force m b' a
+
+module _ (old : List (ℕ × Cell)) (b : Buffer LabelUse) (h : b.records ≡ records_in old) where
+  -- cells at the end record what they do
+  cells_records : (cells : List Cell) → (appended b cells).records ≡ records_in (old ++ placed (end_of b) cells)
+  cells_records cells =
+      ap (λ (rs : Records). record rs { relocs = rs.relocs ++ relocs_in (placed (end_of b) cells) }) h
+      ∙ ap (λ rs. record (records_in old) { relocs = rs }) (sym (filter_map-append reloc_at old (placed (end_of b) cells)))
+
+  same_records : b.records ≡ records_in (old ++ [])
+  same_records = h ∙ ap records_in (sym (append-nil old))
+
+  words_records : (force : ForceVeneers) (cells : List Cell) (rest : List Element) (b' : Buffer LabelUse) → PutsWords force cells rest b b' → b'.records ≡ records_in (old ++ placed (end_of b) cells)
+  words_records force [] rest b' p = ap (λ (v : Buffer LabelUse). v.records) p ∙ same_records
+  words_records force (c ∷ cs) rest b' p = next_records force (next_room rest) (appended b (c ∷ cs)) b' p ∙ cells_records (c ∷ cs)
+
+  element_records : (force : ForceVeneers) (x : Element) (rest : List Element) (b' : Buffer LabelUse) → Moves force x rest b b' → b'.records ≡ records_in (old ++ placed (end_of b) (cells_in x))
+  element_records force (Binding label) rest b' p = ap (λ (v : Buffer LabelUse). v.records) p ∙ same_records
+  element_records force (Words cells) rest b' p = words_records force cells rest b' p
+  element_records force (Asking space) rest b' p = asked_records space force force b b' p ∙ same_records
+
 -- ---- element by element
 
 -- before the first
-pub recorded_none : (xs : List Element) (b : Buffer LabelUse) → b.traps ≡ [] → AreRecorded xs 0 [] b
-recorded_none xs b e = record {
-  ordered = subst (λ (ts : List (ℕ × TrapCode)). IsStrictlyIncreasing (map (λ t. t.0) ts)) (sym e) (λ k w. absurd (omega arith));
-  below = subst (λ (ts : List (ℕ × TrapCode)). All (λ t. t.0 < end_of b) ts) (sym e) (λ k d w. absurd (omega arith));
-  known = λ t c. absurd (let w : c.0 < length b.traps = c.1 in omega (arith, w, ap length e));
-  own = λ t c. absurd (let w : c.0 < 0 = c.1 in omega arith);
-}
+pub recorded_none : (xs : List Element) (b : Buffer LabelUse) → b.traps ≡ [] → b.records ≡ no_records → AreRecorded xs 0 [] b
+recorded_none xs b e records = record { traps = none; records = records }
+  where
+    none : HasTraps [] b
+    none = record {
+      ordered = subst (λ (ts : List (ℕ × TrapCode)). IsStrictlyIncreasing (map (λ t. t.0) ts)) (sym e) (λ k w. absurd (omega arith));
+      below = subst (λ (ts : List (ℕ × TrapCode)). All (λ t. t.0 < end_of b) ts) (sym e) (λ k d w. absurd (omega arith));
+      known = λ t c. absurd (let w : c.0 < length b.traps = c.1 in omega (arith, w, ap length e));
+      own = λ t c. absurd (let w : c.0 < 0 = c.1 in omega arith);
+    }
 
 -- with one more
 pub recorded_step : (force : ForceVeneers) (xs : List Element) (k : ℕ) (places : List ℕ) (b b' : Buffer LabelUse) → length places ≡ k → k < length xs → IsLater b b' → Moves force (element_at xs k) (drop (k + 1) xs) b b' → AreRecorded xs k places b → AreRecorded xs (k + 1) (places ++ end_of b ∷ []) b'
@@ -201,4 +233,7 @@ recorded_step force xs k places b b' count within later p h =
     let long : length places ≡ length (map cells_in (take k xs)) = omega (arith, count, length-map (take k xs) cells_in, length-take-le k xs (omega arith)) in
     let old : List (ℕ × Cell) = standing (map cells_in (take k xs)) places in
     let both : standing (map cells_in (take (k + 1) xs)) (places ++ end_of b ∷ []) ≡ old ++ placed (end_of b) (cells_in (element_at xs k)) = ap (λ css. standing css (places ++ end_of b ∷ [])) lists ∙ standing-push (map cells_in (take k xs)) (cells_in (element_at xs k)) places (end_of b) long in
-    subst (λ cs. HasTraps cs b') (sym both) (element_traps old b h force (element_at xs k) (drop (k + 1) xs) b' later p)
+    subst (λ cs. HasRecorded cs b') (sym both) (record {
+      traps = element_traps old b h.traps force (element_at xs k) (drop (k + 1) xs) b' later p;
+      records = element_records old b h.records force (element_at xs k) (drop (k + 1) xs) b' p;
+    })

@@ -1,5 +1,5 @@
 -- Branches and loads are counted one use, and one item, after another.
-use Rattle.std.proofs.Common.{ℕ, ◌≡◌, ◌+◌, ◌-◌, ◌≤◌, Bool, true, false, cond, not, eqb, List, [], ◌∷◌, ◌++◌, Option, None, Some, refl, sym, ap, ◌∙◌, arith, inl, inr, nat_cmp}
+use Rattle.std.proofs.Common.{ℕ, ◌≡◌, ◌+◌, ◌-◌, ◌≤◌, Bool, true, false, cond, not, eqb, List, [], ◌∷◌, ◌++◌, map, Option, None, Some, refl, sym, ap, ◌∙◌, arith, inl, inr, nat_cmp}
 use Rattle.std.specs.Prelude.{◌&&◌, ◌||◌, nat_eq, count_by, option_and_then}
 use Rattle.std.specs.Cmp.{nat_cmp_total, unsigned_tied}
 use Rattle.std.specs.FinMap.{FinMap, get, insert, get-insert}
@@ -18,10 +18,11 @@ use Rattle.a64_inst.specs.declared.inst.Inst.{Inst}
 use Rattle.a64_inst.specs.declared.item.Item.{Item}
 use Rattle.a64_inst.specs.declared.item.Item.TheVariants.{Bind, Emit}
 use Rattle.a64_emit.specs.declared.site.Site.{Site}
+use Rattle.a64_emit.specs.declared.site.Uses.{Uses}
 use Rattle.a64_emit.specs.LabelUses.{has_veneer}
-use Rattle.a64_emit.specs.Cells.{Cell, cells_of, sites_of, uses_of, two_uses}
+use Rattle.a64_emit.specs.Cells.{Cell, cells_of, sites_of, entry_site, listed_uses, uses_of}
 use Rattle.a64_emit.specs.Reach.{binds}
-use Rattle.a64_emit.proofs.UseLists.{sites_apart}
+use Rattle.a64_emit.proofs.UseLists.{listed_labels, sites_apart}
 use Rattle.a64_assemble.specs.Tally.{branch_label, is_alive, every, same, branches, count_of, alive, IsTally}
 
 -- ---- counts in lists
@@ -125,8 +126,17 @@ use_few test (Some s) = omega (arith, sum_by-cons (λ (s : Site). cond {A = ℕ}
 
 -- ---- the uses of an item
 
-pub counts_two : (p : Site → Bool) (cells : List Cell) (a b : Option Site) → uses_of 0 cells ≡ two_uses a b → count_by p (sites_of cells) ≡ count_by p (cons_option a []) + count_by p (cons_option b [])
-counts_two p cells a b is = ap (count_by p) (sites_apart cells a b is) ∙ sum_by-append (λ s. cond (p s) 1 0) (cons_option a []) (cons_option b [])
+-- where no entry of a table counts, those of the first two words do
+pub counts_listed : (p : Site → Bool) → ((label : MachLabel) → p (entry_site label) ≡ false) → (cells : List Cell) (uses : Uses) → uses_of 0 cells ≡ listed_uses uses
+    → count_by p (sites_of cells) ≡ count_by p (cons_option uses.first []) + count_by p (cons_option uses.second [])
+counts_listed p never cells uses is =
+    let first = cons_option uses.first [] in
+    let second = cons_option uses.second [] in
+    omega (arith, ap (count_by p) (sites_apart cells uses is), sum_by-append (λ s. cond (p s) 1 0) (first ++ second) (map entry_site (listed_labels uses.table)), sum_by-append (λ s. cond (p s) 1 0) first second, none (listed_labels uses.table))
+  where
+    none : (labels : List MachLabel) → count_by p (map entry_site labels) ≡ 0
+    none [] = refl
+    none (label ∷ labels) = omega (arith, sum_by-cons (λ s. cond (p s) 1 0) (entry_site label) (map entry_site labels), ap (λ b. cond {A = ℕ} b 1 0) (never label), none labels)
 
 module _ (frame : FrameLayout) (flags : EmitFlags) where
   -- one more item: branches to what it binds are not alive any more, and its own branches are

@@ -28,7 +28,8 @@ module _ (frame : FrameLayout) (flags : EmitFlags) (constants : FinMap nat_cmp (
     pub leads : Leads code constants (standing (map (cells_of frame flags) items) code.places.items)
     pub own_traps : HaveOwnTraps code (standing (map (cells_of frame flags) items) code.places.items)
     pub records : HasRecords frame flags items code
-    -- each finished word is decoded to the form that was put, with only the field of its use changed, or is the data that was put
+    -- each finished word is decoded to the form that was put, with only the field of its use changed, or is the data that was put and is
+    -- no use
     pub read_back : All (IsReadBack code.bytes.items) (standing (map (cells_of frame flags) items) code.places.items)
     -- an island stands only where one is needed, or where one is forced and something is open; and there one does stand
     pub islands : All (IsIslandByNeed frame flags items code force) code.islands.items

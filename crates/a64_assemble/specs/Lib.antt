@@ -7,6 +7,7 @@ pub mod Progress
 pub mod Placement
 pub mod Owners
 pub mod TrapRecords
+pub mod CellRecords
 pub mod Fillings
 pub mod Tally
 pub mod Found

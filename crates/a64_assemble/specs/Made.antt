@@ -17,7 +17,7 @@ use Rattle.a64_emit.specs.LabelUses.{label_kinds}
 use Rattle.a64_assemble.specs.Elements.{Element, elements_of}
 use Rattle.a64_assemble.specs.Progress.{HasPut, HasDistances}
 use Rattle.a64_assemble.specs.Owners.{AreOwned}
-use Rattle.a64_assemble.specs.TrapRecords.{AreRecorded}
+use Rattle.a64_assemble.specs.CellRecords.{AreRecorded}
 
 -- the first elements were put, and nothing but them
 pub record HasPutFirst (force : ForceVeneers) (xs : List Element) (count : ℕ) (places : List ℕ) (b : Buffer LabelUse) : Type 0 where

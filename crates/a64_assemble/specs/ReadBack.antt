@@ -16,7 +16,8 @@ pub record IsReadForm (form : Form) (mask finished : ℕ) : Type 0 where
   pub only : IsOnlyFormOf form.row fields finished
   pub kept : (i : ℕ) (d : Slot) → i < length (slots_of form.row) → bit_and (mask_of (slice_index_or (slots_of form.row) i d)) mask ≢ mask_of (slice_index_or (slots_of form.row) i d) → slice_index fields i ≡ slice_index form.fields i
 
--- a word is read as what was put: a form as itself, with only the field of its use changed, and data that is no use as that data
+-- a word is read as what was put: a form as itself, with only the field of its use changed, and data that is no use as that data.
+-- What data becomes that is a use, as the entries of tables are, is the whole word, and where it leads says it (`Leads`)
 abbrev pub IsReadBody : Body → Option Site → ℕ → Type 0
 IsReadBody (FormOf form) site word = IsReadForm form (site_mask site) word
 IsReadBody (Data content) None word = word ≡ content

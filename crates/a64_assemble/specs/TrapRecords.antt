@@ -1,5 +1,5 @@
 -- What a buffer has recorded of traps, with islands between items.
-use Rattle.std.specs.Prelude.{ℕ, ◌≡◌, ◌⊎◌, ◌<◌, List, All, Contains, map, take, length, slice_index_or, Some}
+use Rattle.std.specs.Prelude.{ℕ, ◌≡◌, ◌⊎◌, ◌<◌, List, All, Contains, map, length, slice_index_or, Some}
 use Rattle.std.specs.List.Sorted.{IsStrictlyIncreasing}
 use Rattle.a64_base.specs.declared.entity.TrapCode.{TrapCode}
 use Rattle.a64_buffer.specs.declared.site.Use.{Use}
@@ -7,8 +7,7 @@ use Rattle.a64_buffer.specs.declared.site.Target.TheVariants.{Trap}
 use Rattle.a64_buffer.specs.Buffer.{Buffer, end_of}
 use Rattle.a64_emit.specs.declared.label_use.LabelUse.{LabelUse}
 use Rattle.a64_emit.specs.Cells.{Cell}
-use Rattle.a64_emit.specs.Layout.{standing, traps_in}
-use Rattle.a64_assemble.specs.Elements.{Element, cells_in}
+use Rattle.a64_emit.specs.Layout.{traps_in}
 
 -- the use of a deferred trap stops where the trap is recorded
 pub record IsStoppedTrap (b : Buffer LabelUse) (t : ℕ × TrapCode) : Type 0 where
@@ -24,7 +23,3 @@ pub record HasTraps (cells : List (ℕ × Cell)) (b : Buffer LabelUse) : Type 0 
   pub below : All (λ t. t.0 < end_of b) b.traps
   pub known : (t : ℕ × TrapCode) → Contains b.traps t → Contains (traps_in cells) t ⊎ IsStoppedTrap b t
   pub own : (t : ℕ × TrapCode) → Contains (traps_in cells) t → Contains b.traps t
-
--- the cells are those of the first elements
-abbrev pub AreRecorded : List Element → ℕ → List ℕ → Buffer LabelUse → Type 0
-AreRecorded xs count places b = HasTraps (standing (map cells_in (take count xs)) places) b

@@ -4,7 +4,7 @@ ghost use Rattle.std.specs.Prelude.{◌≡◌, ◌^◌, ◌<◌};
 ghost use Rattle.a64_assemble.specs.Elements as elements;
 ghost use Rattle.a64_assemble.specs.Elements.{elements_of, whole_in};
 
-use a64_emit::burden_of;
+use a64_emit::{burden_of, light_of};
 use a64_inst::{EmitInfo, FrameLayout, Item};
 
 /// How far the next item with words may move open uses ahead, if there is one: its size, 28 bytes for
@@ -15,6 +15,12 @@ pub fn next_room(items: &[Item], frame: &FrameLayout, info: &EmitInfo) -> Option
 {
     let mut places: u32 = 0;
     for item in items {
+        if let Some(light) = light_of(item, frame, info) {
+            if light.growth != 0 {
+                return Some(light.growth as u32 - 4 + places);
+            }
+            continue;
+        }
         let extent = burden_of(item, frame, info).extent;
         if extent.size != 0 {
             return Some((extent.size + extent.charge - 4) as u32 + places);

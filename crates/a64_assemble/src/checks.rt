@@ -1,9 +1,9 @@
 //! The checks of items before they are emitted.
 
-ghost use Rattle.std.specs.Prelude.{◌≡◌, ◌⊎◌, None, Some, All, OnOk, IfOk, IfErr, MatchResult, [], ℕ};
+ghost use Rattle.std.specs.Prelude.{◌≡◌, ◌⊎◌, None, Some, All, length, OnOk, IfOk, IfErr, MatchResult, [], ℕ};
 ghost use Rattle.std.specs.List.{cons_option, filter_map, list_any};
 ghost use Rattle.a64_emit.specs.declared.error.EmitError.TheVariants.{OutOfMemory};
-ghost use Rattle.a64_emit.specs.Cells.{sites_of, two_uses, uses_of};
+ghost use Rattle.a64_emit.specs.Cells.{sites_of, table_labels, listed_uses, two_uses, uses_of};
 ghost use Rattle.a64_emit.specs.FormCells.{HoldsHalfword};
 ghost use Rattle.a64_inst.specs.Faults as inst_faults;
 ghost use Rattle.a64_emit.specs.Faults as Faults;
@@ -14,7 +14,7 @@ ghost use Rattle.a64_assemble.specs.Found.{IsFound};
 use a64_base::MachLabel;
 use a64_buffer::{Constants, Target};
 use a64_emit::{
-    Burden, EmitError, Site, Uses, burden_of, has_halfword, lesser, light_of, near_label,
+    Burden, EmitError, Site, Table, Uses, burden_of, has_halfword, lesser, light_of, near_label,
 };
 use a64_inst::{EmitInfo, FrameLayout, Group, Inst, Item, OwnFault, VirtualRegisters};
 use a64_label_map::LabelMap;
@@ -29,7 +29,7 @@ fn constant_size(inst: &Inst, constants: &Constants) -> Option<u32>
 {
     match inst.group() {
         Group::Memory => constants.size_of(inst.constant()?),
-        Group::Immediate | Group::Register | Group::Control => None,
+        Group::Immediate | Group::Register | Group::Control | Group::Sequence => None,
     }
 }
 
@@ -131,16 +131,58 @@ fn missing(site: Option<Site>, bound: &LabelMap<()>) -> Option<MachLabel>
     }
 }
 
+/// The first of some labels that is not bound.
+fn missing_label(labels: &[MachLabel], bound: &LabelMap<()>) -> Option<MachLabel>
+    ensures { (among : _) → HasLabels bound.now among → result ≡ first_missing among labels.now }
+{
+    for label in labels {
+        if !bound.contains(label.0) {
+            return Some(*label);
+        }
+    }
+    None
+}
+
+/// The first label of a table that is not bound: one of its targets, or else its default.
+fn missing_entry(table: Table, bound: &LabelMap<()>) -> Option<MachLabel>
+    ensures { (labels : _) → HasLabels bound.now labels → result ≡ first_missing labels (table_labels table.entry.default table.entry.targets.now) }
+{
+    match missing_label(table.targets, bound) {
+        Some(label) => Some(label),
+        None if bound.contains(table.default.0) => None,
+        None => Some(table.default),
+    }
+}
+
+/// The first label that one of two uses leads to and that is not bound.
+#[inline(always)]
+fn missing_in_two(
+    first: Option<Site>,
+    second: Option<Site>,
+    bound: &LabelMap<()>,
+) -> Option<MachLabel>
+    ensures { (labels : _) → HasLabels bound.now labels
+        → (cells : _) → uses_of 0 cells ≡ two_uses first second → result ≡ first_missing labels (filter_map used_label (sites_of cells)) }
+{
+    match missing(first, bound) {
+        Some(label) => Some(label),
+        None => missing(second, bound),
+    }
+}
+
 /// The first label that one of these uses leads to and that is not bound.
 #[inline(always)]
 fn missing_in(uses: Uses, bound: &LabelMap<()>) -> Option<MachLabel>
     ensures { (labels : _) → HasLabels bound.now labels
-        → (cells : _) → uses_of 0 cells ≡ two_uses uses.first uses.second → result ≡ first_missing labels (filter_map used_label (sites_of cells)) }
+        → (cells : _) → uses_of 0 cells ≡ listed_uses uses.entry → result ≡ first_missing labels (filter_map used_label (sites_of cells)) }
 {
-    match missing(uses.first, bound) {
-        Some(label) => Some(label),
-        None => missing(uses.second, bound),
+    if let Some(label) = missing(uses.first, bound) {
+        return Some(label);
     }
+    if let Some(label) = missing(uses.second, bound) {
+        return Some(label);
+    }
+    missing_entry(uses.table?, bound)
 }
 
 /// Whether a use needs its label near.
@@ -154,12 +196,28 @@ fn near_use(site: Option<Site>) -> bool
     }
 }
 
-/// Whether one of these uses needs its label near.
+/// Whether one of these uses needs its label near. No entry of a table does.
 #[inline(always)]
 fn near_in(uses: Uses) -> bool
-    ensures { (cells : _) → uses_of 0 cells ≡ two_uses uses.first uses.second → result ≡ list_any is_near (sites_of cells) }
+    ensures { (cells : _) → uses_of 0 cells ≡ listed_uses uses.entry → result ≡ list_any is_near (sites_of cells) }
 {
     near_use(uses.first) | near_use(uses.second)
+}
+
+/// How many of two words are uses.
+#[inline(always)]
+fn count_of(first: Option<Site>, second: Option<Site>) -> usize
+    ensures { result ≡ length (cons_option first (cons_option second [])) }
+{
+    usize::from(first.is_some()) + usize::from(second.is_some())
+}
+
+/// How many uses these may be, each entry of a table counted.
+fn use_count(uses: Uses) -> usize {
+    match uses.table {
+        Some(table) => table.targets.len() + 1,
+        None => 2,
+    }
 }
 
 /// What is found of the code that items are.
@@ -171,7 +229,8 @@ pub struct Found {
     pub shortest: Option<u32>,
     /// Whether some use needs its label near.
     pub near: bool,
-    /// How many items may have uses. Memory for these is taken at once, so no clause tells it.
+    /// How many uses they may have, each entry of a table counted. Memory for these is taken at once, so no
+    /// clause tells it.
     pub users: usize,
 }
 
@@ -199,12 +258,12 @@ pub fn check_code(
     let mut users: usize = 0;
     for item in items {
         if let Some(light) = light_of(item, frame, info) {
-            if let Some(label) = missing(light.site, bound) {
+            if let Some(label) = missing_in_two(light.first, light.second, bound) {
                 return Err(EmitError::UnboundLabel(label));
             }
             whole = whole.saturating_add(light.growth);
             shortest = lesser(shortest, light.range);
-            users = users.wrapping_add(usize::from(light.site.is_some()));
+            users = users.wrapping_add(count_of(light.first, light.second));
             continue;
         }
         let Burden { extent, uses } = burden_of(item, frame, info);
@@ -212,7 +271,7 @@ pub fn check_code(
             return Err(EmitError::UnboundLabel(label));
         }
         near |= near_in(uses);
-        users = users.wrapping_add(1);
+        users = users.wrapping_add(use_count(uses));
         whole = whole
             .saturating_add(extent.size)
             .saturating_add(extent.charge);

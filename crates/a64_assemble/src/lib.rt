@@ -11,6 +11,8 @@ mod marks;
 mod memory_tests;
 mod putting;
 mod reach;
+#[cfg(test)]
+mod sequence_tests;
 mod tally;
 #[cfg(test)]
 mod tests;

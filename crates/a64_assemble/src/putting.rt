@@ -5,6 +5,7 @@ ghost use Rattle.std.specs.FinMap.{empty};
 ghost use Rattle.a64_inst.specs.declared.item.Item.TheVariants.{Emit};
 ghost use Rattle.a64_inst.specs.declared.virtuals.VirtualRegisters.TheVariants.{Refused};
 ghost use Rattle.a64_inst.specs.Faults.{inst_fault};
+ghost use Rattle.a64_buffer.specs.Buffer.{no_records};
 ghost use Rattle.a64_emit.specs.Bounds as bounds;
 ghost use Rattle.a64_emit.specs.Bounds.{whole};
 ghost use Rattle.a64_emit.specs.Faults.{item_fault, own_fault, second_binding};
@@ -114,6 +115,7 @@ pub fn put_items(
     requires labels { buffer.old.labels ≡ empty }
     requires islands { buffer.old.islands ≡ [] }
     requires traps { buffer.old.traps ≡ [] }
+    requires records { buffer.old.records ≡ no_records }
     requires good { own_fault state.old.frame info.now buffer.old.constants items.now ≡ None }
     requires once { second_binding items.now ≡ None }
     requires short { whole state.old.frame info.now items.now < 2 ^ 31 }
@@ -124,7 +126,7 @@ pub fn put_items(
     let mut places = Vec::with_capacity(alloc, items.len())?;
     let mut place = buffer.cur_offset();
     for index in 0..items.len() {
-        places.push(place)?;
+        places.push_reserved(place);
         put_item(
             &items[index],
             &items[index + 1..],

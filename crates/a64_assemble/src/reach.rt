@@ -80,7 +80,8 @@ fn far_label(
     }
 }
 
-/// The label of the first such use of an instruction that is the item with this index.
+/// The label of the first such use of an instruction that is the item with this index; no entry of a table is
+/// one.
 fn far_in(
     inst: &Inst,
     index: usize,

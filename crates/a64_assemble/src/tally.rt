@@ -5,7 +5,7 @@ ghost use Rattle.std.specs.List.{cons_option};
 ghost use Rattle.a64_inst.specs.declared.emission.EmitFlags.{EmitFlags};
 ghost use Rattle.a64_inst.specs.declared.frame.FrameLayout.{FrameLayout};
 ghost use Rattle.a64_inst.specs.declared.item.Item.{Item};
-ghost use Rattle.a64_emit.specs.Cells.{cells_of, sites_of, two_uses, uses_of};
+ghost use Rattle.a64_emit.specs.Cells.{cells_of, sites_of, listed_uses, uses_of};
 ghost use Rattle.a64_assemble.specs.LooseUses as loose_uses;
 ghost use Rattle.a64_assemble.specs.Tally as tally;
 ghost use Rattle.a64_assemble.specs.Tally.{branches, waiting, count_of, every, same, alive, IsTally};
@@ -62,15 +62,16 @@ fn count_use(site: Option<Site>, counts: &mut LabelMap<u32>) -> Result<u32, Allo
     Ok(1)
 }
 
-/// Counts the branches of an item's uses by their labels. It answers how many there are.
+/// Counts the branches of an item's uses by their labels; no entry of a table is one. It answers how many
+/// there are.
 ///
 /// # Errors
 ///
 /// Want of memory.
 fn count_uses(uses: Uses, counts: &mut LabelMap<u32>) -> Result<u32, AllocError>
     requires few { (n : ℕ) → count_of counts.old n < 2 ^ 30 }
-    ensures total { IfOk result (λ count. (cells : _) → uses_of 0 cells ≡ two_uses uses.first uses.second → count ≡ branches every (sites_of cells)) }
-    ensures labels { OnOk result ((cells : _) → uses_of 0 cells ≡ two_uses uses.first uses.second → (n : ℕ) → count_of counts.new n ≡ count_of counts.old n + branches (same n) (sites_of cells)) }
+    ensures total { IfOk result (λ count. (cells : _) → uses_of 0 cells ≡ listed_uses uses.entry → count ≡ branches every (sites_of cells)) }
+    ensures labels { OnOk result ((cells : _) → uses_of 0 cells ≡ listed_uses uses.entry → (n : ℕ) → count_of counts.new n ≡ count_of counts.old n + branches (same n) (sites_of cells)) }
     ensures few { IfOk result (λ count. count ≤ 2) }
 {
     let first = count_use(uses.first, counts)?;
@@ -92,8 +93,8 @@ pub fn count_item(
 ) -> Result<u32, AllocError>
     requires few { live < 2 ^ 30 }
     requires within { (n : ℕ) → count_of counts.old n ≤ live }
-    ensures total { IfOk result (λ count. (frame : FrameLayout) (flags : EmitFlags) (items : List Item) → uses_of 0 (cells_of frame flags item.now) ≡ two_uses uses.first uses.second → IsTally frame flags items counts.old → live ≡ alive frame flags every items → count ≡ alive frame flags every (items ++ item.now ∷ [])) }
-    ensures labels { OnOk result ((frame : FrameLayout) (flags : EmitFlags) (items : List Item) → uses_of 0 (cells_of frame flags item.now) ≡ two_uses uses.first uses.second → IsTally frame flags items counts.old → IsTally frame flags (items ++ item.now ∷ []) counts.new) }
+    ensures total { IfOk result (λ count. (frame : FrameLayout) (flags : EmitFlags) (items : List Item) → uses_of 0 (cells_of frame flags item.now) ≡ listed_uses uses.entry → IsTally frame flags items counts.old → live ≡ alive frame flags every items → count ≡ alive frame flags every (items ++ item.now ∷ [])) }
+    ensures labels { OnOk result ((frame : FrameLayout) (flags : EmitFlags) (items : List Item) → uses_of 0 (cells_of frame flags item.now) ≡ listed_uses uses.entry → IsTally frame flags items counts.old → IsTally frame flags (items ++ item.now ∷ []) counts.new) }
 {
     match item {
         Item::Bind(label) => {
@@ -123,9 +124,9 @@ fn wait_count(site: Option<Site>) -> u32
     }
 }
 
-/// How many uses of an item are loads of constants or deferred traps.
+/// How many uses of an item are loads of constants or deferred traps; no entry of a table is one.
 pub fn wait_counts(uses: Uses) -> u32
-    ensures total { (cells : _) → uses_of 0 cells ≡ two_uses uses.first uses.second → result ≡ waiting (sites_of cells) }
+    ensures total { (cells : _) → uses_of 0 cells ≡ listed_uses uses.entry → result ≡ waiting (sites_of cells) }
     ensures few { result ≤ 2 }
 {
     wait_count(uses.first) + wait_count(uses.second)

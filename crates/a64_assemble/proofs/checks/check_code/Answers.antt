@@ -1,12 +1,11 @@
 use Rattle.std.proofs.Common.{◌≡◌, ◌∙◌, ◌+◌, ap, sym, take, option_map, None, Some, arith}
 use Rattle.std.specs.Prelude.{◌||◌}
-use Rattle.std.specs.List.{filter_map}
 use Rattle.std.specs.Option.{unwrap_or}
 use Rattle.std.proofs.lemmas.List.{take_all}
 use Rattle.a64_emit.specs.declared.error.EmitError.TheVariants.{UnboundLabel}
 use Rattle.a64_emit.specs.Cells.{cells_of}
 use Rattle.a64_emit.specs.Bounds.{lesser, saturated, whole, shortest, item_size, item_charge, asked}
-use Rattle.a64_emit.specs.Faults.{bindings, first_missing, used_label, or_else, too_large, unbound_use}
+use Rattle.a64_emit.specs.Faults.{bindings, or_else, too_large, unbound_use}
 use Rattle.a64_emit.specs.Reach.{has_near}
 use Rattle.a64_assemble.proofs.Bindings.{missing_skip, missing_found, missing_end}
 use Rattle.a64_assemble.proofs.Sizes.{whole_more, shortest_more, whole_all, too_large_at, short_at, not_large, saturated_more, saturated_once}
@@ -42,17 +41,17 @@ loop-item-preserved c =
           ∙ sym (shortest_more frame flags c.args.items.now c.loop-item.item-index c.item-item.result c.item-item.result _ c.loop-item-test.true (sym c.item-item.is) e.range_is);
     }
 
--- an item with one use at most
+-- an item of which a look says what it adds
 pub loop-item-preserved-in-Some : goal.loop-item-preserved-in-Some
 loop-item-preserved-in-Some c =
     let frame = c.args.frame.now in
     let flags = c.args.info.now in
-    let light = c.in-Some.ensures in
+    let item = c.item-item.result in
+    let light = c.in-Some.ensures.light in
     record {
       missing_is =
           missing_skip frame flags (bindings c.args.items.now) c.args.items.now c.loop-item.item-index c.item-item.result _ c.loop-item-test.true (sym c.item-item.is)
-          (ap (λ ss. first_missing (bindings c.args.items.now) (filter_map used_label ss)) light.uses
-          ∙ (sym (c.missing.ensures (bindings c.args.items.now) c.requires) ∙ c.in_default-missing.is))
+          (sym (c.missing_in_two.ensures (bindings c.args.items.now) c.requires (cells_of frame flags item) light.uses) ∙ c.in_default-missing_in_two.is)
           ∙ c.loop-item.invariant.missing_is;
       near_is = c.loop-item.invariant.near_is ∙ sym (near_skip frame flags c.args.items.now c.loop-item.item-index c.item-item.result _ c.loop-item-test.true (sym c.item-item.is) light.far);
       whole_is =
@@ -65,13 +64,12 @@ loop-item-preserved-in-Some c =
           ∙ sym (shortest_more frame flags c.args.items.now c.loop-item.item-index c.item-item.result c.item-item.result _ c.loop-item-test.true (sym c.item-item.is) light.range_is);
     }
 
-pub returns-in-Some-missing : goal.returns-in-Some-missing
-returns-in-Some-missing c =
-    let light = c.in-Some.ensures in
-    let first : unbound_use c.args.frame.now c.args.info.now c.args.items.now ≡ Some (UnboundLabel c.in-Some-missing.label) =
-    ap (option_map UnboundLabel) (sym c.loop-item.invariant.missing_is ∙ missing_found c.args.frame.now c.args.info.now (bindings c.args.items.now) c.args.items.now c.loop-item.item-index c.item-item.result _ c.in-Some-missing.label c.loop-item-test.true (sym c.item-item.is)
-    (ap (λ ss. first_missing (bindings c.args.items.now) (filter_map used_label ss)) light.uses
-    ∙ (sym (c.missing.ensures (bindings c.args.items.now) c.requires) ∙ c.in-Some-missing.is))) in
+pub returns-in-Some-missing_in_two : goal.returns-in-Some-missing_in_two
+returns-in-Some-missing_in_two c =
+    let light = c.in-Some.ensures.light in
+    let first : unbound_use c.args.frame.now c.args.info.now c.args.items.now ≡ Some (UnboundLabel c.in-Some-missing_in_two.label) =
+    ap (option_map UnboundLabel) (sym c.loop-item.invariant.missing_is ∙ missing_found c.args.frame.now c.args.info.now (bindings c.args.items.now) c.args.items.now c.loop-item.item-index c.item-item.result _ c.in-Some-missing_in_two.label c.loop-item-test.true (sym c.item-item.is)
+    (sym (c.missing_in_two.ensures (bindings c.args.items.now) c.requires (cells_of c.args.frame.now c.args.info.now c.item-item.result) light.uses) ∙ c.in-Some-missing_in_two.is)) in
     ap (λ o. or_else o (too_large c.args.frame.now c.args.info.now c.args.items.now)) first
 
 pub returns-in-Some-missing_in : goal.returns-in-Some-missing_in

@@ -1,4 +1,4 @@
-use Rattle.std.proofs.Common.{ℕ, ◌≡◌, ◌+◌, ◌-◌, ◌<◌, List, [], ◌∷◌, ◌++◌, length, take, drop, refl, sym, ap, ◌∙◌, subst, arith, nat_cmp}
+use Rattle.std.proofs.Common.{ℕ, ◌≡◌, ◌+◌, ◌-◌, ◌<◌, ◌≤◌, List, [], ◌∷◌, ◌++◌, length, take, drop, refl, sym, ap, ◌∙◌, subst, arith, nat_cmp}
 use Rattle.std.specs.FinMap.{FinMap}
 use Rattle.a64_inst.specs.declared.frame.FrameLayout.{FrameLayout}
 use Rattle.a64_inst.specs.declared.item.Item.{Item}
@@ -19,8 +19,10 @@ loop-index-init c =
       frame = refl;
       constants = refl;
       place = c.cur_offset-place.ensures.value;
+      count = c.in_ok-places.ensures.len;
+      room = c.in_ok-places.ensures.capacity;
       first = subst (λ places. HasPutFirst c.args.force xs 0 places c.args.buffer.now) (sym c.in_ok-places.ensures.items)
-          (first_none c.args.force xs (are_good frame c.args.info.now c.args.items.now c.requires.once c.requires.short) c.args.buffer.now c.cur_offset-place.ensures.whole c.requires.words c.requires.uses c.requires.labels c.requires.islands c.requires.traps);
+          (first_none c.args.force xs (are_good frame c.args.info.now c.args.items.now c.requires.once c.requires.short) c.args.buffer.now c.cur_offset-place.ensures.whole c.requires.words c.requires.uses c.requires.labels c.requires.islands c.requires.traps c.requires.records);
     }
 
 pub put_item-requires-clause-good : goal.put_item-requires-clause-good
@@ -65,7 +67,7 @@ loop-index-preserved c =
     let xs : List Element = elements_of frame c.args.info.now items in
     let good = are_good frame c.args.info.now items c.requires.once c.requires.short in
     let within : k < length xs = omega (arith, c.loop-index-test.true, count_same frame c.args.info.now items) in
-    let places : c.push.new.self.items ≡ c.loop-index.places.items ++ end_of c.loop-index.buffer ∷ [] = c.in_ok-push.ensures.items ∙ ap (λ n. c.loop-index.places.items ++ n ∷ []) c.loop-index.invariant.place in
+    let places : c.push_reserved.new.self.items ≡ c.loop-index.places.items ++ end_of c.loop-index.buffer ∷ [] = c.push_reserved.ensures.items ∙ ap (λ n. c.loop-index.places.items ++ n ∷ []) c.loop-index.invariant.place in
     let moves : Moves c.args.force (element_at xs k) (drop (k + 1) xs) c.loop-index.buffer c.put_item.new.buffer =
     subst (λ (x : Element). Moves c.args.force x (drop (k + 1) xs) c.loop-index.buffer c.put_item.new.buffer) (sym (element_is frame c.args.info.now items k c.index-items-index.result c.loop-index-test.true c.index-items-index.is))
     (subst (λ (ys : List Element). Moves c.args.force (element_of frame c.args.info.now c.index-items-index.result) ys c.loop-index.buffer c.put_item.new.buffer) (sym (rest_is frame c.args.info.now items k))
@@ -74,6 +76,8 @@ loop-index-preserved c =
       frame = c.in_ok-put_item.ensures.frame ∙ c.loop-index.invariant.frame;
       constants = ◌∙◌ {A = FinMap nat_cmp (List ℕ)} (first_constants c.args.force xs good k c.loop-index.places.items c.loop-index.buffer c.put_item.new.buffer within c.loop-index.invariant.first moves) c.loop-index.invariant.constants;
       place = c.cur_offset-place-in-loop-index.ensures.value;
+      count = c.push_reserved.ensures.len ∙ ap (λ n. n + 1) c.loop-index.invariant.count;
+      room = subst (λ n. length items ≤ n) (sym c.push_reserved.ensures.capacity) c.loop-index.invariant.room;
       first = subst (λ ps. HasPutFirst c.args.force xs (k + 1) ps c.put_item.new.buffer) (sym places)
           (first_step c.args.force xs good k c.loop-index.places.items c.loop-index.buffer c.put_item.new.buffer within c.loop-index.invariant.first c.cur_offset-place-in-loop-index.ensures.whole moves);
     }

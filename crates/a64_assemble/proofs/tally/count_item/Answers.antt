@@ -1,7 +1,7 @@
 use Rattle.std.proofs.Common.{◌∙◌, ◌≡◌, ◌++◌, [], ◌∷◌, ap, sym, subst}
 use Rattle.a64_inst.specs.declared.item.Item.{Item}
 use Rattle.a64_inst.specs.declared.item.Item.TheVariants.{Bind, Emit}
-use Rattle.a64_emit.specs.Cells.{cells_of, uses_of, two_uses}
+use Rattle.a64_emit.specs.Cells.{cells_of, uses_of, listed_uses}
 use Rattle.a64_assemble.specs.Tally.{every, alive, IsTally}
 use Rattle.a64_assemble.proofs.Tallied.{bind_total, bind_labels, emit_total, emit_labels}
 use Rattle.a64_assemble.proofs.tally.count_item.Goals as goal
@@ -19,10 +19,10 @@ returns-in_ok-insert-in-Bind-clause-labels c = λ frame flags items is tally.
 
 pub returns-in_ok-more-in-Emit-clause-total : goal.returns-in_ok-more-in-Emit-clause-total
 returns-in_ok-more-in-Emit-clause-total c = λ frame flags items is tally live.
-    emit_total frame flags c.args.live c.in_ok-more-in-Emit.more c.in-Emit.inst c.in-Emit.map items (c.in_ok-more-in-Emit.ensures.total (cells_of frame flags (Emit c.in-Emit.inst c.in-Emit.map)) (subst (λ (x : Item). uses_of 0 (cells_of frame flags x) ≡ two_uses c.args.uses.first c.args.uses.second) c.in-Emit.is is)) live
+    emit_total frame flags c.args.live c.in_ok-more-in-Emit.more c.in-Emit.inst c.in-Emit.map items (c.in_ok-more-in-Emit.ensures.total (cells_of frame flags (Emit c.in-Emit.inst c.in-Emit.map)) (subst (λ (x : Item). uses_of 0 (cells_of frame flags x) ≡ listed_uses c.args.uses) c.in-Emit.is is)) live
     ∙ ap (λ (x : Item). alive frame flags every (items ++ x ∷ [])) (sym c.in-Emit.is)
 
 pub returns-in_ok-more-in-Emit-clause-labels : goal.returns-in_ok-more-in-Emit-clause-labels
 returns-in_ok-more-in-Emit-clause-labels c = λ frame flags items is tally.
     subst (λ (x : Item). IsTally frame flags (items ++ x ∷ []) c.count_uses.new.counts) (sym c.in-Emit.is)
-    (emit_labels frame flags c.args.counts.now c.count_uses.new.counts c.in-Emit.inst c.in-Emit.map items (c.in_ok-more-in-Emit.ensures.labels (cells_of frame flags (Emit c.in-Emit.inst c.in-Emit.map)) (subst (λ (x : Item). uses_of 0 (cells_of frame flags x) ≡ two_uses c.args.uses.first c.args.uses.second) c.in-Emit.is is)) tally)
+    (emit_labels frame flags c.args.counts.now c.count_uses.new.counts c.in-Emit.inst c.in-Emit.map items (c.in_ok-more-in-Emit.ensures.labels (cells_of frame flags (Emit c.in-Emit.inst c.in-Emit.map)) (subst (λ (x : Item). uses_of 0 (cells_of frame flags x) ≡ listed_uses c.args.uses) c.in-Emit.is is)) tally)
