@@ -8,6 +8,7 @@ use Rattle.a64_text.specs.declared.entry.Entry.{Entry}
 use Rattle.a64_text.specs.declared.entry.Entry.TheVariants as entries
 use Rattle.a64_text.specs.declared.name.ControlName.TheVariants as control
 use Rattle.a64_text.specs.declared.name.IntegerName.TheVariants as integer
+use Rattle.a64_text.specs.declared.name.SequenceName.TheVariants as sequence
 use Rattle.a64_text.specs.declared.name.Name.{Name}
 use Rattle.a64_text.specs.declared.name.Name.TheVariants as names
 use Rattle.a64_text.specs.declared.state.ReaderState.{ReaderState}
@@ -29,6 +30,9 @@ puts_made : (name : Name) (values : List Value) (old new : List Item) (made : Bo
 unfolding Makes Puts
 puts_made (names.Integer integer.AluRRImmLogic) values old new made h = h
 puts_made (names.Control control.IndirectBr) values old new made h = h
+puts_made (names.Sequence sequence.Args) values old new made h = h
+puts_made (names.Sequence sequence.Rets) values old new made h = h
+puts_made (names.Sequence sequence.JTSequence) values old new made h = h
 puts_made names.Const values old new made h = absurd h
 puts_made name values old new made h = (Some (entry_of name values), refl, h)
 
@@ -42,6 +46,7 @@ module _ (old new : ReaderState) (given : new.given ≡ old.given) (same : conte
   adds_put (Some (entries.Item item)) made h = (nothing_given made h.0, λ is. same ∙ ap (λ (items : List Item). record (contents_of old.file) { items = items }) h.1)
   adds_put (Some (entries.Constant addr bytes)) made h = absurd h
   adds_put (Some (entries.Frame field bytes)) made h = absurd h
+  adds_put (Some (entries.Flag flag)) made h = absurd h
 
   pub put_adds : (name its_name : Name) (values : List Value) (items : List Item) (made : Bool) → name ≡ its_name → items ≡ old.file.items.items → Puts its_name values items new.file.items.items made → AddsMade name values old new made
   put_adds name its_name values items made is stay h =
@@ -57,10 +62,9 @@ module _ (old new : ReaderState) (items : Vec Item) (made : Bool) (stay : items.
   pub others_add : (name its_name : Name) (values : List Value) → name ≡ its_name → AddsMade its_name values (record old { file = record old.file { items = items } }) new made → AddsMade name values old new made
   others_add name its_name values is h = subst (λ (n : Name). AddsMade n values old new made) (sym is) (h.0, h.1, room_made h.0 h.2)
 
--- so is a size of the frame, where room was made for an item that did not come
-pub frame_adds : (old new : ReaderState) (items : Vec Item) (name : Name) (values : List Value) (entry : Entry) (made : Bool) → items.items ≡ old.file.items.items → name ≡ names.Frame → entry ≡ entry_of names.Frame values → AddsEntry (Some entry) (record old { file = record old.file { items = items } }) new made → AddsMade name values old new made
-unfolding Makes
-frame_adds old new items name values entry made stay is entry_is h = others_add old new items made stay name names.Frame values is (Some entry, ap (λ (e : Entry). Some e) entry_is, h)
+-- so is an entry that is no item, where room was made for an item that did not come
+pub other_adds : (old new : ReaderState) (items : Vec Item) (name its_name : Name) (values : List Value) (entry : Entry) (made : Bool) → items.items ≡ old.file.items.items → name ≡ its_name → Makes its_name values (Some entry) → AddsEntry (Some entry) (record old { file = record old.file { items = items } }) new made → AddsMade name values old new made
+other_adds old new items name its_name values entry made stay is makes h = others_add old new items made stay name its_name values is (Some entry, makes, h)
 
 -- ---- a line
 

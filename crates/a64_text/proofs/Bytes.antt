@@ -4,7 +4,7 @@ use Rattle.std.proofs.lemmas.Bool.{cases_lt, lt-ltb, le-ltb, eqb-true, false≢t
 use Rattle.std.proofs.lemmas.List.{take_all}
 use Rattle.std.specs.Prelude.{option_map}
 use Rattle.a64_buffer.specs.Constants.{IsConstant}
-use Rattle.a64_text.specs.Hex.{hex_digit, IsDigit, hex_pair, hex_text, has_digits, AreBytes, HasHex}
+use Rattle.a64_text.specs.Hex.{hex_digit, IsDigit, byte_digits, hex_text, has_digits, AreBytes, HasHex}
 use Rattle.a64_text.specs.Reads.{Reads, IsU8}
 
 -- ---- digits
@@ -40,7 +40,7 @@ no_digit byte ten six = record {
 -- ---- bytes
 
 module _ (high low : ℕ) where
-  pub both : (h l : ℕ) → Reads IsDigit hex_digit high (Some h) → Reads IsDigit hex_digit low (Some l) → Reads IsU8 hex_pair (high, low) (Some (h * 16 + l))
+  pub both : (h l : ℕ) → Reads IsDigit hex_digit high (Some h) → Reads IsDigit hex_digit low (Some l) → Reads IsU8 byte_digits (high, low) (Some (h * 16 + l))
   both h l above below = record {
     some =
         let front : (h * 16 + l) / 16 ≡ h = omega (arith, above.some.0, below.some.0) in
@@ -54,13 +54,13 @@ module _ (high low : ℕ) where
         ap Some (omega (arith, same, same_low));
   }
 
-  pub no_high : Reads IsDigit hex_digit high None → Reads IsU8 hex_pair (high, low) None
+  pub no_high : Reads IsDigit hex_digit high None → Reads IsU8 byte_digits (high, low) None
   no_high above = record {
     some = tt;
     only = λ byte fits e. let none : None ≡ Some (byte / 16) = above.only (byte / 16) (omega (arith, fits)) (ap (λ (p : ℕ × ℕ). p.0) e) in absurd cc;
   }
 
-  pub no_low : Reads IsDigit hex_digit low None → Reads IsU8 hex_pair (high, low) None
+  pub no_low : Reads IsDigit hex_digit low None → Reads IsU8 byte_digits (high, low) None
   no_low below = record {
     some = tt;
     only = λ byte fits e. let none : None ≡ Some (byte % 16) = below.only (byte % 16) (omega arith) (ap (λ (p : ℕ × ℕ). p.1) e) in absurd cc;
@@ -69,7 +69,7 @@ module _ (high low : ℕ) where
   -- ---- the first of the bytes that are left
 
   module _ (more : List ℕ) where
-    first : (xs : List ℕ) → AreBytes xs → high ∷ low ∷ more ≡ hex_text xs → (x : ℕ) × (rest : List ℕ) × (xs ≡ x ∷ rest) × IsU8 x × AreBytes rest × ((high, low) ≡ hex_pair x) × (more ≡ hex_text rest)
+    first : (xs : List ℕ) → AreBytes xs → high ∷ low ∷ more ≡ hex_text xs → (x : ℕ) × (rest : List ℕ) × (xs ≡ x ∷ rest) × IsU8 x × AreBytes rest × ((high, low) ≡ byte_digits x) × (more ≡ hex_text rest)
     first [] are e = absurd cc
     first (x ∷ rest) are e =
         let above : high ≡ hex_digit (x / 16) = cc in
@@ -77,7 +77,7 @@ module _ (high low : ℕ) where
         let others : more ≡ hex_text rest = cc in
         (x, rest, refl, are.0, are.1, ap₂ (λ (a b : ℕ). (a, b)) above below, others)
 
-    pub no_byte : Reads IsU8 hex_pair (high, low) None → Reads AreBytes hex_text (high ∷ low ∷ more) None
+    pub no_byte : Reads IsU8 byte_digits (high, low) None → Reads AreBytes hex_text (high ∷ low ∷ more) None
     no_byte h = record {
       some = tt;
       only = λ xs are e.
@@ -86,7 +86,7 @@ module _ (high low : ℕ) where
           absurd cc;
     }
 
-    one_before : (byte : ℕ) → Reads IsU8 hex_pair (high, low) (Some byte) → (r : Option (List ℕ)) → Reads AreBytes hex_text more r → Reads AreBytes hex_text (high ∷ low ∷ more) (option_map (λ bs. byte ∷ bs) r)
+    one_before : (byte : ℕ) → Reads IsU8 byte_digits (high, low) (Some byte) → (r : Option (List ℕ)) → Reads AreBytes hex_text more r → Reads AreBytes hex_text (high ∷ low ∷ more) (option_map (λ bs. byte ∷ bs) r)
     one_before byte h None others = record {
       some = tt;
       only = λ xs are e.
@@ -145,7 +145,7 @@ few (c ∷ []) less = inr (c, refl)
 few (a ∷ b ∷ xs) less = absurd (omega (arith, less))
 
 module _ (token bytes : List ℕ) where
-  one_more : (high low byte : ℕ) (more : List ℕ) → Reads IsU8 hex_pair (high, low) (Some byte) → Leads token bytes (high ∷ low ∷ more) → Leads token (bytes ++ byte ∷ []) more
+  one_more : (high low byte : ℕ) (more : List ℕ) → Reads IsU8 byte_digits (high, low) (Some byte) → Leads token bytes (high ∷ low ∷ more) → Leads token (bytes ++ byte ∷ []) more
   one_more high low byte more h l None others = l None (one_before high low more byte h None others)
   one_more high low byte more h l (Some bs) others =
       subst (λ (t : List ℕ). Reads AreBytes hex_text token (Some t)) (sym (append_assoc bytes (byte ∷ []) bs))
@@ -162,14 +162,14 @@ module _ (token bytes : List ℕ) where
     other : 2 ≤ length rest → Leads token bytes (get_or rest 0 0 ∷ get_or rest 1 0 ∷ take (length rest - 2) (drop 2 rest))
     other some = subst (λ (t : List ℕ). Leads token bytes t) (two rest some) l
 
-    pub goes_on : 2 ≤ length rest → (r : Option ℕ) (byte : ℕ) → r ≡ Some byte → Reads IsU8 hex_pair (get_or rest 0 0, get_or rest 1 0) r → Leads token (bytes ++ byte ∷ []) (take (length rest - 2) (drop 2 rest))
+    pub goes_on : 2 ≤ length rest → (r : Option ℕ) (byte : ℕ) → r ≡ Some byte → Reads IsU8 byte_digits (get_or rest 0 0, get_or rest 1 0) r → Leads token (bytes ++ byte ∷ []) (take (length rest - 2) (drop 2 rest))
     goes_on some r byte is h =
-        let read = subst (λ (o : Option ℕ). Reads IsU8 hex_pair (get_or rest 0 0, get_or rest 1 0) o) is h in
+        let read = subst (λ (o : Option ℕ). Reads IsU8 byte_digits (get_or rest 0 0, get_or rest 1 0) o) is h in
         one_more (get_or rest 0 0) (get_or rest 1 0) byte (take (length rest - 2) (drop 2 rest)) read (other some)
 
-    pub stops : 2 ≤ length rest → (r : Option ℕ) → r ≡ None → Reads IsU8 hex_pair (get_or rest 0 0, get_or rest 1 0) r → Reads AreBytes hex_text token None
+    pub stops : 2 ≤ length rest → (r : Option ℕ) → r ≡ None → Reads IsU8 byte_digits (get_or rest 0 0, get_or rest 1 0) r → Reads AreBytes hex_text token None
     stops some r is h =
-        let read = subst (λ (o : Option ℕ). Reads IsU8 hex_pair (get_or rest 0 0, get_or rest 1 0) o) is h in
+        let read = subst (λ (o : Option ℕ). Reads IsU8 byte_digits (get_or rest 0 0, get_or rest 1 0) o) is h in
         (other some) None (no_byte (get_or rest 0 0) (get_or rest 1 0) (take (length rest - 2) (drop 2 rest)) read)
 
     pub ends : length rest ≡ 0 → Reads AreBytes hex_text token (Some bytes)

@@ -1,5 +1,5 @@
 -- From a name and the fields in parentheses to what they make.
-use Rattle.std.proofs.Common.{◌≡◌, ℕ, ◌<◌, List, [], ◌∷◌, length, Option, Some, None, refl, sym, ap, ◌∙◌, arith, inr}
+use Rattle.std.proofs.Common.{◌≡◌, ℕ, ◌<◌, List, [], ◌∷◌, length, Option, Some, None, sym, ap, ◌∙◌, arith}
 use Rattle.std.specs.Prelude.{IfSome}
 use Rattle.std.specs.List.{AllByRecursion, join_with_byte}
 use Rattle.std.proofs.lemmas.List.Splits.{join_with_byte-slice_split}
@@ -7,6 +7,7 @@ use Rattle.a64_text.specs.declared.value.Value.{Value}
 use Rattle.a64_text.specs.Fields.{HasNo, IsCall, call_text}
 use Rattle.a64_text.specs.Parts.{part_text, part_texts, IsPart}
 use Rattle.a64_text.specs.Reads.{Reads}
+use Rattle.a64_text.specs.RegisterLaws.{comma}
 use Rattle.a64_text.specs.Rows.{texts}
 use Rattle.a64_text.specs.Splitting.{comma_tokens}
 use Rattle.a64_text.proofs.Between.{parts_apart, same_texts}
@@ -16,7 +17,7 @@ use Rattle.a64_text.proofs.Splits.{split-join}
 -- fields, of which there is one at least, are split where they were joined
 fields_split : (vs : List Value) → 0 < length vs → AllByRecursion IsPart vs → comma_tokens (join_with_byte 44 (part_texts vs)) ≡ texts vs
 fields_split [] some are = absurd (omega (arith, some))
-fields_split (v ∷ vs) some are = split-join 44 (part_text v) (part_texts vs) (parts_apart 44 (inr refl) (v ∷ vs) are) ∙ sym (same_texts (v ∷ vs) are)
+fields_split (v ∷ vs) some are = split-join 44 (part_text v) (part_texts vs) (parts_apart 44 comma (v ∷ vs) are) ∙ sym (same_texts (v ∷ vs) are)
 
 module _ {N M : Type 0} (n : Names N M) (apart : (name : N) → HasNo 40 (n.text name)) (some_field : (made : M) → 0 < length (n.fields_of made)) (token : List ℕ) where
   abbrev pub IsMade : M → Type 0

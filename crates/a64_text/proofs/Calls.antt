@@ -1,19 +1,15 @@
 -- Names with something in parentheses behind them.
-use Rattle.std.proofs.Common.{Bor, ◌≡◌, ℕ, ◌<◌, List, [], ◌∷◌, ◌++◌, length, length-append, eqb, Option, Some, None, refl, sym, ap, ◌∙◌, arith}
-use Rattle.std.specs.Prelude.{MatchOption}
-use Rattle.std.specs.List.{slice_split, join_with_byte}
+use Rattle.std.proofs.Common.{Bor, ◌≡◌, ℕ, ◌<◌, List, [], ◌∷◌, ◌++◌, length, length-append, Option, Some, None, refl, sym, ap, ◌∙◌, arith}
+use Rattle.std.specs.List.{join_with_byte}
 use Rattle.std.proofs.lemmas.List.Splits.{join_with_byte-slice_split}
 use Rattle.a64_text.specs.Fields.{IsCall, call_text}
 use Rattle.a64_text.specs.Reads.{Reads}
-use Rattle.a64_text.proofs.Splits.{heads, split_at, parts_left, first_plain}
-
-abbrev split : List ℕ → List (List ℕ)
-split token = slice_split (λ b. eqb b 40) token
+use Rattle.a64_text.proofs.Splits.{heads, split, split_at, parts_left, first_plain, IsFront}
 
 abbrev join : List (List ℕ) → List ℕ
 join tokens = join_with_byte 40 tokens
 
-same_split : (a b : List ℕ) → split a ≡ split b → a ≡ b
+same_split : (a b : List ℕ) → split 40 a ≡ split 40 b → a ≡ b
 same_split a b e = sym (join_with_byte-slice_split 40 a) ∙ ap join e ∙ join_with_byte-slice_split 40 b
 
 -- the last byte, and those before it
@@ -26,30 +22,22 @@ same_last (a ∷ xs) (b ∷ ys) x y e =
     let rest = same_last xs ys x y both.1 in
     (rw (both.0, rest.0) refl, rest.1)
 
--- what is cut off at the first parenthesis, where there is one
-abbrev pub IsFront : List ℕ → List ℕ → Option (Bor (List ℕ)) → Type 0
-IsFront token name more = MatchOption more (split token ≡ name ∷ []) (λ rest. (split token ≡ name ∷ split rest.now) × (length rest.now < length token))
-
 module _ (token name : List ℕ) where
   -- no parenthesis
-  pub no_call : (more : Option (Bor (List ℕ))) → more ≡ None → IsFront token name more → Reads IsCall call_text token None
+  pub no_call : (more : Option (Bor (List ℕ))) → more ≡ None → IsFront 40 token name more → Reads IsCall call_text token None
   no_call (Some rest) is cut = absurd cc
   no_call None is cut = record {
     some = tt;
     only = λ x fits e.
-        let two : split token ≡ x.0 ∷ split (x.1 ++ 41 ∷ []) = ap split e ∙ split_at 40 x.0 (x.1 ++ 41 ∷ []) fits in
-        let none : [] ≡ split (x.1 ++ 41 ∷ []) = (heads name x.0 [] (split (x.1 ++ 41 ∷ [])) (sym cut ∙ two)).1 in
+        let two : split 40 token ≡ x.0 ∷ split 40 (x.1 ++ 41 ∷ []) = ap (λ (t : List ℕ). split 40 t) e ∙ split_at 40 x.0 (x.1 ++ 41 ∷ []) fits in
+        let none : [] ≡ split 40 (x.1 ++ 41 ∷ []) = (heads name x.0 [] (split 40 (x.1 ++ 41 ∷ [])) (sym cut ∙ two)).1 in
         absurd (omega (arith, parts_left 40 (x.1 ++ 41 ∷ []), ap (λ (t : List (List ℕ)). length t) none));
   }
 
-  pub behind : (more : Option (Bor (List ℕ))) (rest : Bor (List ℕ)) → more ≡ Some rest → IsFront token name more → split token ≡ name ∷ split rest.now
-  behind None rest is cut = absurd cc
-  behind (Some other) rest is cut = let same : other ≡ rest = cc in cut.0 ∙ ap (λ (t : Bor (List ℕ)). name ∷ split t.now) same
-
-  module _ (rest : List ℕ) (cut : split token ≡ name ∷ split rest) where
+  module _ (rest : List ℕ) (cut : split 40 token ≡ name ∷ split 40 rest) where
     call_is : (x : List ℕ × List ℕ) → IsCall x → token ≡ call_text x → (name ≡ x.0) × (rest ≡ x.1 ++ 41 ∷ [])
     call_is x fits e =
-        let both = heads name x.0 (split rest) (split (x.1 ++ 41 ∷ [])) (sym cut ∙ ap split e ∙ split_at 40 x.0 (x.1 ++ 41 ∷ []) fits) in
+        let both = heads name x.0 (split 40 rest) (split 40 (x.1 ++ 41 ∷ [])) (sym cut ∙ ap (λ (t : List ℕ). split 40 t) e ∙ split_at 40 x.0 (x.1 ++ 41 ∷ []) fits) in
         (both.0, same_split rest (x.1 ++ 41 ∷ []) both.1)
 
     -- nothing behind the parenthesis
@@ -62,7 +50,7 @@ module _ (token name : List ℕ) where
 
       pub is_call : last ≡ 41 → Reads IsCall call_text token (Some (name, inside))
       is_call ends = record {
-        some = (first_plain 40 token name (split rest) cut, sym (join_with_byte-slice_split 40 token) ∙ ap join cut ∙ joined (split rest) (parts_left 40 rest) ∙ ap (λ (t : List ℕ). name ++ 40 ∷ t) (join_with_byte-slice_split 40 rest ∙ is ∙ ap (λ (b : ℕ). inside ++ b ∷ []) ends));
+        some = (first_plain 40 token name (split 40 rest) cut, sym (join_with_byte-slice_split 40 token) ∙ ap join cut ∙ joined (split 40 rest) (parts_left 40 rest) ∙ ap (λ (t : List ℕ). name ++ 40 ∷ t) (join_with_byte-slice_split 40 rest ∙ is ∙ ap (λ (b : ℕ). inside ++ b ∷ []) ends));
         only = λ x fits e.
             let both = call_is x fits e in
             let insides : inside ≡ x.1 = (same_last inside x.1 last 41 (sym is ∙ both.1)).0 in

@@ -10,8 +10,11 @@ use Rattle.std.specs.List.{Contains}
 use Rattle.std.proofs.lemmas.Bool.{false≢true}
 use Rattle.a64_text.specs.declared.entry.Entry.{Entry}
 use Rattle.a64_text.specs.declared.entry.OnceName.{OnceName}
-use Rattle.a64_text.specs.declared.entry.OnceName.TheVariants.{Constant, Frame}
+use Rattle.a64_text.specs.declared.entry.OnceName.TheVariants.{Constant, Frame, Flag}
 use Rattle.a64_text.specs.contracts.entry.OnceNameOrd.TheImpl.Laws.{total-law}
+use Rattle.a64_text.specs.declared.emit_flag.EmitFlag.{EmitFlag}
+use Rattle.a64_text.specs.declared.emit_flag.EmitFlag.TheVariants as emit_flags
+use Rattle.a64_text.specs.contracts.emit_flag.EmitFlagOrd.TheImpl as flag_order
 use Rattle.a64_text.specs.declared.frame_field.FrameField.{FrameField}
 use Rattle.a64_text.specs.declared.frame_field.FrameField.TheVariants as frame_fields
 use Rattle.a64_text.specs.contracts.frame_field.FrameFieldOrd.TheImpl as field_order
@@ -31,11 +34,17 @@ field_ties frame_fields.FixedFrameStorageSize frame_fields.FixedFrameStorageSize
 field_ties frame_fields.OutgoingArgsSize frame_fields.OutgoingArgsSize e = refl
 field_ties _ _ e = absurd (false≢true e)
 
+flag_ties : (a b : EmitFlag) → is_at ((flag_order.ghosts).cmp a) b ≡ true → a ≡ b
+flag_ties emit_flags.EnableProbestack emit_flags.EnableProbestack e = refl
+flag_ties emit_flags.EnableTableAccessSpectreMitigation emit_flags.EnableTableAccessSpectreMitigation e = refl
+flag_ties emit_flags.UseCsdb emit_flags.UseCsdb e = refl
+flag_ties _ _ e = absurd (false≢true e)
+
 ties : (a b : OnceName) → is_at (once_cmp a) b ≡ true → a ≡ b
 ties (Constant a) (Constant b) e = ap Constant (nat_cmp-IsAntisymmetric a b ((Equal-is (nat_cmp a b)).0 e))
 ties (Frame a) (Frame b) e = ap Frame (field_ties a b e)
-ties (Constant a) (Frame b) e = absurd (false≢true e)
-ties (Frame a) (Constant b) e = absurd (false≢true e)
+ties (Flag a) (Flag b) e = ap Flag (flag_ties a b e)
+ties _ _ e = absurd (false≢true e)
 
 ties_itself : (a : OnceName) → is_at (once_cmp a) a ≡ true
 ties_itself a = ap is_eq (tied_itself total-law a)

@@ -41,6 +41,7 @@ only_of (values.I32 x) token r h = h.only x
 only_of (values.Target x) token r h = h.only x
 only_of (values.Label x) token r h = h.only x
 only_of (values.FrameField x) token r h = h.only x
+only_of (values.EmitFlag x) token r h = h.only x
 only_of (values.I64 x) token r h = h.only x
 only_of (values.Offset9 x) token r h = h.only x
 only_of (values.PairOffset x) token r h = h.only x

@@ -1,6 +1,6 @@
 pub mod Headings
 pub mod Decimals
-pub mod Digits
+pub mod RegisterPairReads
 pub mod Offsets
 pub mod Scaled
 pub mod Dashes

@@ -30,6 +30,8 @@ use Rattle.a64_base.specs.ShiftParts.{Shift}
 use Rattle.a64_imms.specs.declared.flags.NZCV.{NZCV}
 use Rattle.a64_imms.specs.declared.unsigned.UImm5.{UImm5}
 use Rattle.a64_imms.specs.Flags.{flags_of, nzcv_bits}
+use Rattle.a64_text.specs.declared.emit_flag.EmitFlag.{EmitFlag}
+use Rattle.a64_text.specs.declared.emit_flag.EmitFlag.TheVariants.{EnableProbestack}
 use Rattle.a64_text.specs.declared.frame_field.FrameField.{FrameField}
 use Rattle.a64_text.specs.declared.frame_field.FrameField.TheVariants.{SetupAreaSize}
 use Rattle.a64_text.specs.declared.branch_name.CondBrName.{CondBrName}
@@ -42,16 +44,17 @@ use Rattle.a64_text.specs.declared.value.Value.{Value}
 use Rattle.a64_text.specs.declared.value.Value.TheVariants as values
 use Rattle.a64_text.specs.Values.{value_text, IsValue}
 use Rattle.a64_text.specs.Reads.{IsU8, IsU32, IsU64, IsI32}
-use Rattle.a64_text.specs.Operators.{alu_op_text, alu_op3_text, bit_op_text, bfm_op_text, move_wide_op_text, shift_op_text, bool_text, frame_field_text, test_bit_text}
+use Rattle.a64_text.specs.Operators.{alu_op_text, alu_op3_text, bit_op_text, bfm_op_text, move_wide_op_text, shift_op_text, bool_text, emit_flag_text, frame_field_text, test_bit_text}
 use Rattle.a64_text.specs.Branches.{cond_br_name_text, cond_br_name_of, cond_br_fields}
 use Rattle.a64_text.specs.Modes.{mode_name_text, mode_name_of, mode_fields, pair_name_text, pair_name_of, pair_fields}
 use Rattle.a64_text.specs.Parts.{part_texts, IsPart}
-use Rattle.a64_text.proofs.Between.{append_apart, join_plain, parts_apart, part_apart, real_apart}
+use Rattle.a64_text.proofs.Between.{join_plain, parts_apart, part_apart}
+use Rattle.a64_text.specs.RegisterLaws.{append_apart, real_apart, space}
 use Rattle.a64_text.specs.DigitLaws.{decimal_apart}
 use Rattle.a64_text.specs.Fields.{HasNo, call_text, flags_text, IsFlags, label_text, IsLabel, target_text, IsTarget, imm12_text, IsImm12, IsPReg, preg_text, wide_text, IsWide, shift_text, IsShift, nzcv_text, uimm5_text}
 
 pub decimal_plain : (n : ℕ) → IsU64 n → HasNo 32 (decimal n)
-decimal_plain n fits = decimal_apart 32 n (lit< tt) fits
+decimal_plain n fits = decimal_apart 32 n (inl (lit< tt)) fits
 
 pub u8_plain : (n : ℕ) → IsU8 n → HasNo 32 (decimal n)
 u8_plain n fits = decimal_plain n (omega arith)
@@ -71,7 +74,7 @@ target_plain (targets.Label label) fits = label_plain label fits
 target_plain (targets.ResolvedOffset offset) fits = signed_plain offset fits
 
 preg_plain : (p : RealRegister) → IsPReg p → HasNo 32 (preg_text p)
-preg_plain p fits = real_apart 32 (inl refl) p.class p.number fits
+preg_plain p fits = real_apart 32 space p.class p.number fits
 
 value_fits : (bits : ℕ) (shift : Bool) → bits < 4096 → bits * (if shift then 4096 else 1) < 2 ^ 64
 value_fits bits true low = omega arith
@@ -124,6 +127,10 @@ frame_field_plain : (x : FrameField) → HasNo 32 (frame_field_text x)
 frame_field_plain SetupAreaSize = refl
 frame_field_plain _ = refl
 
+emit_flag_plain : (x : EmitFlag) → HasNo 32 (emit_flag_text x)
+emit_flag_plain EnableProbestack = refl
+emit_flag_plain _ = refl
+
 -- ---- fields
 
 shift_plain : (x : Shift) → IsShift x → HasNo 32 (shift_text x)
@@ -150,7 +157,7 @@ flags_plain (Some code) fits = u8_plain code.0 fits
 call_plain : (name : List ℕ) (vs : List Value) → HasNo 32 name → AllByRecursion IsPart vs → HasNo 32 (call_text (name, join_with_byte 44 (part_texts vs)))
 call_plain name vs plain are =
     append_apart 32 name (40 ∷ (join_with_byte 44 (part_texts vs) ++ 41 ∷ [])) plain
-    (append_apart 32 (join_with_byte 44 (part_texts vs)) (41 ∷ []) (join_plain (part_texts vs) (parts_apart 32 (inl refl) vs are)) refl)
+    (append_apart 32 (join_with_byte 44 (part_texts vs)) (41 ∷ []) (join_plain (part_texts vs) (parts_apart 32 space vs are)) refl)
 
 mode_name_plain : (name : ModeName) → HasNo 32 (mode_name_text name)
 mode_name_plain mode_names.RegReg = refl
@@ -186,10 +193,11 @@ value_plain (values.I32 x) fits = signed_plain x fits
 value_plain (values.Target x) fits = target_plain x fits
 value_plain (values.Label x) fits = label_plain x fits
 value_plain (values.FrameField x) fits = frame_field_plain x
+value_plain (values.EmitFlag x) fits = emit_flag_plain x
 value_plain (values.Mode x) fits = call_plain (mode_name_text (mode_name_of x)) (mode_fields x) (mode_name_plain (mode_name_of x)) fits.0
 value_plain (values.PairMode x) fits = call_plain (pair_name_text (pair_name_of x)) (pair_fields x) (pair_name_plain (pair_name_of x)) fits.0
 value_plain (values.Flags x) fits = flags_plain x fits
 value_plain (values.CondBrKind x) fits = call_plain (cond_br_name_text (cond_br_name_of x)) (cond_br_fields x) (cond_br_name_plain (cond_br_name_of x)) fits.0
 value_plain (values.TestBitAndBranchKind x) fits = test_bit_plain x
 value_plain (values.List x) fits = fits
-value_plain part fits = part_apart 32 (inl refl) part fits
+value_plain part fits = part_apart 32 space part fits

@@ -1,6 +1,6 @@
 -- Texts that are cut at a byte, and joined by it.
-use Rattle.std.proofs.Common.{Bor, ◌≡◌, ℕ, ◌+◌, ◌<◌, Bool, true, false, eqb, List, [], ◌∷◌, ◌++◌, length, get_or, take, drop, Some, None, refl, sym, ap, subst, ◌∙◌, arith, add-one}
-use Rattle.std.specs.Prelude.{◌||◌}
+use Rattle.std.proofs.Common.{Bor, ◌≡◌, ℕ, ◌+◌, ◌<◌, Bool, true, false, eqb, List, [], ◌∷◌, ◌++◌, length, get_or, take, drop, Option, Some, None, refl, sym, ap, subst, ◌∙◌, arith, add-one}
+use Rattle.std.specs.Prelude.{◌||◌, MatchOption}
 use Rattle.std.specs.List.{slice_split, join_with_byte, list_any, onto_first, AllByRecursion}
 use Rattle.std.proofs.lemmas.List.{take-append-drop}
 use Rattle.std.proofs.Math.Seq.{drop-cons}
@@ -47,7 +47,7 @@ pub heads : {A : Type 0} (a b : A) (xs ys : List A) → a ∷ xs ≡ b ∷ ys �
 heads a b xs ys e = (cc, cc)
 
 module _ (c : ℕ) where
-  abbrev split : List ℕ → List (List ℕ)
+  abbrev pub split : List ℕ → List (List ℕ)
   split text = slice_split (λ b. eqb b c) text
 
   next_plain : (b : ℕ) (w name : List ℕ) (ws : List (List ℕ)) → ((v : List ℕ) (vs : List (List ℕ)) → split w ≡ v ∷ vs → HasNo c v) → split (b ∷ w) ≡ name ∷ ws → (test : Bool) → eqb b c ≡ test → (vs : List (List ℕ)) → split w ≡ vs → HasNo c name
@@ -60,6 +60,16 @@ module _ (c : ℕ) where
   pub first_plain : (w name : List ℕ) (ws : List (List ℕ)) → split w ≡ name ∷ ws → HasNo c name
   first_plain [] name ws e = subst (λ (t : List ℕ). HasNo c t) (heads [] name [] ws e).0 refl
   first_plain (b ∷ w) name ws e = next_plain b w name ws (λ v vs s. first_plain w v vs s) e (eqb b c) refl (split w) refl
+
+-- ---- what is cut off at the first separator, where there is one
+
+abbrev pub IsFront : ℕ → List ℕ → List ℕ → Option (Bor (List ℕ)) → Type 0
+IsFront c text front more = MatchOption more (split c text ≡ front ∷ []) (λ rest. (split c text ≡ front ∷ split c rest.now) × (length rest.now < length text))
+
+-- and what stands behind it
+pub behind : (c : ℕ) (text front : List ℕ) (more : Option (Bor (List ℕ))) (rest : Bor (List ℕ)) → more ≡ Some rest → IsFront c text front more → split c text ≡ front ∷ split c rest.now
+behind c text front None rest is cut = absurd cc
+behind c text front (Some other) rest is cut = let same : other ≡ rest = cc in cut.0 ∙ ap (λ (t : Bor (List ℕ)). front ∷ split c t.now) same
 
 -- ---- lines and tokens of a text
 

@@ -1,5 +1,5 @@
 -- A wide immediate is two numbers with a comma between.
-use Rattle.std.proofs.Common.{◌≡◌, ℕ, ◌*◌, List, [], ◌∷◌, eqb, Option, Some, None, refl, sym, ap, ◌∙◌, arith, inr}
+use Rattle.std.proofs.Common.{◌≡◌, ℕ, ◌*◌, List, [], ◌∷◌, eqb, Option, Some, None, refl, sym, ap, ◌∙◌, arith}
 use Rattle.std.specs.List.{slice_split, join_with_byte}
 use Rattle.a64_imms.specs.declared.move_wide.MoveWideConst.{MoveWideConst}
 use Rattle.a64_text.specs.declared.value.Kind.{Kind}
@@ -10,6 +10,7 @@ use Rattle.a64_text.specs.At.{u32_at}
 use Rattle.a64_text.specs.Fields.{IsWide, wide_text}
 use Rattle.a64_text.specs.Parts.{IsPart}
 use Rattle.a64_text.specs.Reads.{Reads}
+use Rattle.a64_text.specs.RegisterLaws.{comma}
 use Rattle.a64_text.specs.Rows.{AreFields, texts}
 use Rattle.a64_text.specs.Same.{at_their_places}
 use Rattle.a64_text.proofs.Joined.{joined_only, joined_some}
@@ -32,7 +33,7 @@ same_wide a b e f = ap (λ (n : ℕ). wide n a.shift) e ∙ ap (λ (n : ℕ). wi
 
 -- a token that is a wide immediate is its pair of numbers
 pair_of : (token : List ℕ) (r : Option (List Value)) → IsPair token r → (w : MoveWideConst) → IsWide w → token ≡ wide_text w → r ≡ Some (numbers w.bits (16 * w.shift))
-pair_of token r h w fits e = joined_only 44 IsPart (part_value_apart 44 (inr refl)) two token r h (values.U32 w.bits) (values.U32 (16 * w.shift) ∷ []) (refl, (omega (arith, fits.0), (omega (arith, fits.1), tt))) e
+pair_of token r h w fits e = joined_only 44 IsPart (part_value_apart 44 comma) two token r h (values.U32 w.bits) (values.U32 (16 * w.shift) ∷ []) (refl, (omega (arith, fits.0), (omega (arith, fits.1), tt))) e
 
 pub no_pair : (token : List ℕ) → IsPair token None → Reads IsWide wide_text token None
 no_pair token h = record { some = tt; only = λ w fits e. let none = pair_of token None h w fits e in absurd cc }

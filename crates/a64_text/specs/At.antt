@@ -47,6 +47,8 @@ use Rattle.a64_inst.specs.declared.mode.PairAMode.{PairAMode}
 use Rattle.a64_inst.specs.declared.mode.PairAMode.TheVariants as pair_modes
 use Rattle.a64_text.specs.declared.mode_name.MemLabelName.{MemLabelName}
 use Rattle.a64_text.specs.declared.mode_name.MemLabelName.TheVariants as label_names
+use Rattle.a64_text.specs.declared.emit_flag.EmitFlag.{EmitFlag}
+use Rattle.a64_text.specs.declared.emit_flag.EmitFlag.TheVariants as emit_flags
 use Rattle.a64_text.specs.declared.frame_field.FrameField.{FrameField}
 use Rattle.a64_text.specs.declared.frame_field.FrameField.TheVariants as frame_fields
 use Rattle.a64_text.specs.declared.value.Value.{Value}
@@ -226,6 +228,13 @@ frame_field_of _ = frame_fields.SetupAreaSize
 
 abbrev pub frame_field_at : List Value → ℕ → FrameField
 frame_field_at values i = frame_field_of (slice_get values i)
+
+abbrev pub emit_flag_of : Option Value → EmitFlag
+emit_flag_of (Some (values.EmitFlag x)) = x
+emit_flag_of _ = emit_flags.EnableProbestack
+
+abbrev pub emit_flag_at : List Value → ℕ → EmitFlag
+emit_flag_at values i = emit_flag_of (slice_get values i)
 
 abbrev pub i64_of : Option Value → ℤ
 i64_of (Some (values.I64 x)) = x

@@ -25,13 +25,16 @@ use Rattle.a64_text.specs.declared.mode_name.MemLabelName.{MemLabelName}
 use Rattle.a64_text.specs.declared.mode_name.MemLabelName.TheVariants as label_names
 use Rattle.a64_text.specs.declared.mode_name.TheConstants.{MEM_LABEL_HOMES, MEM_LABELS}
 use Rattle.a64_text.specs.declared.type_name.TheConstants.{TYPE_HOMES, TYPES}
+use Rattle.a64_text.specs.declared.emit_flag.EmitFlag.{EmitFlag}
+use Rattle.a64_text.specs.declared.emit_flag.EmitFlag.TheVariants as emit_flags
+use Rattle.a64_text.specs.declared.emit_flag.TheConstants.{EMIT_FLAG_HOMES, EMIT_FLAGS}
 use Rattle.a64_text.specs.declared.frame_field.FrameField.{FrameField}
 use Rattle.a64_text.specs.declared.frame_field.FrameField.TheVariants as frame_fields
 use Rattle.a64_text.specs.declared.frame_field.TheConstants.{FRAME_FIELD_HOMES, FRAME_FIELDS}
 use Rattle.a64_text.specs.declared.operator.TheConstants.{ALU_OP_HOMES, ALU_OPS, ALU_OP3_HOMES, ALU_OP3S, BIT_OP_HOMES, BIT_OPS, BFM_OP_HOMES, BFM_OPS, MOVE_WIDE_OP_HOMES, MOVE_WIDE_OPS}
 use Rattle.a64_text.specs.declared.modifier.TheConstants.{SHIFT_OP_HOMES, SHIFT_OPS, EXTEND_HOMES, EXTENDS, COND_HOMES, CONDS, BOOL_HOMES, BOOLS}
 use Rattle.a64_text.specs.Hash.{look_up}
-use Rattle.a64_text.specs.Operators.{alu_op_text, alu_op3_text, bit_op_text, bfm_op_text, move_wide_op_text, shift_op_text, extend_text, cond_text, bool_text, frame_field_text, mem_label_name_text, test_bit_text}
+use Rattle.a64_text.specs.Operators.{alu_op_text, alu_op3_text, bit_op_text, bfm_op_text, move_wide_op_text, shift_op_text, extend_text, cond_text, bool_text, emit_flag_text, frame_field_text, mem_label_name_text, test_bit_text}
 use Rattle.a64_text.specs.Types.{type_text}
 
 pub alu_op_found : (x : ALUOp) → look_up ALU_OP_HOMES (map (λ row. row.2) ALU_OPS) (alu_op_text x) ≡ Some x
@@ -77,6 +80,10 @@ bool_found _ = refl
 pub frame_field_found : (x : FrameField) → look_up FRAME_FIELD_HOMES (map (λ row. row.2) FRAME_FIELDS) (frame_field_text x) ≡ Some x
 frame_field_found frame_fields.SetupAreaSize = refl
 frame_field_found _ = refl
+
+pub emit_flag_found : (x : EmitFlag) → look_up EMIT_FLAG_HOMES (map (λ row. row.2) EMIT_FLAGS) (emit_flag_text x) ≡ Some x
+emit_flag_found emit_flags.EnableProbestack = refl
+emit_flag_found _ = refl
 
 pub type_found : (x : IrType) → look_up TYPE_HOMES (map (λ row. row.2) TYPES) (type_text x) ≡ Some x
 type_found types.I8 = refl

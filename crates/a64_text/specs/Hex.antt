@@ -13,8 +13,8 @@ abbrev pub IsDigit : ℕ → Type 0
 IsDigit n = n < 16
 
 -- the two digits of a byte
-abbrev pub hex_pair : ℕ → ℕ × ℕ
-hex_pair byte = (hex_digit (byte / 16), hex_digit (byte % 16))
+abbrev pub byte_digits : ℕ → ℕ × ℕ
+byte_digits byte = (hex_digit (byte / 16), hex_digit (byte % 16))
 
 -- the bytes one behind another
 abbrev pub hex_text : List ℕ → List ℕ

@@ -5,6 +5,7 @@ pub mod Found
 pub mod Types
 pub mod Fields
 pub mod Lists
+pub mod RegisterPairs
 pub mod Hex
 pub mod Parts
 pub mod Names
@@ -17,6 +18,8 @@ pub mod Splitting
 pub mod TokenLaws
 pub mod DigitLaws
 pub mod ListLaws
+pub mod RegisterLaws
+pub mod PairLaws
 pub mod Rows
 pub mod Tokens
 pub mod At
@@ -28,6 +31,7 @@ pub mod BranchLaws
 pub mod Makes
 pub mod Makers
 pub mod Frames
+pub mod Settings
 pub mod States
 pub mod Puts
 pub mod FileText

@@ -11,20 +11,22 @@ use Rattle.a64_text.specs.declared.entry.Entry.TheVariants as entries
 use Rattle.a64_text.specs.declared.name.ControlName.TheVariants as control
 use Rattle.a64_text.specs.declared.name.IntegerName.TheVariants as integer
 use Rattle.a64_text.specs.declared.name.MemoryName.TheVariants as memory
+use Rattle.a64_text.specs.declared.name.SequenceName.TheVariants as sequence
 use Rattle.a64_ops.specs.declared.access.AccessOp.TheVariants as ops
 use Rattle.a64_text.specs.declared.name.Name.{Name}
 use Rattle.a64_text.specs.declared.name.Name.TheVariants as names
 use Rattle.a64_text.specs.declared.name_table.TheConstants.{NAME_HOMES, NAMES}
 use Rattle.a64_text.specs.declared.value.Value.{Value}
 use Rattle.a64_text.specs.declared.value.Value.TheVariants as values
-use Rattle.a64_text.specs.At.{list_at, reg_at, u32_at}
+use Rattle.a64_text.specs.At.{label_at, list_at, reg_at, u32_at}
 use Rattle.a64_text.specs.Fields.{HasNo, label_text, IsLabel}
 use Rattle.a64_text.specs.Hash.{look_up}
 use Rattle.a64_text.specs.Hex.{hex_text, HasHex}
 use Rattle.a64_text.specs.Lists.{list_text}
 use Rattle.a64_text.specs.ModeLaws.{made_of}
-use Rattle.a64_text.specs.Makes.{emitted, constant_of, entry_of, Makes}
+use Rattle.a64_text.specs.Makes.{emitted, constant_of, entry_of, jump_of, Makes}
 use Rattle.a64_text.specs.Names.{name_text, kinds_of}
+use Rattle.a64_text.specs.RegisterPairs.{arg_pair_text, IsArgPair, ret_pair_text, IsRetPair}
 use Rattle.a64_text.specs.Same.{at_their_places}
 use Rattle.a64_text.specs.Tokens.{inst_parts, name_of, fields_of, IsOwnInst, IsOwn}
 use Rattle.a64_text.specs.Values.{kind_of, IsValue}
@@ -47,6 +49,19 @@ made_some (names.Control control.IndirectBr) vs r h are =
     h.0 h.1 r h.2
 made_some (names.Control control.Ret) values r h are = made (IsMade (names.Control control.Ret) values) r (entry_of (names.Control control.Ret) values) h (refl, at_their_places (kinds_of (names.Control control.Ret)) values are, (tt, refl))
 made_some (names.Control name) values r h are = made (IsMade (names.Control name) values) r (entry_of (names.Control name) values) h (refl, at_their_places (kinds_of (names.Control name)) values are, (tt, refl))
+made_some (names.Sequence sequence.Args) vs r h are =
+    made_of (AllByRecursion IsArgPair) (list_text arg_pair_text) (list_at vs 0) (λ args. emitted (insts.Args args)) (IsMade (names.Sequence sequence.Args) vs)
+    (λ args own is. (refl, ap (λ (t : List ℕ). values.List t ∷ []) (sym is) ∙ at_their_places (kinds_of (names.Sequence sequence.Args)) vs are, (own, refl)))
+    h.0 h.1 r h.2
+made_some (names.Sequence sequence.Rets) vs r h are =
+    made_of (AllByRecursion IsRetPair) (list_text ret_pair_text) (list_at vs 0) (λ rets. emitted (insts.Rets rets)) (IsMade (names.Sequence sequence.Rets) vs)
+    (λ rets own is. (refl, ap (λ (t : List ℕ). values.List t ∷ []) (sym is) ∙ at_their_places (kinds_of (names.Sequence sequence.Rets)) vs are, (own, refl)))
+    h.0 h.1 r h.2
+made_some (names.Sequence sequence.JTSequence) vs r h are =
+    made_of (AllByRecursion IsLabel) (list_text label_text) (list_at vs 1) (λ targets. emitted (jump_of vs targets)) (IsMade (names.Sequence sequence.JTSequence) vs)
+    (λ targets own is. (refl, ap (λ (t : List ℕ). values.Label (label_at vs 0) ∷ values.List t ∷ values.Reg (reg_at vs 2) ∷ values.Reg (reg_at vs 3) ∷ values.Reg (reg_at vs 4) ∷ []) (sym is) ∙ at_their_places (kinds_of (names.Sequence sequence.JTSequence)) vs are, (own, refl)))
+    h.0 h.1 r h.2
+made_some (names.Sequence name) values r h are = made (IsMade (names.Sequence name) values) r (entry_of (names.Sequence name) values) h (refl, at_their_places (kinds_of (names.Sequence name)) values are, (tt, refl))
 made_some (names.Memory memory.LoadAddr) values r h are = made (IsMade (names.Memory memory.LoadAddr) values) r (entry_of (names.Memory memory.LoadAddr) values) h (refl, at_their_places (kinds_of (names.Memory memory.LoadAddr)) values are, (tt, refl))
 made_some (names.Memory name) values r h are = made (IsMade (names.Memory name) values) r (entry_of (names.Memory name) values) h (refl, at_their_places (kinds_of (names.Memory name)) values are, (tt, refl))
 made_some (names.Access ops.ULoad8) values r h are = made (IsMade (names.Access ops.ULoad8) values) r (entry_of (names.Access ops.ULoad8) values) h (refl, at_their_places (kinds_of (names.Access ops.ULoad8)) values are, (tt, refl))
@@ -57,6 +72,7 @@ made_some names.Const vs r h are =
     (λ bytes own is. (refl, ap (λ (t : List ℕ). values.U32 (u32_at vs 0) ∷ values.List t ∷ []) (sym is) ∙ at_their_places (kinds_of names.Const) vs are, own))
     h.0 h.1 r h.2
 made_some names.Frame values r h are = made (IsMade names.Frame values) r (entry_of names.Frame values) h (refl, at_their_places (kinds_of names.Frame) values are, tt)
+made_some names.Flag values r h are = made (IsMade names.Flag values) r (entry_of names.Flag values) h (refl, at_their_places (kinds_of names.Flag) values are, tt)
 
 without_map : (inst : Inst) (map : Option UserStackMap) (r : Option Entry) → map ≡ None → r ≡ Some (emitted inst) → r ≡ Some (entries.Item (Emit inst map))
 without_map inst map r none e = e ∙ ap (λ (m : Option UserStackMap). Some (entries.Item (Emit inst m))) (sym none)
@@ -68,6 +84,14 @@ inst_only (insts.IndirectBr rn targets) vs r h fits own e =
     h.2
     ∙ ap (λ o. option_map (λ ts. emitted (insts.IndirectBr (reg_at vs 0) ts)) o) (h.1.only targets own (ap (λ (t : List Value). list_at t 1) (sym e)))
     ∙ ap (λ (t : List Value). Some (emitted (insts.IndirectBr (reg_at t 0) targets))) (sym e)
+inst_only (insts.Args args) vs r h fits own e =
+    h.2 ∙ ap (λ o. option_map (λ xs. emitted (insts.Args xs)) o) (h.1.only args own (ap (λ (t : List Value). list_at t 0) (sym e)))
+inst_only (insts.Rets rets) vs r h fits own e =
+    h.2 ∙ ap (λ o. option_map (λ xs. emitted (insts.Rets xs)) o) (h.1.only rets own (ap (λ (t : List Value). list_at t 0) (sym e)))
+inst_only (insts.JTSequence default targets ridx rtmp1 rtmp2) vs r h fits own e =
+    h.2
+    ∙ ap (λ o. option_map (λ ts. emitted (jump_of vs ts)) o) (h.1.only targets own (ap (λ (t : List Value). list_at t 1) (sym e)))
+    ∙ ap (λ (t : List Value). Some (emitted (jump_of t targets))) (sym e)
 inst_only inst values r h fits own e = h ∙ ap (λ (t : List Value). Some (entry_of (inst_parts inst).name t)) (sym e)
 
 pub made_only : (entry : Entry) (values : List Value) (r : Option Entry) → Makes (name_of entry) values r → AllByRecursion IsValue (fields_of entry) → IsOwn entry → fields_of entry ≡ values → r ≡ Some entry
@@ -79,6 +103,7 @@ made_only (entries.Constant addr bytes) vs r h fits own e =
     ∙ ap (λ o. option_map (constant_of vs) o) (h.1.only bytes own (ap (λ (t : List Value). list_at t 1) (sym e)))
     ∙ ap (λ (t : List Value). Some (constant_of t bytes)) (sym e)
 made_only (entries.Frame field bytes) values r h fits own e = h ∙ ap (λ (t : List Value). Some (entry_of names.Frame t)) (sym e)
+made_only (entries.Flag flag) values r h fits own e = h ∙ ap (λ (t : List Value). Some (entry_of names.Flag t)) (sym e)
 
 inst_kinds : (inst : Inst) → map kind_of (inst_parts inst).fields ≡ kinds_of (inst_parts inst).name
 inst_kinds insts.Nop4 = refl
@@ -89,10 +114,12 @@ fields_kinds (entries.Item (Bind label)) = refl
 fields_kinds (entries.Item (Emit inst map)) = inst_kinds inst
 fields_kinds (entries.Constant addr bytes) = refl
 fields_kinds (entries.Frame field bytes) = refl
+fields_kinds (entries.Flag flag) = refl
 
 pub few_kinds : (name : Name) → length (kinds_of name) ≤ 12
 few_kinds (names.Integer integer.Nop4) = lit≤ tt
 few_kinds (names.Control control.Ret) = lit≤ tt
+few_kinds (names.Sequence sequence.DummyUse) = lit≤ tt
 few_kinds (names.Memory memory.LoadAddr) = lit≤ tt
 few_kinds (names.Access ops.ULoad8) = lit≤ tt
 few_kinds _ = lit≤ tt
@@ -100,6 +127,7 @@ few_kinds _ = lit≤ tt
 pub name_plain : (name : Name) → HasNo 32 (name_text name)
 name_plain (names.Integer integer.Nop4) = refl
 name_plain (names.Control control.Ret) = refl
+name_plain (names.Sequence sequence.DummyUse) = refl
 name_plain (names.Memory memory.LoadAddr) = refl
 name_plain (names.Access ops.ULoad8) = refl
 name_plain _ = refl
@@ -107,6 +135,7 @@ name_plain _ = refl
 pub name_found : (x : Name) → look_up NAME_HOMES (map (λ row. row.2) NAMES) (name_text x) ≡ Some x
 name_found (names.Integer integer.Nop4) = refl
 name_found (names.Control control.Ret) = refl
+name_found (names.Sequence sequence.DummyUse) = refl
 name_found (names.Memory memory.LoadAddr) = refl
 name_found (names.Access ops.ULoad8) = refl
 name_found _ = refl

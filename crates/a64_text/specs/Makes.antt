@@ -1,6 +1,7 @@
 -- What a name makes of the fields behind it.
 use Rattle.std.specs.Prelude.{◌≡◌, ℕ, map, List, Option, Some, None, IfSome}
 use Rattle.std.specs.List.{AllByRecursion}
+use Rattle.a64_base.specs.declared.entity.MachLabel.{MachLabel}
 use Rattle.a64_base.specs.declared.reg.Reg.{Reg}
 use Rattle.a64_base.specs.declared.size.OperandSize.{OperandSize}
 use Rattle.a64_imms.specs.declared.imm_logic.ImmLogic.{ImmLogic}
@@ -17,15 +18,18 @@ use Rattle.a64_text.specs.declared.name.IntegerName.{IntegerName}
 use Rattle.a64_text.specs.declared.name.IntegerName.TheVariants as integer
 use Rattle.a64_text.specs.declared.name.MemoryName.{MemoryName}
 use Rattle.a64_text.specs.declared.name.MemoryName.TheVariants as memory
+use Rattle.a64_text.specs.declared.name.SequenceName.{SequenceName}
+use Rattle.a64_text.specs.declared.name.SequenceName.TheVariants as sequence
 use Rattle.a64_text.specs.declared.name.Name.{Name}
 use Rattle.a64_text.specs.declared.name.Name.TheVariants as names
 use Rattle.a64_text.specs.declared.value.Value.{Value}
-use Rattle.a64_text.specs.At.{alu_op3_at, alu_op_at, bfm_op_at, bit_op_at, cond_at, cond_br_kind_at, extend_at, flags_at, frame_field_at, i32_at, imm12_at, imm_shift_at, label_at, list_at, mode_at, move_wide_op_at, nzcv_at, pair_mode_at, preg_at, reg_at, shift_at, size_at, target_at, test_bit_kind_at, truth_at, u32_at, u64_at, u8_at, uimm5_at, uimm6_at, wide_at}
+use Rattle.a64_text.specs.At.{alu_op3_at, alu_op_at, bfm_op_at, bit_op_at, cond_at, cond_br_kind_at, emit_flag_at, extend_at, flags_at, frame_field_at, i32_at, i64_at, imm12_at, imm_shift_at, label_at, list_at, mode_at, move_wide_op_at, nzcv_at, pair_mode_at, preg_at, reg_at, shift_at, size_at, target_at, test_bit_kind_at, truth_at, u32_at, u64_at, u8_at, uimm5_at, uimm6_at, wide_at}
 use Rattle.a64_text.specs.Fields.{label_text, IsLabel}
 use Rattle.a64_text.specs.Hex.{hex_text, HasHex}
 use Rattle.a64_text.specs.Lists.{list_text}
 use Rattle.a64_text.specs.ModeMakes.{MakesOf}
 use Rattle.a64_text.specs.Names.{kinds_of}
+use Rattle.a64_text.specs.RegisterPairs.{arg_pair_text, IsArgPair, ret_pair_text, IsRetPair}
 use Rattle.a64_text.specs.Tokens.{name_of, fields_of, IsOwn, IsEntry}
 use Rattle.a64_text.specs.Values.{kind_of}
 
@@ -76,10 +80,22 @@ control_of control.EmitIsland values = insts.EmitIsland (u32_at values 0)
 control_of control.LabelAddress values = insts.LabelAddress (reg_at values 0) (label_at values 1)
 control_of _ values = insts.Brk
 
+abbrev pub sequence_of : SequenceName → List Value → Inst
+sequence_of sequence.DummyUse values = insts.DummyUse (reg_at values 0)
+sequence_of sequence.LoadExtNameGot values = insts.LoadExtNameGot (reg_at values 0) (record { 0 = u32_at values 1 })
+sequence_of sequence.LoadExtNameNear values = insts.LoadExtNameNear (reg_at values 0) (record { 0 = u32_at values 1 }) (i64_at values 2)
+sequence_of sequence.LoadExtNameFar values = insts.LoadExtNameFar (reg_at values 0) (record { 0 = u32_at values 1 }) (i64_at values 2)
+sequence_of sequence.StackProbeLoop values = insts.StackProbeLoop (reg_at values 0) (reg_at values 1) (imm12_at values 2)
+sequence_of _ values = insts.SequencePoint
+
 abbrev pub memory_of : MemoryName → List Value → Inst
 memory_of memory.LoadP64 values = insts.LoadP64 (reg_at values 0) (reg_at values 1) (pair_mode_at values 2) (flags_at values 3)
 memory_of memory.StoreP64 values = insts.StoreP64 (reg_at values 0) (reg_at values 1) (pair_mode_at values 2) (flags_at values 3)
 memory_of memory.LoadAddr values = insts.LoadAddr (reg_at values 0) (mode_at values 1)
+
+-- the jump through a table of these fields, with these targets
+abbrev pub jump_of : List Value → List MachLabel → Inst
+jump_of values targets = insts.JTSequence (label_at values 0) targets (reg_at values 2) (reg_at values 3) (reg_at values 4)
 
 -- the constant of these fields, with these bytes
 abbrev pub constant_of : List Value → List ℕ → Entry
@@ -89,11 +105,13 @@ constant_of values bytes = entries.Constant (record { 0 = u32_at values 0 }) byt
 abbrev pub entry_of : Name → List Value → Entry
 entry_of (names.Integer name) values = emitted (integer_of name values)
 entry_of (names.Control name) values = emitted (control_of name values)
+entry_of (names.Sequence name) values = emitted (sequence_of name values)
 entry_of (names.Memory name) values = emitted (memory_of name values)
 entry_of (names.Access op) values = emitted (inst_with op (reg_at values 0) (mode_at values 1) (flags_at values 2))
 entry_of names.Bind values = entries.Item (Bind (label_at values 0))
 entry_of names.Const values = constant_of values (list_at values 1)
 entry_of names.Frame values = entries.Frame (frame_field_at values 0) (u32_at values 1)
+entry_of names.Flag values = entries.Flag (emit_flag_at values 0)
 
 -- some entry of this name with these fields, exactly where there is one. `make` makes all entries of the name
 pub record MakesOwn {X : Type 0} (name : Name) (make : X → Entry) (values : List Value) (result : Option Entry) : Type 0 where
@@ -103,5 +121,8 @@ pub record MakesOwn {X : Type 0} (name : Name) (make : X → Entry) (values : Li
 unfoldable pub Makes : Name → List Value → Option Entry → Type 0
 Makes (names.Integer integer.AluRRImmLogic) values result = MakesOwn (names.Integer integer.AluRRImmLogic) (λ (x : ALUOp × OperandSize × Reg × Reg × ImmLogic). emitted (insts.AluRRImmLogic x.0 x.1 x.2 x.3 x.4)) values result
 Makes (names.Control control.IndirectBr) values result = MakesOf (AllByRecursion IsLabel) (list_text label_text) (list_at values 1) (λ targets. emitted (insts.IndirectBr (reg_at values 0) targets)) result
+Makes (names.Sequence sequence.Args) values result = MakesOf (AllByRecursion IsArgPair) (list_text arg_pair_text) (list_at values 0) (λ args. emitted (insts.Args args)) result
+Makes (names.Sequence sequence.Rets) values result = MakesOf (AllByRecursion IsRetPair) (list_text ret_pair_text) (list_at values 0) (λ rets. emitted (insts.Rets rets)) result
+Makes (names.Sequence sequence.JTSequence) values result = MakesOf (AllByRecursion IsLabel) (list_text label_text) (list_at values 1) (λ targets. emitted (jump_of values targets)) result
 Makes names.Const values result = MakesOf HasHex hex_text (list_at values 1) (constant_of values) result
 Makes name values result = result ≡ Some (entry_of name values)

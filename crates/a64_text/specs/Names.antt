@@ -9,7 +9,9 @@ use Rattle.a64_text.specs.declared.name.MemoryName.TheVariants as memory
 use Rattle.a64_ops.specs.declared.access.AccessOp.{AccessOp}
 use Rattle.a64_ops.specs.declared.access.AccessOp.TheVariants as ops
 use Rattle.a64_text.specs.declared.name.Name.{Name}
-use Rattle.a64_text.specs.declared.name.Name.TheVariants.{Integer, Control, Memory, Access, Bind, Const, Frame}
+use Rattle.a64_text.specs.declared.name.SequenceName.{SequenceName}
+use Rattle.a64_text.specs.declared.name.SequenceName.TheVariants as sequence
+use Rattle.a64_text.specs.declared.name.Name.TheVariants.{Integer, Control, Sequence, Memory, Access, Bind, Const, Frame, Flag}
 use Rattle.a64_text.specs.declared.value.Kind.{Kind}
 use Rattle.a64_text.specs.declared.value.Kind.TheVariants as kinds
 
@@ -62,6 +64,17 @@ control_heading control.Word8 = record { text = codes "Word8"; kinds = kinds.U64
 control_heading control.EmitIsland = record { text = codes "EmitIsland"; kinds = kinds.U32 ∷ [] }
 control_heading control.LabelAddress = record { text = codes "LabelAddress"; kinds = kinds.Reg ∷ kinds.Label ∷ [] }
 
+abbrev pub sequence_heading : SequenceName → Heading
+sequence_heading sequence.Args = record { text = codes "Args"; kinds = kinds.List ∷ [] }
+sequence_heading sequence.Rets = record { text = codes "Rets"; kinds = kinds.List ∷ [] }
+sequence_heading sequence.DummyUse = record { text = codes "DummyUse"; kinds = kinds.Reg ∷ [] }
+sequence_heading sequence.SequencePoint = record { text = codes "SequencePoint"; kinds = [] }
+sequence_heading sequence.JTSequence = record { text = codes "JTSequence"; kinds = kinds.Label ∷ kinds.List ∷ kinds.Reg ∷ kinds.Reg ∷ kinds.Reg ∷ [] }
+sequence_heading sequence.LoadExtNameGot = record { text = codes "LoadExtNameGot"; kinds = kinds.Reg ∷ kinds.U32 ∷ [] }
+sequence_heading sequence.LoadExtNameNear = record { text = codes "LoadExtNameNear"; kinds = kinds.Reg ∷ kinds.U32 ∷ kinds.I64 ∷ [] }
+sequence_heading sequence.LoadExtNameFar = record { text = codes "LoadExtNameFar"; kinds = kinds.Reg ∷ kinds.U32 ∷ kinds.I64 ∷ [] }
+sequence_heading sequence.StackProbeLoop = record { text = codes "StackProbeLoop"; kinds = kinds.Reg ∷ kinds.Reg ∷ kinds.Imm12 ∷ [] }
+
 abbrev pub memory_heading : MemoryName → Heading
 memory_heading memory.LoadP64 = record { text = codes "LoadP64"; kinds = kinds.Reg ∷ kinds.Reg ∷ kinds.PairMode ∷ kinds.Flags ∷ [] }
 memory_heading memory.StoreP64 = record { text = codes "StoreP64"; kinds = kinds.Reg ∷ kinds.Reg ∷ kinds.PairMode ∷ kinds.Flags ∷ [] }
@@ -95,11 +108,13 @@ access_heading op = record { text = access_text op; kinds = kinds.Reg ∷ kinds.
 abbrev pub heading : Name → Heading
 heading (Integer name) = integer_heading name
 heading (Control name) = control_heading name
+heading (Sequence name) = sequence_heading name
 heading (Memory name) = memory_heading name
 heading (Access op) = access_heading op
 heading Bind = record { text = codes "bind"; kinds = kinds.Label ∷ [] }
 heading Const = record { text = codes "const"; kinds = kinds.U32 ∷ kinds.List ∷ [] }
 heading Frame = record { text = codes "frame"; kinds = kinds.FrameField ∷ kinds.U32 ∷ [] }
+heading Flag = record { text = codes "flag"; kinds = kinds.EmitFlag ∷ [] }
 
 abbrev pub name_text : Name → List ℕ
 name_text name = (heading name).text

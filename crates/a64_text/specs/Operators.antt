@@ -1,4 +1,4 @@
--- The names of operators, shifts, extensions, conditions and sizes of a frame.
+-- The names of operators, shifts, extensions, conditions, sizes of a frame and settings.
 use Rattle.std.specs.Prelude.{ℕ, List, codes, Bool, true, false}
 use Rattle.a64_ops.specs.declared.operator.ALUOp.{ALUOp}
 use Rattle.a64_ops.specs.declared.operator.ALUOp.TheVariants as alu_ops
@@ -20,6 +20,8 @@ use Rattle.a64_base.specs.declared.cond.TestBitAndBranchKind.{TestBitAndBranchKi
 use Rattle.a64_base.specs.declared.cond.TestBitAndBranchKind.TheVariants as bit_tests
 use Rattle.a64_text.specs.declared.mode_name.MemLabelName.{MemLabelName}
 use Rattle.a64_text.specs.declared.mode_name.MemLabelName.TheVariants as label_names
+use Rattle.a64_text.specs.declared.emit_flag.EmitFlag.{EmitFlag}
+use Rattle.a64_text.specs.declared.emit_flag.EmitFlag.TheVariants as emit_flags
 use Rattle.a64_text.specs.declared.frame_field.FrameField.{FrameField}
 use Rattle.a64_text.specs.declared.frame_field.FrameField.TheVariants as frame_fields
 
@@ -114,6 +116,11 @@ frame_field_text frame_fields.TailArgsSize = codes "tail_args_size"
 frame_field_text frame_fields.ClobberSize = codes "clobber_size"
 frame_field_text frame_fields.FixedFrameStorageSize = codes "fixed_frame_storage_size"
 frame_field_text frame_fields.OutgoingArgsSize = codes "outgoing_args_size"
+
+abbrev pub emit_flag_text : EmitFlag → List ℕ
+emit_flag_text emit_flags.EnableProbestack = codes "enable_probestack"
+emit_flag_text emit_flags.EnableTableAccessSpectreMitigation = codes "enable_table_access_spectre_mitigation"
+emit_flag_text emit_flags.UseCsdb = codes "use_csdb"
 
 abbrev pub mem_label_name_text : MemLabelName → List ℕ
 mem_label_name_text label_names.PCRel = codes "PCRel"

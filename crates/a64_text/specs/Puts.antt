@@ -5,6 +5,7 @@ use Rattle.a64_text.specs.declared.entry.Entry.{Entry}
 use Rattle.a64_text.specs.declared.entry.Entry.TheVariants as entries
 use Rattle.a64_text.specs.declared.name.ControlName.TheVariants as control
 use Rattle.a64_text.specs.declared.name.IntegerName.TheVariants as integer
+use Rattle.a64_text.specs.declared.name.SequenceName.TheVariants as sequence
 use Rattle.a64_text.specs.declared.name.Name.{Name}
 use Rattle.a64_text.specs.declared.name.Name.TheVariants as names
 use Rattle.a64_text.specs.declared.value.Value.{Value}
@@ -16,6 +17,7 @@ PutsEntry None old new made = (made ≡ false) × (new ≡ old)
 PutsEntry (Some (entries.Item item)) old new made = (made ≡ true) × (new ≡ old ++ item ∷ [])
 PutsEntry (Some (entries.Constant addr bytes)) old new made = ⊥
 PutsEntry (Some (entries.Frame field bytes)) old new made = ⊥
+PutsEntry (Some (entries.Flag flag)) old new made = ⊥
 
 -- the entry that the name makes of the fields, where it makes one, is an item and is put behind the others
 abbrev pub PutsMade : Name → List Value → List Item → List Item → Bool → Type 0
@@ -25,4 +27,7 @@ PutsMade name values old new made = (r : Option Entry) × Makes name values r ×
 unfoldable pub Puts : Name → List Value → List Item → List Item → Bool → Type 0
 Puts (names.Integer integer.AluRRImmLogic) values old new made = PutsMade (names.Integer integer.AluRRImmLogic) values old new made
 Puts (names.Control control.IndirectBr) values old new made = PutsMade (names.Control control.IndirectBr) values old new made
+Puts (names.Sequence sequence.Args) values old new made = PutsMade (names.Sequence sequence.Args) values old new made
+Puts (names.Sequence sequence.Rets) values old new made = PutsMade (names.Sequence sequence.Rets) values old new made
+Puts (names.Sequence sequence.JTSequence) values old new made = PutsMade (names.Sequence sequence.JTSequence) values old new made
 Puts name values old new made = PutsEntry (Some (entry_of name values)) old new made

@@ -13,6 +13,7 @@ use Rattle.a64_text.specs.declared.entry.OnceName.{OnceName}
 use Rattle.a64_text.specs.declared.entry.OnceName.TheVariants as once_names
 use Rattle.a64_text.specs.declared.file.File.{File}
 use Rattle.a64_text.specs.Frames.{frame_with}
+use Rattle.a64_text.specs.Settings.{flags_with}
 
 -- what a file says
 pub record Contents : Type 0 where
@@ -60,12 +61,14 @@ abbrev pub once_name : Entry → Option OnceName
 once_name (entries.Item item) = None
 once_name (entries.Constant addr bytes) = Some (once_names.Constant addr.0)
 once_name (entries.Frame field bytes) = Some (once_names.Frame field)
+once_name (entries.Flag flag) = Some (once_names.Flag flag)
 
 -- what the file says with the entry too
 abbrev pub said : Entry → Contents → Contents
 said (entries.Item item) file = record file { items = file.items ++ item ∷ [] }
 said (entries.Constant addr bytes) file = record file { constants = inserted file.constants addr.0 bytes }
 said (entries.Frame field bytes) file = record file { frame = frame_with field bytes file.frame }
+said (entries.Flag flag) file = record file { flags = flags_with flag file.flags }
 
 -- a constant has as many bytes as constants have
 abbrev pub IsSized : Entry → Type 0

@@ -17,6 +17,7 @@ use Rattle.a64_text.specs.declared.entry.Entry.TheVariants as entries
 use Rattle.a64_text.specs.declared.name.ControlName.TheVariants as control
 use Rattle.a64_text.specs.declared.name.IntegerName.TheVariants as integer
 use Rattle.a64_text.specs.declared.name.MemoryName.TheVariants as memory
+use Rattle.a64_text.specs.declared.name.SequenceName.TheVariants as sequence
 use Rattle.a64_text.specs.declared.name.Name.{Name}
 use Rattle.a64_text.specs.declared.name.Name.TheVariants as names
 use Rattle.a64_text.specs.declared.value.Value.{Value}
@@ -25,6 +26,7 @@ use Rattle.a64_text.specs.Fields.{label_text, IsLabel}
 use Rattle.a64_text.specs.Hex.{hex_text, HasHex}
 use Rattle.a64_text.specs.Lists.{list_text}
 use Rattle.a64_text.specs.Names.{name_text}
+use Rattle.a64_text.specs.RegisterPairs.{arg_pair_text, IsArgPair, ret_pair_text, IsRetPair}
 use Rattle.a64_text.specs.Values.{value_text, IsValue}
 
 -- a name and the fields behind it
@@ -76,6 +78,15 @@ inst_parts (insts.Word4 value) = record { name = names.Control control.Word4; fi
 inst_parts (insts.Word8 value) = record { name = names.Control control.Word8; fields = values.U64 value ∷ [] }
 inst_parts (insts.EmitIsland needed_space) = record { name = names.Control control.EmitIsland; fields = values.U32 needed_space ∷ [] }
 inst_parts (insts.LabelAddress dst label) = record { name = names.Control control.LabelAddress; fields = values.Reg dst ∷ values.Label label ∷ [] }
+inst_parts (insts.Args args) = record { name = names.Sequence sequence.Args; fields = values.List (list_text arg_pair_text args) ∷ [] }
+inst_parts (insts.Rets rets) = record { name = names.Sequence sequence.Rets; fields = values.List (list_text ret_pair_text rets) ∷ [] }
+inst_parts (insts.DummyUse reg) = record { name = names.Sequence sequence.DummyUse; fields = values.Reg reg ∷ [] }
+inst_parts insts.SequencePoint = record { name = names.Sequence sequence.SequencePoint; fields = [] }
+inst_parts (insts.JTSequence default targets ridx rtmp1 rtmp2) = record { name = names.Sequence sequence.JTSequence; fields = values.Label default ∷ values.List (list_text label_text targets) ∷ values.Reg ridx ∷ values.Reg rtmp1 ∷ values.Reg rtmp2 ∷ [] }
+inst_parts (insts.LoadExtNameGot rd name) = record { name = names.Sequence sequence.LoadExtNameGot; fields = values.Reg rd ∷ values.U32 name.0 ∷ [] }
+inst_parts (insts.LoadExtNameNear rd name offset) = record { name = names.Sequence sequence.LoadExtNameNear; fields = values.Reg rd ∷ values.U32 name.0 ∷ values.I64 offset ∷ [] }
+inst_parts (insts.LoadExtNameFar rd name offset) = record { name = names.Sequence sequence.LoadExtNameFar; fields = values.Reg rd ∷ values.U32 name.0 ∷ values.I64 offset ∷ [] }
+inst_parts (insts.StackProbeLoop start end step) = record { name = names.Sequence sequence.StackProbeLoop; fields = values.Reg start ∷ values.Reg end ∷ values.Imm12 step ∷ [] }
 inst_parts (insts.LoadP64 rt rt2 mem flags) = record { name = names.Memory memory.LoadP64; fields = values.Reg rt ∷ values.Reg rt2 ∷ values.PairMode mem ∷ values.Flags flags ∷ [] }
 inst_parts (insts.StoreP64 rt rt2 mem flags) = record { name = names.Memory memory.StoreP64; fields = values.Reg rt ∷ values.Reg rt2 ∷ values.PairMode mem ∷ values.Flags flags ∷ [] }
 inst_parts (insts.LoadAddr rd mem) = record { name = names.Memory memory.LoadAddr; fields = values.Reg rd ∷ values.Mode mem ∷ [] }
@@ -107,6 +118,7 @@ abbrev pub parts : Entry → Parts
 parts (entries.Item item) = item_parts item
 parts (entries.Constant addr bytes) = record { name = names.Const; fields = values.U32 addr.0 ∷ values.List (hex_text bytes) ∷ [] }
 parts (entries.Frame field bytes) = record { name = names.Frame; fields = values.FrameField field ∷ values.U32 bytes ∷ [] }
+parts (entries.Flag flag) = record { name = names.Flag; fields = values.EmitFlag flag ∷ [] }
 
 abbrev pub name_of : Entry → Name
 name_of entry = (parts entry).name
@@ -118,6 +130,9 @@ fields_of entry = (parts entry).fields
 abbrev pub IsOwnInst : Inst → Type 0
 IsOwnInst (insts.AluRRImmLogic alu_op size rd rn imml) = IsLogicOf size (logic_value imml) imml
 IsOwnInst (insts.IndirectBr rn targets) = AllByRecursion IsLabel targets
+IsOwnInst (insts.Args args) = AllByRecursion IsArgPair args
+IsOwnInst (insts.Rets rets) = AllByRecursion IsRetPair rets
+IsOwnInst (insts.JTSequence default targets ridx rtmp1 rtmp2) = AllByRecursion IsLabel targets
 IsOwnInst _ = Unit {0}
 
 -- no instruction so far has a map
@@ -132,6 +147,7 @@ abbrev pub IsOwn : Entry → Type 0
 IsOwn (entries.Item item) = IsOwnItem item
 IsOwn (entries.Constant addr bytes) = HasHex bytes
 IsOwn (entries.Frame field bytes) = Unit {0}
+IsOwn (entries.Flag flag) = Unit {0}
 
 -- an entry that has a line
 pub record IsEntry (entry : Entry) : Type 0 where

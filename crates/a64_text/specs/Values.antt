@@ -22,6 +22,7 @@ use Rattle.a64_base.specs.declared.cond.TestBitAndBranchKind.{TestBitAndBranchKi
 use Rattle.a64_imms.specs.declared.flags.NZCV.{NZCV}
 use Rattle.a64_base.specs.declared.target.BranchTarget.{BranchTarget}
 use Rattle.a64_base.specs.declared.entity.MachLabel.{MachLabel}
+use Rattle.a64_text.specs.declared.emit_flag.EmitFlag.{EmitFlag}
 use Rattle.a64_text.specs.declared.frame_field.FrameField.{FrameField}
 use Rattle.a64_base.specs.declared.entity.TrapCode.{TrapCode}
 use Rattle.a64_base.specs.declared.ir_type.IrType.{IrType}
@@ -35,7 +36,7 @@ use Rattle.a64_text.specs.declared.value.Kind.TheVariants as kinds
 use Rattle.a64_text.specs.declared.value.Value.{Value}
 use Rattle.a64_text.specs.declared.value.Value.TheVariants as values
 use Rattle.a64_text.specs.Reads.{Always, IsU8, IsU64, IsI32}
-use Rattle.a64_text.specs.Operators.{alu_op3_text, alu_op_text, bfm_op_text, bit_op_text, bool_text, frame_field_text, move_wide_op_text, test_bit_text}
+use Rattle.a64_text.specs.Operators.{alu_op3_text, alu_op_text, bfm_op_text, bit_op_text, bool_text, emit_flag_text, frame_field_text, move_wide_op_text, test_bit_text}
 use Rattle.a64_text.specs.Branches.{cond_br_text, IsCondBr}
 use Rattle.a64_text.specs.Lists.{same_text}
 use Rattle.a64_text.specs.Modes.{mode_text, IsMode, pair_text, IsPairMode}
@@ -68,6 +69,7 @@ kind_of (values.I32 x) = kinds.I32
 kind_of (values.Target x) = kinds.Target
 kind_of (values.Label x) = kinds.Label
 kind_of (values.FrameField x) = kinds.FrameField
+kind_of (values.EmitFlag x) = kinds.EmitFlag
 kind_of (values.I64 x) = kinds.I64
 kind_of (values.Offset9 x) = kinds.Offset9
 kind_of (values.PairOffset x) = kinds.PairOffset
@@ -102,6 +104,7 @@ value_text (values.I32 x) = signed_decimal x
 value_text (values.Target x) = target_text x
 value_text (values.Label x) = label_text x
 value_text (values.FrameField x) = frame_field_text x
+value_text (values.EmitFlag x) = emit_flag_text x
 value_text (values.Mode x) = mode_text x
 value_text (values.PairMode x) = pair_text x
 value_text (values.Flags x) = flags_text x
@@ -132,6 +135,7 @@ IsValue (values.I32 x) = IsI32 x
 IsValue (values.Target x) = IsTarget x
 IsValue (values.Label x) = IsLabel x
 IsValue (values.FrameField x) = Always x
+IsValue (values.EmitFlag x) = Always x
 IsValue (values.Mode x) = IsMode x
 IsValue (values.PairMode x) = IsPairMode x
 IsValue (values.Flags x) = IsFlags x
@@ -175,6 +179,7 @@ ReadsKind kinds.I32 = ReadsAs kinds.I32 (λ (x : ℤ). values.I32 x)
 ReadsKind kinds.Target = ReadsAs kinds.Target (λ (x : BranchTarget). values.Target x)
 ReadsKind kinds.Label = ReadsAs kinds.Label (λ (x : MachLabel). values.Label x)
 ReadsKind kinds.FrameField = ReadsAs kinds.FrameField (λ (x : FrameField). values.FrameField x)
+ReadsKind kinds.EmitFlag = ReadsAs kinds.EmitFlag (λ (x : EmitFlag). values.EmitFlag x)
 ReadsKind kinds.I64 = ReadsAs kinds.I64 (λ (x : ℤ). values.I64 x)
 ReadsKind kinds.Offset9 = ReadsAs kinds.Offset9 (λ (x : SImm9). values.Offset9 x)
 ReadsKind kinds.PairOffset = ReadsAs kinds.PairOffset (λ (x : SImm7Scaled). values.PairOffset x)

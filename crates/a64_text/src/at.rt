@@ -2,8 +2,9 @@
 //! answer is some value of the type: no caller looks there.
 
 ghost use Rattle.std.specs.Prelude.{◌≡◌, None};
-ghost use Rattle.a64_text.specs.At.{uimm5_of, shift_of, alu_op_at, alu_op3_at, bit_op_at, bfm_op_at, move_wide_op_at, size_at, reg_at, preg_at, imm12_at, wide_at, imm_shift_at, uimm5_at, uimm6_at, shift_at, extend_at, cond_at, nzcv_at, truth_at, u8_at, u32_at, u64_at, i32_at, target_at, label_at, frame_field_at, i64_at, offset9_at, pair_offset_at, type_at, mem_label_name_at, mode_at, pair_mode_at, flags_at, cond_br_kind_at, test_bit_kind_at, list_at};
+ghost use Rattle.a64_text.specs.At.{uimm5_of, shift_of, alu_op_at, alu_op3_at, bit_op_at, bfm_op_at, move_wide_op_at, size_at, reg_at, preg_at, imm12_at, wide_at, imm_shift_at, uimm5_at, uimm6_at, shift_at, extend_at, cond_at, nzcv_at, truth_at, u8_at, u32_at, u64_at, i32_at, target_at, label_at, frame_field_at, emit_flag_at, i64_at, offset9_at, pair_offset_at, type_at, mem_label_name_at, mode_at, pair_mode_at, flags_at, cond_br_kind_at, test_bit_kind_at, list_at};
 
+use crate::emit_flag::EmitFlag;
 use crate::frame_field::FrameField;
 use crate::mode_name::MemLabelName;
 use crate::value::Value;
@@ -293,6 +294,16 @@ pub fn frame_field(values: &[Value], i: usize) -> FrameField
     match values.get(i) {
         Some(Value::FrameField(x)) => *x,
         _ => FrameField::SetupAreaSize,
+    }
+}
+
+/// A setting.
+pub fn emit_flag(values: &[Value], i: usize) -> EmitFlag
+    ensures { result ≡ emit_flag_at values.now i }
+{
+    match values.get(i) {
+        Some(Value::EmitFlag(x)) => *x,
+        _ => EmitFlag::EnableProbestack,
     }
 }
 

@@ -3,6 +3,7 @@
 ghost use Rattle.std.specs.Prelude.{◌≡◌};
 ghost use Rattle.a64_text.specs.States.{once_name};
 
+use crate::emit_flag::EmitFlag;
 use crate::frame_field::FrameField;
 use a64_base::VCodeConstant;
 use a64_inst::Item;
@@ -15,6 +16,8 @@ pub enum OnceName {
     Constant(u32),
     /// A size of the frame.
     Frame(FrameField),
+    /// A setting.
+    Flag(EmitFlag),
 }
 
 /// What a line of a file says.
@@ -26,6 +29,8 @@ pub enum Entry {
     Constant(VCodeConstant, ListVec<u8>),
     /// A size of the frame, in bytes.
     Frame(FrameField, u32),
+    /// A setting, which is true.
+    Flag(EmitFlag),
 }
 
 impl Entry {
@@ -38,6 +43,7 @@ impl Entry {
             Entry::Item(_) => None,
             Entry::Constant(addr, _) => Some(OnceName::Constant(addr.0)),
             Entry::Frame(field, _) => Some(OnceName::Frame(*field)),
+            Entry::Flag(flag) => Some(OnceName::Flag(*flag)),
         }
     }
 }

@@ -1,7 +1,7 @@
 //! Reads the bytes of constants.
 
 ghost use Rattle.std.specs.Prelude.{◌≡◌, IfOk};
-ghost use Rattle.a64_text.specs.Hex.{hex_digit, IsDigit, hex_pair, hex_text, has_digits, AreBytes, HasHex};
+ghost use Rattle.a64_text.specs.Hex.{hex_digit, IsDigit, byte_digits, hex_text, has_digits, AreBytes, HasHex};
 ghost use Rattle.a64_text.specs.Reads.{Reads, IsU8};
 
 use a64_list::ListVec;
@@ -21,7 +21,7 @@ fn digit_of(byte: u8) -> Option<u8>
 /// The byte that the two digits are.
 #[tactic(auto, using(crate::proofs::Bytes::both, crate::proofs::Bytes::no_high, crate::proofs::Bytes::no_low))]
 fn byte_of(high: u8, low: u8) -> Option<u8>
-    ensures { Reads IsU8 hex_pair (high, low) result }
+    ensures { Reads IsU8 byte_digits (high, low) result }
 {
     let Some(above) = digit_of(high) else {
         return None;

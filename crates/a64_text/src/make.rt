@@ -4,11 +4,12 @@ pub mod control;
 pub mod integer;
 pub mod memory;
 pub mod mode;
+pub mod sequence;
 
 ghost use Rattle.std.specs.Prelude.{◌≡◌, ◌<◌, true, Some, option_map, IfOk, IfSome};
 ghost use Rattle.std.specs.Vec.{vec_len, vec_capacity};
 ghost use Rattle.a64_text.specs.declared.name.Name.TheVariants as names;
-ghost use Rattle.a64_text.specs.Makes.{emitted, entry_of, Makes};
+ghost use Rattle.a64_text.specs.Makes.{emitted, Makes};
 ghost use Rattle.a64_text.specs.Puts.{PutsEntry, Puts};
 ghost use Rattle.a64_text.specs.States.{IsSized};
 
@@ -70,9 +71,19 @@ pub fn make_constant(alloc: Global, values: &[Value]) -> Result<Option<Entry>, A
 }
 
 /// The size of an area of the frame.
+#[tactic(auto, unfolding(crate::specs::Makes::Makes))]
 pub fn make_frame(values: &[Value]) -> Entry
-    ensures made { result ≡ entry_of names.Frame values.now }
+    ensures made { Makes names.Frame values.now (Some result) }
     ensures sized { IsSized result }
 {
     Entry::Frame(at::frame_field(values, 0), at::u32(values, 1))
+}
+
+/// The setting, which is true.
+#[tactic(auto, unfolding(crate::specs::Makes::Makes))]
+pub fn make_flag(values: &[Value]) -> Entry
+    ensures made { Makes names.Flag values.now (Some result) }
+    ensures sized { IsSized result }
+{
+    Entry::Flag(at::emit_flag(values, 0))
 }

@@ -92,6 +92,29 @@ pub enum ControlName {
     LabelAddress,
 }
 
+/// The name of a sequence around a table, a symbol or the stack, or of what has no word.
+#[derive(Clone, Copy)]
+pub enum SequenceName {
+    /// `Args`.
+    Args,
+    /// `Rets`.
+    Rets,
+    /// `DummyUse`.
+    DummyUse,
+    /// `SequencePoint`.
+    SequencePoint,
+    /// `JTSequence`.
+    JTSequence,
+    /// `LoadExtNameGot`.
+    LoadExtNameGot,
+    /// `LoadExtNameNear`.
+    LoadExtNameNear,
+    /// `LoadExtNameFar`.
+    LoadExtNameFar,
+    /// `StackProbeLoop`.
+    StackProbeLoop,
+}
+
 /// The name of an instruction of memory that is no load or store of one register.
 #[derive(Clone, Copy)]
 pub enum MemoryName {
@@ -110,6 +133,8 @@ pub enum Name {
     Integer(IntegerName),
     /// A branch or another instruction of control.
     Control(ControlName),
+    /// A sequence around a table, a symbol or the stack, or what has no word.
+    Sequence(SequenceName),
     /// An instruction of memory that is no load or store of one register.
     Memory(MemoryName),
     /// A load or store of one register.
@@ -120,4 +145,6 @@ pub enum Name {
     Const,
     /// `frame`.
     Frame,
+    /// `flag`.
+    Flag,
 }

@@ -1,33 +1,33 @@
 //! The names with which lines begin, each with the kinds of the fields behind it.
 
-use crate::name::{ControlName, IntegerName, MemoryName, Name};
+use crate::name::{ControlName, IntegerName, MemoryName, Name, SequenceName};
 use crate::named::Row;
 use crate::value::Kind;
 use a64_inst::AccessOp;
 
 /// For each remainder of a hash, the row of the name that has it.
 pub static NAME_HOMES: [u8; 512] = [
-    0, 0, 0, 0, 9, 0, 0, 0, 48, 0, 0, 0, 0, 0, 5, 0, 0, 24, 0, 32, 23, 14, 0, 0, 0, 0, 54, 0, 0, 0,
-    0, 0, 0, 0, 0, 0, 0, 0, 0, 0, 2, 27, 0, 0, 0, 0, 0, 33, 0, 55, 0, 0, 0, 0, 0, 0, 0, 0, 0, 0, 0,
-    0, 22, 6, 0, 0, 12, 0, 0, 0, 0, 0, 0, 0, 0, 0, 0, 0, 0, 0, 0, 0, 0, 0, 0, 0, 0, 0, 0, 0, 0, 0,
-    0, 0, 0, 0, 0, 18, 59, 0, 0, 0, 47, 0, 0, 0, 0, 0, 0, 0, 0, 0, 0, 0, 0, 0, 0, 44, 0, 0, 0, 0,
-    0, 0, 0, 37, 0, 0, 0, 3, 0, 0, 0, 0, 40, 0, 0, 0, 0, 0, 46, 0, 8, 0, 0, 0, 0, 0, 0, 0, 7, 0, 0,
-    0, 0, 0, 0, 0, 0, 0, 0, 0, 0, 0, 60, 0, 0, 0, 49, 0, 0, 0, 0, 0, 0, 0, 0, 0, 0, 0, 0, 0, 0, 0,
-    0, 0, 0, 0, 0, 0, 4, 0, 0, 0, 0, 0, 0, 0, 0, 0, 0, 0, 0, 0, 0, 0, 0, 0, 0, 0, 0, 43, 34, 0, 0,
-    0, 0, 0, 0, 0, 0, 0, 0, 0, 0, 0, 0, 0, 0, 0, 58, 0, 0, 0, 45, 0, 13, 0, 0, 17, 0, 0, 0, 0, 10,
-    0, 0, 0, 0, 0, 0, 0, 0, 0, 0, 0, 0, 0, 0, 0, 0, 0, 0, 0, 0, 0, 0, 0, 0, 0, 0, 0, 0, 0, 0, 0, 0,
-    0, 0, 0, 0, 63, 0, 0, 0, 0, 0, 0, 0, 0, 0, 0, 0, 0, 0, 0, 0, 0, 0, 0, 0, 0, 0, 0, 0, 0, 0, 0,
-    0, 0, 0, 0, 0, 0, 0, 0, 0, 28, 42, 0, 0, 0, 0, 0, 0, 0, 0, 0, 0, 25, 0, 0, 51, 0, 0, 1, 0, 0,
-    0, 0, 0, 0, 0, 0, 0, 0, 0, 0, 0, 0, 0, 0, 0, 0, 0, 19, 0, 0, 0, 0, 0, 0, 21, 0, 26, 0, 0, 0, 0,
-    0, 0, 0, 38, 0, 0, 0, 20, 0, 11, 0, 0, 0, 0, 0, 0, 61, 0, 0, 0, 0, 0, 0, 0, 0, 0, 39, 35, 0,
-    52, 0, 0, 0, 0, 0, 0, 0, 0, 0, 0, 0, 0, 0, 0, 0, 0, 0, 0, 0, 0, 0, 0, 0, 0, 0, 0, 0, 0, 0, 0,
-    56, 0, 0, 0, 0, 0, 0, 0, 0, 0, 64, 0, 0, 0, 0, 0, 0, 0, 0, 0, 0, 0, 0, 0, 53, 0, 0, 0, 0, 0, 0,
-    0, 0, 0, 0, 50, 0, 0, 0, 0, 0, 0, 0, 0, 0, 0, 0, 0, 0, 0, 62, 0, 0, 0, 30, 0, 0, 0, 15, 0, 0,
-    0, 0, 0, 0, 0, 57, 0, 0, 29, 0, 0, 0, 0, 41, 16, 36, 0, 0, 0, 31, 0, 0,
+    0, 0, 0, 0, 9, 0, 0, 0, 57, 0, 0, 0, 0, 0, 5, 0, 0, 24, 0, 32, 23, 14, 0, 0, 0, 0, 63, 0, 0, 0,
+    0, 0, 0, 0, 0, 0, 0, 0, 0, 0, 2, 27, 0, 0, 0, 0, 0, 33, 0, 64, 0, 0, 0, 0, 0, 0, 0, 0, 0, 0,
+    43, 0, 22, 6, 0, 0, 12, 0, 0, 0, 0, 0, 0, 0, 0, 0, 0, 0, 0, 0, 0, 0, 0, 0, 0, 0, 0, 0, 0, 0, 0,
+    0, 0, 0, 0, 40, 0, 18, 68, 0, 0, 0, 56, 0, 0, 0, 0, 46, 0, 0, 0, 0, 41, 0, 0, 0, 0, 53, 0, 0,
+    0, 0, 0, 0, 0, 37, 0, 0, 0, 3, 0, 0, 0, 0, 49, 0, 0, 0, 0, 0, 55, 0, 8, 0, 0, 0, 0, 0, 0, 0, 7,
+    0, 0, 0, 0, 0, 0, 0, 0, 0, 0, 0, 0, 0, 69, 0, 0, 0, 58, 0, 0, 0, 0, 0, 0, 48, 0, 47, 0, 0, 0,
+    0, 0, 0, 0, 0, 0, 0, 0, 0, 4, 0, 0, 0, 0, 0, 0, 0, 0, 0, 0, 0, 0, 0, 0, 0, 0, 0, 0, 0, 0, 52,
+    34, 0, 0, 0, 0, 0, 0, 0, 0, 0, 0, 0, 0, 0, 0, 0, 0, 0, 67, 0, 0, 0, 54, 0, 13, 0, 0, 17, 0, 0,
+    0, 45, 10, 0, 0, 0, 0, 0, 0, 0, 0, 0, 74, 0, 0, 0, 0, 0, 0, 0, 0, 0, 0, 0, 0, 0, 0, 0, 0, 0, 0,
+    0, 0, 0, 0, 0, 0, 0, 0, 72, 0, 0, 0, 0, 0, 0, 0, 0, 0, 0, 0, 0, 0, 0, 0, 0, 0, 0, 0, 0, 0, 0,
+    0, 0, 0, 0, 0, 0, 0, 0, 0, 0, 0, 0, 0, 28, 51, 0, 0, 0, 0, 0, 0, 0, 0, 0, 0, 25, 0, 0, 60, 0,
+    0, 1, 0, 0, 0, 0, 0, 0, 0, 0, 0, 0, 0, 0, 0, 0, 0, 0, 0, 0, 0, 19, 0, 0, 0, 0, 0, 0, 21, 0, 26,
+    0, 0, 0, 0, 0, 0, 0, 38, 0, 0, 0, 20, 0, 11, 0, 0, 0, 0, 0, 0, 70, 0, 0, 0, 0, 0, 0, 0, 0, 0,
+    39, 35, 0, 61, 0, 0, 0, 0, 0, 0, 44, 0, 0, 0, 0, 0, 0, 0, 0, 0, 0, 0, 0, 0, 0, 0, 0, 0, 0, 0,
+    0, 0, 0, 0, 65, 0, 0, 0, 0, 0, 0, 0, 0, 0, 73, 0, 0, 0, 0, 0, 0, 0, 0, 0, 0, 0, 0, 0, 62, 0, 0,
+    0, 0, 0, 0, 0, 0, 0, 0, 59, 0, 0, 0, 0, 0, 0, 0, 0, 0, 0, 0, 0, 0, 0, 71, 0, 0, 0, 30, 0, 0, 0,
+    15, 0, 0, 0, 0, 0, 0, 0, 66, 0, 0, 29, 0, 0, 42, 0, 50, 16, 36, 0, 0, 0, 31, 0, 0,
 ];
 
 /// The names.
-pub static NAMES: [Row<Name>; 65] = [
+pub static NAMES: [Row<Name>; 75] = [
     (b"Nop0", &[], Name::Integer(IntegerName::Nop0)),
     (b"Nop4", &[], Name::Integer(IntegerName::Nop4)),
     (
@@ -243,6 +243,43 @@ pub static NAMES: [Row<Name>; 65] = [
         &[Kind::Reg, Kind::Label],
         Name::Control(ControlName::LabelAddress),
     ),
+    (b"Args", &[Kind::List], Name::Sequence(SequenceName::Args)),
+    (b"Rets", &[Kind::List], Name::Sequence(SequenceName::Rets)),
+    (
+        b"DummyUse",
+        &[Kind::Reg],
+        Name::Sequence(SequenceName::DummyUse),
+    ),
+    (
+        b"SequencePoint",
+        &[],
+        Name::Sequence(SequenceName::SequencePoint),
+    ),
+    (
+        b"JTSequence",
+        &[Kind::Label, Kind::List, Kind::Reg, Kind::Reg, Kind::Reg],
+        Name::Sequence(SequenceName::JTSequence),
+    ),
+    (
+        b"LoadExtNameGot",
+        &[Kind::Reg, Kind::U32],
+        Name::Sequence(SequenceName::LoadExtNameGot),
+    ),
+    (
+        b"LoadExtNameNear",
+        &[Kind::Reg, Kind::U32, Kind::I64],
+        Name::Sequence(SequenceName::LoadExtNameNear),
+    ),
+    (
+        b"LoadExtNameFar",
+        &[Kind::Reg, Kind::U32, Kind::I64],
+        Name::Sequence(SequenceName::LoadExtNameFar),
+    ),
+    (
+        b"StackProbeLoop",
+        &[Kind::Reg, Kind::Reg, Kind::Imm12],
+        Name::Sequence(SequenceName::StackProbeLoop),
+    ),
     (
         b"LoadP64",
         &[Kind::Reg, Kind::Reg, Kind::PairMode, Kind::Flags],
@@ -356,4 +393,5 @@ pub static NAMES: [Row<Name>; 65] = [
     (b"bind", &[Kind::Label], Name::Bind),
     (b"const", &[Kind::U32, Kind::List], Name::Const),
     (b"frame", &[Kind::FrameField, Kind::U32], Name::Frame),
+    (b"flag", &[Kind::EmitFlag], Name::Flag),
 ];

@@ -8,6 +8,7 @@ ghost use Rattle.a64_text.specs.Splitting.{first_line};
 ghost use Rattle.a64_text.specs.AddsLine.{AddsName, AddsEntry, AddsMade, AddsLine};
 ghost use Rattle.a64_text.specs.Reading.{Answers};
 
+use crate::emit_flag::set_emit_flag;
 use crate::entry::{Entry, OnceName};
 use crate::file::{File, FileError};
 use crate::frame_field::set_frame_field;
@@ -15,7 +16,8 @@ use crate::line::read_line;
 use crate::make::control::put_control;
 use crate::make::integer::put_integer;
 use crate::make::memory::{put_access, put_memory};
-use crate::make::{make_constant, make_frame, put_bind};
+use crate::make::sequence::put_sequence;
+use crate::make::{make_constant, make_flag, make_frame, put_bind};
 use crate::name::Name;
 use crate::split::cut;
 use crate::state::{ReaderState, start_state};
@@ -59,6 +61,10 @@ fn add_entry(file: &mut File, entry: Entry) -> Result<(), AllocError>
         }
         Entry::Frame(field, bytes) => {
             set_frame_field(&mut file.frame, field, bytes);
+            Ok(())
+        }
+        Entry::Flag(flag) => {
+            set_emit_flag(&mut file.info, flag);
             Ok(())
         }
     }
@@ -105,11 +111,13 @@ fn add_made(
     match name {
         Name::Integer(name) => Ok(put_integer(&mut state.file.items, name, values)),
         Name::Control(name) => put_control(alloc, &mut state.file.items, name, values),
+        Name::Sequence(name) => put_sequence(alloc, &mut state.file.items, name, values),
         Name::Memory(name) => Ok(put_memory(&mut state.file.items, name, values)),
         Name::Access(op) => Ok(put_access(&mut state.file.items, op, values)),
         Name::Bind => Ok(put_bind(&mut state.file.items, values)),
         Name::Const => add_constant(alloc, state, values),
         Name::Frame => add_once(state, make_frame(values)),
+        Name::Flag => add_once(state, make_flag(values)),
     }
 }
 

@@ -6,6 +6,7 @@ ghost use Rattle.a64_text.specs.Values.{ReadsKind};
 use crate::branch_name::CondBrName;
 use crate::call::read_made;
 use crate::decimal::{read_u8, read_u32, read_u64};
+use crate::emit_flag::EmitFlag;
 use crate::flags::read_flags;
 use crate::frame_field::FrameField;
 use crate::immediate::{read_imm_shift, read_imm12, read_nzcv, read_uimm5, read_uimm6};
@@ -227,6 +228,14 @@ fn frame_field(token: &[u8]) -> Option<Value<'_>>
     Some(Value::FrameField(read_named::<FrameField>(token)?))
 }
 
+/// Reads a setting.
+#[tactic(auto, unfolding(crate::specs::Values::ReadsKind))]
+fn emit_flag(token: &[u8]) -> Option<Value<'_>>
+    ensures { ReadsKind Kind.EmitFlag token.now result }
+{
+    Some(Value::EmitFlag(read_named::<EmitFlag>(token)?))
+}
+
 /// Reads a number of 64 bits, which may be below zero.
 #[tactic(auto, unfolding(crate::specs::Values::ReadsKind))]
 fn i64(token: &[u8]) -> Option<Value<'_>>
@@ -364,6 +373,7 @@ pub fn read_value(kind: Kind, token: &[u8]) -> Option<Value<'_>>
         Kind::Target => target(token),
         Kind::Label => label(token),
         Kind::FrameField => frame_field(token),
+        Kind::EmitFlag => emit_flag(token),
         Kind::I64 => i64(token),
         Kind::Offset9 => offset9(token),
         Kind::PairOffset => pair_offset(token),

@@ -1,8 +1,8 @@
 //! Tests of files that are read.
 
-use crate::{FileError, read_file};
-use a64_base::{MachLabel, VCodeConstant};
-use a64_inst::Item;
+use crate::{File, FileError, read_file};
+use a64_base::{MachLabel, VCodeConstant, vreg, xreg};
+use a64_inst::{ArgPair, Inst, Item, RetPair};
 use std::test::Fail;
 
 /// Lines that are entries, a line at least for each name, and edges of their fields.
@@ -93,6 +93,29 @@ Word8 18446744073709551615
 EmitIsland 0
 EmitIsland 4294967295
 LabelAddress v0 L1
+Args x0=x1,v3=v9
+Args %i3=x0
+Args sp=xzr,x1=x1,%f0=v31
+Args -
+Rets x0=x1
+Rets %f4294967295=v31,%i0=x30,x2=x2
+Rets -
+DummyUse x0
+DummyUse v31
+DummyUse %i3
+SequencePoint
+JTSequence L0 L1,L2 x0 x1 x2
+JTSequence L0 - x0 x1 x2
+JTSequence L4294967295 L0,L0 xzr %i1 sp
+LoadExtNameGot x0 0
+LoadExtNameGot %i0 4294967295
+LoadExtNameNear x0 5 0
+LoadExtNameNear x0 0 -9223372036854775808
+LoadExtNameFar x30 4294967295 9223372036854775807
+LoadExtNameFar v0 1 -1
+StackProbeLoop x0 x1 4096
+StackProbeLoop sp xzr 4095
+StackProbeLoop x0 %i1 16773120
 ULoad64 x0 Label(Mach,4294967295) -
 ULoad64 x0 Label(Pool,0) -
 Store8 x0 Label(Pool,4294967295) -
@@ -139,7 +162,7 @@ bind L7";
 #[test]
 fn takes_entries(rt: HostRuntime) -> Result<(), Fail> {
     let file = read_file(rt.alloc(), ENTRIES.as_bytes())?;
-    assert_eq!(rt; file.items.len(), 129);
+    assert_eq!(rt; file.items.len(), 152);
     match file.items.as_slice().last() {
         Some(Item::Bind(label)) => assert_eq!(rt; *label, MachLabel(7)),
         _ => assert!(rt; false),
@@ -175,6 +198,107 @@ fn takes_the_sizes_of_a_frame(rt: HostRuntime) -> Result<(), Fail> {
     assert_eq!(rt; file.frame.clobber_size, 0);
     assert_eq!(rt; file.frame.fixed_frame_storage_size, 4294967295);
     assert_eq!(rt; file.frame.outgoing_args_size, 8);
+    Ok(())
+}
+
+#[test]
+fn takes_settings(rt: HostRuntime) -> Result<(), Fail> {
+    for (text, probes, masks, barriers) in [
+        ("Nop4", false, false, false),
+        ("flag enable_probestack", true, false, false),
+        (
+            "flag enable_table_access_spectre_mitigation",
+            false,
+            true,
+            false,
+        ),
+        (
+            "flag use_csdb\nNop4\nflag enable_probestack",
+            true,
+            false,
+            true,
+        ),
+    ] {
+        let file = read_file(rt.alloc(), text.as_bytes())?;
+        let flags = file.info.flags();
+        assert_eq!(rt; flags.enable_probestack, probes, "{text:?}");
+        assert_eq!(rt;
+            flags.enable_table_access_spectre_mitigation,
+            masks,
+            "{text:?}"
+        );
+        assert_eq!(rt; flags.use_csdb, barriers, "{text:?}");
+    }
+    Ok(())
+}
+
+/// The first argument of the only item.
+fn first_arg(file: &File) -> Option<ArgPair> {
+    match file.items.as_slice() {
+        [
+            Item::Emit {
+                inst: Inst::Args { args },
+                ..
+            },
+        ] => args.as_slice().first().copied(),
+        _ => None,
+    }
+}
+
+/// The first result of the only item.
+fn first_ret(file: &File) -> Option<RetPair> {
+    match file.items.as_slice() {
+        [
+            Item::Emit {
+                inst: Inst::Rets { rets },
+                ..
+            },
+        ] => rets.as_slice().first().copied(),
+        _ => None,
+    }
+}
+
+#[test]
+fn keeps_the_registers_of_an_argument(rt: HostRuntime) -> Result<(), Fail> {
+    let file = read_file(rt.alloc(), b"Args x0=v9")?;
+    let Some(arg) = first_arg(&file) else {
+        return Err(Fail::from("no argument"));
+    };
+    assert_eq!(rt; arg.vreg.to_reg(), xreg(0));
+    assert_eq!(rt; arg.preg, vreg(9));
+    Ok(())
+}
+
+#[test]
+fn keeps_the_registers_of_a_result(rt: HostRuntime) -> Result<(), Fail> {
+    let file = read_file(rt.alloc(), b"Rets x0=v9")?;
+    let Some(ret) = first_ret(&file) else {
+        return Err(Fail::from("no result"));
+    };
+    assert_eq!(rt; ret.vreg, xreg(0));
+    assert_eq!(rt; ret.preg, vreg(9));
+    Ok(())
+}
+
+#[test]
+fn keeps_the_labels_of_a_table(rt: HostRuntime) -> Result<(), Fail> {
+    let file = read_file(rt.alloc(), b"JTSequence L7 L5,L6 x0 x1 x2")?;
+    match file.items.as_slice() {
+        [
+            Item::Emit {
+                inst: Inst::JTSequence {
+                    default,
+                    targets,
+                    ..
+                },
+                ..
+            },
+        ] => {
+            assert_eq!(rt; *default, MachLabel(7));
+            assert_eq!(rt; targets.as_slice(), [MachLabel(5), MachLabel(6)].as_slice());
+        }
+        _ => assert!(rt; false),
+    }
     Ok(())
 }
 
@@ -365,6 +489,64 @@ IndirectBr x9 L00
 IndirectBr x9 L4294967296
 IndirectBr x9 L0,-
 IndirectBr x9 --
+Args
+Args x0
+Args x0=
+Args =x1
+Args =
+Args x0=x1,
+Args ,x0=x1
+Args x0=x1,,x2=x3
+Args x0=x1,-
+Args x0=x1 x2=x3
+Args x0=x1=x2
+Args x0==x1
+Args x32=x1
+Args x0=w1
+Args x0=-
+Args --
+Rets
+Rets x1
+Rets x0=
+Rets x0=x1,
+Rets -,x0=x1
+DummyUse
+DummyUse -
+DummyUse x0 x1
+SequencePoint -
+SequencePoint x0
+JTSequence L0  x0 x1 x2
+JTSequence L0 x0 x1 x2
+JTSequence L0 L1, x0 x1 x2
+JTSequence L0 L1 x0 x1
+JTSequence - L1 x0 x1 x2
+JTSequence 4 L1 x0 x1 x2
+JTSequence L0 4 x0 x1 x2
+JTSequence L0 L1 L2 x0 x1 x2
+LoadExtNameGot x0
+LoadExtNameGot x0 4294967296
+LoadExtNameGot x0 -1
+LoadExtNameGot x0 05
+LoadExtNameGot x0 5 0
+LoadExtNameNear x0 4294967296 0
+LoadExtNameNear x0 1 9223372036854775808
+LoadExtNameNear x0 1 -9223372036854775809
+LoadExtNameNear x0 1 +1
+LoadExtNameNear x0 1 -0
+LoadExtNameNear x0 1 01
+LoadExtNameNear x0 1
+LoadExtNameFar x0 L1 0
+LoadExtNameFar 1 x0 0
+StackProbeLoop x0 x1
+StackProbeLoop x0 x1 4097
+StackProbeLoop x0 x1 -1
+StackProbeLoop x0 x1 16777216
+flag
+flag other
+flag use_csdb true
+flag use_csdbs
+flag Use_csdb
+Flag use_csdb
 Brk 0
 Udf
 Udf 256
@@ -447,6 +629,11 @@ fn reports_the_first_bad_line(rt: HostRuntime) -> Result<(), Fail> {
         ),
         (
             "frame clobber_size 1\nNop4\nframe tail_args_size 1\nframe clobber_size 2",
+            "line 4: not an entry",
+        ),
+        ("flag use_csdb\nflag use_csdb", "line 2: not an entry"),
+        (
+            "flag enable_probestack\nNop4\nflag use_csdb\nflag enable_probestack",
             "line 4: not an entry",
         ),
         ("const 0 01020304\nconst 0 01020304", "line 2: not an entry"),

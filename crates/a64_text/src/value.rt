@@ -1,5 +1,6 @@
 //! The fields of entries.
 
+use crate::emit_flag::EmitFlag;
 use crate::frame_field::FrameField;
 use crate::list_text::ListText;
 use crate::mode_name::MemLabelName;
@@ -65,6 +66,8 @@ pub enum Kind {
     Label,
     /// The size of an area of a frame.
     FrameField,
+    /// A setting.
+    EmitFlag,
     /// A number of 64 bits, which may be below zero.
     I64,
     /// A signed offset of 9 bits.
@@ -142,6 +145,8 @@ pub enum Value<'t> {
     Label(MachLabel),
     /// The size of an area of a frame.
     FrameField(FrameField),
+    /// A setting.
+    EmitFlag(EmitFlag),
     /// A number of 64 bits, which may be below zero.
     I64(i64),
     /// A signed offset of 9 bits.
