@@ -74,7 +74,7 @@ fn long_file(alloc: Global, front: &[u8], nops: u64, back: &[u8]) -> Result<Vec<
 }
 
 /// The word at a place of the code.
-fn word_of(code: &Code, place: usize) -> Option<u32> {
+pub fn word_of(code: &Code, place: usize) -> Option<u32> {
     let bytes = code.bytes.as_slice().get(place..)?;
     match bytes {
         [a, b, c, d, ..] => Some(u32::from_le_bytes([*a, *b, *c, *d])),

@@ -24,6 +24,8 @@ mod report_lines;
 #[cfg(test)]
 mod report_tests;
 mod run;
+#[cfg(test)]
+mod sequence_tests;
 mod stream;
 mod summary;
 #[cfg(test)]
