@@ -31,5 +31,5 @@ echo "| words | whole, each item | assembly, each item |"
 echo "|---|---|---|"
 for force in "" force; do
     printf '| gen N %s | %s | %s |\n' "$force" "$(each "$force")" \
-        "$(each "$force" '--toggle-collect=*assembling::assemble_file*')"
+        "$(each "$force" '--toggle-collect=*assembly::assemble*')"
 done

@@ -39,6 +39,6 @@ for kind in nops operations branches; do
     lines "$kind" "$small" > "$work/small"
     lines "$kind" "$large" > "$work/large"
     printf '| %s | %s | %s | %s |\n' "$kind" "$(each)" \
-        "$(each '--toggle-collect=*assembling::assemble_file*')" \
+        "$(each '--toggle-collect=*assembly::assemble*')" \
         "$(each '--toggle-collect=*report::write_report*')"
 done
