@@ -69,6 +69,7 @@ pub fn enc_conditional_br(taken: BranchTarget, kind: CondBrKind) -> u32
 }
 
 /// Encodes `tbz` or `tbnz` of a bit of a register (row `TestBranch`). Of a label the distance is 0, to be filled in.
+#[inline(always)]
 pub fn enc_test_bit_and_branch(
     kind: TestBitAndBranchKind,
     taken: BranchTarget,

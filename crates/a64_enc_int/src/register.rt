@@ -7,6 +7,7 @@ ghost use Rattle.a64_enc_int.specs.Registers.{IsReal};
 use a64_base::Reg;
 
 /// The number by which a word names a register of the machine: 31 for the zero register and for the stack pointer.
+#[inline(always)]
 pub fn register_field(reg: Reg) -> u32
     requires { IsReal reg }
     ensures value { result ≡ registers.register_field reg }
@@ -19,6 +20,7 @@ pub fn register_field(reg: Reg) -> u32
 }
 
 /// The same, of a general register.
+#[inline(always)]
 pub(crate) fn general_field(reg: Reg) -> u32
     requires { registers.IsGeneral reg }
     ensures value { result ≡ registers.register_field reg }

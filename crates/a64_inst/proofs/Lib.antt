@@ -4,3 +4,5 @@ pub mod Groups
 pub mod Addresses
 pub mod FinalModes
 pub mod Units
+pub mod Restored
+pub mod Pools

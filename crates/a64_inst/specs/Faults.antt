@@ -15,6 +15,9 @@ use Rattle.a64_inst.specs.IntegerOperands as integer
 use Rattle.a64_inst.specs.ControlOperands as control
 use Rattle.a64_inst.specs.MemoryOperands as memory
 use Rattle.a64_inst.specs.SequenceOperands as sequence
+use Rattle.a64_inst.specs.CallOperands as calls
+use Rattle.a64_inst.specs.Lone.{is_lone}
+use Rattle.std.specs.List.{list_all}
 use Rattle.a64_inst.specs.Accesses.{access_of}
 use Rattle.a64_inst.specs.Modes.{constant_in}
 
@@ -32,72 +35,6 @@ first_of [] = None
 first_of ((true, fault) ∷ tests) = first_of tests
 first_of ((false, fault) ∷ tests) = Some fault
 
--- an instruction's operands are judged by the frame, the settings, and whether registers may be virtual
-module _ (frame : FrameLayout) (flags : EmitFlags) (virtuals : VirtualRegisters) where
-  -- the operands of an instruction that is no load or store of one register
-  abbrev pub has_other_operands : Inst → Bool
-  has_other_operands insts.Nop0 = true
-  has_other_operands insts.Nop4 = true
-  has_other_operands (insts.AluRRR alu_op size rd rn rm) = integer.are_alu_rrr_operands virtuals alu_op size rd rn rm
-  has_other_operands (insts.AluRRRR alu_op size rd rn rm ra) = integer.are_alu_rrrr_operands virtuals alu_op size rd rn rm ra
-  has_other_operands (insts.AluRRImm12 alu_op size rd rn imm12) = integer.are_alu_rr_imm12_operands virtuals alu_op rd rn imm12
-  has_other_operands (insts.AluRRImmLogic alu_op size rd rn imml) = integer.are_alu_rr_imm_logic_operands virtuals alu_op size rd rn imml
-  has_other_operands (insts.AluRRImmShift alu_op size rd rn immshift) = integer.are_alu_rr_imm_shift_operands virtuals alu_op size rd rn immshift
-  has_other_operands (insts.AluRRRShift alu_op size rd rn rm shiftop) = integer.are_alu_rrr_shift_operands virtuals alu_op size rd rn rm shiftop
-  has_other_operands (insts.AluRRRExtend alu_op size rd rn rm extendop) = integer.are_alu_rrr_extend_operands virtuals alu_op rd rn rm
-  has_other_operands (insts.BitRR op size rd rn) = integer.are_bit_rr_operands virtuals op size rd rn
-  has_other_operands (insts.Mov size rd rm) = integer.are_mov_operands virtuals size rd rm
-  has_other_operands (insts.MovFromPReg rd rm) = integer.are_mov_from_preg_operands virtuals rd rm
-  has_other_operands (insts.MovToPReg rd rm) = integer.are_mov_to_preg_operands virtuals rd rm
-  has_other_operands (insts.MovWide op rd imm size) = integer.are_mov_wide_operands virtuals rd imm size
-  has_other_operands (insts.MovK rd rn imm size) = integer.are_mov_k_operands virtuals rd rn imm size
-  has_other_operands (insts.CSel rd rn rm cond) = integer.are_select_operands virtuals rd rn rm
-  has_other_operands (insts.CSNeg rd rn rm cond) = integer.are_select_operands virtuals rd rn rm
-  has_other_operands (insts.CSet rd cond) = is_register_or_zero virtuals rd
-  has_other_operands (insts.CSetm rd cond) = is_register_or_zero virtuals rd
-  has_other_operands (insts.CCmp size rn rm nzcv cond) = integer.are_ccmp_operands virtuals rn rm
-  has_other_operands (insts.CCmpImm size rn imm nzcv cond) = is_register_or_zero virtuals rn
-  has_other_operands (insts.Extend rd rn signed from_bits to_bits) = integer.are_extend_operands virtuals rd rn signed from_bits to_bits
-  has_other_operands (insts.BitfieldMove size bfm_op rd rn immr imms) = integer.are_bitfield_move_operands virtuals size rd rn immr imms
-  has_other_operands (insts.BitfieldMoveMod size rd ri rn immr imms) = integer.are_bitfield_move_mod_operands virtuals size rd ri rn immr imms
-  has_other_operands (insts.MovToNZCV rn) = is_register_or_zero virtuals rn
-  has_other_operands (insts.MovFromNZCV rd) = is_register_or_zero virtuals rd
-  has_other_operands (insts.Adr rd off) = integer.are_adr_operands virtuals rd off
-  has_other_operands (insts.Adrp rd off) = integer.are_adr_operands virtuals rd off
-  has_other_operands insts.Ret = true
-  has_other_operands (insts.Jump dest) = control.are_jump_operands dest
-  has_other_operands (insts.CondBr taken not_taken kind) = control.are_cond_br_operands virtuals taken not_taken kind
-  has_other_operands (insts.TestBitAndBranch kind taken not_taken rn bit) = control.are_test_bit_operands virtuals taken not_taken rn bit
-  has_other_operands (insts.TrapIf kind trap_code) = control.is_test virtuals kind
-  has_other_operands (insts.IndirectBr rn targets) = is_register_or_zero virtuals rn
-  has_other_operands insts.Brk = true
-  has_other_operands (insts.Udf trap_code) = true
-  has_other_operands (insts.Word4 value) = true
-  has_other_operands (insts.Word8 value) = true
-  has_other_operands (insts.EmitIsland needed_space) = true
-  has_other_operands (insts.LabelAddress dst label) = is_register_or_zero virtuals dst
-  has_other_operands (insts.Args args) = sequence.are_args virtuals args
-  has_other_operands (insts.Rets rets) = sequence.are_rets virtuals rets
-  has_other_operands (insts.DummyUse reg) = is_any_register virtuals reg
-  has_other_operands insts.SequencePoint = true
-  has_other_operands (insts.JTSequence default targets ridx rtmp1 rtmp2) = sequence.are_table_operands virtuals ridx rtmp1 rtmp2
-  has_other_operands (insts.LoadExtNameGot rd name) = is_register virtuals rd
-  has_other_operands (insts.LoadExtNameNear rd name offset) = is_register virtuals rd
-  has_other_operands (insts.LoadExtNameFar rd name offset) = is_register virtuals rd
-  has_other_operands (insts.StackProbeLoop start end step) = sequence.are_probe_operands flags virtuals start end step
-  has_other_operands (insts.LoadP64 rt rt2 mem flags) = memory.are_pair_operands virtuals rt rt2 mem
-  has_other_operands (insts.StoreP64 rt rt2 mem flags) = memory.are_pair_operands virtuals rt rt2 mem
-  has_other_operands (insts.LoadAddr rd mem) = memory.are_address_operands frame virtuals rd mem
-  has_other_operands _ = false
-
-  -- its operands are in their sets
-  abbrev pub has_operands : Inst → Bool
-  has_operands inst = elim (access_of inst) [ None ↦ has_other_operands inst | Some access ↦ memory.are_access_operands frame virtuals access ]
-
--- it loads no more than its constant, where it loads one and that has this size
-abbrev pub is_within_constant : Option ℕ → Inst → Bool
-is_within_constant size inst = elim (access_of inst) [ None ↦ true | Some access ↦ memory.is_within size access ]
-
 -- the addressing mode of an instruction that is no load or store of one register exists, where it has one
 abbrev pub has_other_mode : Inst → Bool
 has_other_mode (insts.LoadAddr rd mem) = memory.has_address_mode mem
@@ -110,11 +47,98 @@ has_mode inst = elim (access_of inst) [ None ↦ has_other_mode inst | Some acce
 -- the scratch registers that the words of such an instruction need are none of its own
 abbrev pub has_other_scratch : FrameLayout → Inst → Bool
 has_other_scratch frame (insts.LoadAddr rd mem) = memory.has_address_scratch frame rd mem
+has_other_scratch frame (insts.ReturnCallInd info) = calls.has_return_scratch frame info.dest info.new_stack_arg_size
 has_other_scratch frame _ = true
 
 -- the scratch registers that its words need are none of its own
 abbrev pub has_scratch : FrameLayout → Inst → Bool
 has_scratch frame inst = elim (access_of inst) [ None ↦ has_other_scratch frame inst | Some access ↦ memory.has_access_scratch frame access ]
+
+-- an instruction's operands are judged by the frame, the settings, and whether registers may be virtual
+module _ (frame : FrameLayout) (flags : EmitFlags) (virtuals : VirtualRegisters) where
+  -- the operands of an instruction that is no call, and no load or store of one register
+  abbrev pub has_plain_operands : Inst → Bool
+  has_plain_operands insts.Nop0 = true
+  has_plain_operands insts.Nop4 = true
+  has_plain_operands (insts.AluRRR alu_op size rd rn rm) = integer.are_alu_rrr_operands virtuals alu_op size rd rn rm
+  has_plain_operands (insts.AluRRRR alu_op size rd rn rm ra) = integer.are_alu_rrrr_operands virtuals alu_op size rd rn rm ra
+  has_plain_operands (insts.AluRRImm12 alu_op size rd rn imm12) = integer.are_alu_rr_imm12_operands virtuals alu_op rd rn imm12
+  has_plain_operands (insts.AluRRImmLogic alu_op size rd rn imml) = integer.are_alu_rr_imm_logic_operands virtuals alu_op size rd rn imml
+  has_plain_operands (insts.AluRRImmShift alu_op size rd rn immshift) = integer.are_alu_rr_imm_shift_operands virtuals alu_op size rd rn immshift
+  has_plain_operands (insts.AluRRRShift alu_op size rd rn rm shiftop) = integer.are_alu_rrr_shift_operands virtuals alu_op size rd rn rm shiftop
+  has_plain_operands (insts.AluRRRExtend alu_op size rd rn rm extendop) = integer.are_alu_rrr_extend_operands virtuals alu_op rd rn rm
+  has_plain_operands (insts.BitRR op size rd rn) = integer.are_bit_rr_operands virtuals op size rd rn
+  has_plain_operands (insts.Mov size rd rm) = integer.are_mov_operands virtuals size rd rm
+  has_plain_operands (insts.MovFromPReg rd rm) = integer.are_mov_from_preg_operands virtuals rd rm
+  has_plain_operands (insts.MovToPReg rd rm) = integer.are_mov_to_preg_operands virtuals rd rm
+  has_plain_operands (insts.MovWide op rd imm size) = integer.are_mov_wide_operands virtuals rd imm size
+  has_plain_operands (insts.MovK rd rn imm size) = integer.are_mov_k_operands virtuals rd rn imm size
+  has_plain_operands (insts.CSel rd rn rm cond) = integer.are_select_operands virtuals rd rn rm
+  has_plain_operands (insts.CSNeg rd rn rm cond) = integer.are_select_operands virtuals rd rn rm
+  has_plain_operands (insts.CSet rd cond) = is_register_or_zero virtuals rd
+  has_plain_operands (insts.CSetm rd cond) = is_register_or_zero virtuals rd
+  has_plain_operands (insts.CCmp size rn rm nzcv cond) = integer.are_ccmp_operands virtuals rn rm
+  has_plain_operands (insts.CCmpImm size rn imm nzcv cond) = is_register_or_zero virtuals rn
+  has_plain_operands (insts.Extend rd rn signed from_bits to_bits) = integer.are_extend_operands virtuals rd rn signed from_bits to_bits
+  has_plain_operands (insts.BitfieldMove size bfm_op rd rn immr imms) = integer.are_bitfield_move_operands virtuals size rd rn immr imms
+  has_plain_operands (insts.BitfieldMoveMod size rd ri rn immr imms) = integer.are_bitfield_move_mod_operands virtuals size rd ri rn immr imms
+  has_plain_operands (insts.MovToNZCV rn) = is_register_or_zero virtuals rn
+  has_plain_operands (insts.MovFromNZCV rd) = is_register_or_zero virtuals rd
+  has_plain_operands (insts.Adr rd off) = integer.are_adr_operands virtuals rd off
+  has_plain_operands (insts.Adrp rd off) = integer.are_adr_operands virtuals rd off
+  has_plain_operands insts.Ret = true
+  has_plain_operands (insts.Jump dest) = control.are_jump_operands dest
+  has_plain_operands (insts.CondBr taken not_taken kind) = control.are_cond_br_operands virtuals taken not_taken kind
+  has_plain_operands (insts.TestBitAndBranch kind taken not_taken rn bit) = control.are_test_bit_operands virtuals taken not_taken rn bit
+  has_plain_operands (insts.TrapIf kind trap_code) = control.is_test virtuals kind
+  has_plain_operands (insts.IndirectBr rn targets) = is_register_or_zero virtuals rn
+  has_plain_operands insts.Brk = true
+  has_plain_operands (insts.Udf trap_code) = true
+  has_plain_operands (insts.Word4 value) = true
+  has_plain_operands (insts.Word8 value) = true
+  has_plain_operands (insts.EmitIsland needed_space) = true
+  has_plain_operands (insts.LabelAddress dst label) = is_register_or_zero virtuals dst
+  has_plain_operands (insts.Args args) = sequence.are_args virtuals args
+  has_plain_operands (insts.Rets rets) = sequence.are_rets virtuals rets
+  has_plain_operands (insts.DummyUse reg) = is_any_register virtuals reg
+  has_plain_operands insts.SequencePoint = true
+  has_plain_operands (insts.JTSequence default targets ridx rtmp1 rtmp2) = sequence.are_table_operands virtuals ridx rtmp1 rtmp2
+  has_plain_operands (insts.LoadExtNameGot rd name) = is_register virtuals rd
+  has_plain_operands (insts.LoadExtNameNear rd name offset) = is_register virtuals rd
+  has_plain_operands (insts.LoadExtNameFar rd name offset) = is_register virtuals rd
+  has_plain_operands (insts.StackProbeLoop start end step) = sequence.are_probe_operands flags virtuals start end step
+  has_plain_operands (insts.LoadP64 rt rt2 mem flags) = memory.are_pair_operands virtuals rt rt2 mem
+  has_plain_operands (insts.StoreP64 rt rt2 mem flags) = memory.are_pair_operands virtuals rt rt2 mem
+  has_plain_operands (insts.LoadAddr rd mem) = memory.are_address_operands frame virtuals rd mem
+  has_plain_operands _ = false
+
+  -- a frame can restore an instruction: it is one word without a use, and no call, and has no fault of its operands, its mode and its
+  -- scratch registers
+  abbrev pub can_restore : Inst → Bool
+  can_restore inst =
+      is_lone frame inst
+      && (elim (access_of inst) [ None ↦ has_plain_operands inst | Some access ↦ memory.are_access_operands frame virtuals access ]
+      && (has_mode inst && has_scratch frame inst))
+
+  -- all that the frame restores
+  abbrev pub is_restorable : Bool
+  is_restorable = list_all can_restore frame.restore
+
+  -- the operands of an instruction that is no load or store of one register
+  abbrev pub has_other_operands : Inst → Bool
+  has_other_operands (insts.Call info) = calls.are_call_operands virtuals info.uses info.defs info.callee_pop_size
+  has_other_operands (insts.CallInd info) = is_register_or_zero virtuals info.dest && calls.are_call_operands virtuals info.uses info.defs info.callee_pop_size
+  has_other_operands (insts.ReturnCall info) = calls.are_return_operands frame virtuals is_restorable info.uses info.new_stack_arg_size
+  has_other_operands (insts.ReturnCallInd info) = is_register_or_zero virtuals info.dest && calls.are_return_operands frame virtuals is_restorable info.uses info.new_stack_arg_size
+  has_other_operands inst = has_plain_operands inst
+
+  -- its operands are in their sets
+  abbrev pub has_operands : Inst → Bool
+  has_operands inst = elim (access_of inst) [ None ↦ has_other_operands inst | Some access ↦ memory.are_access_operands frame virtuals access ]
+
+-- it loads no more than its constant, where it loads one and that has this size
+abbrev pub is_within_constant : Option ℕ → Inst → Bool
+is_within_constant size inst = elim (access_of inst) [ None ↦ true | Some access ↦ memory.is_within size access ]
 
 -- the constant that it loads, where it loads one, is there and has a size
 abbrev pub has_constant : Option ℕ → Inst → Bool

@@ -5,6 +5,8 @@ pub mod Operands
 pub mod IntegerOperands
 pub mod ControlOperands
 pub mod SequenceOperands
+pub mod CallOperands
+pub mod Lone
 pub mod Faults
 pub mod Modes
 pub mod Addresses

@@ -85,7 +85,7 @@ impl<'i> AccessRef<'i> {
 }
 
 /// The load of a type's values.
-fn load_of(ty: IrType) -> AccessOp
+pub fn load_of(ty: IrType) -> AccessOp
     requires { type_has_load_form ty ≡ true }
     ensures { result ≡ load_op ty }
 {

@@ -4,6 +4,7 @@ ghost use Rattle.std.specs.Prelude.{◌≡◌, IfOk};
 ghost use Rattle.a64_inst.specs.declared.group.Group.TheVariants as groups;
 ghost use Rattle.a64_inst.specs.Groups.{group_of};
 
+use crate::boxed::Boxed;
 use crate::group::Group;
 use crate::inst::Inst;
 use std::alloc::{AllocError, Global};
@@ -129,6 +130,28 @@ fn copied_sequence(alloc: Global, inst: &Inst) -> Result<Inst, AllocError>
     }
 }
 
+/// An equal call, or return that calls.
+fn copied_call(alloc: Global, inst: &Inst) -> Result<Inst, AllocError>
+    requires { group_of inst.now ≡ groups.Call }
+    ensures { IfOk result (λ copy. copy ≡ inst.now) }
+{
+    match inst {
+        Inst::Call { info } => Ok(Inst::Call {
+            info: Boxed::new(alloc, info.get().try_clone(alloc)?)?,
+        }),
+        Inst::CallInd { info } => Ok(Inst::CallInd {
+            info: Boxed::new(alloc, info.get().try_clone(alloc)?)?,
+        }),
+        Inst::ReturnCall { info } => Ok(Inst::ReturnCall {
+            info: Boxed::new(alloc, info.get().try_clone(alloc)?)?,
+        }),
+        Inst::ReturnCallInd { info } => Ok(Inst::ReturnCallInd {
+            info: Boxed::new(alloc, info.get().try_clone(alloc)?)?,
+        }),
+        _ => unreachable!(),
+    }
+}
+
 /// An equal load or store.
 fn copied_memory(inst: &Inst) -> Result<Inst, AllocError>
     requires { group_of inst.now ≡ groups.Memory }
@@ -158,6 +181,7 @@ impl Inst {
             Group::Register => copied_register(self),
             Group::Control => copied_control(alloc, self),
             Group::Sequence => copied_sequence(alloc, self),
+            Group::Call => copied_call(alloc, self),
             Group::Memory => copied_memory(self),
         }
     }

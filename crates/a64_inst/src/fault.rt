@@ -1,7 +1,9 @@
 //! What is wrong with instructions by themselves.
 
+pub mod call;
 pub mod control;
 pub mod integer;
+pub mod lone;
 pub mod memory;
 pub mod sequence;
 

@@ -14,6 +14,8 @@ pub enum Group {
     Control,
     /// Sequences around tables, symbols and the stack, and what has no word.
     Sequence,
+    /// Calls, and returns that call another function.
+    Call,
     /// Loads and stores.
     Memory,
 }

@@ -3,6 +3,8 @@
 ghost use Rattle.std.specs.Prelude.{◌≡◌};
 ghost use Rattle.a64_inst.specs.Groups.{group_of};
 
+use crate::boxed::Boxed;
+use crate::call::{CallInfo, ReturnCallInfo};
 use crate::group::Group;
 use crate::mode::{AMode, PairAMode};
 use crate::pair::{ArgPair, RetPair};
@@ -446,6 +448,28 @@ pub enum Inst {
         /// How many bytes each step goes down.
         step: Imm12,
     },
+    /// `bl`: a call of a symbol. Behind it the stack pointer comes back, and then results that stand on
+    /// the stack are loaded, which may change x16.
+    Call {
+        /// What is known of the call.
+        info: Boxed<CallInfo<ExternalName>>,
+    },
+    /// `blr`: a call of the address in a register, as `Call`.
+    CallInd {
+        /// What is known of the call.
+        info: Boxed<CallInfo<Reg>>,
+    },
+    /// A return that calls a symbol: what the frame has saved is restored, the stack pointer is moved to
+    /// the new arguments, the return address is authenticated where a key says so, and `b` goes there.
+    ReturnCall {
+        /// What is known of the call.
+        info: Boxed<ReturnCallInfo<ExternalName>>,
+    },
+    /// A return that calls the address in a register by `br`, as `ReturnCall`.
+    ReturnCallInd {
+        /// What is known of the call.
+        info: Boxed<ReturnCallInfo<Reg>>,
+    },
     /// `ldp` of two 64-bit registers.
     LoadP64 {
         /// What is loaded from the address.
@@ -716,6 +740,10 @@ impl Inst {
             | Inst::LoadExtNameNear { .. }
             | Inst::LoadExtNameFar { .. }
             | Inst::StackProbeLoop { .. } => Group::Sequence,
+            Inst::Call { .. }
+            | Inst::CallInd { .. }
+            | Inst::ReturnCall { .. }
+            | Inst::ReturnCallInd { .. } => Group::Call,
             Inst::LoadP64 { .. }
             | Inst::StoreP64 { .. }
             | Inst::LoadAddr { .. }

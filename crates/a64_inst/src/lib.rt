@@ -2,6 +2,8 @@
 #![tactic(auto)]
 
 mod access;
+mod boxed;
+mod call;
 mod constant;
 mod copied;
 mod emission;
@@ -22,6 +24,8 @@ pub use crate::item::Item;
 pub use a64_ops::{ALUOp, AccessOp, AtomicRMWOp, MoveWideOp};
 pub use a64_plan::{ConstStep, const_plan};
 pub use access::{Access, AccessRef};
+pub use boxed::Boxed;
+pub use call::{CallArgPair, CallInfo, CallRetPair, RetLocation, ReturnCallInfo};
 pub use emission::{EmitFlags, EmitInfo, EmitState};
 pub use fault::OwnFault;
 pub use finalize::mem_finalize;

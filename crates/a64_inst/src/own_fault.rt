@@ -2,12 +2,15 @@
 
 ghost use Rattle.std.specs.Prelude.{◌≡◌, [], ◌∷◌};
 ghost use Rattle.a64_inst.specs.declared.fault.OwnFault.TheVariants as own;
+ghost use Rattle.a64_inst.specs.Faults as faults;
 ghost use Rattle.a64_inst.specs.Faults.{fault_with, first_of};
 
 use crate::emission::EmitInfo;
 use crate::fault::OwnFault;
+use crate::fault::call::call_fault;
 use crate::fault::control::has_control_operands;
 use crate::fault::integer::{has_immediate_operands, has_register_operands};
+use crate::fault::lone::is_lone;
 use crate::fault::memory::memory_fault;
 use crate::fault::sequence::has_sequence_operands;
 use crate::frame::FrameLayout;
@@ -26,11 +29,48 @@ fn operand_fault(is_good: bool) -> Option<OwnFault>
     }
 }
 
+/// Whether a frame can restore an instruction: it is one word that is no use, and nothing is wrong with it
+/// by itself.
+#[tactic(auto, using(crate::proofs::Restored::restored_memory))]
+fn can_restore(
+    inst: &Inst,
+    frame: &FrameLayout,
+    info: &EmitInfo,
+    virtuals: VirtualRegisters,
+) -> bool
+    ensures { result ≡ faults.can_restore frame.now info.now virtuals inst.now }
+{
+    if !is_lone(inst, frame) {
+        return false;
+    }
+    match inst.group() {
+        Group::Immediate => has_immediate_operands(inst, frame, info, virtuals),
+        Group::Register => has_register_operands(inst, frame, info, virtuals),
+        Group::Control => has_control_operands(inst, frame, info, virtuals),
+        Group::Memory => memory_fault(inst, frame, info, None, virtuals).is_none(),
+        Group::Sequence | Group::Call => false,
+    }
+}
+
+impl FrameLayout {
+    /// Whether nothing is wrong with the instructions that the frame restores: each is one word that is no
+    /// use of a label or of a constant, is right by itself, and is no call.
+    pub fn is_restorable(&self, info: &EmitInfo, virtuals: VirtualRegisters) -> bool
+        ensures { result ≡ faults.is_restorable self.now info.now virtuals }
+    {
+        self.restore
+            .as_slice()
+            .iter()
+            .all(|inst| can_restore(inst, self, info, virtuals))
+    }
+}
+
 impl Inst {
     /// What is wrong with the instruction by itself, under a frame and settings. It takes no memory.
     ///
     /// `constant` is the size in bytes of the constant that the instruction loads, where it loads
-    /// one and that is there, and `virtuals` says whether its registers may be virtual.
+    /// one and that is there, and `virtuals` says whether its registers may be virtual. `restorable`
+    /// says what [`FrameLayout::is_restorable`] does, and counts at returns that call.
     #[tactic(auto, using(crate::proofs::Groups::one_test))]
     pub fn own_fault(
         &self,
@@ -38,7 +78,9 @@ impl Inst {
         info: &EmitInfo,
         constant: Option<u32>,
         virtuals: VirtualRegisters,
+        restorable: bool,
     ) -> Option<OwnFault>
+        requires { restorable ≡ faults.is_restorable frame.now info.now virtuals }
         ensures { result ≡ fault_with frame.now info.now constant virtuals self.now }
     {
         match self.group() {
@@ -48,6 +90,7 @@ impl Inst {
             Group::Register => operand_fault(has_register_operands(self, frame, info, virtuals)),
             Group::Control => operand_fault(has_control_operands(self, frame, info, virtuals)),
             Group::Sequence => operand_fault(has_sequence_operands(self, frame, info, virtuals)),
+            Group::Call => call_fault(self, frame, info, virtuals, restorable),
             Group::Memory => memory_fault(self, frame, info, constant, virtuals),
         }
     }

@@ -139,6 +139,7 @@ impl AccessOp {
     }
 
     /// The field opc of its word with a literal, 0 to 2, where it has such a form.
+    #[inline(always)]
     pub fn literal_field(self) -> Option<u32>
         ensures { result ≡ literal_of self }
     {

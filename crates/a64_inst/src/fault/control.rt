@@ -73,6 +73,7 @@ fn test_bit(
 
 /// Whether the operands of a branch, a hint, an access to a system register, a word of data or an
 /// address of a label are in their sets.
+#[inline(always)]
 pub fn has_control_operands(
     inst: &Inst,
     frame: &FrameLayout,
@@ -132,7 +133,9 @@ mod tests {
             enable_table_access_spectre_mitigation: false,
             use_csdb: false,
         });
-        inst.own_fault(&frame, &info, None, VirtualRegisters::Refused)
+        let virtuals = VirtualRegisters::Refused;
+        let restorable = frame.is_restorable(&info, virtuals);
+        inst.own_fault(&frame, &info, None, virtuals, restorable)
             .is_none()
     }
 

@@ -2,12 +2,13 @@
 
 mod constant;
 mod mode;
-mod operand;
-mod scratch;
+pub mod operand;
+pub mod scratch;
 #[cfg(test)]
 mod tests;
 
 ghost use Rattle.std.specs.Prelude.{◌≡◌, ◌&&◌, ◌||◌, None, is_none, is_some, [], ◌∷◌};
+ghost use Rattle.a64_ops.specs.Accesses.{literal_of};
 ghost use Rattle.a64_inst.specs.declared.fault.OwnFault.TheVariants as own;
 ghost use Rattle.a64_inst.specs.declared.group.Group.TheVariants.{Memory};
 ghost use Rattle.a64_inst.specs.Accesses.{access_of};
@@ -21,10 +22,35 @@ use crate::emission::EmitInfo;
 use crate::fault::OwnFault;
 use crate::frame::FrameLayout;
 use crate::inst::Inst;
+use crate::mode::AMode;
 use crate::virtuals::VirtualRegisters;
 
-/// What is wrong with a load or a store of one register by itself.
+/// What is wrong by itself with a load in the mode of a constant of such a size.
 #[inline(always)]
+fn pool_fault(
+    access: &AccessRef<'_>,
+    constant: Option<u32>,
+    virtuals: VirtualRegisters,
+) -> Option<OwnFault>
+    ensures { result ≡ first_of (
+        (sets.is_data_register virtuals access.now.op access.now.reg && (is_none (literal_of access.now.op) || sets.is_within_size constant access.now), own.BadOperand)
+        ∷ (is_some (literal_of access.now.op), own.BadMode)
+        ∷ (is_some constant, own.UnknownConstant) ∷ []) }
+{
+    if !operand::is_data_register(virtuals, access.op, access.reg) {
+        return Some(OwnFault::BadOperand);
+    }
+    let Some(least) = constant::literal_bytes(access.op) else {
+        return Some(OwnFault::BadMode);
+    };
+    match constant {
+        Some(bytes) if bytes < least => Some(OwnFault::BadOperand),
+        Some(_) => None,
+        None => Some(OwnFault::UnknownConstant),
+    }
+}
+
+/// What is wrong with a load or a store of one register by itself.
 fn access_fault(
     access: &AccessRef<'_>,
     frame: &FrameLayout,
@@ -94,7 +120,8 @@ fn has_mode(inst: &Inst) -> bool
 
 /// Whether the scratch registers that such an address needs are none of its own.
 fn has_scratch(inst: &Inst, frame: &FrameLayout) -> bool
-    requires { access_of inst.now ≡ None }
+    requires group { group_of inst.now ≡ Memory }
+    requires other { access_of inst.now ≡ None }
     ensures { result ≡ has_scratch frame.now inst.now }
 {
     match inst {
@@ -128,9 +155,10 @@ fn other_fault(
     }
 }
 
-/// What is wrong with a load or a store by itself, where the constant that it loads has such a size.
+/// What is wrong with a load or a store by itself, whatever its mode.
 #[tactic(auto, using(crate::proofs::Groups::three_tests))]
-pub fn memory_fault(
+#[inline(never)]
+fn any_fault(
     inst: &Inst,
     frame: &FrameLayout,
     info: &EmitInfo,
@@ -143,5 +171,26 @@ pub fn memory_fault(
     match inst.access_ref() {
         Some(access) => access_fault(&access, frame, constant, virtuals),
         None => other_fault(inst, frame, info, virtuals),
+    }
+}
+
+/// What is wrong with a load or a store by itself, where the constant that it loads has such a size.
+#[inline(always)]
+pub fn memory_fault(
+    inst: &Inst,
+    frame: &FrameLayout,
+    info: &EmitInfo,
+    constant: Option<u32>,
+    virtuals: VirtualRegisters,
+) -> Option<OwnFault>
+    requires { group_of inst.now ≡ Memory }
+    ensures { result ≡ fault_with frame.now info.now constant virtuals inst.now }
+{
+    let Some(access) = inst.access_ref() else {
+        return any_fault(inst, frame, info, constant, virtuals);
+    };
+    match access.mem {
+        AMode::Const { addr: _ } => pool_fault(&access, constant, virtuals),
+        _ => any_fault(inst, frame, info, constant, virtuals),
     }
 }

@@ -15,7 +15,7 @@ use a64_ops::AccessOp;
 
 /// Whether a load or a store of this kind has such a register.
 #[inline(always)]
-fn is_data_register(virtuals: VirtualRegisters, op: AccessOp, reg: Reg) -> bool
+pub fn is_data_register(virtuals: VirtualRegisters, op: AccessOp, reg: Reg) -> bool
     ensures { result ≡ sets.is_data_register virtuals op reg }
 {
     if op.is_vector() {

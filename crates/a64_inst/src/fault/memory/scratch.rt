@@ -32,7 +32,7 @@ pub fn access(frame: &FrameLayout, access: &AccessRef<'_>) -> bool
 }
 
 /// Whether an addition holds a number.
-fn is_addend(n: u32) -> bool
+pub fn is_addend(n: u32) -> bool
     ensures { result ≡ sets.is_addend n }
 {
     n < 4096 || n < 1 << 24 && n % 4096 == 0

@@ -42,7 +42,9 @@ fn fault_beside(inst: &Inst, frame: &FrameLayout, constant: Option<u32>) -> Opti
         enable_table_access_spectre_mitigation: false,
         use_csdb: false,
     });
-    inst.own_fault(frame, &info, constant, VirtualRegisters::Refused)
+    let virtuals = VirtualRegisters::Refused;
+    let restorable = frame.is_restorable(&info, virtuals);
+    inst.own_fault(frame, &info, constant, virtuals, restorable)
 }
 
 /// A load of a byte into x0.

@@ -27,7 +27,8 @@ fn passes(alloc: Global, inst: &Inst, probes: bool, virtuals: VirtualRegisters) 
         enable_table_access_spectre_mitigation: false,
         use_csdb: false,
     });
-    match inst.own_fault(&frame, &info, None, virtuals) {
+    let restorable = frame.is_restorable(&info, virtuals);
+    match inst.own_fault(&frame, &info, None, virtuals, restorable) {
         None => Some(true),
         Some(OwnFault::BadOperand) => Some(false),
         Some(_) => None,
