@@ -50,7 +50,7 @@ use Rattle.a64_enc_int.specs.Registers.{register_field}
 use Rattle.a64_enc_int.proofs.Immediates.{simm9_below, simm7_below, uimm12_below}
 use Rattle.a64_emit.specs.MemoryForms.{step_form, step_forms, imm9_form, unsigned_form, indexed_form, option_or_zero, literal_form, literal_words, held_form, access_steps, access_form, offset_register, pair_word_form, pair_form}
 use Rattle.a64_emit.specs.Words.{are_held_parts}
-use Rattle.a64_emit.proofs.Accesses.{access_size, held_good}
+use Rattle.a64_emit.proofs.Accesses.{access_size, parts_good}
 use Rattle.a64_emit.proofs.BranchForms.{nop4_is_form}
 use Rattle.a64_emit.proofs.ImmediateForms.{mov_wide_within, mov_k_within, residue_below}
 use Rattle.a64_emit.proofs.LogicForms.{orr_is_form}
@@ -226,21 +226,27 @@ module _ (op : AccessOp) (rt : Reg) (t : register_field rt < 32) where
       unsigned_is_form op rt rn t (stack_below rn (and_parts (is_register_or_stack Refused rn) (nat_eq offset 0 || nat_eq (type_bytes ty) (type_bytes (access_type op))) a).0) (offset / type_bytes ty) h.1
   held_is_form (Other mode) a h = let (parts, has) = and_parts (are_mode_parts Refused mode) (has_access_mode op mode) a in other_is_form mode parts has
 
+-- by the parts of its mode alone
+pub parts_are_form : (frame : FrameLayout) (access : Access) → is_data_register Refused access.op access.reg ≡ true → are_mode_parts Refused access.mem ≡ true → has_units (type_bytes (access_type access.op)) access.mem ≡ true → has_access_mode access.op access.mem ≡ true
+    → IsFormOf (access_form frame access)
+parts_are_form frame access register parts units mode =
+    held_is_form access.op access.reg (data_below access.op access.reg register) (final_mode frame (access_type access.op) access.mem)
+    (parts_good access.op frame access.mem parts units mode)
+    (final_holds frame (access_type access.op) access.mem (access_size access.op) parts)
+
 pub access_is_form : (frame : FrameLayout) (access : Access) → are_access_operands frame Refused access ≡ true → has_access_mode access.op access.mem ≡ true → IsFormOf (access_form frame access)
 unfolding are_access_operands are_mode_operands
 access_is_form frame access good mode =
     let (register, others) = and_parts (is_data_register Refused access.op access.reg) (are_mode_operands frame Refused access.mem && has_units (type_bytes (access_type access.op)) access.mem) good in
     let (operands, units) = and_parts (are_mode_operands frame Refused access.mem) (has_units (type_bytes (access_type access.op)) access.mem) others in
-    held_is_form access.op access.reg (data_below access.op access.reg register) (final_mode frame (access_type access.op) access.mem)
-    (held_good access.op frame access.mem operands units mode)
-    (final_holds frame (access_type access.op) access.mem (access_size access.op) (and_parts (are_mode_parts Refused access.mem) _ operands).0)
+    parts_are_form frame access register (and_parts (are_mode_parts Refused access.mem) _ operands).0 units mode
 
 pub access_steps_forms : (frame : FrameLayout) (access : Access) → All IsFormOf (access_steps frame access)
 access_steps_forms frame access = final_steps_forms offset_register (lit< tt) frame (access_type access.op) access.mem
 
 -- ---- two registers
 
-pair_word_is_form : (load idx : ℕ) (rn : Reg) (simm7 : SImm7Scaled) (rt rt2 : Reg) → load < 2 → idx < 4 → not (idx == 0) ≡ true → register_field rn < 32 → register_field rt < 32 → register_field rt2 < 32
+pub pair_word_is_form : (load idx : ℕ) (rn : Reg) (simm7 : SImm7Scaled) (rt rt2 : Reg) → load < 2 → idx < 4 → not (idx == 0) ≡ true → register_field rn < 32 → register_field rt < 32 → register_field rt2 < 32
     → IsFormOf (pair_word_form load idx rn simm7 rt rt2)
 unfolding pair_word_form
 pair_word_is_form load idx rn simm7 rt rt2 l i some n t t2 = ((lit< tt, (lit< tt, (i, (l, (simm7_below simm7, (t2, (n, (t, tt)))))))), rw some refl)

@@ -135,18 +135,19 @@ placed_good op place base = go (is_offset9 place.offset) (is_scaled_offset (acce
     go false true e f = rw e (rw f (and_from (is_register_or_stack Refused place.base) _ base (or_right _ _ (eq-eqb (type_bytes (access_type op)) (type_bytes (access_type op)) refl))))
     go false false e f = rw e (rw f (and_from _ true (and_from (is_register_or_stack Refused place.base) true base refl) refl))
 
-pub held_good : (op : AccessOp) (frame : FrameLayout) (mem : AMode) → are_mode_operands frame Refused mem ≡ true → has_units (type_bytes (access_type op)) mem ≡ true → has_access_mode op mem ≡ true → are_held_parts op (final_mode frame (access_type op) mem) ≡ true
-unfolding are_mode_operands
-held_good op frame mem operands units mode = go (base_offset_of frame mem) refl
+-- by the parts of the mode alone
+pub parts_good : (op : AccessOp) (frame : FrameLayout) (mem : AMode) → are_mode_parts Refused mem ≡ true → has_units (type_bytes (access_type op)) mem ≡ true → has_access_mode op mem ≡ true → are_held_parts op (final_mode frame (access_type op) mem) ≡ true
+parts_good op frame mem parts units mode = go (base_offset_of frame mem) refl
   where
-    parts : are_mode_parts Refused mem ≡ true
-    parts = (and_parts (are_mode_parts Refused mem) _ operands).0
-
     go : (o : Option BaseOffset) → base_offset_of frame mem ≡ o → are_held_parts op (final_mode frame (access_type op) mem) ≡ true
     go None e = subst (λ o. are_held_parts op (elim o [ None ↦ parts_of (held_mode true mem) | Some place ↦ placed_mode (access_type op) place ]) ≡ true) (sym e) (kept_good op mem parts units mode)
     go (Some place) e =
         subst (λ o. are_held_parts op (elim o [ None ↦ parts_of (held_mode true mem) | Some p ↦ placed_mode (access_type op) p ]) ≡ true) (sym e)
         (placed_good op place (base_good frame mem place e parts))
+
+pub held_good : (op : AccessOp) (frame : FrameLayout) (mem : AMode) → are_mode_operands frame Refused mem ≡ true → has_units (type_bytes (access_type op)) mem ≡ true → has_access_mode op mem ≡ true → are_held_parts op (final_mode frame (access_type op) mem) ≡ true
+unfolding are_mode_operands
+held_good op frame mem operands units mode = parts_good op frame mem (and_parts (are_mode_parts Refused mem) _ operands).0 units mode
 
 -- ---- the steps of a plan can be made
 
@@ -228,7 +229,7 @@ unfolding are_alu_rrr_operands
 sum_good (pos n) rd rn rm d b m = and_from _ true (and_from (is_register_or_zero Refused rd) _ (numbered_zero rd d) (and_from (is_register_or_zero Refused rn) (is_register_or_zero Refused rm) b m)) refl
 sum_good (negsuc n) rd rn rm d b m = and_from _ true (and_from (is_register_or_zero Refused rd) _ (numbered_zero rd d) (and_from (is_register_or_zero Refused rn) (is_register_or_zero Refused rm) b m)) refl
 
-addend_good : (n : ℕ) → is_addend n ≡ true → is_imm12 (addend n) ≡ true
+pub addend_good : (n : ℕ) → is_addend n ≡ true → is_imm12 (addend n) ≡ true
 addend_good n e = go (nat_lt n 4096) refl
   where
     go : (low : Bool) → nat_lt n 4096 ≡ low → is_imm12 (if low then record { bits = n; shift12 = false } else record { bits = n / 4096; shift12 = true }) ≡ true

@@ -6,6 +6,7 @@ use Rattle.a64_base.specs.declared.cond.CondBrKind.{CondBrKind}
 use Rattle.a64_base.specs.declared.cond.CondBrKind.TheVariants.{Zero, NotZero, Cond}
 use Rattle.a64_base.specs.declared.cond.TestBitAndBranchKind.{TestBitAndBranchKind}
 use Rattle.a64_base.specs.declared.cond.TestBitAndBranchKind.TheVariants.{Z, NZ}
+use Rattle.a64_base.specs.declared.key.APIKey.{APIKey}
 use Rattle.a64_base.specs.declared.reg.Reg.{Reg}
 use Rattle.a64_base.specs.declared.target.BranchTarget.{BranchTarget}
 use Rattle.a64_base.specs.declared.target.BranchTarget.TheVariants.{Label, ResolvedOffset}
@@ -17,7 +18,7 @@ use Rattle.a64_inst.specs.Operands.{is_register_or_zero}
 use Rattle.a64_rows.specs.Forms.{IsFormOf}
 use Rattle.a64_enc_int.specs.Branches.{conditional_form, nonzero_of}
 use Rattle.a64_emit.specs.IntegerForms.{nop4_form, mov_to_nzcv_form, mov_from_nzcv_form}
-use Rattle.a64_emit.specs.ControlForms.{ret_form, jump_form, cond_br_form, trap_if_form, test_bit_and_branch_form, indirect_br_form, brk_form, label_address_form}
+use Rattle.a64_emit.specs.ControlForms.{ret_form, jump_form, cond_br_form, trap_if_form, test_bit_and_branch_form, indirect_br_form, brk_form, label_address_form, branch_link_form, branch_link_register_form, auti_number, auti_form}
 use Rattle.a64_emit.proofs.Operands.{zero_below, sf_below}
 use Rattle.a64_emit.proofs.ImmediateForms.{adr_is_form}
 use Rattle.a64_emit.proofs.RegisterForms.{condition_below}
@@ -35,6 +36,13 @@ mov_to_nzcv_is_form rn good = ((lit< tt, (zero_below rn good, tt)), refl)
 pub mov_from_nzcv_is_form : (rd : Reg) → is_register_or_zero Refused rd ≡ true → IsFormOf (mov_from_nzcv_form rd)
 unfolding mov_from_nzcv_form
 mov_from_nzcv_is_form rd good = ((lit< tt, (zero_below rd good, tt)), refl)
+
+auti_below : (key : APIKey) → auti_number key < 2 ^ 3
+auti_below key = grind arith
+
+pub auti_is_form : (key : APIKey) → IsFormOf (auti_form key)
+unfolding auti_form
+auti_is_form key = ((lit< tt, (auti_below key, tt)), refl)
 
 -- ---- branches
 
@@ -58,6 +66,14 @@ brk_is_form = (tt, refl)
 pub indirect_br_is_form : (rn : Reg) → is_register_or_zero Refused rn ≡ true → IsFormOf (indirect_br_form rn)
 unfolding indirect_br_form
 indirect_br_is_form rn good = ((lit< tt, (zero_below rn good, tt)), refl)
+
+pub branch_link_is_form : IsFormOf branch_link_form
+unfolding branch_link_form
+branch_link_is_form = ((lit< tt, (lit< tt, tt)), refl)
+
+pub branch_link_register_is_form : (rn : Reg) → is_register_or_zero Refused rn ≡ true → IsFormOf (branch_link_register_form rn)
+unfolding branch_link_register_form
+branch_link_register_is_form rn good = ((lit< tt, (zero_below rn good, tt)), refl)
 
 pub jump_is_form : (dest : BranchTarget) → IsFormOf (jump_form dest)
 unfolding jump_form

@@ -19,8 +19,9 @@ use Rattle.a64_emit.specs.declared.label_use.LabelUse.{LabelUse}
 use Rattle.a64_emit.specs.declared.label_use.LabelUse.TheVariants as uses
 use Rattle.a64_emit.specs.declared.site.Site.{Site}
 use Rattle.a64_emit.specs.LabelUses.{label_kinds, urgency_of, forward_range}
-use Rattle.a64_emit.specs.Cells.{Cell, cells_of, all_cells, sites_of}
+use Rattle.a64_emit.specs.Cells.{Cell, inst_cells, kept_by, cells_of, all_cells, sites_of}
 use Rattle.a64_emit.specs.Bounds.{veneer_range, ranges_in, charge_of}
+use Rattle.a64_emit.proofs.Keeping.{keep_sites}
 use Rattle.a64_emit.proofs.Targets.{IsCodeTarget, IsCodeSite, inst_targets}
 use Rattle.a64_emit.specs.Emission.{use_at, uses_from, site_of}
 
@@ -87,7 +88,7 @@ module _ (frame : FrameLayout) (flags : EmitFlags) where
 
   item_targets : (item : Item) → All IsCodeSite (sites_of (cells_of frame flags item))
   item_targets (Bind label) = no_sites
-  item_targets (Emit inst kept) = inst_targets frame flags inst
+  item_targets (Emit inst kept) = subst (All IsCodeSite) (sym (keep_sites (kept_by inst kept) (inst_cells frame flags inst))) (inst_targets frame flags inst)
 
   pub all_targets : (items : List Item) → All IsCodeSite (sites_of (all_cells frame flags items))
   all_targets [] = no_sites

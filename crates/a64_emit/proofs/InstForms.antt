@@ -1,12 +1,16 @@
 -- The cells of instructions and items without a fault are forms of their rows, or data.
-use Rattle.std.proofs.Common.{ℕ, ℤ, pos, ◌≡◌, ◌/◌, ◌%◌, ◌<◌, ◌^◌, Bool, true, false, List, [], ◌∷◌, map, Option, None, Some, refl, lit<}
+use Rattle.std.proofs.Common.{ℕ, ℤ, pos, suc, ◌-ℤ◌, ◌≡◌, ◌+◌, ◌*◌, ◌/◌, ◌%◌, ◌<◌, ◌^◌, Bool, true, false, List, [], ◌∷◌, ◌++◌, length, get_or, map, Option, None, Some, refl, sym, subst, lit<, arith}
 use Rattle.std.specs.Prelude.{All, ◌&&◌, not, if◌then◌else◌}
+use Rattle.std.specs.List.{flat_map}
 use Rattle.std.specs.Ordering.{nat_cmp, int_eq}
 use Rattle.std.specs.FinMap.{FinMap}
 use Rattle.std.specs.Int.RustNames.{unsigned_abs}
 use Rattle.std.proofs.lemmas.Bool.{and_parts}
 use Rattle.std.proofs.lemmas.List.Elements.{All-nil, All-cons, All-append, All-map}
+use Rattle.std.proofs.lemmas.List.Sums.{AllPass-from_list_all}
+use Rattle.a64_base.specs.declared.entity.UserStackMap.{UserStackMap}
 use Rattle.a64_base.specs.declared.ir_type.IrType.TheVariants.{I8}
+use Rattle.a64_base.specs.declared.key.APIKey.{APIKey}
 use Rattle.a64_base.specs.declared.reg.Reg.{Reg}
 use Rattle.a64_base.specs.declared.size.OperandSize.TheVariants.{Size64}
 use Rattle.a64_base.specs.declared.target.BranchTarget.{BranchTarget}
@@ -14,6 +18,9 @@ use Rattle.a64_base.specs.declared.target.BranchTarget.TheVariants.{Label}
 use Rattle.a64_ops.specs.declared.operator.ALUOp.TheVariants as alu
 use Rattle.a64_plan.specs.Plans.{plan_of}
 use Rattle.a64_inst.specs.declared.access.Access.{Access}
+use Rattle.a64_inst.specs.declared.call.CallRetPair.{CallRetPair}
+use Rattle.a64_inst.specs.declared.call.RetLocation.{RetLocation}
+use Rattle.a64_inst.specs.declared.call.RetLocation.TheVariants as locations
 use Rattle.a64_inst.specs.declared.emission.EmitFlags.{EmitFlags}
 use Rattle.a64_inst.specs.declared.frame.FrameLayout.{FrameLayout}
 use Rattle.a64_inst.specs.declared.inst.Inst.{Inst}
@@ -21,33 +28,42 @@ use Rattle.a64_inst.specs.declared.inst.Inst.TheVariants as insts
 use Rattle.a64_inst.specs.declared.mode.AMode.{AMode}
 use Rattle.a64_inst.specs.declared.mode.AMode.TheVariants as modes
 use Rattle.a64_inst.specs.declared.virtuals.VirtualRegisters.TheVariants.{Refused}
-use Rattle.a64_inst.specs.Accesses.{access_of}
-use Rattle.a64_inst.specs.Faults.{has_other_operands, has_operands, has_other_mode, has_mode, inst_fault}
+use Rattle.a64_inst.specs.Accesses.{access_of, load_op, type_has_load_form}
+use Rattle.a64_inst.specs.Addresses.{is_numbered}
+use Rattle.a64_inst.specs.CallOperands.{are_call_defs, is_result_at}
+use Rattle.a64_inst.specs.Faults.{can_restore, has_plain_operands, has_other_operands, has_operands, has_other_mode, has_mode, has_scratch, inst_fault, is_restorable}
 use Rattle.a64_inst.specs.FinalModes.{FinalMode, SignedOffset, ScaledOffset, Other, final_mode, final_steps}
 use Rattle.a64_inst.specs.IntegerOperands.{are_adr_operands}
-use Rattle.a64_inst.specs.MemoryOperands.{is_addend, needs_x17_beside, are_mode_parts, are_mode_operands, are_address_operands, are_access_operands, has_access_mode}
+use Rattle.a64_inst.specs.Lone.{is_lone}
+use Rattle.a64_inst.specs.MemoryOperands.{is_addend, needs_x17_beside, are_mode_parts, are_mode_operands, are_address_operands, are_access_operands, has_access_mode, is_data_register}
 use Rattle.a64_inst.specs.Operands.{is_register, is_register_or_zero, is_register_or_stack, is_same_register, is_near}
 use Rattle.a64_inst.specs.declared.item.Item.{Item}
 use Rattle.a64_inst.specs.declared.item.Item.TheVariants.{Bind, Emit}
 use Rattle.a64_inst.proofs.Good.{operands_good}
 use Rattle.a64_rows.specs.Forms.{Form, IsFormOf}
 use Rattle.a64_enc_int.specs.Registers.{register_field}
+use Rattle.a64_emit.specs.declared.call.Callee.{Callee}
+use Rattle.a64_emit.specs.declared.call.Callee.TheVariants.{Symbol, Address}
 use Rattle.a64_emit.specs.declared.label_use.LabelUse.{LabelUse}
 use Rattle.a64_emit.specs.declared.label_use.LabelUse.TheVariants as uses
-use Rattle.a64_emit.specs.Cells.{Cell, Shape, OneWord, Several, Words, FormOf, Data, plain, trap_site, last_cell, branch, branches, data_cell, quiet, sum_shape, address_shape, access_shape, other_shape, shape_of, shape_cells, inst_cells, cells_of}
-use Rattle.a64_emit.specs.FormCells.{IsFormBody, IsFormCell, HasHalfword, HoldsHalfword}
+use Rattle.a64_emit.specs.Cells.{Cell, Shape, OneWord, Several, Words, FormOf, Data, plain, trap_site, last_cell, branch, branches, data_cell, quiet, sum_shape, address_shape, access_shape, plain_shape, other_shape, shape_of, shape_cells, inst_cells, cells_of, pop_forms, call_cell, call_cells, patchable_cells, result_cells, lone_cell, restored_cell, leave_forms, return_cell, return_cells, keep, kept_by}
+use Rattle.a64_emit.specs.FormCells.{IsFormBody, IsFormCell, HasHalfword, RestoresHalfwords, HoldsHalfword}
 use Rattle.a64_emit.specs.Faults.{item_fault}
 use Rattle.a64_emit.specs.ControlForms.{jump_form, cond_br_form, trap_if_form, test_bit_and_branch_form, label_address_form, udf_word}
 use Rattle.a64_emit.specs.IntegerForms.{mov_form}
 use Rattle.a64_emit.specs.MemoryForms.{step_forms, addend_register, offset_register, addend, addend_form, sum_form, sum_op}
+use Rattle.a64_emit.specs.Words.{IsCalled}
 use Rattle.a64_emit.proofs.Accesses.{mode_good, byte_size, are_address_parts, address_good, move_good, addend_operands, extend_good}
-use Rattle.a64_emit.proofs.AccessForms.{HoldsOffset, final_holds, plan_forms, final_steps_forms, access_is_form, access_steps_forms, pair_is_form}
+use Rattle.a64_emit.proofs.AccessForms.{HoldsOffset, final_holds, plan_forms, final_steps_forms, parts_are_form, access_is_form, access_steps_forms, pair_is_form}
 use Rattle.a64_emit.proofs.BranchForms as control
+use Rattle.a64_emit.proofs.CallForms.{adjust_are_forms, call_is_form, leave_are_forms, return_is_form}
+use Rattle.a64_emit.proofs.CallLoads.{loading, loaded_cells}
+use Rattle.a64_emit.proofs.CallOperands.{call_results, return_restorable}
 use Rattle.a64_emit.proofs.ImmediateForms as immediate
 use Rattle.a64_emit.proofs.LogicForms.{alu_rr_imm_logic_within}
 use Rattle.a64_emit.proofs.Operands.{cond_br_parts, test_bit_parts, zero_below, stack_below, register_zero}
 use Rattle.a64_emit.proofs.RegisterForms as register
-use Rattle.a64_emit.proofs.SequenceForms.{sequence_forms}
+use Rattle.a64_emit.proofs.SequenceForms.{plain_forms, sequence_forms}
 
 -- ---- shapes
 
@@ -68,6 +84,12 @@ shape_forms (OneWord form) is = one_cell (plain form) is
 shape_forms (Several forms body site trap) (are, is) =
     All-append IsFormCell (map plain forms) (last_cell body site trap ∷ []) (All-map IsFormCell plain forms are) (one_cell (last_cell body site trap) is)
 shape_forms (Words cells) are = are
+
+-- a map of the stack at the first changes nothing
+keep_forms : (kept : Option UserStackMap) (cells : List Cell) → All IsFormCell cells → All IsFormCell (keep kept cells)
+keep_forms None cells are = are
+keep_forms (Some m) [] are = are
+keep_forms (Some m) (c ∷ cs) are = All-cons IsFormCell (record c { marks = record c.marks { map = Some m } }) cs (are 0 c (omega arith)) (λ k d w. are (suc k) d (omega (arith, w)))
 
 -- ---- addresses
 
@@ -110,69 +132,149 @@ near_result : (rd : Reg) (off : ℤ) → are_adr_operands Refused rd off ≡ tru
 unfolding are_adr_operands
 near_result rd off good = (and_parts (is_register_or_zero Refused rd) (is_near off) good).0
 
--- ---- instructions
+-- ---- instructions that are no calls
 
 module _ (frame : FrameLayout) (flags : EmitFlags) where
-  other_forms : (inst : Inst) → HasHalfword inst → has_other_operands frame flags Refused inst ≡ true → AreForms (other_shape frame flags inst)
-  other_forms insts.Nop0 fits good = All-nil IsFormCell
-  other_forms insts.Nop4 fits good = control.nop4_is_form
-  other_forms (insts.AluRRR alu_op size rd rn rm) fits good = register.alu_rrr_is_form alu_op size rd rn rm good
-  other_forms (insts.AluRRRR alu_op size rd rn rm ra) fits good = register.alu_rrrr_is_form alu_op size rd rn rm ra good
-  other_forms (insts.AluRRImm12 alu_op size rd rn imm12) fits good = immediate.alu_rr_imm12_is_form alu_op size rd rn imm12 good
-  other_forms (insts.AluRRImmLogic alu_op size rd rn imml) fits good = alu_rr_imm_logic_within alu_op size rd rn imml good
-  other_forms (insts.AluRRImmShift alu_op size rd rn immshift) fits good = immediate.alu_rr_imm_shift_is_form alu_op size rd rn immshift good
-  other_forms (insts.AluRRRShift alu_op size rd rn rm shiftop) fits good = register.alu_rrr_shift_is_form alu_op size rd rn rm shiftop good
-  other_forms (insts.AluRRRExtend alu_op size rd rn rm extendop) fits good = register.alu_rrr_extend_is_form alu_op size rd rn rm extendop good
-  other_forms (insts.BitRR op size rd rn) fits good = register.bit_rr_is_form op size rd rn good
-  other_forms (insts.Mov size rd rm) fits good = register.mov_is_form size rd rm good
-  other_forms (insts.MovFromPReg rd rm) fits good = register.mov_from_preg_is_form rd rm good
-  other_forms (insts.MovToPReg rd rm) fits good = register.mov_to_preg_is_form rd rm good
-  other_forms (insts.MovWide op rd imm size) fits good = immediate.mov_wide_is_form op rd imm size good fits
-  other_forms (insts.MovK rd rn imm size) fits good = immediate.mov_k_is_form rd rn imm size good fits
-  other_forms (insts.CSel rd rn rm cond) fits good = register.csel_is_form rd rn rm cond good
-  other_forms (insts.CSNeg rd rn rm cond) fits good = register.csneg_is_form rd rn rm cond good
-  other_forms (insts.CSet rd cond) fits good = register.cset_is_form rd cond good
-  other_forms (insts.CSetm rd cond) fits good = register.csetm_is_form rd cond good
-  other_forms (insts.CCmp size rn rm nzcv cond) fits good = register.ccmp_is_form size rn rm nzcv cond good
-  other_forms (insts.CCmpImm size rn imm nzcv cond) fits good = register.ccmp_imm_is_form size rn imm nzcv cond good
-  other_forms (insts.Extend rd rn signed from_bits to_bits) fits good = register.extend_is_form rd rn signed from_bits to_bits good
-  other_forms (insts.BitfieldMove size bfm_op rd rn immr imms) fits good = immediate.bitfield_move_is_form size bfm_op rd rn immr imms good
-  other_forms (insts.BitfieldMoveMod size rd ri rn immr imms) fits good = immediate.bitfield_move_mod_is_form size rd ri rn immr imms good
-  other_forms (insts.MovToNZCV rn) fits good = control.mov_to_nzcv_is_form rn good
-  other_forms (insts.MovFromNZCV rd) fits good = control.mov_from_nzcv_is_form rd good
-  other_forms (insts.Adr rd off) fits good = immediate.adr_is_form rd off (near_result rd off good)
-  other_forms (insts.Adrp rd off) fits good = immediate.adrp_is_form rd off (near_result rd off good)
-  other_forms insts.Ret fits good = control.ret_is_form
-  other_forms (insts.Jump dest) fits good = one_cell (branch (jump_form dest) uses.Branch26 dest) (control.jump_is_form dest)
-  other_forms (insts.CondBr taken not_taken kind) fits good =
+  plain_shape_forms : (inst : Inst) → HasHalfword inst → has_plain_operands frame flags Refused inst ≡ true → AreForms (plain_shape frame flags inst)
+  plain_shape_forms insts.Nop0 fits good = All-nil IsFormCell
+  plain_shape_forms insts.Nop4 fits good = control.nop4_is_form
+  plain_shape_forms (insts.AluRRR alu_op size rd rn rm) fits good = register.alu_rrr_is_form alu_op size rd rn rm good
+  plain_shape_forms (insts.AluRRRR alu_op size rd rn rm ra) fits good = register.alu_rrrr_is_form alu_op size rd rn rm ra good
+  plain_shape_forms (insts.AluRRImm12 alu_op size rd rn imm12) fits good = immediate.alu_rr_imm12_is_form alu_op size rd rn imm12 good
+  plain_shape_forms (insts.AluRRImmLogic alu_op size rd rn imml) fits good = alu_rr_imm_logic_within alu_op size rd rn imml good
+  plain_shape_forms (insts.AluRRImmShift alu_op size rd rn immshift) fits good = immediate.alu_rr_imm_shift_is_form alu_op size rd rn immshift good
+  plain_shape_forms (insts.AluRRRShift alu_op size rd rn rm shiftop) fits good = register.alu_rrr_shift_is_form alu_op size rd rn rm shiftop good
+  plain_shape_forms (insts.AluRRRExtend alu_op size rd rn rm extendop) fits good = register.alu_rrr_extend_is_form alu_op size rd rn rm extendop good
+  plain_shape_forms (insts.BitRR op size rd rn) fits good = register.bit_rr_is_form op size rd rn good
+  plain_shape_forms (insts.Mov size rd rm) fits good = register.mov_is_form size rd rm good
+  plain_shape_forms (insts.MovFromPReg rd rm) fits good = register.mov_from_preg_is_form rd rm good
+  plain_shape_forms (insts.MovToPReg rd rm) fits good = register.mov_to_preg_is_form rd rm good
+  plain_shape_forms (insts.MovWide op rd imm size) fits good = immediate.mov_wide_is_form op rd imm size good fits
+  plain_shape_forms (insts.MovK rd rn imm size) fits good = immediate.mov_k_is_form rd rn imm size good fits
+  plain_shape_forms (insts.CSel rd rn rm cond) fits good = register.csel_is_form rd rn rm cond good
+  plain_shape_forms (insts.CSNeg rd rn rm cond) fits good = register.csneg_is_form rd rn rm cond good
+  plain_shape_forms (insts.CSet rd cond) fits good = register.cset_is_form rd cond good
+  plain_shape_forms (insts.CSetm rd cond) fits good = register.csetm_is_form rd cond good
+  plain_shape_forms (insts.CCmp size rn rm nzcv cond) fits good = register.ccmp_is_form size rn rm nzcv cond good
+  plain_shape_forms (insts.CCmpImm size rn imm nzcv cond) fits good = register.ccmp_imm_is_form size rn imm nzcv cond good
+  plain_shape_forms (insts.Extend rd rn signed from_bits to_bits) fits good = register.extend_is_form rd rn signed from_bits to_bits good
+  plain_shape_forms (insts.BitfieldMove size bfm_op rd rn immr imms) fits good = immediate.bitfield_move_is_form size bfm_op rd rn immr imms good
+  plain_shape_forms (insts.BitfieldMoveMod size rd ri rn immr imms) fits good = immediate.bitfield_move_mod_is_form size rd ri rn immr imms good
+  plain_shape_forms (insts.MovToNZCV rn) fits good = control.mov_to_nzcv_is_form rn good
+  plain_shape_forms (insts.MovFromNZCV rd) fits good = control.mov_from_nzcv_is_form rd good
+  plain_shape_forms (insts.Adr rd off) fits good = immediate.adr_is_form rd off (near_result rd off good)
+  plain_shape_forms (insts.Adrp rd off) fits good = immediate.adrp_is_form rd off (near_result rd off good)
+  plain_shape_forms insts.Ret fits good = control.ret_is_form
+  plain_shape_forms (insts.Jump dest) fits good = one_cell (branch (jump_form dest) uses.Branch26 dest) (control.jump_is_form dest)
+  plain_shape_forms (insts.CondBr taken not_taken kind) fits good =
       branch_pair (cond_br_form taken kind) uses.Branch19 taken not_taken (control.cond_br_is_form taken kind (cond_br_parts taken not_taken kind good).test)
-  other_forms (insts.TestBitAndBranch kind taken not_taken rn bit) fits good =
+  plain_shape_forms (insts.TestBitAndBranch kind taken not_taken rn bit) fits good =
       let parts = test_bit_parts taken not_taken rn bit good in
       branch_pair (test_bit_and_branch_form kind taken rn bit) uses.Branch14 taken not_taken (control.test_bit_and_branch_is_form kind taken rn bit parts.register parts.below)
-  other_forms (insts.TrapIf kind trap_code) fits good = one_cell (last_cell (FormOf (trap_if_form kind)) (Some (trap_site trap_code)) None) (control.trap_if_is_form kind good)
-  other_forms (insts.EmitIsland needed_space) fits good = All-nil IsFormCell
-  other_forms (insts.IndirectBr rn targets) fits good = control.indirect_br_is_form rn good
-  other_forms insts.Brk fits good = control.brk_is_form
-  other_forms (insts.Udf trap_code) fits good = one_cell (last_cell (Data udf_word) None (Some trap_code)) tt
-  other_forms (insts.Word4 value) fits good = one_cell (data_cell value) tt
-  other_forms (insts.Word8 value) fits good = two_cells (data_cell (value % 2 ^ 32)) (data_cell (value / 2 ^ 32)) tt tt
-  other_forms (insts.LabelAddress dst label) fits good = one_cell (branch (label_address_form dst) uses.Adr21 (Label label)) (control.label_address_is_form dst good)
-  other_forms (insts.Args args) fits good = sequence_forms frame flags (insts.Args args) refl good
-  other_forms (insts.Rets rets) fits good = sequence_forms frame flags (insts.Rets rets) refl good
-  other_forms (insts.DummyUse reg) fits good = sequence_forms frame flags (insts.DummyUse reg) refl good
-  other_forms insts.SequencePoint fits good = sequence_forms frame flags insts.SequencePoint refl good
-  other_forms (insts.JTSequence default targets ridx rtmp1 rtmp2) fits good = sequence_forms frame flags (insts.JTSequence default targets ridx rtmp1 rtmp2) refl good
-  other_forms (insts.LoadExtNameGot rd name) fits good = sequence_forms frame flags (insts.LoadExtNameGot rd name) refl good
-  other_forms (insts.LoadExtNameNear rd name offset) fits good = sequence_forms frame flags (insts.LoadExtNameNear rd name offset) refl good
-  other_forms (insts.LoadExtNameFar rd name offset) fits good = sequence_forms frame flags (insts.LoadExtNameFar rd name offset) refl good
-  other_forms (insts.StackProbeLoop start end step) fits good = sequence_forms frame flags (insts.StackProbeLoop start end step) refl good
-  other_forms (insts.LoadP64 rt rt2 mem trap) fits good = (All-nil IsFormOf, pair_is_form 1 rt rt2 mem (lit< tt) good)
-  other_forms (insts.StoreP64 rt rt2 mem trap) fits good = (All-nil IsFormOf, pair_is_form 0 rt rt2 mem (lit< tt) good)
-  other_forms (insts.LoadAddr rd mem) fits good = address_forms frame rd mem good
-  other_forms _ fits good = absurd cc
+  plain_shape_forms (insts.TrapIf kind trap_code) fits good = one_cell (last_cell (FormOf (trap_if_form kind)) (Some (trap_site trap_code)) None) (control.trap_if_is_form kind good)
+  plain_shape_forms (insts.EmitIsland needed_space) fits good = All-nil IsFormCell
+  plain_shape_forms (insts.IndirectBr rn targets) fits good = control.indirect_br_is_form rn good
+  plain_shape_forms insts.Brk fits good = control.brk_is_form
+  plain_shape_forms (insts.Udf trap_code) fits good = one_cell (last_cell (Data udf_word) None (Some trap_code)) tt
+  plain_shape_forms (insts.Word4 value) fits good = one_cell (data_cell value) tt
+  plain_shape_forms (insts.Word8 value) fits good = two_cells (data_cell (value % 2 ^ 32)) (data_cell (value / 2 ^ 32)) tt tt
+  plain_shape_forms (insts.LabelAddress dst label) fits good = one_cell (branch (label_address_form dst) uses.Adr21 (Label label)) (control.label_address_is_form dst good)
+  plain_shape_forms (insts.Args args) fits good = sequence_forms frame flags (insts.Args args) refl good
+  plain_shape_forms (insts.Rets rets) fits good = sequence_forms frame flags (insts.Rets rets) refl good
+  plain_shape_forms (insts.DummyUse reg) fits good = sequence_forms frame flags (insts.DummyUse reg) refl good
+  plain_shape_forms insts.SequencePoint fits good = sequence_forms frame flags insts.SequencePoint refl good
+  plain_shape_forms (insts.JTSequence default targets ridx rtmp1 rtmp2) fits good = sequence_forms frame flags (insts.JTSequence default targets ridx rtmp1 rtmp2) refl good
+  plain_shape_forms (insts.LoadExtNameGot rd name) fits good = sequence_forms frame flags (insts.LoadExtNameGot rd name) refl good
+  plain_shape_forms (insts.LoadExtNameNear rd name offset) fits good = sequence_forms frame flags (insts.LoadExtNameNear rd name offset) refl good
+  plain_shape_forms (insts.LoadExtNameFar rd name offset) fits good = sequence_forms frame flags (insts.LoadExtNameFar rd name offset) refl good
+  plain_shape_forms (insts.StackProbeLoop start end step) fits good = sequence_forms frame flags (insts.StackProbeLoop start end step) refl good
+  plain_shape_forms (insts.LoadP64 rt rt2 mem trap) fits good = (All-nil IsFormOf, pair_is_form 1 rt rt2 mem (lit< tt) good)
+  plain_shape_forms (insts.StoreP64 rt rt2 mem trap) fits good = (All-nil IsFormOf, pair_is_form 0 rt rt2 mem (lit< tt) good)
+  plain_shape_forms (insts.LoadAddr rd mem) fits good = address_forms frame rd mem good
+  plain_shape_forms _ fits good = absurd cc
 
+module _ (frame : FrameLayout) where
   access_forms : (access : Access) → are_access_operands frame Refused access ≡ true → has_access_mode access.op access.mem ≡ true → AreForms (access_shape frame access)
   access_forms access good mode = (access_steps_forms frame access, access_is_form frame access good mode)
+
+-- ---- calls
+
+module _ (frame : FrameLayout) where
+  -- the load of a result
+  result_forms : (vreg : Reg) (location : RetLocation) → is_result_at Refused vreg location ≡ true → All IsFormCell (result_cells frame (record { vreg = vreg; location = location }))
+  result_forms vreg (locations.Reg preg ty) good = All-nil IsFormCell
+  result_forms vreg (locations.Stack offset ty) good =
+      let (has, register) = and_parts (type_has_load_form ty) (is_data_register Refused (load_op ty) vreg && not (is_numbered 16 vreg)) good in
+      let load = loading vreg offset ty in
+      subst (All IsFormCell) (sym (loaded_cells frame vreg offset ty has))
+      (shape_forms (access_shape frame load)
+      (access_steps_forms frame load, parts_are_form frame load (and_parts (is_data_register Refused (load_op ty) vreg) (not (is_numbered 16 vreg)) register).0 refl refl refl))
+
+  results_forms : (defs : List CallRetPair) → are_call_defs Refused defs ≡ true → All IsFormCell (flat_map (result_cells frame) defs)
+  results_forms [] good = All-nil IsFormCell
+  results_forms (pair ∷ defs) good =
+      let (first, others) = and_parts (is_result_at Refused pair.vreg pair.location) (are_call_defs Refused defs) good in
+      All-append IsFormCell (result_cells frame pair) (flat_map (result_cells frame) defs) (result_forms pair.vreg pair.location first) (results_forms defs others)
+
+  call_forms : (callee : Callee) (defs : List CallRetPair) (pop : ℕ) → IsCalled callee → are_call_defs Refused defs ≡ true → All IsFormCell (call_cells frame callee defs pop)
+  call_forms callee defs pop called good =
+      All-cons IsFormCell (call_cell callee None) (map plain (pop_forms pop) ++ flat_map (result_cells frame) defs) (call_is_form callee called)
+      (All-append IsFormCell (map plain (pop_forms pop)) (flat_map (result_cells frame) defs) (plain_forms (pop_forms pop) (adjust_are_forms (pos 0 -ℤ pos pop))) (results_forms defs good))
+
+  symbol_forms : (callee : Callee) (patchable : Bool) (defs : List CallRetPair) (pop : ℕ) → IsCalled callee → are_call_defs Refused defs ≡ true → All IsFormCell (if patchable then patchable_cells callee pop else call_cells frame callee defs pop)
+  symbol_forms callee true defs pop called good =
+      All-cons IsFormCell (call_cell callee (Some (4 * (length (pop_forms pop) + 1)))) (map plain (pop_forms pop)) (call_is_form callee called) (plain_forms (pop_forms pop) (adjust_are_forms (pos 0 -ℤ pos pop)))
+  symbol_forms callee false defs pop called good = call_forms callee defs pop called good
+
+  module _ (flags : EmitFlags) where
+    -- what a frame restores
+    lone_form : (cells : List Cell) → All IsFormCell cells → IsFormCell (lone_cell cells)
+    lone_form [] are = control.nop4_is_form
+    lone_form (c ∷ cs) are = are 0 c (omega arith)
+
+    restored_form : (inst : Inst) → HasHalfword inst → can_restore frame flags Refused inst ≡ true → IsFormCell (restored_cell frame flags inst)
+    restored_form inst fits good = go (access_of inst) operands mode
+      where
+        others : ((elim (access_of inst) [ None ↦ has_plain_operands frame flags Refused inst | Some access ↦ are_access_operands frame Refused access ]) && (has_mode inst && has_scratch frame inst)) ≡ true
+        others = (and_parts (is_lone frame inst) _ good).1
+
+        operands : (elim (access_of inst) [ None ↦ has_plain_operands frame flags Refused inst | Some access ↦ are_access_operands frame Refused access ]) ≡ true
+        operands = (and_parts _ (has_mode inst && has_scratch frame inst) others).0
+
+        mode : has_mode inst ≡ true
+        mode = (and_parts (has_mode inst) (has_scratch frame inst) (and_parts _ (has_mode inst && has_scratch frame inst) others).1).0
+
+        go : (o : Option Access) → (elim o [ None ↦ has_plain_operands frame flags Refused inst | Some access ↦ are_access_operands frame Refused access ]) ≡ true
+            → (elim o [ None ↦ has_other_mode inst | Some access ↦ has_access_mode access.op access.mem ]) ≡ true
+            → IsFormCell (lone_cell (shape_cells (elim o [ None ↦ plain_shape frame flags inst | Some access ↦ access_shape frame access ])))
+        go None e f = lone_form (shape_cells (plain_shape frame flags inst)) (shape_forms (plain_shape frame flags inst) (plain_shape_forms frame flags inst fits e))
+        go (Some access) e f = lone_form (shape_cells (access_shape frame access)) (shape_forms (access_shape frame access) (access_forms frame access e f))
+
+    restored_forms : RestoresHalfwords frame → is_restorable frame flags Refused ≡ true → All IsFormCell (map (restored_cell frame flags) frame.restore)
+    restored_forms fit good =
+        let can = AllPass-from_list_all (can_restore frame flags Refused) frame.restore good in
+        All-map IsFormCell (restored_cell frame flags) frame.restore (λ k d w. restored_form (get_or frame.restore k d) (fit k d w) (can k d w))
+
+    return_forms : (callee : Callee) (size : ℕ) (key : Option APIKey) (all : Bool) → IsCalled callee → RestoresHalfwords frame → is_restorable frame flags Refused ≡ true → All IsFormCell (return_cells frame flags callee size key all)
+    return_forms callee size key all called fit good =
+        All-append IsFormCell (map (restored_cell frame flags) frame.restore ++ map plain (leave_forms frame size key all)) (return_cell callee ∷ [])
+        (All-append IsFormCell (map (restored_cell frame flags) frame.restore) (map plain (leave_forms frame size key all)) (restored_forms fit good) (plain_forms (leave_forms frame size key all) (leave_are_forms frame size key all)))
+        (one_cell (return_cell callee) (return_is_form callee called))
+
+-- ---- instructions
+
+module _ (frame : FrameLayout) (flags : EmitFlags) (fit : RestoresHalfwords frame) where
+  other_forms : (inst : Inst) → HasHalfword inst → has_other_operands frame flags Refused inst ≡ true → AreForms (other_shape frame flags inst)
+  other_forms (insts.Call info) fits good = symbol_forms frame (Symbol info.dest) info.patchable info.defs info.callee_pop_size tt (call_results info.uses info.defs info.callee_pop_size good)
+  other_forms (insts.CallInd info) fits good =
+      let (called, operands) = and_parts (is_register_or_zero Refused info.dest) _ good in
+      call_forms frame (Address info.dest) info.defs info.callee_pop_size called (call_results info.uses info.defs info.callee_pop_size operands)
+  other_forms (insts.ReturnCall info) fits good =
+      return_forms frame flags (Symbol info.dest) info.new_stack_arg_size info.key info.sign_return_address_all tt fit (return_restorable frame (is_restorable frame flags Refused) info.uses info.new_stack_arg_size good)
+  other_forms (insts.ReturnCallInd info) fits good =
+      let (called, operands) = and_parts (is_register_or_zero Refused info.dest) _ good in
+      return_forms frame flags (Address info.dest) info.new_stack_arg_size info.key info.sign_return_address_all called fit (return_restorable frame (is_restorable frame flags Refused) info.uses info.new_stack_arg_size operands)
+  other_forms inst fits good = plain_shape_forms frame flags inst fits good
 
   -- those of an instruction whose operands are in their sets and whose mode exists
   operands_forms : (inst : Inst) → HasHalfword inst → has_operands frame flags Refused inst ≡ true → has_mode inst ≡ true → AreForms (shape_of frame flags inst)
@@ -182,7 +284,7 @@ module _ (frame : FrameLayout) (flags : EmitFlags) where
           → (elim o [ None ↦ has_other_mode inst | Some access ↦ has_access_mode access.op access.mem ]) ≡ true
           → AreForms (elim o [ None ↦ other_shape frame flags inst | Some access ↦ access_shape frame access ])
       go None e f = other_forms inst fits e
-      go (Some access) e f = access_forms access e f
+      go (Some access) e f = access_forms frame access e f
 
   -- those of an instruction without a fault
   pub inst_forms : (constants : FinMap nat_cmp (List ℕ)) (inst : Inst) → HasHalfword inst → inst_fault frame flags constants Refused inst ≡ None → All IsFormCell (inst_cells frame flags inst)
@@ -192,4 +294,4 @@ module _ (frame : FrameLayout) (flags : EmitFlags) where
   -- and of an item
   pub item_forms : (constants : FinMap nat_cmp (List ℕ)) (item : Item) → HoldsHalfword item → item_fault frame flags constants item ≡ None → All IsFormCell (cells_of frame flags item)
   item_forms constants (Bind label) fits none = All-nil IsFormCell
-  item_forms constants (Emit inst map) fits none = inst_forms constants inst fits none
+  item_forms constants (Emit inst kept) fits none = keep_forms (kept_by inst kept) (inst_cells frame flags inst) (inst_forms constants inst fits none)

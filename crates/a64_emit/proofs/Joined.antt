@@ -1,7 +1,8 @@
 -- Cells that are put behind cells.
-use Rattle.std.proofs.Common.{ℕ, ◌≡◌, ◌+◌, ◌*◌, ◌⊎◌, inl, inr, suc, List, [], ◌∷◌, ◌++◌, length, take, map, sym, ap, ◌∙◌, subst, arith, nat_cmp, append_assoc}
+use Rattle.std.proofs.Common.{ℕ, ◌≡◌, ◌+◌, ◌*◌, ◌⊎◌, inl, inr, suc, List, [], ◌∷◌, ◌++◌, length, take, map, Option, sym, ap, ◌∙◌, subst, arith, nat_cmp, append_assoc}
 use Rattle.std.specs.Prelude.{min}
 use Rattle.std.specs.FinMap.{FinMap}
+use Rattle.std.specs.List.{filter_map}
 use Rattle.std.proofs.lemmas.Bool.{cases_lt}
 use Rattle.std.proofs.lemmas.List.{take-append-le, take_min, length-append, length-map, map-append}
 use Rattle.std.proofs.lemmas.List.Elements.{filter_map-append}
@@ -13,9 +14,9 @@ use Rattle.a64_emit.specs.declared.label_use.LabelUse.{LabelUse}
 use Rattle.a64_emit.specs.LabelUses.{label_kinds}
 use Rattle.a64_emit.specs.LabelLaws.{label_kinds_lawful}
 use Rattle.a64_emit.specs.Cells.{Cell, cell_word}
-use Rattle.a64_emit.specs.Layout.{placed, reloc_at, relocs_in, trap_at, traps_in}
-use Rattle.a64_emit.specs.Emission.{use_at, uses_from, appended, IsAppendedInPart, HasRoom, CellsFit}
-use Rattle.a64_emit.proofs.Holding.{same_holding}
+use Rattle.a64_emit.specs.Layout.{placed, reloc_at, relocs_in, call_at, calls_in, patchable_at, patchable_in, map_at, maps_in, trap_at, traps_in, records_in, more_records}
+use Rattle.a64_emit.specs.Emission.{use_at, uses_from, appended, Parts, part_records, IsAppendedInPart, HasRoom, CellsFit}
+use Rattle.a64_emit.proofs.Holding.{same_holding, same_records, more_twice}
 
 -- ---- what two lists of cells are together
 
@@ -34,11 +35,18 @@ placed-append place (c ∷ cs) ys =
     ap (λ cells. (place, c) ∷ cells) (placed-append (place + 4) cs ys)
     ∙ ap (λ n. (place, c) ∷ (placed (place + 4) cs ++ placed n ys)) there
 
-traps_in-append : (place : ℕ) (xs ys : List Cell) → traps_in (placed place (xs ++ ys)) ≡ traps_in (placed place xs) ++ traps_in (placed (place + 4 * length xs) ys)
-traps_in-append place xs ys = ap traps_in (placed-append place xs ys) ∙ filter_map-append trap_at (placed place xs) (placed (place + 4 * length xs) ys)
+-- what is found in cells at their places, of any kind
+module _ {X : Type 0} (found : ℕ × Cell → Option X) where
+  found-append : (place : ℕ) (xs ys : List Cell) → filter_map found (placed place (xs ++ ys)) ≡ filter_map found (placed place xs) ++ filter_map found (placed (place + 4 * length xs) ys)
+  found-append place xs ys = ap (filter_map found) (placed-append place xs ys) ∙ filter_map-append found (placed place xs) (placed (place + 4 * length xs) ys)
 
-relocs_in-append : (place : ℕ) (xs ys : List Cell) → relocs_in (placed place (xs ++ ys)) ≡ relocs_in (placed place xs) ++ relocs_in (placed (place + 4 * length xs) ys)
-relocs_in-append place xs ys = ap relocs_in (placed-append place xs ys) ∙ filter_map-append reloc_at (placed place xs) (placed (place + 4 * length xs) ys)
+traps_in-append : (place : ℕ) (xs ys : List Cell) → traps_in (placed place (xs ++ ys)) ≡ traps_in (placed place xs) ++ traps_in (placed (place + 4 * length xs) ys)
+traps_in-append place xs ys = found-append trap_at place xs ys
+
+pub records_in-append : (place : ℕ) (xs ys : List Cell) → records_in (placed place (xs ++ ys)) ≡ more_records (records_in (placed place xs)) (records_in (placed (place + 4 * length xs) ys))
+records_in-append place xs ys =
+    same_records _ _ _ _ _ _ _ _
+    (found-append reloc_at place xs ys) (found-append call_at place xs ys) (found-append patchable_at place xs ys) (found-append map_at place xs ys)
 
 -- ---- first parts of two lists
 
@@ -51,6 +59,78 @@ take-append-add k (x ∷ xs) ys =
 -- no more of them than the first list has
 first_taken : {X : Type 0} (k : ℕ) (xs ys : List X) → take (min k (length xs)) (xs ++ ys) ≡ take k xs
 first_taken k xs ys = take-append-le (min k (length xs)) xs ys (omega arith) ∙ take_min k xs
+
+-- how the numbers of a part stand to one another stays so
+least_last : (m used count : ℕ) → (used ≡ count) ⊎ (used + 1 ≡ count) → (min used m ≡ min count m) ⊎ (min used m + 1 ≡ min count m)
+least_last m used count (inl same) = inl (ap (λ n. min n m) same)
+least_last m used count (inr less) = elim (cases_lt used m) [ inl lt ↦ inr (omega arith) | inr ge ↦ inl (omega arith) ]
+
+least_next : (m k count : ℕ) → (k ≡ count) ⊎ (k ≡ count + 1) → (min k m ≡ min count m) ⊎ (min k m ≡ min count m + 1)
+least_next m k count (inl same) = inl (ap (λ n. min n m) same)
+least_next m k count (inr more) = elim (cases_lt count m) [ inl lt ↦ inr (omega arith) | inr ge ↦ inl (omega arith) ]
+
+behind_last : (m used count : ℕ) → (used ≡ count) ⊎ (used + 1 ≡ count) → (m + used ≡ m + count) ⊎ (m + used + 1 ≡ m + count)
+behind_last m used count (inl same) = inl (omega arith)
+behind_last m used count (inr less) = inr (omega arith)
+
+behind_next : (m k count : ℕ) → (k ≡ count) ⊎ (k ≡ count + 1) → (m + k ≡ m + count) ⊎ (m + k ≡ m + count + 1)
+behind_next m k count (inl same) = inl (omega arith)
+behind_next m k count (inr more) = inr (omega arith)
+
+module _ (xs ys : List Cell) where
+  -- a first part of the first list is one of both
+  abbrev first_part : Parts xs → Parts (xs ++ ys)
+  first_part p = record {
+    count = min p.count (length xs);
+    used = min p.used (length xs);
+    last = least_last (length xs) p.used p.count p.last;
+    marked = min p.marked (length xs);
+    next = least_next (length xs) p.marked p.count p.next;
+    related = min p.related (length xs);
+    next_related = least_next (length xs) p.related p.count p.next_related;
+    called = min p.called (length xs);
+    called_few = omega (arith, p.called_few);
+    patched = min p.patched (length xs);
+    patched_few = omega (arith, p.patched_few);
+    mapped = min p.mapped (length xs);
+    mapped_few = omega (arith, p.mapped_few);
+  }
+
+  -- and so is all of it with a first part of the second
+  abbrev second_part : Parts ys → Parts (xs ++ ys)
+  second_part p = record {
+    count = length xs + p.count;
+    used = length xs + p.used;
+    last = behind_last (length xs) p.used p.count p.last;
+    marked = length xs + p.marked;
+    next = behind_next (length xs) p.marked p.count p.next;
+    related = length xs + p.related;
+    next_related = behind_next (length xs) p.related p.count p.next_related;
+    called = length xs + p.called;
+    called_few = omega (arith, p.called_few);
+    patched = length xs + p.patched;
+    patched_few = omega (arith, p.patched_few);
+    mapped = length xs + p.mapped;
+    mapped_few = omega (arith, p.mapped_few);
+  }
+
+  module _ (place : ℕ) where
+    first_records : (p : Parts xs) → part_records place (xs ++ ys) (first_part p) ≡ part_records place xs p
+    first_records p =
+        same_records _ _ _ _ _ _ _ _
+        (ap (λ cells. relocs_in (placed place cells)) (first_taken p.related xs ys))
+        (ap (λ cells. calls_in (placed place cells)) (first_taken p.called xs ys))
+        (ap (λ cells. patchable_in (placed place cells)) (first_taken p.patched xs ys))
+        (ap (λ cells. maps_in (placed place cells)) (first_taken p.mapped xs ys))
+
+    -- what is found in the first list and in a first part of the second
+    second_found : {X : Type 0} (found : ℕ × Cell → Option X) (k : ℕ) → filter_map found (placed place (take (length xs + k) (xs ++ ys))) ≡ filter_map found (placed place xs) ++ filter_map found (placed (place + 4 * length xs) (take k ys))
+    second_found found k = ap (λ cells. filter_map found (placed place cells)) (take-append-add k xs ys) ∙ found-append found place xs (take k ys)
+
+    second_records : (p : Parts ys) → part_records place (xs ++ ys) (second_part p) ≡ more_records (records_in (placed place xs)) (part_records (place + 4 * length xs) ys p)
+    second_records p =
+        same_records _ _ _ _ _ _ _ _
+        (second_found reloc_at p.related) (second_found call_at p.called) (second_found patchable_at p.patched) (second_found map_at p.mapped)
 
 -- ---- buffers
 
@@ -73,76 +153,50 @@ module _ (b : Buffer LabelUse) (xs ys : List Cell) where
       ∙ ap (λ n. b.traps ++ (traps_in (placed (end_of b) xs) ++ traps_in (placed n zs))) end_behind
       ∙ ap (λ ts. b.traps ++ ts) (sym (traps_in-append (end_of b) xs zs))
 
-  relocs_behind : (zs : List Cell) → (b.records.relocs ++ relocs_in (placed (end_of b) xs)) ++ relocs_in (placed (end_of (appended b xs)) zs) ≡ b.records.relocs ++ relocs_in (placed (end_of b) (xs ++ zs))
-  relocs_behind zs =
-      append_assoc b.records.relocs (relocs_in (placed (end_of b) xs)) (relocs_in (placed (end_of (appended b xs)) zs))
-      ∙ ap (λ n. b.records.relocs ++ (relocs_in (placed (end_of b) xs) ++ relocs_in (placed n zs))) end_behind
-      ∙ ap (λ rs. b.records.relocs ++ rs) (sym (relocs_in-append (end_of b) xs zs))
+  records_behind : more_records (more_records b.records (records_in (placed (end_of b) xs))) (records_in (placed (end_of (appended b xs)) ys)) ≡ more_records b.records (records_in (placed (end_of b) (xs ++ ys)))
+  records_behind =
+      more_twice b.records (records_in (placed (end_of b) xs)) (records_in (placed (end_of (appended b xs)) ys))
+      ∙ ap (λ n. more_records b.records (more_records (records_in (placed (end_of b) xs)) (records_in (placed n ys)))) end_behind
+      ∙ ap (more_records b.records) (sym (records_in-append (end_of b) xs ys))
+
+  part_behind : (p : Parts ys) → more_records (more_records b.records (records_in (placed (end_of b) xs))) (part_records (end_of (appended b xs)) ys p) ≡ more_records b.records (part_records (end_of b) (xs ++ ys) (second_part xs ys p))
+  part_behind p =
+      more_twice b.records (records_in (placed (end_of b) xs)) (part_records (end_of (appended b xs)) ys p)
+      ∙ ap (λ n. more_records b.records (more_records (records_in (placed (end_of b) xs)) (part_records n ys p))) end_behind
+      ∙ ap (more_records b.records) (sym (second_records xs ys (end_of b) p))
 
   -- cells behind cells are both lists
   pub appended_twice : appended (appended b xs) ys ≡ appended b (xs ++ ys)
   appended_twice =
-      same_holding b _ _ _ _ _ _ _ _ (words_behind ys) (uses_behind ys) (traps_behind ys) (relocs_behind ys)
+      same_holding b _ _ _ _ _ _ _ _ (words_behind ys) (uses_behind ys) (traps_behind ys) records_behind
 
   pub joined : (b1 b2 : Buffer LabelUse) → b1 ≡ appended b xs → b2 ≡ appended b1 ys → b2 ≡ appended b (xs ++ ys)
   joined b1 b2 e f = f ∙ ap (λ c. appended c ys) e ∙ appended_twice
 
-  -- a first part of the first list is one of both
   pub part_first : (b' : Buffer LabelUse) → IsAppendedInPart b b' xs → IsAppendedInPart b b' (xs ++ ys)
   part_first b' p = record {
-    count = min p.count (length xs);
-    used = min p.used (length xs);
-    last = last p.last;
-    marked = min p.marked (length xs);
-    next = next p.marked p.next;
-    words = p.words ∙ ap (λ cells. b.words ++ map cell_word cells) (sym (first_taken p.count xs ys));
-    uses = p.uses ∙ ap (λ cells. b.uses ++ uses_from b.labels (end_of b) cells) (sym (first_taken p.used xs ys));
-    traps = p.traps ∙ ap (λ cells. b.traps ++ traps_in (placed (end_of b) cells)) (sym (first_taken p.marked xs ys));
-    related = min p.related (length xs);
-    next_related = next p.related p.next_related;
-    records = p.records ∙ ap (λ cells. record b.records { relocs = b.records.relocs ++ relocs_in (placed (end_of b) cells) }) (sym (first_taken p.related xs ys));
+    part = first_part xs ys p.part;
+    words = p.words ∙ ap (λ cells. b.words ++ map cell_word cells) (sym (first_taken p.part.count xs ys));
+    uses = p.uses ∙ ap (λ cells. b.uses ++ uses_from b.labels (end_of b) cells) (sym (first_taken p.part.used xs ys));
+    traps = p.traps ∙ ap (λ cells. b.traps ++ traps_in (placed (end_of b) cells)) (sym (first_taken p.part.marked xs ys));
+    records = p.records ∙ ap (more_records b.records) (sym (first_records xs ys (end_of b) p.part));
     labels = p.labels;
     constants = p.constants;
   }
-    where
-      last : (p.used ≡ p.count) ⊎ (p.used + 1 ≡ p.count) → (min p.used (length xs) ≡ min p.count (length xs)) ⊎ (min p.used (length xs) + 1 ≡ min p.count (length xs))
-      last (inl same) = inl (ap (λ n. min n (length xs)) same)
-      last (inr less) = elim (cases_lt p.used (length xs)) [ inl lt ↦ inr (omega arith) | inr ge ↦ inl (omega arith) ]
 
-      next : (k : ℕ) → (k ≡ p.count) ⊎ (k ≡ p.count + 1) → (min k (length xs) ≡ min p.count (length xs)) ⊎ (min k (length xs) ≡ min p.count (length xs) + 1)
-      next k (inl same) = inl (ap (λ n. min n (length xs)) same)
-      next k (inr more) = elim (cases_lt p.count (length xs)) [ inl lt ↦ inr (omega arith) | inr ge ↦ inl (omega arith) ]
-
-  -- and so is all of it with a first part of the second
   pub part_second : (b1 b' : Buffer LabelUse) → b1 ≡ appended b xs → IsAppendedInPart b1 b' ys → IsAppendedInPart b b' (xs ++ ys)
   part_second b1 b' e part = behind (subst (λ c. IsAppendedInPart c b' ys) e part)
     where
       behind : IsAppendedInPart (appended b xs) b' ys → IsAppendedInPart b b' (xs ++ ys)
       behind p = record {
-        count = length xs + p.count;
-        used = length xs + p.used;
-        last = last p.last;
-        marked = length xs + p.marked;
-        next = next p.marked p.next;
-        words = p.words ∙ words_behind (take p.count ys) ∙ ap (λ cells. b.words ++ map cell_word cells) (sym (take-append-add p.count xs ys));
-        uses = p.uses ∙ uses_behind (take p.used ys) ∙ ap (λ cells. b.uses ++ uses_from b.labels (end_of b) cells) (sym (take-append-add p.used xs ys));
-        traps = p.traps ∙ traps_behind (take p.marked ys) ∙ ap (λ cells. b.traps ++ traps_in (placed (end_of b) cells)) (sym (take-append-add p.marked xs ys));
-        related = length xs + p.related;
-        next_related = next p.related p.next_related;
-        records =
-            p.records ∙ ap (λ rs. record b.records { relocs = rs }) (relocs_behind (take p.related ys))
-            ∙ ap (λ cells. record b.records { relocs = b.records.relocs ++ relocs_in (placed (end_of b) cells) }) (sym (take-append-add p.related xs ys));
+        part = second_part xs ys p.part;
+        words = p.words ∙ words_behind (take p.part.count ys) ∙ ap (λ cells. b.words ++ map cell_word cells) (sym (take-append-add p.part.count xs ys));
+        uses = p.uses ∙ uses_behind (take p.part.used ys) ∙ ap (λ cells. b.uses ++ uses_from b.labels (end_of b) cells) (sym (take-append-add p.part.used xs ys));
+        traps = p.traps ∙ traps_behind (take p.part.marked ys) ∙ ap (λ cells. b.traps ++ traps_in (placed (end_of b) cells)) (sym (take-append-add p.part.marked xs ys));
+        records = p.records ∙ part_behind p.part;
         labels = p.labels;
         constants = p.constants;
       }
-        where
-          last : (p.used ≡ p.count) ⊎ (p.used + 1 ≡ p.count) → (length xs + p.used ≡ length xs + p.count) ⊎ (length xs + p.used + 1 ≡ length xs + p.count)
-          last (inl same) = inl (omega arith)
-          last (inr less) = inr (omega arith)
-
-          next : (k : ℕ) → (k ≡ p.count) ⊎ (k ≡ p.count + 1) → (length xs + k ≡ length xs + p.count) ⊎ (length xs + k ≡ length xs + p.count + 1)
-          next k (inl same) = inl (omega arith)
-          next k (inr more) = inr (omega arith)
 
   -- ---- room
 

@@ -7,17 +7,17 @@ use Rattle.a64_base.specs.declared.entity.Reloc.{Reloc}
 use Rattle.a64_base.specs.declared.entity.TrapCode.{TrapCode}
 use Rattle.a64_buffer.specs.declared.site.Target.{Target}
 use Rattle.a64_buffer.specs.declared.site.Use.{Use}
-use Rattle.a64_buffer.specs.Buffer.{Buffer, end_of, made_use}
+use Rattle.a64_buffer.specs.Buffer.{Buffer, end_of, made_use, no_records}
 use Rattle.a64_buffer.specs.Classes as classes
 use Rattle.a64_buffer.specs.Classes.{Fits}
 use Rattle.a64_emit.specs.declared.label_use.LabelUse.{LabelUse}
 use Rattle.a64_emit.specs.declared.site.Site.{Site}
 use Rattle.a64_emit.specs.LabelUses.{label_kinds}
 use Rattle.a64_emit.specs.Cells.{Data, Cell, cell_word, reloc_cell}
-use Rattle.a64_emit.specs.Layout.{placed, relocs_in, traps_in}
+use Rattle.a64_emit.specs.Layout.{placed, relocs_in, calls_in, patchable_in, maps_in, traps_in, records_in, more_records}
 use Rattle.a64_emit.specs.Emission.{uses_from, appended, trapped, PutsInPart, IsAppendedInPart, HasRoom, CellsFit}
 use Rattle.a64_emit.specs.Words.{put_cell}
-use Rattle.a64_emit.proofs.Holding.{none_put, same_holding}
+use Rattle.a64_emit.proofs.Holding.{none_put, same_holding, same_records, no_more, whole_part, marked_part, unused_part, related_part}
 
 -- ---- words without uses
 
@@ -41,7 +41,22 @@ silent_relocs : (place : ℕ) (words : List ℕ) → relocs_in (placed place (si
 silent_relocs place [] = refl
 silent_relocs place (w ∷ ws) = silent_relocs (place + 4) ws
 
-silent_take : (k : ℕ) (words : List ℕ) → take k (silent words) ≡ silent (take k words)
+silent_calls : (place : ℕ) (words : List ℕ) → calls_in (placed place (silent words)) ≡ []
+silent_calls place [] = refl
+silent_calls place (w ∷ ws) = silent_calls (place + 4) ws
+
+pub silent_patchable : (place : ℕ) (words : List ℕ) → patchable_in (placed place (silent words)) ≡ []
+silent_patchable place [] = refl
+silent_patchable place (w ∷ ws) = silent_patchable (place + 4) ws
+
+silent_maps : (place : ℕ) (words : List ℕ) → maps_in (placed place (silent words)) ≡ []
+silent_maps place [] = refl
+silent_maps place (w ∷ ws) = silent_maps (place + 4) ws
+
+silent_records : (place : ℕ) (words : List ℕ) → records_in (placed place (silent words)) ≡ no_records
+silent_records place words = same_records _ _ _ _ _ _ _ _ (silent_relocs place words) (silent_calls place words) (silent_patchable place words) (silent_maps place words)
+
+pub silent_take : (k : ℕ) (words : List ℕ) → take k (silent words) ≡ silent (take k words)
 silent_take zero words = refl
 silent_take (suc k) [] = refl
 silent_take (suc k) (w ∷ ws) = ap (λ cells. put_cell w None None ∷ cells) (silent_take k ws)
@@ -54,24 +69,17 @@ module _ (b b' : Buffer LabelUse) (words : List ℕ) where
       (ap (λ ws. b.words ++ ws) (sym (silent_words words)))
       (sym (ap (λ us. b.uses ++ us) (silent_uses b.labels (end_of b) words) ∙ append-nil b.uses))
       (sym (ap (λ ts. b.traps ++ ts) (silent_traps (end_of b) words) ∙ append-nil b.traps))
-      (sym (ap (λ rs. b.records.relocs ++ rs) (silent_relocs (end_of b) words) ∙ append-nil b.records.relocs))
+      (sym (ap (more_records b.records) (silent_records (end_of b) words) ∙ no_more b.records))
 
   pub silent_part : PutsInPart b b' words → IsAppendedInPart b b' (silent words)
   silent_part p = record {
-    count = p.count;
-    used = p.count;
-    last = inl refl;
-    marked = p.count;
-    next = inl refl;
+    part = whole_part (silent words) p.count;
     words = ap (λ (c : Buffer LabelUse). c.words) p.is ∙ ap (λ ws. b.words ++ ws) (sym (silent_words (take p.count words)) ∙ ap (map cell_word) (sym (silent_take p.count words)));
     uses = ap (λ (c : Buffer LabelUse). c.uses) p.is ∙ sym (ap (λ cells. b.uses ++ uses_from b.labels (end_of b) cells) (silent_take p.count words) ∙ ap (λ us. b.uses ++ us) (silent_uses b.labels (end_of b) (take p.count words)) ∙ append-nil b.uses);
     traps = ap (λ (c : Buffer LabelUse). c.traps) p.is ∙ sym (ap (λ cells. b.traps ++ traps_in (placed (end_of b) cells)) (silent_take p.count words) ∙ ap (λ ts. b.traps ++ ts) (silent_traps (end_of b) (take p.count words)) ∙ append-nil b.traps);
-    related = p.count;
-    next_related = inl refl;
     records =
         ap (λ (c : Buffer LabelUse). c.records) p.is
-        ∙ ap (λ rs. record b.records { relocs = rs })
-        (sym (ap (λ cells. b.records.relocs ++ relocs_in (placed (end_of b) cells)) (silent_take p.count words) ∙ ap (λ rs. b.records.relocs ++ rs) (silent_relocs (end_of b) (take p.count words)) ∙ append-nil b.records.relocs));
+        ∙ sym (ap (λ cells. more_records b.records (records_in (placed (end_of b) cells))) (silent_take p.count words) ∙ ap (more_records b.records) (silent_records (end_of b) (take p.count words)) ∙ no_more b.records);
     labels = ap (λ (c : Buffer LabelUse). c.labels) p.is;
     constants = ap (λ (c : Buffer LabelUse). c.constants) p.is;
   }
@@ -100,10 +108,6 @@ trapped_is None b place = ap (λ ts. record b { traps = ts }) (sym (append-nil b
 trapped_is (Some code) b place = refl
 
 module _ (b : Buffer LabelUse) (word : ℕ) (trap : Option TrapCode) where
-  -- it adds no relocation
-  no_relocs : b.records ≡ record b.records { relocs = b.records.relocs ++ [] }
-  no_relocs = ap (λ rs. record b.records { relocs = rs }) (sym (append-nil b.records.relocs))
-
   with_word_is : (site : Option Site) → trapped trap (record b { words = b.words ++ word ∷ [] }) (end_of b) ≡ record b { words = b.words ++ word ∷ []; traps = b.traps ++ traps_in (placed (end_of b) (put_cell word site trap ∷ [])) }
   with_word_is site =
       trapped_is trap (record b { words = b.words ++ word ∷ [] }) (end_of b)
@@ -113,7 +117,7 @@ module _ (b : Buffer LabelUse) (word : ℕ) (trap : Option TrapCode) where
   pub word_done : (b' : Buffer LabelUse) → b' ≡ trapped trap (record b { words = b.words ++ word ∷ [] }) (end_of b) → b' ≡ appended b (put_cell word None trap ∷ [])
   word_done b' e =
       e ∙ with_word_is None
-      ∙ same_holding b _ _ _ _ _ _ _ _ refl (sym (append-nil b.uses)) refl (sym (append-nil b.records.relocs))
+      ∙ same_holding b _ _ _ _ _ _ _ _ refl (sym (append-nil b.uses)) refl (sym (no_more b.records))
 
   -- nothing was put, or the trap alone
   pub word_begun : (b' : Buffer LabelUse) (site : Option Site) → (b' ≡ b) ⊎ (b' ≡ trapped trap b (end_of b)) → IsAppendedInPart b b' (put_cell word site trap ∷ [])
@@ -121,17 +125,11 @@ module _ (b : Buffer LabelUse) (word : ℕ) (trap : Option TrapCode) where
   word_begun b' site (inr e) =
       let is : b' ≡ record b { traps = b.traps ++ trap_list (end_of b) trap } = e ∙ trapped_is trap b (end_of b) in
       record {
-        count = 0;
-        used = 0;
-        last = inl refl;
-        marked = 1;
-        next = inr refl;
+        part = marked_part (put_cell word site trap ∷ []);
         words = ap (λ (c : Buffer LabelUse). c.words) is ∙ sym (append-nil b.words);
         uses = ap (λ (c : Buffer LabelUse). c.uses) is ∙ sym (append-nil b.uses);
         traps = ap (λ (c : Buffer LabelUse). c.traps) is ∙ ap (λ ts. b.traps ++ ts) (sym (one_trap (end_of b) word site trap));
-        related = 0;
-        next_related = inl refl;
-        records = ap (λ (c : Buffer LabelUse). c.records) is ∙ no_relocs;
+        records = ap (λ (c : Buffer LabelUse). c.records) is ∙ sym (no_more b.records);
         labels = ap (λ (c : Buffer LabelUse). c.labels) is;
         constants = ap (λ (c : Buffer LabelUse). c.constants) is;
       }
@@ -145,17 +143,11 @@ module _ (b : Buffer LabelUse) (word : ℕ) (trap : Option TrapCode) where
     word_put e =
         let is = e ∙ there in
         record {
-          count = 1;
-          used = 0;
-          last = inr refl;
-          marked = 1;
-          next = inl refl;
+          part = unused_part (put_cell word (Some site) trap ∷ []);
           words = ap (λ (c : Buffer LabelUse). c.words) is;
           uses = ap (λ (c : Buffer LabelUse). c.uses) is ∙ sym (append-nil b.uses);
           traps = ap (λ (c : Buffer LabelUse). c.traps) is;
-          related = 1;
-          next_related = inl refl;
-          records = ap (λ (c : Buffer LabelUse). c.records) is ∙ no_relocs;
+          records = ap (λ (c : Buffer LabelUse). c.records) is ∙ sym (no_more b.records);
           labels = ap (λ (c : Buffer LabelUse). c.labels) is;
           constants = ap (λ (c : Buffer LabelUse). c.constants) is;
         }
@@ -173,7 +165,7 @@ module _ (b : Buffer LabelUse) (word : ℕ) (trap : Option TrapCode) where
       with_use : record b1 { uses = b1.uses ++ made_use label_kinds b1.labels offset target site.kind ∷ [] } ≡ appended b (put_cell word (Some site) trap ∷ [])
       with_use =
           ap (λ (c : Buffer LabelUse). record c { uses = c.uses ++ made_use label_kinds c.labels offset target site.kind ∷ [] }) there
-          ∙ same_holding b _ _ _ _ _ _ _ _ refl (ap (λ u. b.uses ++ u ∷ []) same_use) refl (sym (append-nil b.records.relocs))
+          ∙ same_holding b _ _ _ _ _ _ _ _ refl (ap (λ u. b.uses ++ u ∷ []) same_use) refl (sym (no_more b.records))
 
       pub word_used : b2 ≡ record b1 { uses = b1.uses ++ made_use label_kinds b1.labels offset target site.kind ∷ [] } → b2 ≡ appended b (put_cell word (Some site) trap ∷ [])
       word_used e = e ∙ with_use
@@ -190,27 +182,25 @@ module _ (b : Buffer LabelUse) (word : ℕ) (kind : Reloc) (name : ExternalName)
   abbrev related : Buffer LabelUse
   related = record b { records = record b.records { relocs = b.records.relocs ++ (end_of b, kind, name, addend) ∷ [] } }
 
+  -- it is all that is recorded at the word
+  one_reloc : record b.records { relocs = b.records.relocs ++ (end_of b, kind, name, addend) ∷ [] } ≡ more_records b.records (records_in (placed (end_of b) (reloc_cell (Data word) kind name addend ∷ [])))
+  one_reloc = same_records _ _ _ _ _ _ _ _ refl (sym (append-nil b.records.calls)) (sym (append-nil b.records.patchable)) (sym (append-nil b.records.maps))
+
   pub reloc_done : (b1 b2 : Buffer LabelUse) → b1 ≡ related → b2 ≡ record b1 { words = b1.words ++ word ∷ [] } → b2 ≡ appended b (reloc_cell (Data word) kind name addend ∷ [])
   reloc_done b1 b2 e f =
       f ∙ ap (λ (c : Buffer LabelUse). record c { words = c.words ++ word ∷ [] }) e
-      ∙ same_holding b _ _ _ _ _ _ _ _ refl (sym (append-nil b.uses)) (sym (append-nil b.traps)) refl
+      ∙ same_holding b _ _ _ _ _ _ _ _ refl (sym (append-nil b.uses)) (sym (append-nil b.traps)) one_reloc
 
   -- the relocation was recorded, and the word not put
   pub reloc_begun : (b1 b2 : Buffer LabelUse) → b1 ≡ related → b2 ≡ b1 → IsAppendedInPart b b2 (reloc_cell (Data word) kind name addend ∷ [])
   reloc_begun b1 b2 e f =
       let is : b2 ≡ related = f ∙ e in
       record {
-        count = 0;
-        used = 0;
-        last = inl refl;
-        marked = 0;
-        next = inl refl;
+        part = related_part (reloc_cell (Data word) kind name addend ∷ []);
         words = ap (λ (c : Buffer LabelUse). c.words) is ∙ sym (append-nil b.words);
         uses = ap (λ (c : Buffer LabelUse). c.uses) is ∙ sym (append-nil b.uses);
         traps = ap (λ (c : Buffer LabelUse). c.traps) is ∙ sym (append-nil b.traps);
-        related = 1;
-        next_related = inr refl;
-        records = ap (λ (c : Buffer LabelUse). c.records) is;
+        records = ap (λ (c : Buffer LabelUse). c.records) is ∙ one_reloc;
         labels = ap (λ (c : Buffer LabelUse). c.labels) is;
         constants = ap (λ (c : Buffer LabelUse). c.constants) is;
       }

@@ -6,6 +6,8 @@ pub mod TableUses
 pub mod OneLights
 pub mod MemoryWords
 pub mod Holding
+pub mod Keeping
+pub mod KeptWords
 pub mod Joined
 pub mod AsPut
 pub mod Lasts
@@ -20,8 +22,18 @@ pub mod BranchForms
 pub mod LogicForms
 pub mod AccessForms
 pub mod SequenceOperands
+pub mod CallOperands
+pub mod Adjustments
+pub mod CallLoads
+pub mod CallSites
+pub mod CallForms
+pub mod Restored
 pub mod Tables
 pub mod Behind
+pub mod Callings
+pub mod Called
+pub mod Repeated
+pub mod Results
 pub mod Names
 pub mod SequenceForms
 pub mod InstForms

@@ -30,13 +30,13 @@ use Rattle.a64_inst.specs.declared.group.Group.TheVariants.{Sequence}
 use Rattle.a64_inst.specs.declared.inst.Inst.{Inst}
 use Rattle.a64_inst.specs.declared.inst.Inst.TheVariants as insts
 use Rattle.a64_inst.specs.declared.virtuals.VirtualRegisters.TheVariants.{Refused}
-use Rattle.a64_inst.specs.Faults.{has_other_operands}
+use Rattle.a64_inst.specs.Faults.{has_plain_operands}
 use Rattle.a64_inst.specs.Groups.{group_of}
 use Rattle.a64_inst.specs.Operands.{is_register}
 use Rattle.a64_inst.specs.SequenceOperands.{are_table_operands, are_probe_operands}
 use Rattle.a64_rows.specs.Forms.{Form, IsFormOf}
 use Rattle.a64_enc_int.specs.Registers.{register_field}
-use Rattle.a64_emit.specs.Cells.{Data, FormOf, plain, last_cell, data_cell, reloc_cell, entry_site, table_labels, table_cells, barrier_forms, table_forms, table_jump, got_cells, near_cells, far_cells, probe_forms, other_shape, shape_cells}
+use Rattle.a64_emit.specs.Cells.{Data, FormOf, plain, last_cell, data_cell, reloc_cell, entry_site, table_labels, table_cells, barrier_forms, table_forms, table_jump, got_cells, near_cells, far_cells, probe_forms, plain_shape, shape_cells}
 use Rattle.a64_emit.specs.ControlForms.{csdb_form, jump_form, cond_br_form, indirect_br_form}
 use Rattle.a64_emit.specs.FormCells.{IsFormCell}
 use Rattle.a64_emit.specs.IntegerForms.{csel_form, adr_form, adrp_form, alu_rrr_form, alu_rr_imm12_form}
@@ -50,7 +50,7 @@ use Rattle.a64_emit.proofs.SequenceOperands.{IsTableJump, table_parts, choice_go
 
 -- ---- lists of forms
 
-plain_forms : (forms : List Form) → All IsFormOf forms → All IsFormCell (map plain forms)
+pub plain_forms : (forms : List Form) → All IsFormOf forms → All IsFormCell (map plain forms)
 plain_forms forms are = All-map IsFormCell plain forms are
 
 numbered_below : (reg : Reg) → is_register Refused reg ≡ true → register_field reg < 32
@@ -76,7 +76,7 @@ large_shape value high = go (wide_of value) refl
     go None e = negated
 
 -- the plan of any number has a shape
-plan_shape : (value : ℕ) → IsShape (plan_of value)
+pub plan_shape : (value : ℕ) → IsShape (plan_of value)
 plan_shape value = elim (cases_lt value (2 ^ 64)) [ inl low ↦ (plan_shortest value low).shape | inr high ↦ large_shape value high ]
 
 -- ---- tables
@@ -169,7 +169,7 @@ probe_are_forms flags start end step good =
 -- ---- instructions
 
 module _ (frame : FrameLayout) (flags : EmitFlags) where
-  pub sequence_forms : (inst : Inst) → group_of inst ≡ Sequence → has_other_operands frame flags Refused inst ≡ true → All IsFormCell (shape_cells (other_shape frame flags inst))
+  pub sequence_forms : (inst : Inst) → group_of inst ≡ Sequence → has_plain_operands frame flags Refused inst ≡ true → All IsFormCell (shape_cells (plain_shape frame flags inst))
   sequence_forms (insts.JTSequence default targets ridx rtmp1 rtmp2) group good = table_are_forms flags default targets ridx rtmp1 rtmp2 good
   sequence_forms (insts.LoadExtNameGot rd name) group good = got_are_forms rd name good
   sequence_forms (insts.LoadExtNameNear rd name offset) group good = near_are_forms rd name good offset

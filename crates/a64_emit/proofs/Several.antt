@@ -100,6 +100,10 @@ module _ (frame : FrameLayout) (flags : EmitFlags) where
   other_sites (insts.TrapIf kind trap_code) e = absurd cc
   other_sites (insts.LabelAddress dst label) e = absurd cc
   other_sites (insts.JTSequence default targets ridx rtmp1 rtmp2) e = absurd cc
+  other_sites (insts.Call info) e = absurd cc
+  other_sites (insts.CallInd info) e = absurd cc
+  other_sites (insts.ReturnCall info) e = absurd cc
+  other_sites (insts.ReturnCallInd info) e = absurd cc
   other_sites _ e = refl
 
   pub access_uses : (access : Access) → uses_of 0 (shape_cells (access_shape frame access)) ≡ use_of 0 (mode_site access.mem)

@@ -67,7 +67,7 @@ table_sites : (k : ℕ) (labels : List MachLabel) → sites_of (table_cells k la
 table_sites k [] = refl
 table_sites k (label ∷ labels) = ap (λ ss. entry_site label ∷ ss) (table_sites (k + 1) labels)
 
-behind_none : (forms : List Form) (cells : List Cell) → sites_of (map plain forms ++ cells) ≡ sites_of cells
+pub behind_none : (forms : List Form) (cells : List Cell) → sites_of (map plain forms ++ cells) ≡ sites_of cells
 behind_none [] cells = refl
 behind_none (f ∷ forms) cells = behind_none forms cells
 

@@ -1,16 +1,16 @@
 -- Tables that are put, one entry behind another.
 use Rattle.std.proofs.Common.{ℕ, ◌≡◌, ◌+◌, ◌*◌, ◌^◌, ◌<◌, List, [], ◌∷◌, ◌++◌, length, take, drop, map, Some, None, refl, sym, ap, ◌∙◌, subst, arith, slice_index_or}
-use Rattle.std.proofs.lemmas.List.{take_more, take-append-drop, length-take-le, map-append}
+use Rattle.std.proofs.lemmas.List.{take_more, take-append-drop, length-take-le}
 use Rattle.a64_base.specs.declared.entity.MachLabel.{MachLabel}
 use Rattle.a64_base.specs.declared.reg.Reg.{Reg}
 use Rattle.a64_inst.specs.declared.emission.EmitFlags.{EmitFlags}
 use Rattle.a64_buffer.specs.Buffer.{Buffer, end_of}
-use Rattle.a64_rows.specs.Forms.{Form, form_word}
+use Rattle.a64_rows.specs.Forms.{form_word}
 use Rattle.a64_emit.specs.declared.label_use.LabelUse.{LabelUse}
-use Rattle.a64_emit.specs.Cells.{Cell, plain, entry_site, table_labels, table_cells, table_forms, table_jump}
+use Rattle.a64_emit.specs.Cells.{Cell, entry_site, table_labels, table_cells, table_forms, table_jump}
 use Rattle.a64_emit.specs.Emission.{appended, IsAppendedInPart, HasRoom, CellsFit}
 use Rattle.a64_emit.specs.Words.{put_cell, as_put}
-use Rattle.a64_emit.proofs.AsPut.{plain_put}
+use Rattle.a64_emit.proofs.Behind.{words_put}
 use Rattle.a64_emit.proofs.Joined.{joined, part_first, part_second, room_first, room_second, fits_first, fits_second}
 use Rattle.a64_emit.proofs.Lasts.{silent}
 
@@ -42,19 +42,12 @@ pub table_put : (k : ℕ) (xs : List MachLabel) → map as_put (table_cells k xs
 table_put k [] = refl
 table_put k (x ∷ xs) = ap (λ cells. entry (4 * k) x ∷ cells) (table_put (k + 1) xs)
 
--- a table behind words
-behind_words : (forms : List Form) (labels : List MachLabel) → map as_put (map plain forms ++ table_cells 0 labels) ≡ silent (map form_word forms) ++ table_cells 0 labels
-behind_words forms labels =
-    map-append as_put (map plain forms) (table_cells 0 labels)
-    ∙ ap (λ cells. cells ++ map as_put (table_cells 0 labels)) (sym (plain_put forms))
-    ∙ ap (λ cells. silent (map form_word forms) ++ cells) (table_put 0 labels)
-
 -- a jump through a table, with the table behind it
 pub table_split : (flags : EmitFlags) (default : MachLabel) (targets : List MachLabel) (ridx rtmp1 rtmp2 : Reg) (words : List ℕ) → words ≡ map form_word (table_forms flags (length targets) ridx rtmp1 rtmp2)
     → map as_put (table_jump flags default targets ridx rtmp1 rtmp2) ≡ silent words ++ table_cells 0 (table_labels default targets)
 table_split flags default targets ridx rtmp1 rtmp2 words e =
-    behind_words (table_forms flags (length targets) ridx rtmp1 rtmp2) (table_labels default targets)
-    ∙ ap (λ ws. silent ws ++ table_cells 0 (table_labels default targets)) (sym e)
+    words_put words (table_forms flags (length targets) ridx rtmp1 rtmp2) (table_cells 0 (table_labels default targets)) e
+    ∙ ap (λ cells. silent words ++ cells) (table_put 0 (table_labels default targets))
 
 -- ---- an entry behind those before it
 

@@ -11,6 +11,7 @@ use Rattle.a64_base.specs.declared.target.BranchTarget.TheVariants as branch_tar
 use Rattle.a64_inst.specs.declared.access.Access.{Access}
 use Rattle.a64_inst.specs.declared.emission.EmitFlags.{EmitFlags}
 use Rattle.a64_inst.specs.declared.frame.FrameLayout.{FrameLayout}
+use Rattle.a64_inst.specs.declared.group.Group.TheVariants.{Call}
 use Rattle.a64_inst.specs.declared.inst.Inst.{Inst}
 use Rattle.a64_inst.specs.declared.inst.Inst.TheVariants as insts
 use Rattle.a64_inst.specs.declared.mode.AMode.{AMode}
@@ -18,6 +19,7 @@ use Rattle.a64_inst.specs.declared.mode.AMode.TheVariants as modes
 use Rattle.a64_inst.specs.declared.mode.MemLabel.TheVariants.{PCRel, Mach, Pool}
 use Rattle.a64_inst.specs.Accesses.{access_of}
 use Rattle.a64_inst.specs.FinalModes.{final_mode, final_steps}
+use Rattle.a64_inst.specs.Groups.{group_of}
 use Rattle.a64_buffer.specs.declared.site.Target.{Target}
 use Rattle.a64_buffer.specs.declared.site.Target.TheVariants.{Label, Constant, Trap, IslandEnd}
 use Rattle.a64_emit.specs.declared.label_use.LabelUse.{LabelUse}
@@ -25,6 +27,7 @@ use Rattle.a64_emit.specs.declared.label_use.LabelUse.TheVariants as uses
 use Rattle.a64_emit.specs.declared.site.Site.{Site}
 use Rattle.a64_emit.specs.MemoryForms.{step_forms, offset_register, access_steps, access_form}
 use Rattle.a64_emit.specs.Cells.{FormOf, table_labels, entry_site, table_jump, branch_site, trap_site, mode_site, shape_cells, access_shape, other_shape, inst_cells, sites_of}
+use Rattle.a64_emit.proofs.CallSites.{calls_sites}
 use Rattle.a64_emit.proofs.Several.{several_sites, address_sites}
 use Rattle.a64_emit.proofs.TableUses.{table_jump_sites}
 
@@ -73,6 +76,10 @@ mode_target (modes.Const addr) = refl
 mode_target _ = tt
 
 module _ (frame : FrameLayout) (flags : EmitFlags) where
+  -- calls have no uses
+  call_targets : (inst : Inst) → group_of inst ≡ Call → All IsCodeSite (sites_of (shape_cells (other_shape frame flags inst)))
+  call_targets inst group = subst (All IsCodeSite) (sym (calls_sites frame flags inst group)) no_sites
+
   other_targets : (inst : Inst) → All IsCodeSite (sites_of (shape_cells (other_shape frame flags inst)))
   other_targets (insts.Jump dest) = branch_targets_of uses.Branch26 dest
   other_targets (insts.CondBr taken not_taken kind) = branches_targets uses.Branch19 taken not_taken
@@ -80,6 +87,10 @@ module _ (frame : FrameLayout) (flags : EmitFlags) where
   other_targets (insts.TrapIf kind trap_code) = one_more (Some (trap_site trap_code)) [] refl no_sites
   other_targets (insts.LabelAddress dst label) = branch_targets_of uses.Adr21 (branch_targets.Label label)
   other_targets (insts.JTSequence default targets ridx rtmp1 rtmp2) = table_targets flags default targets ridx rtmp1 rtmp2
+  other_targets (insts.Call info) = call_targets (insts.Call info) refl
+  other_targets (insts.CallInd info) = call_targets (insts.CallInd info) refl
+  other_targets (insts.ReturnCall info) = call_targets (insts.ReturnCall info) refl
+  other_targets (insts.ReturnCallInd info) = call_targets (insts.ReturnCallInd info) refl
   other_targets (insts.LoadAddr rd mem) = subst (All IsCodeSite) (sym (address_sites rd (step_forms offset_register (final_steps frame I8 mem)) (final_mode frame I8 mem))) no_sites
   other_targets _ = no_sites
 

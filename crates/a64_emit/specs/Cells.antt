@@ -1,5 +1,5 @@
 -- The words that items are made of.
-use Rattle.std.specs.Prelude.{ℕ, ℤ, pos, negsuc, false, ◌+◌, ◌*◌, ◌/◌, ◌%◌, ◌^◌, ◌&&◌, List, [], ◌∷◌, ◌++◌, length, map, if◌then◌else◌, Option, None, Some}
+use Rattle.std.specs.Prelude.{ℕ, ℤ, pos, negsuc, ◌-ℤ◌, Bool, true, false, ◌+◌, ◌*◌, ◌/◌, ◌%◌, ◌^◌, ◌&&◌, ◌||◌, nat_eq, nat_lt, List, [], ◌∷◌, ◌++◌, length, map, if◌then◌else◌, Option, None, Some}
 use Rattle.std.specs.Ordering.{int_eq}
 use Rattle.std.specs.Int.RustNames.{unsigned_abs}
 use Rattle.a64_base.specs.declared.cond.Cond.TheVariants.{Gt, Lo}
@@ -7,21 +7,28 @@ use Rattle.a64_base.specs.declared.cond.CondBrKind.TheVariants.{Cond}
 use Rattle.a64_base.specs.declared.entity.ExternalName.{ExternalName}
 use Rattle.a64_base.specs.declared.entity.MachLabel.{MachLabel}
 use Rattle.a64_base.specs.declared.entity.Reloc.{Reloc}
-use Rattle.a64_base.specs.declared.entity.Reloc.TheVariants.{Abs8, Aarch64AdrGotPage21, Aarch64Ld64GotLo12Nc, Aarch64AdrPrelPgHi21, Aarch64AddAbsLo12Nc}
+use Rattle.a64_base.specs.declared.entity.Reloc.TheVariants.{Arm64Call, Abs8, Aarch64AdrGotPage21, Aarch64Ld64GotLo12Nc, Aarch64AdrPrelPgHi21, Aarch64AddAbsLo12Nc}
 use Rattle.a64_base.specs.declared.entity.TrapCode.{TrapCode}
+use Rattle.a64_base.specs.declared.entity.UserStackMap.{UserStackMap}
+use Rattle.a64_base.specs.declared.key.APIKey.{APIKey}
+use Rattle.a64_base.specs.declared.shift.ExtendOp.TheVariants.{UXTX}
 use Rattle.a64_base.specs.declared.reg.Reg.{Reg}
-use Rattle.a64_base.specs.declared.ir_type.IrType.TheVariants.{I8}
+use Rattle.a64_base.specs.declared.ir_type.IrType.TheVariants.{I8, I64}
 use Rattle.a64_base.specs.Registers.{integer_register}
 use Rattle.a64_imms.specs.declared.imm12.Imm12.{Imm12}
 use Rattle.a64_ops.specs.declared.access.AccessOp.TheVariants.{SLoad32, Store32, ULoad64}
 use Rattle.a64_ops.specs.declared.operator.ALUOp.TheVariants as alu
 use Rattle.a64_plan.specs.Plans.{plan_of}
 use Rattle.a64_inst.specs.declared.access.Access.{Access}
+use Rattle.a64_inst.specs.declared.call.CallRetPair.{CallRetPair}
+use Rattle.a64_inst.specs.declared.call.RetLocation.{RetLocation}
+use Rattle.a64_inst.specs.declared.call.RetLocation.TheVariants as locations
+use Rattle.a64_inst.specs.declared.mode.PairAMode.TheVariants as pairs
 use Rattle.a64_inst.specs.declared.mode.AMode.{AMode}
 use Rattle.a64_inst.specs.declared.mode.AMode.TheVariants as modes
 use Rattle.a64_inst.specs.declared.mode.MemLabel.{MemLabel}
 use Rattle.a64_inst.specs.declared.mode.MemLabel.TheVariants.{PCRel, Mach, Pool}
-use Rattle.a64_inst.specs.Accesses.{access_of}
+use Rattle.a64_inst.specs.Accesses.{access_of, inst_with, load_op, type_has_load_form}
 use Rattle.a64_inst.specs.FinalModes.{FinalMode, SignedOffset, ScaledOffset, Other, final_mode, final_steps}
 use Rattle.a64_inst.specs.MemoryOperands.{is_addend}
 use Rattle.a64_inst.specs.Operands.{is_same_register}
@@ -35,6 +42,8 @@ use Rattle.a64_inst.specs.declared.frame.FrameLayout.{FrameLayout}
 use Rattle.a64_inst.specs.declared.inst.Inst.{Inst}
 use Rattle.a64_inst.specs.declared.inst.Inst.TheVariants as insts
 use Rattle.a64_buffer.specs.declared.site.Target.TheVariants.{Label, Constant, Trap}
+use Rattle.a64_emit.specs.declared.call.Callee.{Callee}
+use Rattle.a64_emit.specs.declared.call.Callee.TheVariants.{Symbol, Address}
 use Rattle.a64_emit.specs.declared.label_use.LabelUse.{LabelUse}
 use Rattle.a64_emit.specs.declared.label_use.LabelUse.TheVariants as uses
 use Rattle.a64_emit.specs.declared.site.Site.{Site}
@@ -56,13 +65,25 @@ pub data Body : Type 0 where
 abbrev pub Relocation : Type 0
 Relocation = Reloc × ExternalName × ℤ
 
--- what is recorded at the place of a word
+-- what is recorded at the place of a word: a trap, a relocation; and behind it: that a call returns there, a map of the stack, and
+-- that a call ends there which may be changed later, of which this word and those behind it are so many bytes
 pub record Marks : Type 0 where
   pub trap : Option TrapCode
   pub reloc : Option Relocation
+  pub call : Bool
+  pub map : Option UserStackMap
+  pub patchable : Option ℕ
 
 abbrev pub no_marks : Marks
-no_marks = record { trap = None; reloc = None }
+no_marks = record { trap = None; reloc = None; call = false; map = None; patchable = None }
+
+-- what is recorded at a word that may trap
+abbrev pub trap_marks : Option TrapCode → Marks
+trap_marks trap = record no_marks { trap = trap }
+
+-- at a word whose address or distance a linker fills in
+abbrev pub reloc_marks : Reloc → ExternalName → ℤ → Marks
+reloc_marks kind name addend = record no_marks { reloc = Some (kind, name, addend) }
 
 -- one word of an item, with at most one use, and what is recorded at it. The field of a use is zero; a
 -- use that adds its distance has its addend there.
@@ -86,11 +107,11 @@ plain form = record { body = FormOf form; site = None; marks = no_marks }
 
 -- a word that may be a use, and may trap
 abbrev pub last_cell : Body → Option Site → Option TrapCode → Cell
-last_cell body site trap = record { body = body; site = site; marks = record { trap = trap; reloc = None } }
+last_cell body site trap = record { body = body; site = site; marks = trap_marks trap }
 
 -- a word without a use, at which a relocation is recorded
 abbrev pub reloc_cell : Body → Reloc → ExternalName → ℤ → Cell
-reloc_cell body kind name addend = record { body = body; site = None; marks = record { trap = None; reloc = Some (kind, name, addend) } }
+reloc_cell body kind name addend = record { body = body; site = None; marks = reloc_marks kind name addend }
 
 -- words of which only the last may be a use, and may trap
 abbrev pub several : List Form → Body → Option Site → Option TrapCode → List Cell
@@ -226,87 +247,192 @@ probe_forms start end step =
     ∷ control.cond_br_form (branch_targets.ResolvedOffset (negsuc 11)) (Cond Gt)
     ∷ control.jump_form (branch_targets.ResolvedOffset (pos 4)) ∷ []
 
--- an instruction that is no load or store of one register. Those have the shape of their access, and none here.
-abbrev pub other_shape : FrameLayout → EmitFlags → Inst → Shape
-other_shape frame flags insts.Nop0 = Words []
-other_shape frame flags insts.Nop4 = OneWord integer.nop4_form
-other_shape frame flags (insts.AluRRR alu_op size rd rn rm) = OneWord (integer.alu_rrr_form alu_op size rd rn rm)
-other_shape frame flags (insts.AluRRRR alu_op size rd rn rm ra) = OneWord (integer.alu_rrrr_form alu_op size rd rn rm ra)
-other_shape frame flags (insts.AluRRImm12 alu_op size rd rn imm12) = OneWord (integer.alu_rr_imm12_form alu_op size rd rn imm12)
-other_shape frame flags (insts.AluRRImmLogic alu_op size rd rn imml) = OneWord (integer.alu_rr_imm_logic_form alu_op size rd rn imml)
-other_shape frame flags (insts.AluRRImmShift alu_op size rd rn immshift) = OneWord (integer.alu_rr_imm_shift_form alu_op size rd rn immshift)
-other_shape frame flags (insts.AluRRRShift alu_op size rd rn rm shiftop) = OneWord (integer.alu_rrr_shift_form alu_op size rd rn rm shiftop)
-other_shape frame flags (insts.AluRRRExtend alu_op size rd rn rm extendop) = OneWord (integer.alu_rrr_extend_form alu_op size rd rn rm extendop)
-other_shape frame flags (insts.BitRR op size rd rn) = OneWord (integer.bit_rr_form op size rd rn)
-other_shape frame flags (insts.Mov size rd rm) = OneWord (integer.mov_form size rd rm)
-other_shape frame flags (insts.MovFromPReg rd rm) = OneWord (integer.mov_form Size64 rd (Real rm))
-other_shape frame flags (insts.MovToPReg rd rm) = OneWord (integer.mov_form Size64 (Real rd) rm)
-other_shape frame flags (insts.MovWide op rd imm size) = OneWord (integer.mov_wide_form op rd imm size)
-other_shape frame flags (insts.MovK rd rn imm size) = OneWord (integer.mov_k_form rd imm size)
-other_shape frame flags (insts.CSel rd rn rm cond) = OneWord (integer.csel_form rd rn rm cond)
-other_shape frame flags (insts.CSNeg rd rn rm cond) = OneWord (integer.csneg_form rd rn rm cond)
-other_shape frame flags (insts.CSet rd cond) = OneWord (integer.cset_form rd cond)
-other_shape frame flags (insts.CSetm rd cond) = OneWord (integer.csetm_form rd cond)
-other_shape frame flags (insts.CCmp size rn rm nzcv cond) = OneWord (integer.ccmp_form size rn rm nzcv cond)
-other_shape frame flags (insts.CCmpImm size rn imm nzcv cond) = OneWord (integer.ccmp_imm_form size rn imm nzcv cond)
-other_shape frame flags (insts.Extend rd rn signed from_bits to_bits) = OneWord (integer.extend_form rd rn signed from_bits to_bits)
-other_shape frame flags (insts.BitfieldMove size bfm_op rd rn immr imms) = OneWord (integer.bitfield_move_form size bfm_op rd rn immr imms)
-other_shape frame flags (insts.BitfieldMoveMod size rd ri rn immr imms) = OneWord (integer.bitfield_move_mod_form size rd rn immr imms)
-other_shape frame flags (insts.MovToNZCV rn) = OneWord (integer.mov_to_nzcv_form rn)
-other_shape frame flags (insts.MovFromNZCV rd) = OneWord (integer.mov_from_nzcv_form rd)
-other_shape frame flags (insts.Adr rd off) = OneWord (integer.adr_form rd off)
-other_shape frame flags (insts.Adrp rd off) = OneWord (integer.adrp_form rd off)
-other_shape frame flags insts.Ret = OneWord control.ret_form
-other_shape frame flags (insts.Jump dest) = Words (branch (control.jump_form dest) uses.Branch26 dest ∷ [])
-other_shape frame flags (insts.CondBr taken not_taken kind) = Words (branches (control.cond_br_form taken kind) uses.Branch19 taken not_taken)
-other_shape frame flags (insts.TestBitAndBranch kind taken not_taken rn bit) = Words (branches (control.test_bit_and_branch_form kind taken rn bit) uses.Branch14 taken not_taken)
-other_shape frame flags (insts.TrapIf kind trap_code) = Words (last_cell (FormOf (control.trap_if_form kind)) (Some (trap_site trap_code)) None ∷ [])
-other_shape frame flags (insts.EmitIsland needed_space) = Words []
-other_shape frame flags (insts.IndirectBr rn targets) = OneWord (control.indirect_br_form rn)
-other_shape frame flags insts.Brk = OneWord control.brk_form
-other_shape frame flags (insts.Udf trap_code) = Words (last_cell (Data control.udf_word) None (Some trap_code) ∷ [])
-other_shape frame flags (insts.Word4 value) = Words (data_cell value ∷ [])
-other_shape frame flags (insts.Word8 value) = Words (data_cell (value % 2 ^ 32) ∷ data_cell (value / 2 ^ 32) ∷ [])
-other_shape frame flags (insts.LabelAddress dst label) = Words (branch (control.label_address_form dst) uses.Adr21 (branch_targets.Label label) ∷ [])
-other_shape frame flags (insts.Args args) = Words []
-other_shape frame flags (insts.Rets rets) = Words []
-other_shape frame flags (insts.DummyUse reg) = Words []
-other_shape frame flags insts.SequencePoint = Words []
-other_shape frame flags (insts.JTSequence default targets ridx rtmp1 rtmp2) = Words (table_jump flags default targets ridx rtmp1 rtmp2)
-other_shape frame flags (insts.LoadExtNameGot rd name) = Words (got_cells rd name)
-other_shape frame flags (insts.LoadExtNameNear rd name offset) = Words (near_cells rd name offset)
-other_shape frame flags (insts.LoadExtNameFar rd name offset) = Words (far_cells rd name offset)
-other_shape frame flags (insts.StackProbeLoop start end step) = Words (map plain (probe_forms start end step))
-other_shape frame flags (insts.LoadP64 rt rt2 mem trap) = Several [] (FormOf (memory.pair_form 1 rt rt2 mem)) None trap
-other_shape frame flags (insts.StoreP64 rt rt2 mem trap) = Several [] (FormOf (memory.pair_form 0 rt rt2 mem)) None trap
-other_shape frame flags (insts.LoadAddr rd mem) = address_shape rd (memory.step_forms memory.offset_register (final_steps frame I8 mem)) (final_mode frame I8 mem)
-other_shape frame flags (insts.ULoad8 rd mem trap) = Words []
-other_shape frame flags (insts.SLoad8 rd mem trap) = Words []
-other_shape frame flags (insts.ULoad16 rd mem trap) = Words []
-other_shape frame flags (insts.SLoad16 rd mem trap) = Words []
-other_shape frame flags (insts.ULoad32 rd mem trap) = Words []
-other_shape frame flags (insts.SLoad32 rd mem trap) = Words []
-other_shape frame flags (insts.ULoad64 rd mem trap) = Words []
-other_shape frame flags (insts.FpuLoad16 rd mem trap) = Words []
-other_shape frame flags (insts.FpuLoad32 rd mem trap) = Words []
-other_shape frame flags (insts.FpuLoad64 rd mem trap) = Words []
-other_shape frame flags (insts.FpuLoad128 rd mem trap) = Words []
-other_shape frame flags (insts.Store8 rd mem trap) = Words []
-other_shape frame flags (insts.Store16 rd mem trap) = Words []
-other_shape frame flags (insts.Store32 rd mem trap) = Words []
-other_shape frame flags (insts.Store64 rd mem trap) = Words []
-other_shape frame flags (insts.FpuStore16 rd mem trap) = Words []
-other_shape frame flags (insts.FpuStore32 rd mem trap) = Words []
-other_shape frame flags (insts.FpuStore64 rd mem trap) = Words []
-other_shape frame flags (insts.FpuStore128 rd mem trap) = Words []
-
-abbrev pub shape_of : FrameLayout → EmitFlags → Inst → Shape
-shape_of frame flags inst = elim (access_of inst) [ None ↦ other_shape frame flags inst | Some access ↦ access_shape frame access ]
+-- an instruction that is no call, and no load or store of one register. Those have the shape of their access, calls their words, and
+-- neither has one here.
+abbrev pub plain_shape : FrameLayout → EmitFlags → Inst → Shape
+plain_shape frame flags insts.Nop0 = Words []
+plain_shape frame flags insts.Nop4 = OneWord integer.nop4_form
+plain_shape frame flags (insts.AluRRR alu_op size rd rn rm) = OneWord (integer.alu_rrr_form alu_op size rd rn rm)
+plain_shape frame flags (insts.AluRRRR alu_op size rd rn rm ra) = OneWord (integer.alu_rrrr_form alu_op size rd rn rm ra)
+plain_shape frame flags (insts.AluRRImm12 alu_op size rd rn imm12) = OneWord (integer.alu_rr_imm12_form alu_op size rd rn imm12)
+plain_shape frame flags (insts.AluRRImmLogic alu_op size rd rn imml) = OneWord (integer.alu_rr_imm_logic_form alu_op size rd rn imml)
+plain_shape frame flags (insts.AluRRImmShift alu_op size rd rn immshift) = OneWord (integer.alu_rr_imm_shift_form alu_op size rd rn immshift)
+plain_shape frame flags (insts.AluRRRShift alu_op size rd rn rm shiftop) = OneWord (integer.alu_rrr_shift_form alu_op size rd rn rm shiftop)
+plain_shape frame flags (insts.AluRRRExtend alu_op size rd rn rm extendop) = OneWord (integer.alu_rrr_extend_form alu_op size rd rn rm extendop)
+plain_shape frame flags (insts.BitRR op size rd rn) = OneWord (integer.bit_rr_form op size rd rn)
+plain_shape frame flags (insts.Mov size rd rm) = OneWord (integer.mov_form size rd rm)
+plain_shape frame flags (insts.MovFromPReg rd rm) = OneWord (integer.mov_form Size64 rd (Real rm))
+plain_shape frame flags (insts.MovToPReg rd rm) = OneWord (integer.mov_form Size64 (Real rd) rm)
+plain_shape frame flags (insts.MovWide op rd imm size) = OneWord (integer.mov_wide_form op rd imm size)
+plain_shape frame flags (insts.MovK rd rn imm size) = OneWord (integer.mov_k_form rd imm size)
+plain_shape frame flags (insts.CSel rd rn rm cond) = OneWord (integer.csel_form rd rn rm cond)
+plain_shape frame flags (insts.CSNeg rd rn rm cond) = OneWord (integer.csneg_form rd rn rm cond)
+plain_shape frame flags (insts.CSet rd cond) = OneWord (integer.cset_form rd cond)
+plain_shape frame flags (insts.CSetm rd cond) = OneWord (integer.csetm_form rd cond)
+plain_shape frame flags (insts.CCmp size rn rm nzcv cond) = OneWord (integer.ccmp_form size rn rm nzcv cond)
+plain_shape frame flags (insts.CCmpImm size rn imm nzcv cond) = OneWord (integer.ccmp_imm_form size rn imm nzcv cond)
+plain_shape frame flags (insts.Extend rd rn signed from_bits to_bits) = OneWord (integer.extend_form rd rn signed from_bits to_bits)
+plain_shape frame flags (insts.BitfieldMove size bfm_op rd rn immr imms) = OneWord (integer.bitfield_move_form size bfm_op rd rn immr imms)
+plain_shape frame flags (insts.BitfieldMoveMod size rd ri rn immr imms) = OneWord (integer.bitfield_move_mod_form size rd rn immr imms)
+plain_shape frame flags (insts.MovToNZCV rn) = OneWord (integer.mov_to_nzcv_form rn)
+plain_shape frame flags (insts.MovFromNZCV rd) = OneWord (integer.mov_from_nzcv_form rd)
+plain_shape frame flags (insts.Adr rd off) = OneWord (integer.adr_form rd off)
+plain_shape frame flags (insts.Adrp rd off) = OneWord (integer.adrp_form rd off)
+plain_shape frame flags insts.Ret = OneWord control.ret_form
+plain_shape frame flags (insts.Jump dest) = Words (branch (control.jump_form dest) uses.Branch26 dest ∷ [])
+plain_shape frame flags (insts.CondBr taken not_taken kind) = Words (branches (control.cond_br_form taken kind) uses.Branch19 taken not_taken)
+plain_shape frame flags (insts.TestBitAndBranch kind taken not_taken rn bit) = Words (branches (control.test_bit_and_branch_form kind taken rn bit) uses.Branch14 taken not_taken)
+plain_shape frame flags (insts.TrapIf kind trap_code) = Words (last_cell (FormOf (control.trap_if_form kind)) (Some (trap_site trap_code)) None ∷ [])
+plain_shape frame flags (insts.EmitIsland needed_space) = Words []
+plain_shape frame flags (insts.IndirectBr rn targets) = OneWord (control.indirect_br_form rn)
+plain_shape frame flags insts.Brk = OneWord control.brk_form
+plain_shape frame flags (insts.Udf trap_code) = Words (last_cell (Data control.udf_word) None (Some trap_code) ∷ [])
+plain_shape frame flags (insts.Word4 value) = Words (data_cell value ∷ [])
+plain_shape frame flags (insts.Word8 value) = Words (data_cell (value % 2 ^ 32) ∷ data_cell (value / 2 ^ 32) ∷ [])
+plain_shape frame flags (insts.LabelAddress dst label) = Words (branch (control.label_address_form dst) uses.Adr21 (branch_targets.Label label) ∷ [])
+plain_shape frame flags (insts.Args args) = Words []
+plain_shape frame flags (insts.Rets rets) = Words []
+plain_shape frame flags (insts.DummyUse reg) = Words []
+plain_shape frame flags insts.SequencePoint = Words []
+plain_shape frame flags (insts.JTSequence default targets ridx rtmp1 rtmp2) = Words (table_jump flags default targets ridx rtmp1 rtmp2)
+plain_shape frame flags (insts.LoadExtNameGot rd name) = Words (got_cells rd name)
+plain_shape frame flags (insts.LoadExtNameNear rd name offset) = Words (near_cells rd name offset)
+plain_shape frame flags (insts.LoadExtNameFar rd name offset) = Words (far_cells rd name offset)
+plain_shape frame flags (insts.StackProbeLoop start end step) = Words (map plain (probe_forms start end step))
+plain_shape frame flags (insts.LoadP64 rt rt2 mem trap) = Several [] (FormOf (memory.pair_form 1 rt rt2 mem)) None trap
+plain_shape frame flags (insts.StoreP64 rt rt2 mem trap) = Several [] (FormOf (memory.pair_form 0 rt rt2 mem)) None trap
+plain_shape frame flags (insts.LoadAddr rd mem) = address_shape rd (memory.step_forms memory.offset_register (final_steps frame I8 mem)) (final_mode frame I8 mem)
+plain_shape frame flags (insts.ULoad8 rd mem trap) = Words []
+plain_shape frame flags (insts.SLoad8 rd mem trap) = Words []
+plain_shape frame flags (insts.ULoad16 rd mem trap) = Words []
+plain_shape frame flags (insts.SLoad16 rd mem trap) = Words []
+plain_shape frame flags (insts.ULoad32 rd mem trap) = Words []
+plain_shape frame flags (insts.SLoad32 rd mem trap) = Words []
+plain_shape frame flags (insts.ULoad64 rd mem trap) = Words []
+plain_shape frame flags (insts.FpuLoad16 rd mem trap) = Words []
+plain_shape frame flags (insts.FpuLoad32 rd mem trap) = Words []
+plain_shape frame flags (insts.FpuLoad64 rd mem trap) = Words []
+plain_shape frame flags (insts.FpuLoad128 rd mem trap) = Words []
+plain_shape frame flags (insts.Store8 rd mem trap) = Words []
+plain_shape frame flags (insts.Store16 rd mem trap) = Words []
+plain_shape frame flags (insts.Store32 rd mem trap) = Words []
+plain_shape frame flags (insts.Store64 rd mem trap) = Words []
+plain_shape frame flags (insts.FpuStore16 rd mem trap) = Words []
+plain_shape frame flags (insts.FpuStore32 rd mem trap) = Words []
+plain_shape frame flags (insts.FpuStore64 rd mem trap) = Words []
+plain_shape frame flags (insts.FpuStore128 rd mem trap) = Words []
+plain_shape frame flags (insts.Call info) = Words []
+plain_shape frame flags (insts.CallInd info) = Words []
+plain_shape frame flags (insts.ReturnCall info) = Words []
+plain_shape frame flags (insts.ReturnCallInd info) = Words []
 
 abbrev pub shape_cells : Shape → List Cell
 shape_cells (OneWord form) = plain form ∷ []
 shape_cells (Several forms body site trap) = several forms body site trap
 shape_cells (Words cells) = cells
+
+-- ---- calls
+
+-- the stack pointer moves by so many bytes: by an addition where one holds the number, and else over x16
+abbrev pub adjust_forms : ℤ → List Form
+adjust_forms amount =
+    if int_eq amount (pos 0) then []
+    else if is_addend (unsigned_abs amount) then memory.addend_form (integer_register 63) (integer_register 63) amount ∷ []
+    else memory.step_forms memory.offset_register (plan_of (unsigned_abs amount))
+    ++ integer.alu_rrr_extend_form (memory.sum_op amount) Size64 (integer_register 63) (integer_register 63) memory.offset_register UXTX ∷ []
+
+-- what is recorded at the word of a call: that it returns behind it, and the symbol, which a linker fills in
+abbrev pub callee_reloc : Callee → Option Relocation
+callee_reloc (Symbol name) = Some (Arm64Call, name, pos 0)
+callee_reloc (Address reg) = None
+
+abbrev pub call_marks : Callee → Option ℕ → Marks
+call_marks callee patchable = record { trap = None; reloc = callee_reloc callee; call = true; map = None; patchable = patchable }
+
+abbrev pub call_form : Callee → Form
+call_form (Symbol name) = control.branch_link_form
+call_form (Address reg) = control.branch_link_register_form reg
+
+abbrev pub call_cell : Callee → Option ℕ → Cell
+call_cell callee patchable = record { body = FormOf (call_form callee); site = None; marks = call_marks callee patchable }
+
+-- the load of a result that the function left on the stack, where one load loads it
+abbrev pub load_at : Reg → RetLocation → Option Inst
+load_at vreg (locations.Reg preg ty) = None
+load_at vreg (locations.Stack offset ty) = if type_has_load_form ty then Some (inst_with (load_op ty) vreg (modes.SPOffset offset) None) else None
+
+abbrev pub result_load : CallRetPair → Option Inst
+result_load pair = load_at pair.vreg pair.location
+
+abbrev pub result_cells : FrameLayout → CallRetPair → List Cell
+result_cells frame pair = elim (result_load pair) [
+  | None ↦ []
+  | Some load ↦ elim (access_of load) [ None ↦ [] | Some access ↦ shape_cells (access_shape frame access) ]
+]
+
+-- the function that was called has taken its arguments off the stack, and the stack pointer comes back to where it was
+abbrev pub pop_forms : ℕ → List Form
+pop_forms pop = adjust_forms (pos 0 -ℤ pos pop)
+
+-- a call, and behind it the loads of its results
+abbrev pub call_cells : FrameLayout → Callee → List CallRetPair → ℕ → List Cell
+call_cells frame callee defs pop = call_cell callee None ∷ map plain (pop_forms pop) ++ flat_map (result_cells frame) defs
+
+-- a call that may be changed later, with all of its words
+abbrev pub patchable_cells : Callee → ℕ → List Cell
+patchable_cells callee pop = call_cell callee (Some (4 * (length (pop_forms pop) + 1))) ∷ map plain (pop_forms pop)
+
+-- the first of some words, as no use; where there is none, one that does nothing
+abbrev pub lone_cell : List Cell → Cell
+lone_cell [] = plain integer.nop4_form
+lone_cell (c ∷ cs) = record c { site = None }
+
+-- an instruction of a list that a frame restores is its only word, which is no use; no instruction with other words may stand there
+abbrev pub restored_cell : FrameLayout → EmitFlags → Inst → Cell
+restored_cell frame flags inst = lone_cell (shape_cells (elim (access_of inst) [ None ↦ plain_shape frame flags inst | Some access ↦ access_shape frame access ]))
+
+-- the saved frame pointer and return address, where they were saved
+abbrev pub frame_forms : ℕ → List Form
+frame_forms setup =
+    if nat_eq setup 0 then []
+    else memory.pair_form 1 (integer_register 29) (integer_register 30) (pairs.SPPostIndexed (record { value = pos setup; scale_ty = I64 })) ∷ []
+
+-- the return address is authenticated, where a key says so, and where it was saved or all return addresses are signed
+abbrev pub key_forms : ℕ → Bool → Option APIKey → List Form
+key_forms setup all None = []
+key_forms setup all (Some key) = if nat_lt 0 setup || all then control.auti_form key ∷ [] else []
+
+-- the words before the branch of a return that calls, behind the restored instructions
+abbrev pub leave_forms : FrameLayout → ℕ → Option APIKey → Bool → List Form
+leave_forms frame size key all =
+    frame_forms frame.setup_area_size ++ adjust_forms (pos frame.tail_args_size -ℤ pos size) ++ key_forms frame.setup_area_size all key
+
+-- the branch, behind which no function returns but from which this one is left as by a call
+abbrev pub return_form : Callee → Form
+return_form (Symbol name) = control.jump_form (branch_targets.ResolvedOffset (pos 0))
+return_form (Address reg) = control.indirect_br_form reg
+
+abbrev pub return_cell : Callee → Cell
+return_cell callee = record { body = FormOf (return_form callee); site = None; marks = call_marks callee None }
+
+-- a return that calls another function
+abbrev pub return_cells : FrameLayout → EmitFlags → Callee → ℕ → Option APIKey → Bool → List Cell
+return_cells frame flags callee size key all =
+    map (restored_cell frame flags) frame.restore ++ map plain (leave_forms frame size key all) ++ return_cell callee ∷ []
+
+-- an instruction that is no load or store of one register
+abbrev pub other_shape : FrameLayout → EmitFlags → Inst → Shape
+other_shape frame flags (insts.Call info) =
+    Words (if info.patchable then patchable_cells (Symbol info.dest) info.callee_pop_size else call_cells frame (Symbol info.dest) info.defs info.callee_pop_size)
+other_shape frame flags (insts.CallInd info) = Words (call_cells frame (Address info.dest) info.defs info.callee_pop_size)
+other_shape frame flags (insts.ReturnCall info) =
+    Words (return_cells frame flags (Symbol info.dest) info.new_stack_arg_size info.key info.sign_return_address_all)
+other_shape frame flags (insts.ReturnCallInd info) =
+    Words (return_cells frame flags (Address info.dest) info.new_stack_arg_size info.key info.sign_return_address_all)
+other_shape frame flags inst = plain_shape frame flags inst
+
+abbrev pub shape_of : FrameLayout → EmitFlags → Inst → Shape
+shape_of frame flags inst = elim (access_of inst) [ None ↦ other_shape frame flags inst | Some access ↦ access_shape frame access ]
 
 -- the word of an instruction that is one word without a use
 abbrev pub only_word : Shape → Option ℕ
@@ -324,10 +450,26 @@ other_cells (Words cells) = cells
 abbrev pub inst_cells : FrameLayout → EmitFlags → Inst → List Cell
 inst_cells frame flags inst = shape_cells (shape_of frame flags inst)
 
+-- the map of the stack that is kept at an instruction counts where it is a call that returns behind it
+abbrev pub kept_by : Inst → Option UserStackMap → Option UserStackMap
+kept_by (insts.Call info) kept = kept
+kept_by (insts.CallInd info) kept = kept
+kept_by _ kept = None
+
+-- words with a map of the stack recorded at the first, where there is one
+abbrev pub keep : Option UserStackMap → List Cell → List Cell
+keep None cells = cells
+keep (Some kept) [] = []
+keep (Some kept) (c ∷ cs) = record c { marks = record c.marks { map = Some kept } } ∷ cs
+
+-- the words of an instruction at which a map is kept
+abbrev pub kept_cells : FrameLayout → EmitFlags → Inst → Option UserStackMap → List Cell
+kept_cells frame flags inst kept = keep (kept_by inst kept) (inst_cells frame flags inst)
+
 -- the words of an item
 abbrev pub cells_of : FrameLayout → EmitFlags → Item → List Cell
 cells_of frame flags (Bind label) = []
-cells_of frame flags (Emit inst map) = inst_cells frame flags inst
+cells_of frame flags (Emit inst kept) = kept_cells frame flags inst kept
 
 -- the words of all items, in order
 abbrev pub all_cells : FrameLayout → EmitFlags → List Item → List Cell

@@ -2,6 +2,8 @@
 -- Exception Generating and System instructions").
 use Rattle.std.specs.Prelude.{ℕ, pos, ◌/◌, ◌%◌}
 use Rattle.a64_base.specs.declared.cond.CondBrKind.{CondBrKind}
+use Rattle.a64_base.specs.declared.key.APIKey.{APIKey}
+use Rattle.a64_base.specs.declared.key.APIKey.TheVariants.{AZ, ASP, BZ, BSP}
 use Rattle.a64_base.specs.declared.cond.TestBitAndBranchKind.{TestBitAndBranchKind}
 use Rattle.a64_base.specs.declared.reg.Reg.{Reg}
 use Rattle.a64_base.specs.declared.target.BranchTarget.{BranchTarget}
@@ -38,6 +40,25 @@ test_bit_and_branch_form kind taken rn bit =
 -- a branch to the address in a register (Unconditional branch (register), BR)
 unfoldable pub indirect_br_form : Reg → Form
 indirect_br_form rn = branch_reg (record { opc = 0; rn = register_field rn })
+
+-- a branch with link, over no offset as long as its symbol has no place (Unconditional branch (immediate), BL)
+unfoldable pub branch_link_form : Form
+branch_link_form = branch26 (record { link = 1; imm26 = 0 })
+
+-- a branch with link to the address in a register (Unconditional branch (register), BLR)
+unfoldable pub branch_link_register_form : Reg → Form
+branch_link_register_form rn = branch_reg (record { opc = 1; rn = register_field rn })
+
+-- the number of the hint that authenticates the return address in x30 by a key
+abbrev pub auti_number : APIKey → ℕ
+auti_number AZ = 4
+auti_number ASP = 5
+auti_number BZ = 6
+auti_number BSP = 7
+
+-- the return address in x30 is authenticated (Hints, AUTIAZ, AUTIASP, AUTIBZ, AUTIBSP)
+unfoldable pub auti_form : APIKey → Form
+auti_form key = hint (record { crm = 3; op2 = auti_number key })
 
 -- a breakpoint (Exception generation, BRK)
 unfoldable pub brk_form : Form

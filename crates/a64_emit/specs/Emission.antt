@@ -1,9 +1,11 @@
 -- What emission does to a buffer.
-use Rattle.std.specs.Prelude.{ℕ, ◌≡◌, ◌⊎◌, ◌+◌, ◌*◌, ◌/◌, ◌%◌, ◌^◌, ◌<◌, ◌≤◌, List, [], ◌∷◌, ◌++◌, map, take, length, slice_index, slice_index_or, Option, None, Some, IsSome, MatchOption}
+use Rattle.std.specs.Prelude.{ℕ, pos, ◌≡◌, ◌⊎◌, ◌+◌, ◌*◌, ◌/◌, ◌%◌, ◌^◌, ◌<◌, ◌≤◌, List, [], ◌∷◌, ◌++◌, map, take, length, slice_index, slice_index_or, Option, None, Some, IsSome, MatchOption}
 use Rattle.std.specs.Ordering.{nat_cmp}
 use Rattle.std.specs.FinMap.{FinMap, insert}
 use Rattle.a64_base.specs.declared.entity.MachLabel.{MachLabel}
+use Rattle.a64_base.specs.declared.entity.Reloc.TheVariants.{Arm64Call}
 use Rattle.a64_base.specs.declared.entity.TrapCode.{TrapCode}
+use Rattle.a64_base.specs.declared.entity.UserStackMap.{UserStackMap}
 use Rattle.a64_inst.specs.declared.emission.EmitFlags.{EmitFlags}
 use Rattle.a64_inst.specs.declared.frame.FrameLayout.{FrameLayout}
 use Rattle.a64_inst.specs.declared.inst.Inst.{Inst}
@@ -11,16 +13,18 @@ use Rattle.a64_inst.specs.declared.virtuals.VirtualRegisters.TheVariants.{Refuse
 use Rattle.a64_inst.specs.Faults.{inst_fault}
 use Rattle.a64_inst.specs.State.{State}
 use Rattle.a64_buffer.specs.declared.site.Use.{Use}
-use Rattle.a64_buffer.specs.Buffer.{Buffer, end_of, made_use, closed_at, IsFree}
+use Rattle.a64_buffer.specs.Buffer.{Records, Buffer, end_of, made_use, closed_at, IsFree}
 use Rattle.a64_buffer.specs.Classes as classes
 use Rattle.a64_buffer.specs.Islands.{HasIsland}
 use Rattle.a64_buffer.specs.declared.force.ForceVeneers.TheVariants.{No}
+use Rattle.a64_emit.specs.declared.call.Callee.{Callee}
+use Rattle.a64_emit.specs.declared.call.Callee.TheVariants.{Symbol, Address}
 use Rattle.a64_emit.specs.declared.label_use.LabelUse.{LabelUse}
 use Rattle.a64_emit.specs.declared.site.Site.{Site}
 use Rattle.a64_emit.specs.LabelUses.{label_kinds}
-use Rattle.a64_emit.specs.Cells.{Cell, cell_word, inst_cells}
+use Rattle.a64_emit.specs.Cells.{Cell, cell_word, inst_cells, kept_cells}
 use Rattle.a64_emit.specs.Bounds.{asked_of}
-use Rattle.a64_emit.specs.Layout.{placed, relocs_in, traps_in}
+use Rattle.a64_emit.specs.Layout.{placed, relocs_in, calls_in, patchable_in, maps_in, traps_in, records_in, more_records}
 
 -- ---- what emitting an instruction does
 
@@ -40,7 +44,7 @@ appended b cells = record b {
   words = b.words ++ map cell_word cells;
   uses = b.uses ++ uses_from b.labels (end_of b) cells;
   traps = b.traps ++ traps_in (placed (end_of b) cells);
-  records = record b.records { relocs = b.records.relocs ++ relocs_in (placed (end_of b) cells) };
+  records = more_records b.records (records_in (placed (end_of b) cells));
 }
 
 -- a buffer with a trap recorded at a place, where there is one
@@ -48,26 +52,55 @@ abbrev pub trapped : Option TrapCode → Buffer LabelUse → ℕ → Buffer Labe
 trapped None b place = b
 trapped (Some code) b place = record b { traps = b.traps ++ (place, code) ∷ [] }
 
+-- a buffer with the symbol of a call recorded at its end, where the call goes to one
+abbrev pub linked : Callee → Buffer LabelUse → Buffer LabelUse
+linked (Symbol name) b = record b { records = record b.records { relocs = b.records.relocs ++ (end_of b, Arm64Call, name, pos 0) ∷ [] } }
+linked (Address reg) b = b
+
+-- a buffer with a map of the stack recorded at its end, where there is one
+abbrev pub mapped : Option UserStackMap → Buffer LabelUse → Buffer LabelUse
+mapped None b = b
+mapped (Some kept) b = record b { records = record b.records { maps = b.records.maps ++ (end_of b, kept) ∷ [] } }
+
 -- a buffer that has got the first so many of some words
 pub record PutsInPart (b b' : Buffer LabelUse) (words : List ℕ) : Type 0 where
   pub count : ℕ
   pub few : count ≤ length words
   pub is : b' ≡ record b { words = b.words ++ take count words }
 
--- a buffer that has got a first part of some cells: the words of the first so many, and their uses,
--- but maybe not that of the last of these words; and what is recorded at them, and maybe at the next word: traps, and relocations
-pub record IsAppendedInPart (b b' : Buffer LabelUse) (cells : List Cell) : Type 0 where
+-- a first part of some cells: the words of the first so many, and their uses, but maybe not that of the last of these words; what is
+-- recorded at them, and maybe at the next word: traps, and relocations; and what is recorded behind them, but maybe not all of it
+pub record Parts (cells : List Cell) : Type 0 where
   pub count : ℕ
   pub used : ℕ
   pub last : (used ≡ count) ⊎ (used + 1 ≡ count)
   pub marked : ℕ
   pub next : (marked ≡ count) ⊎ (marked ≡ count + 1)
-  pub words : b'.words ≡ b.words ++ map cell_word (take count cells)
-  pub uses : b'.uses ≡ b.uses ++ uses_from b.labels (end_of b) (take used cells)
-  pub traps : b'.traps ≡ b.traps ++ traps_in (placed (end_of b) (take marked cells))
   pub related : ℕ
   pub next_related : (related ≡ count) ⊎ (related ≡ count + 1)
-  pub records : b'.records ≡ record b.records { relocs = b.records.relocs ++ relocs_in (placed (end_of b) (take related cells)) }
+  pub called : ℕ
+  pub called_few : called ≤ count
+  pub patched : ℕ
+  pub patched_few : patched ≤ count
+  pub mapped : ℕ
+  pub mapped_few : mapped ≤ count
+
+-- what a first part of cells, which stand from a place on, records beside traps
+abbrev pub part_records : ℕ → (cells : List Cell) → Parts cells → Records
+part_records place cells part = record {
+  relocs = relocs_in (placed place (take part.related cells));
+  calls = calls_in (placed place (take part.called cells));
+  patchable = patchable_in (placed place (take part.patched cells));
+  maps = maps_in (placed place (take part.mapped cells));
+}
+
+-- a buffer that has got a first part of some cells
+pub record IsAppendedInPart (b b' : Buffer LabelUse) (cells : List Cell) : Type 0 where
+  pub part : Parts cells
+  pub words : b'.words ≡ b.words ++ map cell_word (take part.count cells)
+  pub uses : b'.uses ≡ b.uses ++ uses_from b.labels (end_of b) (take part.used cells)
+  pub traps : b'.traps ≡ b.traps ++ traps_in (placed (end_of b) (take part.marked cells))
+  pub records : b'.records ≡ more_records b.records (part_records (end_of b) cells part)
   pub labels : b'.labels ≡ b.labels
   pub constants : b'.constants ≡ b.constants
 
@@ -84,11 +117,11 @@ Puts (Some space) cells b b' = IslandsIfNeeded space b b'
 
 -- an instruction was emitted: its cells stand at the end; or, where it is a place for an island, one that is needed
 abbrev pub Emits : EmitFlags → State → Inst → Buffer LabelUse → Buffer LabelUse → Type 0
-Emits flags state inst b b' = Puts (asked_of inst) (inst_cells state.frame flags inst) b b'
+Emits flags state inst b b' = Puts (asked_of inst) (kept_cells state.frame flags inst state.map) b b'
 
 -- an instruction was emitted in part
 abbrev pub EmitsInPart : EmitFlags → State → Inst → Buffer LabelUse → Buffer LabelUse → Type 0
-EmitsInPart flags state inst b b' = IsAppendedInPart b b' (inst_cells state.frame flags inst)
+EmitsInPart flags state inst b b' = IsAppendedInPart b b' (kept_cells state.frame flags inst state.map)
 
 -- there is room for cells at the end of the buffer
 abbrev pub HasRoom : Buffer LabelUse → List Cell → Type 0

@@ -1,5 +1,6 @@
 -- What cells are: forms of rows, or data.
-use Rattle.std.specs.Prelude.{◌<◌, ◌^◌}
+use Rattle.std.specs.Prelude.{All, ◌<◌, ◌^◌}
+use Rattle.a64_inst.specs.declared.frame.FrameLayout.{FrameLayout}
 use Rattle.a64_inst.specs.declared.inst.Inst.{Inst}
 use Rattle.a64_inst.specs.declared.inst.Inst.TheVariants as insts
 use Rattle.a64_inst.specs.declared.item.Item.{Item}
@@ -20,6 +21,10 @@ abbrev pub HasHalfword : Inst → Type 0
 HasHalfword (insts.MovWide op rd imm size) = imm.bits < 2 ^ 16
 HasHalfword (insts.MovK rd rn imm size) = imm.bits < 2 ^ 16
 HasHalfword _ = Unit {0}
+
+-- those of what a frame restores
+abbrev pub RestoresHalfwords : FrameLayout → Type 0
+RestoresHalfwords frame = All HasHalfword frame.restore
 
 -- and that of an item, where it is a wide move
 abbrev pub HoldsHalfword : Item → Type 0

@@ -1,10 +1,12 @@
 -- Where the items of finished code stand.
-use Rattle.std.specs.Prelude.{ℕ, ℤ, ◌≡◌, ◌≢◌, ◌⊎◌, ◌↔◌, ◌+◌, ◌*◌, ◌%◌, ◌<◌, ◌≤◌, List, [], ◌∷◌, ◌++◌, All, Contains, map, length, slice_index, slice_index_or, slice_get, Option, None, Some, IsSome, option_map, option_and_then}
+use Rattle.std.specs.Prelude.{ℕ, ℤ, ◌≡◌, ◌≢◌, ◌⊎◌, ◌↔◌, ◌+◌, ◌*◌, ◌%◌, ◌<◌, ◌≤◌, List, [], ◌∷◌, ◌++◌, All, Contains, map, length, if◌then◌else◌, slice_index, slice_index_or, slice_get, Option, None, Some, IsSome, option_map, option_and_then}
 use Rattle.std.specs.List.{filter_map}
 use Rattle.std.specs.List.Sorted.{IsStrictlyIncreasing}
 use Rattle.a64_base.specs.declared.entity.ExternalName.{ExternalName}
 use Rattle.a64_base.specs.declared.entity.Reloc.{Reloc}
 use Rattle.a64_base.specs.declared.entity.TrapCode.{TrapCode}
+use Rattle.a64_base.specs.declared.entity.UserStackMap.{UserStackMap}
+use Rattle.a64_buffer.specs.Buffer.{Records}
 use Rattle.a64_base.specs.declared.entity.MachLabel.{MachLabel}
 use Rattle.a64_inst.specs.declared.emission.EmitFlags.{EmitFlags}
 use Rattle.a64_inst.specs.declared.frame.FrameLayout.{FrameLayout}
@@ -43,6 +45,43 @@ reloc_at s = option_map (λ (reloc : Relocation). (s.0, reloc.0, reloc.1, reloc.
 -- the relocations of cells at their places
 abbrev pub relocs_in : List (ℕ × Cell) → List (ℕ × Reloc × ExternalName × ℤ)
 relocs_in cells = filter_map reloc_at cells
+
+-- the place behind a cell, where a call returns to it
+abbrev pub call_at : ℕ × Cell → Option ℕ
+call_at s = if s.1.marks.call then Some (s.0 + 4) else None
+
+-- the calls of cells at their places
+abbrev pub calls_in : List (ℕ × Cell) → List ℕ
+calls_in cells = filter_map call_at cells
+
+-- the place behind the words of a call that may be changed later, of which a cell is the first, and how many bytes they have
+abbrev pub patchable_at : ℕ × Cell → Option (ℕ × ℕ)
+patchable_at s = option_map (λ len. (s.0 + len, len)) s.1.marks.patchable
+
+-- such calls of cells at their places
+abbrev pub patchable_in : List (ℕ × Cell) → List (ℕ × ℕ)
+patchable_in cells = filter_map patchable_at cells
+
+-- the place behind a cell, and the map of the stack that is recorded there, where there is one
+abbrev pub map_at : ℕ × Cell → Option (ℕ × UserStackMap)
+map_at s = option_map (λ map. (s.0 + 4, map)) s.1.marks.map
+
+-- the maps of cells at their places
+abbrev pub maps_in : List (ℕ × Cell) → List (ℕ × UserStackMap)
+maps_in cells = filter_map map_at cells
+
+-- what cells at their places record beside traps
+abbrev pub records_in : List (ℕ × Cell) → Records
+records_in cells = record { relocs = relocs_in cells; calls = calls_in cells; patchable = patchable_in cells; maps = maps_in cells }
+
+-- records, and others behind them
+abbrev pub more_records : Records → Records → Records
+more_records rs more = record {
+  relocs = rs.relocs ++ more.relocs;
+  calls = rs.calls ++ more.calls;
+  patchable = rs.patchable ++ more.patchable;
+  maps = rs.maps ++ more.maps;
+}
 
 -- the bits of a cell's word that its use may change
 abbrev pub site_mask : Option Site → ℕ

@@ -13,10 +13,9 @@ use Rattle.a64_emit.specs.declared.code.Code.{Code}
 use Rattle.a64_emit.specs.declared.label_use.LabelUse.{LabelUse}
 use Rattle.a64_emit.specs.Cells.{Cell, cell_word, cells_of}
 use Rattle.a64_emit.specs.Leads.{StopsAt}
-use Rattle.a64_emit.specs.Layout.{placed, standing, relocs_in, traps_in}
+use Rattle.a64_emit.specs.Layout.{placed, standing, relocs_in, calls_in, patchable_in, maps_in, traps_in}
 
--- the records of an item, by their offsets from the item's place; none that exists makes any but relocations and traps, and those of
--- deferred traps are where these stop
+-- the records of an item, by their offsets from the item's place; those of deferred traps are where these stop
 module _ (frame : FrameLayout) (flags : EmitFlags) where
   abbrev pub relocs_of : Item → List (ℕ × Reloc × ExternalName × ℤ)
   relocs_of item = relocs_in (placed 0 (cells_of frame flags item))
@@ -25,13 +24,13 @@ module _ (frame : FrameLayout) (flags : EmitFlags) where
   traps_of item = traps_in (placed 0 (cells_of frame flags item))
 
   abbrev pub calls_of : Item → List ℕ
-  calls_of item = []
+  calls_of item = calls_in (placed 0 (cells_of frame flags item))
 
   abbrev pub patchable_of : Item → List (ℕ × ℕ)
-  patchable_of item = []
+  patchable_of item = patchable_in (placed 0 (cells_of frame flags item))
 
   abbrev pub maps_of : Item → List (ℕ × UserStackMap)
-  maps_of item = []
+  maps_of item = maps_in (placed 0 (cells_of frame flags item))
 
 -- a record at its place in the code, for an item that stands at a place
 abbrev pub reloc_from : ℕ → ℕ × Reloc × ExternalName × ℤ → ℕ × Reloc × ExternalName × ℤ

@@ -3,6 +3,7 @@ use Rattle.std.specs.Prelude.{ℕ, ◌≡◌, Bool, true, ◌&&◌, ◌||◌, na
 use Rattle.std.specs.Ordering.{nat_cmp}
 use Rattle.std.specs.FinMap.{FinMap, get}
 use Rattle.a64_base.specs.declared.entity.TrapCode.{TrapCode}
+use Rattle.a64_base.specs.declared.entity.UserStackMap.{UserStackMap}
 use Rattle.a64_base.specs.declared.reg.Reg.{Reg}
 use Rattle.a64_base.specs.declared.target.BranchTarget.{BranchTarget}
 use Rattle.a64_base.specs.Registers.{integer_register}
@@ -21,7 +22,7 @@ use Rattle.a64_inst.specs.FinalModes.{FinalMode, SignedOffset, ScaledOffset, Oth
 use Rattle.a64_inst.specs.IntegerOperands as integer
 use Rattle.a64_inst.specs.MemoryOperands as memory
 use Rattle.a64_inst.specs.Modes.{is_offset9}
-use Rattle.a64_inst.specs.Operands.{is_register_or_stack}
+use Rattle.a64_inst.specs.Operands.{is_register_or_stack, is_register_or_zero}
 use Rattle.a64_rows.specs.Forms.{form_word}
 use Rattle.a64_buffer.specs.declared.site.Target.TheVariants.{Label, Constant, Trap, IslandEnd}
 use Rattle.a64_emit.specs.declared.label_use.LabelUse.{LabelUse}
@@ -29,7 +30,9 @@ use Rattle.a64_emit.specs.declared.label_use.LabelUse.TheVariants.{Branch26}
 use Rattle.a64_emit.specs.declared.site.Site.{Site}
 use Rattle.a64_emit.specs.LabelUses.{urgency_of}
 use Rattle.a64_emit.specs.ControlForms.{jump_form}
-use Rattle.a64_emit.specs.Cells.{Data, Cell, Shape, OneWord, Several, Words, body_word, cell_word, last_cell, branch_site, shape_of, other_cells}
+use Rattle.a64_emit.specs.declared.call.Callee.{Callee}
+use Rattle.a64_emit.specs.declared.call.Callee.TheVariants.{Symbol, Address}
+use Rattle.a64_emit.specs.Cells.{Data, Cell, Shape, OneWord, Several, Words, body_word, call_marks, cell_word, last_cell, branch_site, shape_of, other_cells}
 
 -- the operands of a step into a register are in their sets
 abbrev pub CanStep : Reg → ConstStep → Type 0
@@ -86,3 +89,12 @@ as_put cell = record { body = Data (cell_word cell); site = cell.site; marks = c
 -- what is put for an instruction that is not one word without a use
 abbrev pub put_for : FrameLayout → EmitFlags → Inst → List Cell
 put_for frame flags inst = map as_put (other_cells (shape_of frame flags inst))
+
+-- an address that is called stands in a register
+abbrev pub IsCalled : Callee → Type 0
+IsCalled (Symbol name) = Unit {0}
+IsCalled (Address reg) = is_register_or_zero Refused reg ≡ true
+
+-- the word of a call as it is put, with a map of the stack behind it
+abbrev pub put_kept : ℕ → Callee → Option UserStackMap → Cell
+put_kept word callee kept = record { body = Data word; site = None; marks = record (call_marks callee None) { map = kept } }

@@ -1,7 +1,7 @@
 //! Emission of single instructions.
 
-ghost use Rattle.std.specs.Prelude.{◌≡◌, ◌⊎◌, ◌+◌, ◌*◌, ◌/◌, ◌%◌, ◌^◌, ◌<◌, [], ◌∷◌, ◌++◌, length, OnOk, OnErr, IfSome, true, None};
-ghost use Rattle.a64_inst.specs.declared.group.Group.TheVariants.{Control, Memory};
+ghost use Rattle.std.specs.Prelude.{◌≡◌, ◌≢◌, ◌⊎◌, ◌+◌, ◌*◌, ◌/◌, ◌%◌, ◌^◌, ◌<◌, [], ◌∷◌, ◌++◌, length, map, OnOk, OnErr, IfSome, true, None};
+ghost use Rattle.a64_inst.specs.declared.group.Group.TheVariants.{Call, Control, Memory};
 ghost use Rattle.a64_inst.specs.declared.emission.EmitFlags.{EmitFlags};
 ghost use Rattle.a64_inst.specs.declared.virtuals.VirtualRegisters.TheVariants.{Refused};
 ghost use Rattle.a64_inst.specs.Faults.{has_operands, has_mode};
@@ -11,13 +11,13 @@ ghost use Rattle.a64_inst.specs.State.{State};
 ghost use Rattle.a64_buffer.specs.Buffer.{Buffer, end_of};
 ghost use Rattle.a64_buffer.specs.Classes.{Fits};
 ghost use Rattle.a64_emit.specs.declared.label_use.LabelUse.{LabelUse};
-ghost use Rattle.a64_rows.specs.Forms.{Form, form_word};
 ghost use Rattle.a64_emit.specs.Cells as cells;
-ghost use Rattle.a64_emit.specs.Cells.{Data, plain, data_cell, reloc_cell, shape_of, only_word};
-ghost use Rattle.a64_emit.specs.Words.{MayBePut, IsThere, put_cell, put_cells, put_branches, put_for};
+ghost use Rattle.a64_emit.specs.Cells.{Data, data_cell, reloc_cell, shape_of, only_word, inst_cells, kept_by, keep};
+ghost use Rattle.a64_emit.specs.Words.{MayBePut, IsThere, as_put, put_cell, put_cells, put_branches, put_for};
 ghost use Rattle.a64_emit.specs.LabelUses.{label_kinds};
 ghost use Rattle.a64_emit.specs.Emission.{trapped, PutsInPart, appended, IslandsIfNeeded, Emits, EmitsInPart, IsAppendedInPart, HasRoom, CellsFit, HasIslandRoom, IsReady};
 
+use crate::call::emit_calling;
 use crate::extent::asked_space;
 use crate::label_use::LabelUse;
 use crate::sequence::emit_sequence;
@@ -29,7 +29,7 @@ use crate::word::control::{
 };
 use crate::word::integer::{only_immediate_word, only_register_word};
 use crate::word::memory::{SeveralWords, held_memory_word, memory_words};
-use a64_base::{BranchTarget, ExternalName, Reloc, TrapCode};
+use a64_base::{BranchTarget, ExternalName, Reloc, TrapCode, UserStackMap};
 use a64_buffer::{ForceVeneers, MachBuffer, Target};
 use a64_inst::{EmitInfo, EmitState, FrameLayout, Group, Inst};
 use std::alloc::AllocError;
@@ -64,6 +64,7 @@ pub trait MachInstEmit {
 }
 
 /// The word of an instruction that is one word without a use.
+#[inline(always)]
 fn only_word(inst: &Inst, frame: &FrameLayout, info: &EmitInfo) -> Option<u32>
     requires { has_operands frame.now info.now Refused inst.now ≡ true }
     ensures { result ≡ only_word (shape_of frame.now info.now inst.now) }
@@ -72,16 +73,17 @@ fn only_word(inst: &Inst, frame: &FrameLayout, info: &EmitInfo) -> Option<u32>
         Group::Immediate => only_immediate_word(inst, frame, info),
         Group::Register => only_register_word(inst, frame, info),
         Group::Control => only_control_word(inst, frame, info),
-        Group::Sequence | Group::Memory => None,
+        Group::Sequence | Group::Call | Group::Memory => None,
     }
 }
 
 /// One word without a use.
+#[inline(always)]
 fn emit_plain(sink: &mut MachBuffer<'_, LabelUse>, word: u32) -> Result<(), AllocError>
     requires short { end_of sink.old + 4 < 2 ^ 31 }
     requires fits { Fits label_kinds sink.old 4 }
-    ensures ok { OnOk result ((form : Form) → word ≡ form_word form → sink.new ≡ appended sink.old (plain form ∷ [])) }
-    ensures err { OnErr result ((form : Form) → IsAppendedInPart sink.old sink.new (plain form ∷ [])) }
+    ensures ok { OnOk result (sink.new ≡ appended sink.old (put_cell word None None ∷ [])) }
+    ensures err { OnErr result (IsAppendedInPart sink.old sink.new (put_cell word None None ∷ [])) }
 {
     sink.put4(word)
 }
@@ -212,19 +214,18 @@ fn emit_memory_words(
     inst: &Inst,
     sink: &mut MachBuffer<'_, LabelUse>,
     info: &EmitInfo,
-    state: &mut EmitState,
+    frame: &FrameLayout,
 ) -> Result<(), AllocError>
     requires group { group_of inst.now ≡ Memory }
-    requires room { HasRoom sink.old (put_for state.old.frame info.now inst.now) }
-    requires fits { CellsFit sink.old (put_for state.old.frame info.now inst.now) }
-    requires good { has_operands state.old.frame info.now Refused inst.now ≡ true }
+    requires room { HasRoom sink.old (put_for frame.now info.now inst.now) }
+    requires fits { CellsFit sink.old (put_for frame.now info.now inst.now) }
+    requires good { has_operands frame.now info.now Refused inst.now ≡ true }
     requires mode { has_mode inst.now ≡ true }
     requires there { IsThere sink.old.constants inst.now }
-    ensures ok { OnOk result (sink.new ≡ appended sink.old (put_for state.old.frame info.now inst.now)) }
-    ensures state { OnOk result (state.new ≡ state.old) }
-    ensures err { OnErr result (IsAppendedInPart sink.old sink.new (put_for state.old.frame info.now inst.now)) }
+    ensures ok { OnOk result (sink.new ≡ appended sink.old (put_for frame.now info.now inst.now)) }
+    ensures err { OnErr result (IsAppendedInPart sink.old sink.new (put_for frame.now info.now inst.now)) }
 {
-    match memory_words(inst, state.frame_layout(), info) {
+    match memory_words(inst, frame, info) {
         Some(words) => emit_several(sink, &words),
         None => Ok(()),
     }
@@ -236,25 +237,25 @@ fn emit_memory(
     inst: &Inst,
     sink: &mut MachBuffer<'_, LabelUse>,
     info: &EmitInfo,
-    state: &mut EmitState,
+    frame: &FrameLayout,
 ) -> Result<(), AllocError>
     requires group { group_of inst.now ≡ Memory }
-    requires room { HasRoom sink.old (put_for state.old.frame info.now inst.now) }
-    requires fits { CellsFit sink.old (put_for state.old.frame info.now inst.now) }
-    requires good { has_operands state.old.frame info.now Refused inst.now ≡ true }
+    requires room { HasRoom sink.old (put_for frame.now info.now inst.now) }
+    requires fits { CellsFit sink.old (put_for frame.now info.now inst.now) }
+    requires good { has_operands frame.now info.now Refused inst.now ≡ true }
     requires mode { has_mode inst.now ≡ true }
     requires there { IsThere sink.old.constants inst.now }
-    ensures ok { OnOk result (sink.new ≡ appended sink.old (put_for state.old.frame info.now inst.now)) }
-    ensures state { OnOk result (state.new ≡ state.old) }
-    ensures err { OnErr result (IsAppendedInPart sink.old sink.new (put_for state.old.frame info.now inst.now)) }
+    ensures ok { OnOk result (sink.new ≡ appended sink.old (put_for frame.now info.now inst.now)) }
+    ensures err { OnErr result (IsAppendedInPart sink.old sink.new (put_for frame.now info.now inst.now)) }
 {
-    match held_memory_word(inst, state.frame_layout(), info) {
+    match held_memory_word(inst, frame, info) {
         Some(last) => emit_last(sink, last.word, last.site, last.trap),
-        None => emit_memory_words(inst, sink, info, state),
+        None => emit_memory_words(inst, sink, info, frame),
     }
 }
 
 /// A conditional branch, with a jump behind it.
+#[inline(always)]
 fn emit_conditional(
     sink: &mut MachBuffer<'_, LabelUse>,
     word: u32,
@@ -283,19 +284,19 @@ fn emit_word8(sink: &mut MachBuffer<'_, LabelUse>, value: u64) -> Result<(), All
 }
 
 /// A branch or an address with a use, or data.
+#[inline(always)]
 fn emit_control(
     inst: &Inst,
     sink: &mut MachBuffer<'_, LabelUse>,
     _info: &EmitInfo,
-    state: &mut EmitState,
+    _frame: &FrameLayout,
 ) -> Result<(), AllocError>
     requires group { group_of inst.now ≡ Control }
-    requires room { HasRoom sink.old (put_for state.old.frame _info.now inst.now) }
-    requires fits { CellsFit sink.old (put_for state.old.frame _info.now inst.now) }
-    requires good { has_operands state.old.frame _info.now Refused inst.now ≡ true }
-    ensures ok { OnOk result (sink.new ≡ appended sink.old (put_for state.old.frame _info.now inst.now)) }
-    ensures state { OnOk result (state.new ≡ state.old) }
-    ensures err { OnErr result (IsAppendedInPart sink.old sink.new (put_for state.old.frame _info.now inst.now)) }
+    requires room { HasRoom sink.old (put_for _frame.now _info.now inst.now) }
+    requires fits { CellsFit sink.old (put_for _frame.now _info.now inst.now) }
+    requires good { has_operands _frame.now _info.now Refused inst.now ≡ true }
+    ensures ok { OnOk result (sink.new ≡ appended sink.old (put_for _frame.now _info.now inst.now)) }
+    ensures err { OnErr result (IsAppendedInPart sink.old sink.new (put_for _frame.now _info.now inst.now)) }
 {
     match inst {
         Inst::Jump { dest } => emit_branch(sink, jump_word(*dest), LabelUse::Branch26, *dest),
@@ -347,27 +348,74 @@ fn emit_asked(sink: &mut MachBuffer<'_, LabelUse>, space: u32) -> Result<(), All
     }
 }
 
-/// An instruction with uses, or of more words.
+/// An instruction that is no call, with uses or of more words.
+#[inline(always)]
 fn emit_other(
     inst: &Inst,
     sink: &mut MachBuffer<'_, LabelUse>,
     info: &EmitInfo,
-    state: &mut EmitState,
+    frame: &FrameLayout,
 ) -> Result<(), AllocError>
-    requires room { HasRoom sink.old (put_for state.old.frame info.now inst.now) }
-    requires fits { CellsFit sink.old (put_for state.old.frame info.now inst.now) }
-    requires good { has_operands state.old.frame info.now Refused inst.now ≡ true }
+    requires other { group_of inst.now ≢ Call }
+    requires room { HasRoom sink.old (put_for frame.now info.now inst.now) }
+    requires fits { CellsFit sink.old (put_for frame.now info.now inst.now) }
+    requires good { has_operands frame.now info.now Refused inst.now ≡ true }
     requires mode { has_mode inst.now ≡ true }
     requires there { IsThere sink.old.constants inst.now }
-    ensures ok { OnOk result (sink.new ≡ appended sink.old (put_for state.old.frame info.now inst.now)) }
-    ensures state { OnOk result (state.new ≡ state.old) }
-    ensures err { OnErr result (IsAppendedInPart sink.old sink.new (put_for state.old.frame info.now inst.now)) }
+    ensures ok { OnOk result (sink.new ≡ appended sink.old (put_for frame.now info.now inst.now)) }
+    ensures err { OnErr result (IsAppendedInPart sink.old sink.new (put_for frame.now info.now inst.now)) }
 {
     match inst.group() {
-        Group::Memory => emit_memory(inst, sink, info, state),
-        Group::Control => emit_control(inst, sink, info, state),
-        Group::Sequence => emit_sequence(inst, sink, info, state),
+        Group::Memory => emit_memory(inst, sink, info, frame),
+        Group::Control => emit_control(inst, sink, info, frame),
+        Group::Sequence => emit_sequence(inst, sink, info, frame),
         Group::Immediate | Group::Register => Ok(()),
+        Group::Call => unreachable!(),
+    }
+}
+
+/// An instruction that is no call, and no place for an island.
+pub fn emit_plain_inst(
+    inst: &Inst,
+    sink: &mut MachBuffer<'_, LabelUse>,
+    info: &EmitInfo,
+    frame: &FrameLayout,
+) -> Result<(), AllocError>
+    requires other { group_of inst.now ≢ Call }
+    requires room { HasRoom sink.old (map as_put (inst_cells frame.now info.now inst.now)) }
+    requires fits { CellsFit sink.old (map as_put (inst_cells frame.now info.now inst.now)) }
+    requires good { has_operands frame.now info.now Refused inst.now ≡ true }
+    requires mode { has_mode inst.now ≡ true }
+    requires there { IsThere sink.old.constants inst.now }
+    ensures ok { OnOk result (sink.new ≡ appended sink.old (map as_put (inst_cells frame.now info.now inst.now))) }
+    ensures err { OnErr result (IsAppendedInPart sink.old sink.new (map as_put (inst_cells frame.now info.now inst.now))) }
+{
+    match only_word(inst, frame, info) {
+        Some(word) => emit_plain(sink, word),
+        None => emit_other(inst, sink, info, frame),
+    }
+}
+
+/// A call, or another instruction with uses or of more words, at which a map of the stack is kept.
+#[inline(always)]
+fn emit_kept(
+    inst: &Inst,
+    sink: &mut MachBuffer<'_, LabelUse>,
+    info: &EmitInfo,
+    frame: &FrameLayout,
+    kept: Option<UserStackMap>,
+) -> Result<(), AllocError>
+    requires room { HasRoom sink.old (keep (kept_by inst.now kept) (put_for frame.now info.now inst.now)) }
+    requires fits { CellsFit sink.old (keep (kept_by inst.now kept) (put_for frame.now info.now inst.now)) }
+    requires good { has_operands frame.now info.now Refused inst.now ≡ true }
+    requires mode { has_mode inst.now ≡ true }
+    requires there { IsThere sink.old.constants inst.now }
+    ensures ok { OnOk result (sink.new ≡ appended sink.old (keep (kept_by inst.now kept) (put_for frame.now info.now inst.now))) }
+    ensures err { OnErr result (IsAppendedInPart sink.old sink.new (keep (kept_by inst.now kept) (put_for frame.now info.now inst.now))) }
+{
+    match inst.group() {
+        Group::Call => emit_calling(inst, sink, info, frame, kept),
+        _ => emit_other(inst, sink, info, frame),
     }
 }
 
@@ -384,12 +432,13 @@ impl MachInstEmit for Inst {
         info: &EmitInfo,
         state: &mut EmitState,
     ) -> Result<(), AllocError> {
-        let _map = state.take_stack_map();
-        match only_word(self, state.frame_layout(), info) {
+        let kept = state.take_stack_map();
+        let frame = state.frame_layout();
+        match only_word(self, frame, info) {
             Some(word) => emit_plain(sink, word),
             None => match asked_space(self) {
                 Some(space) => emit_asked(sink, space),
-                None => emit_other(self, sink, info, state),
+                None => emit_kept(self, sink, info, frame, kept),
             },
         }
     }

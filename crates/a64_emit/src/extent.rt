@@ -13,9 +13,10 @@ ghost use Rattle.a64_emit.specs.Cells.{branch, branches, cells_of, inst_cells, i
 ghost use Rattle.a64_emit.specs.LabelUses.{has_veneer};
 ghost use Rattle.a64_emit.specs.Lights.{IsLight, IsModeLight};
 
+use crate::call_extent::call_count;
 use crate::label_use::LabelUse;
 use crate::site::{Site, Uses};
-use crate::uses::{control_uses, memory_uses, only_use, sequence_uses, table_start};
+use crate::uses::{call_uses, control_uses, memory_uses, only_use, sequence_uses, table_start};
 use crate::word::memory::memory_count;
 use a64_base::BranchTarget;
 use a64_buffer::{MachInstLabelUse, Target};
@@ -210,6 +211,10 @@ fn words_burden<'a>(inst: &'a Inst, frame: &FrameLayout, info: &EmitInfo) -> Bur
                 uses,
             }
         }
+        Group::Call => Burden {
+            extent: quiet_extent(call_count(inst, frame, info)),
+            uses: call_uses(inst, frame, info),
+        },
         Group::Memory => {
             let uses = memory_uses(inst, frame, info);
             Burden {
@@ -386,7 +391,7 @@ pub fn light_of(item: &Item, frame: &FrameLayout, info: &EmitInfo) -> Option<Lig
         Item::Emit { inst, map: _ } => match inst.group() {
             Group::Immediate | Group::Register => Some(without_use(8)),
             Group::Control => control_light(inst, frame, info),
-            Group::Sequence => None,
+            Group::Sequence | Group::Call => None,
             Group::Memory => memory_light(inst, frame, info),
         },
     }

@@ -1,6 +1,8 @@
 //! Emission of A64 instructions, and what lists of them are: their cells, bounds, faults, layout and records.
 #![tactic(auto)]
 
+mod call;
+mod call_extent;
 mod code;
 mod emit;
 mod error;
@@ -8,6 +10,7 @@ mod extent;
 mod halfword;
 mod label_use;
 mod mode;
+mod one_word;
 mod sequence;
 mod site;
 mod state;
@@ -16,13 +19,15 @@ mod tests;
 mod uses;
 mod word;
 
+pub use crate::call::Callee;
 pub use crate::code::Code;
 pub use a64_inst::Item;
 pub use emit::MachInstEmit;
 pub use error::EmitError;
 pub use extent::{Burden, Extent, Light, asked_space, burden_of, lesser, light_of};
-pub use halfword::has_halfword;
+pub use halfword::{has_halfword, restores_halfwords};
 pub use label_use::LabelUse;
+pub use one_word::is_one_word;
 pub use site::{Site, Table, Uses, near_label};
 pub use state::MachInstEmitState;
 pub use uses::uses_in;

@@ -22,7 +22,7 @@ use crate::word::sequence::{
 use a64_base::{ExternalName, MachLabel, Reg, Reloc, Writable};
 use a64_buffer::{MachBuffer, Target};
 use a64_imms::Imm12;
-use a64_inst::{EmitInfo, EmitState, Inst};
+use a64_inst::{EmitInfo, FrameLayout, Inst};
 use std::alloc::AllocError;
 
 #[cfg(test)]
@@ -205,15 +205,14 @@ pub fn emit_sequence(
     inst: &Inst,
     sink: &mut MachBuffer<'_, LabelUse>,
     info: &EmitInfo,
-    state: &mut EmitState,
+    _frame: &FrameLayout,
 ) -> Result<(), AllocError>
     requires group { group_of inst.now ≡ Sequence }
-    requires room { HasRoom sink.old (put_for state.old.frame info.now inst.now) }
-    requires fits { CellsFit sink.old (put_for state.old.frame info.now inst.now) }
-    requires good { has_operands state.old.frame info.now Refused inst.now ≡ true }
-    ensures ok { OnOk result (sink.new ≡ appended sink.old (put_for state.old.frame info.now inst.now)) }
-    ensures state { OnOk result (state.new ≡ state.old) }
-    ensures err { OnErr result (IsAppendedInPart sink.old sink.new (put_for state.old.frame info.now inst.now)) }
+    requires room { HasRoom sink.old (put_for _frame.now info.now inst.now) }
+    requires fits { CellsFit sink.old (put_for _frame.now info.now inst.now) }
+    requires good { has_operands _frame.now info.now Refused inst.now ≡ true }
+    ensures ok { OnOk result (sink.new ≡ appended sink.old (put_for _frame.now info.now inst.now)) }
+    ensures err { OnErr result (IsAppendedInPart sink.old sink.new (put_for _frame.now info.now inst.now)) }
 {
     match inst {
         Inst::JTSequence {

@@ -2,7 +2,7 @@
 
 ghost use Rattle.std.specs.Prelude.{◌≡◌, ◌≤◌, None, length};
 ghost use Rattle.a64_base.specs.declared.reg.Reg.{Reg};
-ghost use Rattle.a64_inst.specs.declared.group.Group.TheVariants.{Control, Memory, Sequence};
+ghost use Rattle.a64_inst.specs.declared.group.Group.TheVariants.{Call, Control, Memory, Sequence};
 ghost use Rattle.a64_inst.specs.Groups.{group_of};
 ghost use Rattle.a64_rows.specs.Forms.{Form};
 ghost use Rattle.a64_emit.specs.Cells as cells;
@@ -189,6 +189,15 @@ pub fn sequence_uses<'a>(inst: &'a Inst, _frame: &FrameLayout, info: &EmitInfo) 
     }
 }
 
+/// The uses of the words of a call, or of a return that calls: none is one.
+#[inline(always)]
+pub fn call_uses<'a>(_inst: &'a Inst, _frame: &FrameLayout, _info: &EmitInfo) -> Uses<'a>
+    requires { group_of _inst.now ≡ Call }
+    ensures { inst_uses _frame.now _info.now _inst.now ≡ listed_uses result }
+{
+    only_use(None)
+}
+
 /// The uses of the words of an instruction.
 #[inline(always)]
 pub fn uses_in<'a>(inst: &'a Inst, frame: &FrameLayout, info: &EmitInfo) -> Uses<'a>
@@ -198,6 +207,7 @@ pub fn uses_in<'a>(inst: &'a Inst, frame: &FrameLayout, info: &EmitInfo) -> Uses
         Group::Immediate | Group::Register => only_use(None),
         Group::Control => control_uses(inst, frame, info),
         Group::Sequence => sequence_uses(inst, frame, info),
+        Group::Call => call_uses(inst, frame, info),
         Group::Memory => memory_uses(inst, frame, info),
     }
 }

@@ -1,5 +1,6 @@
 //! The words of instructions.
 
+pub mod call;
 pub mod control;
 pub mod integer;
 pub mod memory;

@@ -22,6 +22,7 @@ use a64_inst::{EmitInfo, FrameLayout, Inst};
 pub const UDF_WORD: u32 = 0xc11f;
 
 /// The word of a branch, a hint or an access to a system register, where it is one word without a use.
+#[inline(always)]
 pub fn only_control_word(inst: &Inst, frame: &FrameLayout, info: &EmitInfo) -> Option<u32>
     requires group { group_of inst.now ≡ Control }
     requires good { has_operands frame.now info.now Refused inst.now ≡ true }
@@ -86,6 +87,7 @@ pub fn trap_if_word(kind: CondBrKind) -> u32
 
 /// The word of the conditional branch of a `TestBitAndBranch`, whose offset is zero as long as it has a label.
 #[tactic(auto, using(a64_inst::proofs::Good::target_fits, crate::proofs::Operands::general), unfolding(crate::specs::ControlForms::test_bit_and_branch_form))]
+#[inline(always)]
 pub fn test_bit_and_branch_word(
     kind: TestBitAndBranchKind,
     taken: BranchTarget,

@@ -1,7 +1,7 @@
 //! The words of loads and stores, and of addresses.
 
 pub mod access;
-mod address;
+pub mod address;
 pub mod step;
 
 ghost use Rattle.std.specs.Prelude.{◌≡◌, [], length, true, false, is_some, IfSome, MatchOption};
@@ -21,7 +21,7 @@ use crate::word::memory::access::{held_word, in_code_word, pair_word};
 use crate::word::memory::address::{address_count, address_words};
 use crate::word::memory::step::step_words;
 use a64_base::{TrapCode, writable_spilltmp_reg};
-use a64_inst::{AccessRef, EmitInfo, FrameLayout, Inst};
+use a64_inst::{AMode, AccessRef, EmitInfo, FrameLayout, Inst};
 use arrayvec::ArrayVec;
 
 /// Words of which only the last may be a use, and may trap.
@@ -91,6 +91,10 @@ pub fn held_memory_word(inst: &Inst, frame: &FrameLayout, _info: &EmitInfo) -> O
     ensures { IfSome result (λ last. AreSeveral [] last.word last.site last.trap (shape_of frame.now _info.now inst.now)) }
 {
     let access = inst.access_ref()?;
+    // The word of a literal is made from where the register stands. The other modes get a copy of it.
+    if let AMode::Const { addr: _ } = access.mem {
+        return Some(held_access(&access, frame));
+    }
     if access.mem.has_wide_offset() {
         return None;
     }

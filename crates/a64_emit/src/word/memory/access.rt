@@ -89,6 +89,7 @@ fn literal_bits(op: AccessOp) -> u32
 }
 
 /// The word of the load of a literal.
+#[inline(always)]
 pub fn literal_word(op: AccessOp, rt: Reg, words: u32) -> u32
     requires rt { is_data_register Refused op rt ≡ true }
     requires words { words < 2 ^ 19 }
@@ -98,6 +99,7 @@ pub fn literal_word(op: AccessOp, rt: Reg, words: u32) -> u32
 }
 
 /// The word of a load or a store of one register in a mode that stands in an instruction.
+#[inline(never)]
 pub fn held_word(op: AccessOp, rt: Reg, mode: &AMode) -> u32
     requires rt { is_data_register Refused op rt ≡ true }
     requires mode { are_held_parts op (parts_of mode.now) ≡ true }

@@ -62,7 +62,7 @@ fn sum_op(offset: i32) -> ALUOp
 }
 
 /// A number as the immediate of an addition, where that holds it.
-fn addend(n: u32) -> Option<Imm12>
+pub fn addend(n: u32) -> Option<Imm12>
     ensures { MatchOption result (memory.is_addend n ≡ false)
         (λ imm. (memory.is_addend n ≡ true) × (imm ≡ forms.addend n)) }
 {

@@ -1,0 +1,42 @@
+use Rattle.std.proofs.Common.{◌≡◌, true, [], ◌∷◌, map, refl, sym, subst}
+use Rattle.std.specs.List.{flat_map}
+use Rattle.a64_inst.specs.declared.call.CallRetPair.{CallRetPair}
+use Rattle.a64_inst.specs.declared.virtuals.VirtualRegisters.TheVariants.{Refused}
+use Rattle.a64_inst.specs.CallOperands.{are_call_defs}
+use Rattle.a64_emit.specs.Cells.{result_cells}
+use Rattle.a64_emit.specs.Emission.{appended, IsAppendedInPart, HasRoom, CellsFit}
+use Rattle.a64_emit.specs.Words.{as_put}
+use Rattle.a64_emit.proofs.Fitting.{of_error}
+use Rattle.a64_emit.proofs.Holding.{none_appended}
+use Rattle.a64_emit.proofs.Repeated.{one_room, one_fits, one_put, one_begun}
+use Rattle.a64_emit.proofs.Results.{results_more, result_each}
+use Rattle.a64_emit.proofs.call.emit_results.Goals as goal
+
+pub loop-pair-init : goal.loop-pair-init
+loop-pair-init c = none_appended c.args.sink.now
+
+pub emit_result-requires : goal.emit_result-requires
+emit_result-requires c =
+    let a = c.args in
+    let i = c.loop-pair.pair-index in
+    let d = c.pair-item.result in
+    record {
+      good = subst (λ (pair : CallRetPair). are_call_defs Refused (pair ∷ []) ≡ true) (sym c.pair-item.is) (result_each a.defs.now i d c.requires.good c.loop-pair-test.true);
+      room = subst (λ (pair : CallRetPair). HasRoom c.loop-pair.sink (map as_put (result_cells a.frame.now pair))) (sym c.pair-item.is) (one_room (λ (pair : CallRetPair). map as_put (result_cells a.frame.now pair)) (λ defs. map as_put (flat_map (result_cells a.frame.now) defs)) refl (results_more a.frame.now) a.sink.now a.defs.now i d c.loop-pair-test.true c.loop-pair.sink c.loop-pair.invariant c.requires.room);
+      fits = subst (λ (pair : CallRetPair). CellsFit c.loop-pair.sink (map as_put (result_cells a.frame.now pair))) (sym c.pair-item.is) (one_fits (λ (pair : CallRetPair). map as_put (result_cells a.frame.now pair)) (λ defs. map as_put (flat_map (result_cells a.frame.now) defs)) refl (results_more a.frame.now) a.sink.now a.defs.now i d c.loop-pair-test.true c.loop-pair.sink c.loop-pair.invariant c.requires.fits);
+    }
+
+pub returns-in_err-emit_result-clause-err : goal.returns-in_err-emit_result-clause-err
+returns-in_err-emit_result-clause-err c =
+    let a = c.args in
+    let i = c.loop-pair.pair-index in
+    let d = c.pair-item.result in
+    of_error c.from_residual.result (IsAppendedInPart a.sink.now c.emit_result.new.sink (map as_put (flat_map (result_cells a.frame.now) a.defs.now)))
+    (one_begun (λ (pair : CallRetPair). map as_put (result_cells a.frame.now pair)) (λ defs. map as_put (flat_map (result_cells a.frame.now) defs)) refl (results_more a.frame.now) a.sink.now a.defs.now i d c.loop-pair-test.true c.loop-pair.sink c.loop-pair.invariant c.emit_result.new.sink (subst (λ (pair : CallRetPair). IsAppendedInPart c.loop-pair.sink c.emit_result.new.sink (map as_put (result_cells a.frame.now pair))) c.pair-item.is c.in_err-emit_result.ensures.err))
+
+pub loop-pair-preserved : goal.loop-pair-preserved
+loop-pair-preserved c =
+    let a = c.args in
+    let i = c.loop-pair.pair-index in
+    let d = c.pair-item.result in
+    one_put (λ (pair : CallRetPair). map as_put (result_cells a.frame.now pair)) (λ defs. map as_put (flat_map (result_cells a.frame.now) defs)) refl (results_more a.frame.now) a.sink.now a.defs.now i d c.loop-pair-test.true c.loop-pair.sink c.loop-pair.invariant c.emit_result.new.sink (subst (λ (pair : CallRetPair). c.emit_result.new.sink ≡ appended c.loop-pair.sink (map as_put (result_cells a.frame.now pair))) c.pair-item.is c.in_ok-emit_result.ensures.ok)
