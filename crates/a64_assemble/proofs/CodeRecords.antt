@@ -22,17 +22,17 @@ use Rattle.a64_emit.specs.declared.site.Site.{Site}
 use Rattle.a64_emit.specs.LabelUses.{label_kinds}
 use Rattle.a64_emit.specs.Cells.{Cell, cell_word, cells_of}
 use Rattle.a64_emit.specs.Emission.{site_of, HasUse, IsPut}
-use Rattle.a64_emit.specs.Layout.{standing}
+use Rattle.a64_emit.specs.Layout.{standing, records_in}
 use Rattle.a64_emit.specs.Contents.{IsCellUse}
-use Rattle.a64_emit.specs.Records.{calls_of, patchable_of, maps_of, number_from, map_from, IsTrapOf, IsDeferredTrap, HasRecords}
+use Rattle.a64_emit.specs.Records.{IsTrapOf, IsDeferredTrap, HasRecords}
 use Rattle.a64_assemble.proofs.Arrivals.{no_use, IsOutput, old_site, final_use, final_index, stops_at, site_leads}
-use Rattle.a64_assemble.proofs.Recorded.{all_from-nothing, relocs_from_items, traps_exact}
+use Rattle.a64_assemble.proofs.Recorded.{relocs_from_items, calls_from_items, patchable_from_items, maps_from_items, traps_exact}
 use Rattle.a64_assemble.proofs.FieldKinds.{one_stop}
 use Rattle.a64_emit.proofs.Targets.{IsCodeTarget, IsCodeSite}
 use Rattle.a64_assemble.specs.Elements.{cells_in, elements_of}
 use Rattle.a64_assemble.specs.Progress.{HasPut}
 use Rattle.a64_assemble.specs.Owners.{AreOwned}
-use Rattle.a64_assemble.specs.CellRecords.{records_in, AreRecorded}
+use Rattle.a64_assemble.specs.CellRecords.{AreRecorded}
 use Rattle.a64_assemble.specs.TrapRecords.{IsStoppedTrap, HasTraps}
 use Rattle.a64_assemble.proofs.Leading.{standing_targets, trap_kind, code_no_end, all_put}
 use Rattle.a64_assemble.proofs.Placing.{all_cells_are}
@@ -133,7 +133,7 @@ module _ (frame : FrameLayout) (flags : EmitFlags) (items : List Item) (force : 
     relocs = relocs ∙ f.relocs ∙ ap (λ (rs : Records). rs.relocs) records_are ∙ relocs_from_items frame flags out.places.items items;
     traps_ordered = code_traps_ordered;
     traps = code_traps;
-    calls = calls ∙ f.calls ∙ ap (λ (rs : Records). rs.calls) records_are ∙ sym (all_from-nothing ◌+◌ (calls_of frame flags) (λ item. refl) out.places.items items);
-    patchable = patchable ∙ f.patchable ∙ ap (λ (rs : Records). rs.patchable) records_are ∙ sym (all_from-nothing number_from (patchable_of frame flags) (λ item. refl) out.places.items items);
-    maps = maps ∙ f.maps ∙ ap (λ (rs : Records). rs.maps) records_are ∙ sym (all_from-nothing map_from (maps_of frame flags) (λ item. refl) out.places.items items);
+    calls = calls ∙ f.calls ∙ ap (λ (rs : Records). rs.calls) records_are ∙ calls_from_items frame flags out.places.items items;
+    patchable = patchable ∙ f.patchable ∙ ap (λ (rs : Records). rs.patchable) records_are ∙ patchable_from_items frame flags out.places.items items;
+    maps = maps ∙ f.maps ∙ ap (λ (rs : Records). rs.maps) records_are ∙ maps_from_items frame flags out.places.items items;
   }

@@ -6,6 +6,7 @@ use Rattle.std.proofs.lemmas.Bool.{false≢true}
 use Rattle.std.proofs.lemmas.List.Elements.{All-cons, All-map}
 use Rattle.a64_base.specs.declared.entity.MachLabel.{MachLabel}
 use Rattle.a64_base.specs.declared.entity.TrapCode.{TrapCode}
+use Rattle.a64_base.specs.declared.entity.UserStackMap.{UserStackMap}
 use Rattle.a64_base.specs.declared.ir_type.IrType.{IrType}
 use Rattle.a64_base.specs.declared.ir_type.IrType.TheVariants.{I8}
 use Rattle.a64_base.specs.declared.reg.Reg.{Reg}
@@ -29,10 +30,11 @@ use Rattle.a64_emit.specs.declared.site.Site.{Site}
 use Rattle.a64_emit.specs.LabelUses.{label_kinds}
 use Rattle.a64_emit.specs.ControlForms as control
 use Rattle.a64_emit.specs.MemoryForms.{step_forms, offset_register, access_form}
-use Rattle.a64_emit.specs.Cells.{Cell, FormOf, branch, branches, entry_site, table_labels, table_jump, mode_site, shape_cells, access_shape, other_shape, several, inst_cells}
+use Rattle.a64_emit.specs.Cells.{Cell, FormOf, branch, branches, entry_site, table_labels, table_jump, mode_site, shape_cells, access_shape, other_shape, several, inst_cells, kept_by, keep, kept_cells, sites_of}
 use Rattle.a64_emit.specs.Bounds.{ranges_in, size_of, asked_of}
 use Rattle.a64_emit.specs.Contents.{site_class}
 use Rattle.a64_assemble.specs.Elements.{Words, Asking, element_of, elements_of, AreCompact, IsCompact}
+use Rattle.a64_emit.proofs.CallSites.{calls_sites}
 use Rattle.a64_emit.proofs.Several.{several_sites, address_sites}
 use Rattle.a64_emit.proofs.TableUses.{table_jump_sites}
 use Rattle.a64_rows.specs.Forms.{Form}
@@ -43,6 +45,9 @@ SiteIsCompact cells s = wants (site_class s) ≡ true → size_of cells + 28 * l
 
 no_sites : (cells : List Cell) → All (SiteIsCompact cells) []
 no_sites cells k d w = absurd (omega arith)
+
+unused_compact : (cells : List Cell) → sites_of cells ≡ [] → AreCompact cells
+unused_compact cells none = subst (All (SiteIsCompact cells)) (sym none) (no_sites cells)
 
 one_site : (cells : List Cell) (s : Site) → SiteIsCompact cells s → All (SiteIsCompact cells) (s ∷ [])
 one_site cells s h = All-cons (SiteIsCompact cells) s [] h (no_sites cells)
@@ -72,6 +77,12 @@ table_compact flags default targets ridx rtmp1 rtmp2 =
     subst (All (SiteIsCompact (table_jump flags default targets ridx rtmp1 rtmp2))) (sym (table_jump_sites flags default targets ridx rtmp1 rtmp2))
     (All-map (SiteIsCompact (table_jump flags default targets ridx rtmp1 rtmp2)) entry_site (table_labels default targets) (λ k d w want. absurd (false≢true want)))
 
+-- a map that is kept changes nothing of what uses want
+kept_compact : (kept : Option UserStackMap) (cells : List Cell) → AreCompact cells → AreCompact (keep kept cells)
+kept_compact None cells h = h
+kept_compact (Some kept) [] h = h
+kept_compact (Some kept) (c ∷ cs) h = h
+
 module _ (frame : FrameLayout) (flags : EmitFlags) where
   -- a label of a literal wants nothing; a constant's load is one word
   access_compact : (ty : IrType) (form : Form) (mem : AMode) (trap : Option TrapCode) → AreCompact (several (step_forms offset_register (final_steps frame ty mem)) (FormOf form) (mode_site mem) trap)
@@ -92,7 +103,11 @@ module _ (frame : FrameLayout) (flags : EmitFlags) where
   other_compact (insts.LabelAddress dst label) = one_site (shape_cells (other_shape frame flags (insts.LabelAddress dst label))) _ (λ w. absurd (false≢true w))
   other_compact (insts.TrapIf kind code) = one_site (shape_cells (other_shape frame flags (insts.TrapIf kind code))) _ (λ w. omega arith)
   other_compact (insts.JTSequence default targets ridx rtmp1 rtmp2) = table_compact flags default targets ridx rtmp1 rtmp2
-  other_compact (insts.LoadAddr rd mem) = subst (All (SiteIsCompact (shape_cells (other_shape frame flags (insts.LoadAddr rd mem))))) (sym (address_sites rd (step_forms offset_register (final_steps frame I8 mem)) (final_mode frame I8 mem))) (no_sites (shape_cells (other_shape frame flags (insts.LoadAddr rd mem))))
+  other_compact (insts.LoadAddr rd mem) = unused_compact (shape_cells (other_shape frame flags (insts.LoadAddr rd mem))) (address_sites rd (step_forms offset_register (final_steps frame I8 mem)) (final_mode frame I8 mem))
+  other_compact (insts.Call info) = unused_compact (shape_cells (other_shape frame flags (insts.Call info))) (calls_sites frame flags (insts.Call info) refl)
+  other_compact (insts.CallInd info) = unused_compact (shape_cells (other_shape frame flags (insts.CallInd info))) (calls_sites frame flags (insts.CallInd info) refl)
+  other_compact (insts.ReturnCall info) = unused_compact (shape_cells (other_shape frame flags (insts.ReturnCall info))) (calls_sites frame flags (insts.ReturnCall info) refl)
+  other_compact (insts.ReturnCallInd info) = unused_compact (shape_cells (other_shape frame flags (insts.ReturnCallInd info))) (calls_sites frame flags (insts.ReturnCallInd info) refl)
   other_compact _ = λ k d w. absurd (omega arith)
 
   pub inst_compact : (inst : Inst) → AreCompact (inst_cells frame flags inst)
@@ -108,8 +123,8 @@ module _ (frame : FrameLayout) (flags : EmitFlags) where
   element_compact (Bind label) = no_sites []
   element_compact (Emit inst kept) = go (asked_of inst)
     where
-      go : (o : Option ℕ) → IsCompact (elim o [ None ↦ Words (inst_cells frame flags inst) | Some space ↦ Asking space ])
-      go None = inst_compact inst
+      go : (o : Option ℕ) → IsCompact (elim o [ None ↦ Words (kept_cells frame flags inst kept) | Some space ↦ Asking space ])
+      go None = kept_compact (kept_by inst kept) (inst_cells frame flags inst) (inst_compact inst)
       go (Some space) = no_sites []
 
   -- items are compact

@@ -6,14 +6,18 @@ use Rattle.std.specs.List.{list_any}
 use Rattle.std.specs.Option.{option_map_or, option_or}
 use Rattle.std.proofs.lemmas.Bool.{le-ltb}
 use Rattle.a64_base.specs.declared.entity.MachLabel.{MachLabel}
+use Rattle.a64_base.specs.declared.entity.UserStackMap.{UserStackMap}
 use Rattle.a64_inst.specs.declared.emission.EmitFlags.{EmitFlags}
 use Rattle.a64_inst.specs.declared.frame.FrameLayout.{FrameLayout}
+use Rattle.a64_inst.specs.declared.inst.Inst.{Inst}
 use Rattle.a64_inst.specs.declared.item.Item.{Item}
+use Rattle.a64_inst.specs.declared.item.Item.TheVariants.{Emit}
 use Rattle.a64_buffer.specs.declared.force.ForceVeneers.{ForceVeneers}
 use Rattle.a64_emit.specs.declared.site.Site.{Site}
 use Rattle.a64_emit.specs.Bounds.{whole}
-use Rattle.a64_emit.specs.Cells.{cells_of, sites_of}
+use Rattle.a64_emit.specs.Cells.{inst_cells, kept_by, cells_of, sites_of}
 use Rattle.a64_emit.specs.Reach.{binding_index, near_label, is_near, has_near, first_some, is_far, far_label, first_far_from, reach}
+use Rattle.a64_emit.proofs.Keeping.{keep_sites}
 use Rattle.a64_assemble.specs.Tally.{HasBindings}
 use Rattle.a64_assemble.proofs.Bindings.{drop_item, drop_all}
 use Rattle.a64_assemble.proofs.Checked.{neither}
@@ -28,6 +32,10 @@ module _ (frame : FrameLayout) (flags : EmitFlags) (force : ForceVeneers) (items
   far_bound indices s i j site label near bound =
       ap (option_and_then (λ l. cond (is_far frame flags force items i l) (Some l) None)) near
       ∙ ap (λ o. cond (option_map_or (λ k. nat_lt (2 ^ 20 - 1) (reach frame flags force items i k)) o false) (Some label) None) (sym (s label) ∙ bound)
+
+  -- a map that is kept at an instruction leaves its uses
+  pub far_kept : (i : ℕ) (inst : Inst) (kept : Option UserStackMap) → first_some (far_label frame flags force items i) (sites_of (cells_of frame flags (Emit inst kept))) ≡ first_some (far_label frame flags force items i) (sites_of (inst_cells frame flags inst))
+  far_kept i inst kept = ap (first_some (far_label frame flags force items i)) (keep_sites (kept_by inst kept) (inst_cells frame flags inst))
 
   -- ---- item after item
 

@@ -16,7 +16,7 @@ use Rattle.a64_emit.specs.declared.site.Site.{Site}
 use Rattle.a64_emit.specs.LabelUses.{label_kinds}
 use Rattle.a64_emit.specs.Cells.{Cell, cell_word, cells_of}
 use Rattle.a64_emit.specs.Emission.{HasUse}
-use Rattle.a64_emit.specs.FormCells.{IsFormCell, HoldsHalfword}
+use Rattle.a64_emit.specs.FormCells.{IsFormCell, RestoresHalfwords, HoldsHalfword}
 use Rattle.a64_emit.specs.Faults.{own_fault}
 use Rattle.a64_emit.specs.Layout.{standing, Laid}
 use Rattle.a64_emit.proofs.InstForms.{item_forms}
@@ -43,8 +43,8 @@ module _ (frame : FrameLayout) (flags : EmitFlags) (items : List Item) where
       λ none. free_stands b code f out o s put (subst (λ (site : Option Site). MatchOption site (IsFree b.uses s.0) (HasUse b.uses s.0)) none put.site)
 
   -- each finished word is read back as the cell that stands there
-  pub items_read_back : (constants : FinMap nat_cmp (List ℕ)) (code : Code) → All HoldsHalfword items → own_fault frame flags constants items ≡ None → ((k : ℕ) → get_or code.bytes.items k 0 < 256) → Laid frame flags items code → All (StandsFree code.bytes.items) (standing (map (cells_of frame flags) items) code.places.items) → All (IsReadBack code.bytes.items) (standing (map (cells_of frame flags) items) code.places.items)
-  items_read_back constants code fit none small laid free k d w =
-      let forms = standing_all IsFormCell (cells_of frame flags) items code.places.items (λ i e h. item_forms frame flags constants (get_or items i e) (fit i e h) (none_at frame flags constants 0 items i e none h)) in
+  pub items_read_back : (constants : FinMap nat_cmp (List ℕ)) (code : Code) → RestoresHalfwords frame → All HoldsHalfword items → own_fault frame flags constants items ≡ None → ((k : ℕ) → get_or code.bytes.items k 0 < 256) → Laid frame flags items code → All (StandsFree code.bytes.items) (standing (map (cells_of frame flags) items) code.places.items) → All (IsReadBack code.bytes.items) (standing (map (cells_of frame flags) items) code.places.items)
+  items_read_back constants code restored fit none small laid free k d w =
+      let forms = standing_all IsFormCell (cells_of frame flags) items code.places.items (λ i e h. item_forms frame flags restored constants (get_or items i e) (fit i e h) (none_at frame flags constants 0 items i e none h)) in
       let opens = standing_all IsOpenCell (cells_of frame flags) items code.places.items (λ i e h. item_open frame flags (get_or items i e)) in
       reads_back code.bytes.items (get_or (standing (map (cells_of frame flags) items) code.places.items) k d) small (laid.cells k d w) (free k d w) (forms k d w) (opens k d w)

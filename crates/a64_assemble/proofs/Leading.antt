@@ -18,7 +18,7 @@ use Rattle.a64_emit.specs.declared.code.Code.{Code}
 use Rattle.a64_emit.specs.declared.label_use.LabelUse.{LabelUse}
 use Rattle.a64_emit.specs.declared.site.Site.{Site}
 use Rattle.a64_emit.specs.LabelUses.{label_kinds, adds_distance}
-use Rattle.a64_emit.specs.Cells.{Cell, cell_word, cells_of, sites_of}
+use Rattle.a64_emit.specs.Cells.{Cell, cell_word, inst_cells, kept_by, cells_of, sites_of}
 use Rattle.a64_emit.specs.Emission.{HasUse, IsPut}
 use Rattle.a64_emit.specs.Layout.{standing}
 use Rattle.a64_emit.specs.Leads.{Leads, SiteLeads, UseStops, CellStops, IsTrapUse, IsDeferred, HaveOwnTraps}
@@ -26,6 +26,7 @@ use Rattle.a64_assemble.proofs.Arrivals.{no_use, IsOutput, FinalUse, final_use, 
 use Rattle.a64_assemble.proofs.Everywhere.{standing_all}
 use Rattle.a64_assemble.proofs.Rising.{standing_rising}
 use Rattle.a64_assemble.proofs.Sites.{found_in}
+use Rattle.a64_emit.proofs.Keeping.{keep_sites}
 use Rattle.a64_emit.proofs.Targets.{IsCodeTarget, IsCodeSite, inst_targets}
 use Rattle.a64_assemble.proofs.FieldKinds.{one_stop}
 use Rattle.a64_assemble.specs.Elements.{Asking, cells_in, elements_of, element_of, element_at}
@@ -49,7 +50,7 @@ cells_targets cells all k d h = go (get_or cells k d).site refl
 module _ (frame : FrameLayout) (flags : EmitFlags) where
   item_targets : (item : Item) → All HasCodeTarget (cells_of frame flags item)
   item_targets (Bind label) = λ k d h. absurd (omega arith)
-  item_targets (Emit inst kept) = cells_targets (cells_of frame flags (Emit inst kept)) (inst_targets frame flags inst)
+  item_targets (Emit inst kept) = cells_targets (cells_of frame flags (Emit inst kept)) (subst (All IsCodeSite) (sym (keep_sites (kept_by inst kept) (inst_cells frame flags inst))) (inst_targets frame flags inst))
 
   -- the uses of cells that stand are of labels, constants and deferred traps
   pub standing_targets : (items : List Item) (places : List ℕ) → All (λ s. HasCodeTarget s.1) (standing (map (cells_of frame flags) items) places)

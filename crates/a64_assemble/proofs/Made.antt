@@ -15,7 +15,7 @@ use Rattle.a64_emit.specs.declared.label_use.LabelUse.{LabelUse}
 use Rattle.a64_emit.specs.LabelUses.{label_kinds}
 use Rattle.a64_emit.specs.Bounds.{whole}
 use Rattle.a64_emit.specs.Cells.{cells_of, sites_of, all_cells}
-use Rattle.a64_emit.specs.FormCells.{HoldsHalfword}
+use Rattle.a64_emit.specs.FormCells.{RestoresHalfwords, HoldsHalfword}
 use Rattle.a64_emit.specs.Faults.{own_fault, second_binding, unbound_use, too_large, or_else, fault_of}
 use Rattle.a64_emit.specs.Reach.{out_of_reach, first_far_from, is_quiet}
 use Rattle.a64_emit.specs.Layout.{standing}
@@ -72,15 +72,15 @@ module _ (frame : FrameLayout) (flags : EmitFlags) (force : ForceVeneers) (items
       output : IsOutput m.finished code
       output = record { bytes = m.handed_out.bytes; labels = m.handed_out.labels; islands = m.handed_out.islands; pool = m.handed_out.pool; traps = m.handed_out.traps }
 
-      pub assembled : All HoldsHalfword items → fault_of frame flags constants force items ≡ None → IsAssembled frame flags constants force items code
-      assembled fit none = record {
+      pub assembled : RestoresHalfwords frame → All HoldsHalfword items → fault_of frame flags constants force items ≡ None → IsAssembled frame flags constants force items code
+      assembled restored fit none = record {
         no_fault = none;
         laid = is_laid frame flags items force m.buffer m.finished m.is_finished code output m.put.put;
         leads = subst (λ (cs : FinMap nat_cmp (List ℕ)). Leads code cs (standing (map (cells_of frame flags) items) code.places.items)) m.constants_are (code_leads frame flags items force m.buffer m.finished m.is_finished code output m.put.put);
         own_traps = code_own_traps frame flags items force m.buffer m.finished m.is_finished code output m.put.put;
         records = code_records frame flags items force m.buffer m.finished m.is_finished code output m.put.put m.put.owned m.put.recorded m.handed_out.relocs m.handed_out.calls m.handed_out.patchable m.handed_out.maps;
         read_back =
-            items_read_back frame flags items constants code fit
+            items_read_back frame flags items constants code restored fit
             (earlier_none (own_fault frame flags constants items) (or_else (second_binding items) (or_else (unbound_use frame flags items) (or_else (too_large frame flags items) (out_of_reach frame flags force items)))) none)
             m.small (is_laid frame flags items force m.buffer m.finished m.is_finished code output m.put.put) (all_free frame flags items force m.buffer m.finished m.is_finished code output m.put.put);
         islands = islands_by_need frame flags items force m.buffer m.finished m.is_finished code output good m.put.put m.put.owned;

@@ -1,23 +1,21 @@
 -- What one element leaves: room for what follows, length, labels, and all that was there.
-use Rattle.std.proofs.Common.{ℕ, ℤ, zero, suc, ◌≡◌, ◌⊎◌, ◌+◌, ◌-◌, ◌*◌, ◌<◌, ◌≤◌, true, List, [], ◌∷◌, ◌++◌, length, get_or, map, Option, None, Some, refl, sym, ap, ◌∙◌, subst, arith, inl, inr}
+use Rattle.std.proofs.Common.{ℕ, zero, suc, ◌≡◌, ◌⊎◌, ◌+◌, ◌-◌, ◌*◌, ◌<◌, ◌≤◌, true, List, [], ◌∷◌, ◌++◌, length, get_or, map, Option, None, Some, refl, sym, ap, ◌∙◌, subst, arith, inl, inr}
 use Rattle.std.specs.Prelude.{All}
 use Rattle.std.specs.Option.{unwrap_or}
 use Rattle.std.specs.FinMap.{get, insert}
 use Rattle.std.proofs.lemmas.Bool.{cases_eq}
 use Rattle.std.proofs.lemmas.List.{append-nil, get_or_append_left, length-append}
 use Rattle.std.proofs.lemmas.List.Elements.{All-append}
-use Rattle.a64_base.specs.declared.entity.ExternalName.{ExternalName}
-use Rattle.a64_base.specs.declared.entity.Reloc.{Reloc}
 use Rattle.a64_base.specs.declared.entity.TrapCode.{TrapCode}
 use Rattle.a64_buffer.specs.declared.site.Use.{Use}
 use Rattle.a64_buffer.specs.declared.force.ForceVeneers.{ForceVeneers}
 use Rattle.a64_buffer.specs.declared.force.ForceVeneers.TheVariants.{No}
-use Rattle.a64_buffer.specs.Buffer.{Records, Buffer, end_of}
+use Rattle.a64_buffer.specs.Buffer.{Buffer, end_of}
 use Rattle.a64_buffer.specs.Classes.{Level, third, wants, cost, level_of, class, range_of, is_open, burden, owed, Fits}
 use Rattle.a64_buffer.specs.Later.{IsSameUse, HasMoreTraps, HasMoreRecords, IsLater}
 use Rattle.a64_buffer.specs.Sound.{IsWhole}
 use Rattle.a64_buffer.proofs.Costs.{weight-append, burden_third}
-use Rattle.a64_buffer.proofs.Laters.{same_use, same_records, later_none, later_trans}
+use Rattle.a64_buffer.proofs.Laters.{same_use, later_none, later_trans}
 use Rattle.a64_buffer.proofs.Rooms.{open_wants, less_room, end_room}
 use Rattle.a64_buffer.proofs.Sounds.{bind_weight, bind_room}
 use Rattle.a64_buffer.proofs.Sounds as sounds
@@ -27,12 +25,13 @@ use Rattle.a64_emit.specs.LabelUses.{label_kinds}
 use Rattle.a64_emit.specs.LabelLaws.{label_kinds_lawful}
 use Rattle.a64_emit.specs.Cells.{Cell, Data, no_marks, cell_word, sites_of}
 use Rattle.a64_emit.specs.Bounds.{ranges_in, size_of, charge_of}
-use Rattle.a64_emit.specs.Layout.{placed, relocs_in, traps_in}
+use Rattle.a64_emit.specs.Layout.{placed, relocs_in, calls_in, patchable_in, maps_in, traps_in}
 use Rattle.a64_emit.specs.Emission.{uses_from, appended, site_of, CellsFit, Binds}
 use Rattle.a64_emit.specs.Contents.{site_class}
 use Rattle.a64_assemble.specs.Elements.{Element, Binding, Words, Asking, size_in, growth_in, hosts, AreCompact, add_more, words_room, next_room, room_of}
 use Rattle.a64_assemble.specs.Asks.{Asks, AsksNext, PutsWords, Moves, MayMove}
 use Rattle.a64_emit.proofs.Burdens.{new_burden}
+use Rattle.a64_emit.proofs.Holding.{same_holding, no_more}
 use Rattle.a64_assemble.proofs.Later.{made_from, new_from, longer}
 use Rattle.a64_assemble.proofs.Marked.{between}
 use Rattle.a64_assemble.proofs.Sites.{found_in}
@@ -44,14 +43,7 @@ no_cell = record { body = Data 0; site = None; marks = no_marks }
 
 -- without cells nothing changes
 pub appended_none : (b : Buffer LabelUse) → appended b [] ≡ b
-appended_none b =
-    ap (λ ws. record b { words = ws; uses = b.uses ++ []; traps = b.traps ++ []; records = more (b.records.relocs ++ []) }) (append-nil b.words)
-    ∙ ap (λ us. record b { uses = us; traps = b.traps ++ []; records = more (b.records.relocs ++ []) }) (append-nil b.uses)
-    ∙ ap (λ ts. record b { traps = ts; records = more (b.records.relocs ++ []) }) (append-nil b.traps)
-    ∙ ap (λ rs. record b { records = more rs }) (append-nil b.records.relocs)
-  where
-    more : List (ℕ × Reloc × ExternalName × ℤ) → Records
-    more relocs = record b.records { relocs = relocs }
+appended_none b = same_holding b _ _ _ _ _ _ _ _ (append-nil b.words) (append-nil b.uses) (append-nil b.traps) (no_more b.records)
 
 module _ (b : Buffer LabelUse) (cells : List Cell) where
   fresh : List (Use LabelUse)
@@ -118,11 +110,14 @@ module _ (b : Buffer LabelUse) (cells : List Cell) where
             | inr ne ↦ let x = rise i j d (omega arith) (omega arith) in omega (arith, x, step, next)
           ]
 
-  -- and their relocations, behind those of before
+  -- and what else they record, behind what was recorded before
   later_records : HasMoreRecords b.records (appended b cells).records
-  later_records =
-      let same = same_records b.records in
-      record { relocs = record { more = relocs_in (placed (end_of b) cells); are = refl }; calls = same.calls; patchable = same.patchable; maps = same.maps }
+  later_records = record {
+    relocs = record { more = relocs_in (placed (end_of b) cells); are = refl };
+    calls = record { more = calls_in (placed (end_of b) cells); are = refl };
+    patchable = record { more = patchable_in (placed (end_of b) cells); are = refl };
+    maps = record { more = maps_in (placed (end_of b) cells); are = refl };
+  }
 
   pub put_later : IsLater b (appended b cells)
   put_later = record {

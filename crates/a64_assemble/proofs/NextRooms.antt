@@ -10,7 +10,7 @@ use Rattle.a64_inst.specs.declared.item.Item.{Item}
 use Rattle.a64_inst.specs.declared.item.Item.TheVariants.{Bind, Emit}
 use Rattle.a64_emit.specs.declared.extent.Light.{Light}
 use Rattle.a64_emit.specs.Bounds.{IsExtent, item_charge, charge_of, growth_of, asked}
-use Rattle.a64_emit.specs.Cells.{Cell, cells_of, inst_cells}
+use Rattle.a64_emit.specs.Cells.{Cell, cells_of, kept_cells}
 use Rattle.a64_emit.specs.Lights.{IsLight}
 use Rattle.a64_assemble.specs.Elements.{Element, Binding, Words, Asking, size_in, charge_in, space_in, growth_in, add_more, element_of, elements_of, whole_in, next_room}
 use Rattle.a64_assemble.proofs.Itemized.{cells_same}
@@ -62,8 +62,8 @@ module _ (frame : FrameLayout) (flags : EmitFlags) where
   sized : (x : Item) → asked x ≡ None → size_in (element_of frame flags x) ≡ 0 → charge_in (element_of frame flags x) + space_in (element_of frame flags x) ≡ 0
   sized (Bind label) none s = refl
   sized (Emit inst kept) none s =
-      let is : element_of frame flags (Emit inst kept) ≡ Words (inst_cells frame flags inst) = ap (λ o. elim o [ None ↦ Words (inst_cells frame flags inst) | Some space ↦ Asking space ]) none in
-      ap (λ x. charge_in x + space_in x) is ∙ empty (inst_cells frame flags inst) (sym (ap size_in is) ∙ s)
+      let is : element_of frame flags (Emit inst kept) ≡ Words (kept_cells frame flags inst kept) = ap (λ o. elim o [ None ↦ Words (kept_cells frame flags inst kept) | Some space ↦ Asking space ]) none in
+      ap (λ x. charge_in x + space_in x) is ∙ empty (kept_cells frame flags inst kept) (sym (ap size_in is) ∙ s)
     where
       empty : (cells : List Cell) → size_in (Words cells) ≡ 0 → charge_of cells + 0 ≡ 0
       empty [] s = refl

@@ -7,6 +7,7 @@ use Rattle.a64_base.specs.declared.cond.CondBrKind.TheVariants.{Zero, NotZero, C
 use Rattle.a64_base.specs.declared.cond.TestBitAndBranchKind.{TestBitAndBranchKind}
 use Rattle.a64_base.specs.declared.entity.MachLabel.{MachLabel}
 use Rattle.a64_base.specs.declared.entity.TrapCode.{TrapCode}
+use Rattle.a64_base.specs.declared.entity.UserStackMap.{UserStackMap}
 use Rattle.a64_base.specs.declared.ir_type.IrType.{IrType}
 use Rattle.a64_base.specs.declared.ir_type.IrType.TheVariants.{I8}
 use Rattle.a64_base.specs.declared.reg.Reg.{Reg}
@@ -33,7 +34,8 @@ use Rattle.a64_emit.specs.LabelUses.{mask_for}
 use Rattle.a64_emit.specs.IntegerForms.{adr_form}
 use Rattle.a64_emit.specs.ControlForms.{jump_form, cond_br_form, trap_if_form, test_bit_and_branch_form, label_address_form}
 use Rattle.a64_emit.specs.MemoryForms.{step_forms, offset_register, literal_form, held_form, access_steps, access_form}
-use Rattle.a64_emit.specs.Cells.{Body, FormOf, Data, Cell, plain, branch, trap_site, last_cell, several, entry_site, table_labels, table_cells, table_forms, table_jump, mode_site, shape_cells, access_shape, other_shape, inst_cells, cells_of, sites_of}
+use Rattle.a64_emit.specs.Cells.{Body, FormOf, Data, Cell, plain, branch, trap_site, last_cell, several, entry_site, table_labels, table_cells, table_forms, table_jump, mode_site, shape_cells, access_shape, other_shape, inst_cells, kept_by, keep, cells_of, sites_of}
+use Rattle.a64_emit.proofs.CallSites.{calls_sites}
 use Rattle.a64_emit.proofs.Several.{address_sites}
 use Rattle.a64_assemble.proofs.ReadingBack.{IsOpenTo, IsOpenUse, IsOpenCell, open_branch26, open_branch_cond, open_compare_branch, open_test_branch, open_adr, open_ld_literal}
 
@@ -127,6 +129,13 @@ mode_open op rt frame ty _ = tt
 
 -- ---- instructions
 
+-- a map that is kept at words leaves their uses
+kept_open : (kept : Option UserStackMap) (cells : List Cell) → All IsOpenCell cells → All IsOpenCell (keep kept cells)
+kept_open None cells all k d h = all k d h
+kept_open (Some kept) [] all k d h = absurd (omega arith)
+kept_open (Some kept) (c ∷ cs) all zero d h = all 0 c (omega arith)
+kept_open (Some kept) (c ∷ cs) all (suc k) d h = all (suc k) d (omega arith)
+
 module _ (frame : FrameLayout) (flags : EmitFlags) where
   other_open : (inst : Inst) → (sites_of (shape_cells (other_shape frame flags inst)) ≡ []) ⊎ All IsOpenCell (shape_cells (other_shape frame flags inst))
   other_open (insts.Jump dest) = inr (only_cell (branch (jump_form dest) uses.Branch26 dest) (branch_open (jump_form dest) uses.Branch26 dest (jump_open dest)))
@@ -137,6 +146,10 @@ module _ (frame : FrameLayout) (flags : EmitFlags) where
       inr (only_cell (branch (label_address_form dst) uses.Adr21 (branch_targets.Label label)) (branch_open (label_address_form dst) uses.Adr21 (branch_targets.Label label) (address_open dst)))
   other_open (insts.JTSequence default targets ridx rtmp1 rtmp2) = inr (table_open flags default targets ridx rtmp1 rtmp2)
   other_open (insts.LoadAddr rd mem) = inl (address_sites rd (step_forms offset_register (final_steps frame I8 mem)) (final_mode frame I8 mem))
+  other_open (insts.Call info) = inl (calls_sites frame flags (insts.Call info) refl)
+  other_open (insts.CallInd info) = inl (calls_sites frame flags (insts.CallInd info) refl)
+  other_open (insts.ReturnCall info) = inl (calls_sites frame flags (insts.ReturnCall info) refl)
+  other_open (insts.ReturnCallInd info) = inl (calls_sites frame flags (insts.ReturnCallInd info) refl)
   other_open _ = inl refl
 
   other_all : (inst : Inst) → All IsOpenCell (shape_cells (other_shape frame flags inst))
@@ -157,4 +170,4 @@ module _ (frame : FrameLayout) (flags : EmitFlags) where
 
   pub item_open : (item : Item) → All IsOpenCell (cells_of frame flags item)
   item_open (Bind label) = λ k d h. absurd (omega arith)
-  item_open (Emit inst kept) = inst_open inst
+  item_open (Emit inst kept) = kept_open (kept_by inst kept) (inst_cells frame flags inst) (inst_open inst)

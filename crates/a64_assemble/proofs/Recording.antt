@@ -23,8 +23,9 @@ use Rattle.a64_buffer.specs.Pieces.{Serves, IsServed, StopsAtPiece}
 use Rattle.a64_emit.specs.declared.label_use.LabelUse.{LabelUse}
 use Rattle.a64_emit.specs.LabelUses.{label_kinds}
 use Rattle.a64_emit.specs.Cells.{Cell}
-use Rattle.a64_emit.specs.Layout.{placed, standing, reloc_at, relocs_in, trap_at, traps_in}
+use Rattle.a64_emit.specs.Layout.{placed, standing, reloc_at, call_at, patchable_at, map_at, trap_at, traps_in, records_in, more_records}
 use Rattle.a64_emit.specs.Emission.{appended}
+use Rattle.a64_emit.proofs.Holding.{same_records}
 use Rattle.a64_assemble.proofs.Arrivals.{no_use}
 use Rattle.a64_assemble.proofs.Later.{longer}
 use Rattle.a64_assemble.proofs.Marked.{ordered_behind, ordered_more, below_more}
@@ -32,7 +33,7 @@ use Rattle.a64_assemble.proofs.Sites.{standing-push}
 use Rattle.a64_assemble.proofs.PieceTraps.{piece_traps_between}
 use Rattle.a64_assemble.specs.Elements.{Element, Binding, Words, Asking, cells_in, next_room, element_at}
 use Rattle.a64_assemble.specs.Asks.{Asks, AsksNext, PutsWords, Moves}
-use Rattle.a64_assemble.specs.CellRecords.{records_in, HasRecorded, AreRecorded}
+use Rattle.a64_assemble.specs.CellRecords.{HasRecorded, AreRecorded}
 use Rattle.a64_assemble.specs.TrapRecords.{IsStoppedTrap, HasTraps}
 use Rattle.a64_assemble.proofs.Moving.{put_later}
 
@@ -193,24 +194,28 @@ next_records : (force : ForceVeneers) (o : Option ℕ) (m b' : Buffer LabelUse) 
 next_records force None m b' e = ap (λ (v : Buffer LabelUse). v.records) e
 next_records force (Some x) m b' a = asked_records x No force m b' a
 
+-- what some cells record, and others behind them, is what all of them do
+records_append : (old new : List (ℕ × Cell)) → more_records (records_in old) (records_in new) ≡ records_in (old ++ new)
+records_append old new =
+    same_records _ _ _ _ _ _ _ _
+    (sym (filter_map-append reloc_at old new)) (sym (filter_map-append call_at old new)) (sym (filter_map-append patchable_at old new)) (sym (filter_map-append map_at old new))
+
 module _ (old : List (ℕ × Cell)) (b : Buffer LabelUse) (h : b.records ≡ records_in old) where
   -- cells at the end record what they do
   cells_records : (cells : List Cell) → (appended b cells).records ≡ records_in (old ++ placed (end_of b) cells)
-  cells_records cells =
-      ap (λ (rs : Records). record rs { relocs = rs.relocs ++ relocs_in (placed (end_of b) cells) }) h
-      ∙ ap (λ rs. record (records_in old) { relocs = rs }) (sym (filter_map-append reloc_at old (placed (end_of b) cells)))
+  cells_records cells = ap (λ (rs : Records). more_records rs (records_in (placed (end_of b) cells))) h ∙ records_append old (placed (end_of b) cells)
 
-  same_records : b.records ≡ records_in (old ++ [])
-  same_records = h ∙ ap records_in (sym (append-nil old))
+  no_new_records : b.records ≡ records_in (old ++ [])
+  no_new_records = h ∙ ap records_in (sym (append-nil old))
 
   words_records : (force : ForceVeneers) (cells : List Cell) (rest : List Element) (b' : Buffer LabelUse) → PutsWords force cells rest b b' → b'.records ≡ records_in (old ++ placed (end_of b) cells)
-  words_records force [] rest b' p = ap (λ (v : Buffer LabelUse). v.records) p ∙ same_records
+  words_records force [] rest b' p = ap (λ (v : Buffer LabelUse). v.records) p ∙ no_new_records
   words_records force (c ∷ cs) rest b' p = next_records force (next_room rest) (appended b (c ∷ cs)) b' p ∙ cells_records (c ∷ cs)
 
   element_records : (force : ForceVeneers) (x : Element) (rest : List Element) (b' : Buffer LabelUse) → Moves force x rest b b' → b'.records ≡ records_in (old ++ placed (end_of b) (cells_in x))
-  element_records force (Binding label) rest b' p = ap (λ (v : Buffer LabelUse). v.records) p ∙ same_records
+  element_records force (Binding label) rest b' p = ap (λ (v : Buffer LabelUse). v.records) p ∙ no_new_records
   element_records force (Words cells) rest b' p = words_records force cells rest b' p
-  element_records force (Asking space) rest b' p = asked_records space force force b b' p ∙ same_records
+  element_records force (Asking space) rest b' p = asked_records space force force b b' p ∙ no_new_records
 
 -- ---- element by element
 

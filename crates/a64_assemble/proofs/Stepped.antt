@@ -1,5 +1,5 @@
 -- One item more is put, by its emission and an island behind it.
-use Rattle.std.proofs.Common.{ℕ, ◌≡◌, ◌≢◌, ◌+◌, ◌^◌, ◌<◌, List, [], ◌∷◌, Option, None, Some, refl, sym, ap, ◌∙◌, subst, arith, inl, inr, nat_cmp, Result, Ok, Err}
+use Rattle.std.proofs.Common.{ℕ, ◌≡◌, ◌≢◌, ◌+◌, ◌*◌, ◌^◌, ◌<◌, List, [], ◌∷◌, ◌++◌, length, Option, None, Some, refl, sym, ap, ◌∙◌, subst, arith, inl, inr, nat_cmp, Result, Ok, Err}
 use Rattle.std.specs.Prelude.{OnOk, IsSome}
 use Rattle.std.specs.FinMap.{FinMap}
 use Rattle.std.proofs.lemmas.Bool.{false≢true}
@@ -7,6 +7,7 @@ use Rattle.a64_inst.specs.declared.virtuals.VirtualRegisters.TheVariants.{Refuse
 use Rattle.a64_inst.specs.Faults.{inst_fault}
 use Rattle.a64_inst.specs.State.{State}
 use Rattle.a64_emit.proofs.Asked.{asked_words}
+use Rattle.a64_emit.proofs.Keeping.{keep_length, keep_uses_from}
 use Rattle.std.proofs.lemmas.List.{append-nil}
 use Rattle.a64_inst.specs.declared.emission.EmitFlags.{EmitFlags}
 use Rattle.a64_inst.specs.declared.frame.FrameLayout.{FrameLayout}
@@ -21,9 +22,9 @@ use Rattle.a64_buffer.specs.Sound.{IsWhole}
 use Rattle.a64_buffer.specs.declared.force.ForceVeneers.TheVariants.{No, Yes}
 use Rattle.a64_emit.specs.declared.label_use.LabelUse.{LabelUse}
 use Rattle.a64_emit.specs.LabelUses.{label_kinds}
-use Rattle.a64_emit.specs.Cells.{Cell, inst_cells}
+use Rattle.a64_emit.specs.Cells.{Cell, inst_cells, kept_by, keep, kept_cells}
 use Rattle.a64_emit.specs.Bounds.{asked_of}
-use Rattle.a64_emit.specs.Emission.{appended, HasRoom, CellsFit, IsReady, Puts, Emits}
+use Rattle.a64_emit.specs.Emission.{uses_from, appended, HasRoom, CellsFit, IsReady, Puts, Emits}
 use Rattle.a64_assemble.specs.Elements.{Element, Words, Asking, element_of, next_room}
 use Rattle.a64_assemble.specs.Asks.{AsksNext, PutsWords, MayMove, Moves, HasNextRoom, NeedsNone}
 use Rattle.a64_assemble.proofs.Moving.{appended_none, words_fit, put_owed}
@@ -71,15 +72,25 @@ module _ (force : ForceVeneers) (rest : List Element) (b : Buffer LabelUse) wher
 
 -- ---- items
 
+-- a map that is kept at words changes neither the room that they need, nor what their uses do
+module _ (b : Buffer LabelUse) where
+  kept_room : (kept : Option UserStackMap) (cells : List Cell) → HasRoom b (keep kept cells) → HasRoom b cells
+  kept_room kept cells room = omega (arith, room, keep_length kept cells)
+
+  kept_fit : (kept : Option UserStackMap) (cells : List Cell) → CellsFit b (keep kept cells) → CellsFit b cells
+  kept_fit kept cells fit =
+      subst (λ us. classes.HasRoom label_kinds (end_of b) (b.uses ++ us) (4 * length cells)) (keep_uses_from kept b.labels (end_of b) cells)
+      (subst (λ n. classes.HasRoom label_kinds (end_of b) (b.uses ++ uses_from b.labels (end_of b) (keep kept cells)) (4 * n)) (keep_length kept cells) fit)
+
 module _ (frame : FrameLayout) (flags : EmitFlags) where
   -- an instruction is its words, or asks for an island
-  pub words_element : (inst : Inst) (kept : Option UserStackMap) → asked_of inst ≡ None → element_of frame flags (Emit inst kept) ≡ Words (inst_cells frame flags inst)
-  words_element inst kept e = ap (λ (o : Option ℕ). elim o [ None ↦ Words (inst_cells frame flags inst) | Some space ↦ Asking space ]) e
+  pub words_element : (inst : Inst) (kept : Option UserStackMap) → asked_of inst ≡ None → element_of frame flags (Emit inst kept) ≡ Words (kept_cells frame flags inst kept)
+  words_element inst kept e = ap (λ (o : Option ℕ). elim o [ None ↦ Words (kept_cells frame flags inst kept) | Some space ↦ Asking space ]) e
 
   pub asking_element : (inst : Inst) (kept : Option UserStackMap) (space : ℕ) → asked_of inst ≡ Some space → element_of frame flags (Emit inst kept) ≡ Asking space
-  asking_element inst kept space e = ap (λ (o : Option ℕ). elim o [ None ↦ Words (inst_cells frame flags inst) | Some space ↦ Asking space ]) e
+  asking_element inst kept space e = ap (λ (o : Option ℕ). elim o [ None ↦ Words (kept_cells frame flags inst kept) | Some space ↦ Asking space ]) e
 
-  -- what an item needs is what the emission of its instruction needs
+  -- what an item needs is what the emission of its instruction needs, whatever map is kept
   pub emit_ready : (constants : FinMap nat_cmp (List ℕ)) (inst : Inst) (kept : Option UserStackMap) (rest : List Element) (b : Buffer LabelUse) → b.constants ≡ constants → inst_fault frame flags constants Refused inst ≡ None → MayMove (element_of frame flags (Emit inst kept)) rest b → IsReady b frame flags inst
   emit_ready constants inst kept rest b same good may = go (asked_of inst) refl
     where
@@ -88,11 +99,11 @@ module _ (frame : FrameLayout) (flags : EmitFlags) where
 
       go : (o : Option ℕ) → asked_of inst ≡ o → IsReady b frame flags inst
       go None e =
-          let words : MayMove (Words (inst_cells frame flags inst)) rest b = subst (λ (x : Element). MayMove x rest b) (words_element inst kept e) may in
+          let words : MayMove (Words (kept_cells frame flags inst kept)) rest b = subst (λ (x : Element). MayMove x rest b) (words_element inst kept e) may in
           record {
-            room = words_room No rest b (inst_cells frame flags inst) words;
+            room = kept_room b (kept_by inst kept) (inst_cells frame flags inst) (words_room No rest b (kept_cells frame flags inst kept) words);
             island = λ asks. absurd (false≢true (subst (λ (o : Option ℕ). IsSome o) e asks));
-            fits = cells_fit No rest b (inst_cells frame flags inst) words;
+            fits = kept_fit b (kept_by inst kept) (inst_cells frame flags inst) (cells_fit No rest b (kept_cells frame flags inst kept) words);
             good = is_good;
           }
       go (Some space) e =
@@ -104,20 +115,17 @@ module _ (frame : FrameLayout) (flags : EmitFlags) where
             good = is_good;
           }
 
-  -- and in quiet code all that is done
-  pub emit_moves : (force : ForceVeneers) (state : State) (inst : Inst) (kept : Option UserStackMap) (rest : List Element) (b b' : Buffer LabelUse) → state.frame ≡ frame → MayMove (element_of frame flags (Emit inst kept)) rest b → NeedsNone force (element_of frame flags (Emit inst kept)) rest b → IsWhole label_kinds b' → Emits flags state inst b b' → Moves force (element_of frame flags (Emit inst kept)) rest b b'
-  emit_moves force state inst kept rest b b' same may none is_whole emitted = go (asked_of inst) refl emitted
-    where
-      cells_are : inst_cells state.frame flags inst ≡ inst_cells frame flags inst
-      cells_are = ap (λ (f : FrameLayout). inst_cells f flags inst) same
-
-      go : (o : Option ℕ) → asked_of inst ≡ o → Puts o (inst_cells state.frame flags inst) b b' → Moves force (element_of frame flags (Emit inst kept)) rest b b'
-      go None e p =
-          subst (λ (x : Element). Moves force x rest b b') (sym (words_element inst kept e))
-          (quiet_put force rest b (inst_cells frame flags inst) b' (p ∙ ap (appended b) cells_are) is_whole (subst (λ (x : Element). NeedsNone force x rest b) (words_element inst kept e) none))
-      go (Some space) e p =
-          let asks = subst (λ (x : Element). NeedsNone force x rest b) (asking_element inst kept space e) none in
-          subst (λ (x : Element). Moves force x rest b b') (sym (asking_element inst kept space e)) (elim p [
-            | inl fits ↦ record { whole = may.whole; outcome = inr (record { fits = asks.0; unforced = asks.1; same = fits.1 }) }
-            | inr never ↦ absurd (never.0 asks.0)
-          ])
+-- and in quiet code all that is done
+pub emit_moves : (flags : EmitFlags) (force : ForceVeneers) (state : State) (inst : Inst) (rest : List Element) (b b' : Buffer LabelUse) → MayMove (element_of state.frame flags (Emit inst state.map)) rest b → NeedsNone force (element_of state.frame flags (Emit inst state.map)) rest b → IsWhole label_kinds b' → Emits flags state inst b b' → Moves force (element_of state.frame flags (Emit inst state.map)) rest b b'
+emit_moves flags force state inst rest b b' may none is_whole emitted = go (asked_of inst) refl emitted
+  where
+    go : (o : Option ℕ) → asked_of inst ≡ o → Puts o (kept_cells state.frame flags inst state.map) b b' → Moves force (element_of state.frame flags (Emit inst state.map)) rest b b'
+    go None e p =
+        subst (λ (x : Element). Moves force x rest b b') (sym (words_element state.frame flags inst state.map e))
+        (quiet_put force rest b (kept_cells state.frame flags inst state.map) b' p is_whole (subst (λ (x : Element). NeedsNone force x rest b) (words_element state.frame flags inst state.map e) none))
+    go (Some space) e p =
+        let asks = subst (λ (x : Element). NeedsNone force x rest b) (asking_element state.frame flags inst state.map space e) none in
+        subst (λ (x : Element). Moves force x rest b b') (sym (asking_element state.frame flags inst state.map space e)) (elim p [
+          | inl fits ↦ record { whole = may.whole; outcome = inr (record { fits = asks.0; unforced = asks.1; same = fits.1 }) }
+          | inr never ↦ absurd (never.0 asks.0)
+        ])

@@ -1,15 +1,11 @@
 -- What a buffer has recorded of cells, with islands between items.
-use Rattle.std.specs.Prelude.{ℕ, ◌≡◌, List, [], map, take}
-use Rattle.a64_buffer.specs.Buffer.{Records, Buffer}
+use Rattle.std.specs.Prelude.{ℕ, ◌≡◌, List, map, take}
+use Rattle.a64_buffer.specs.Buffer.{Buffer}
 use Rattle.a64_emit.specs.declared.label_use.LabelUse.{LabelUse}
 use Rattle.a64_emit.specs.Cells.{Cell}
-use Rattle.a64_emit.specs.Layout.{standing, relocs_in}
+use Rattle.a64_emit.specs.Layout.{standing, records_in}
 use Rattle.a64_assemble.specs.Elements.{Element, cells_in}
 use Rattle.a64_assemble.specs.TrapRecords.{HasTraps}
-
--- what cells at their places record beside traps: relocations, and nothing else
-abbrev pub records_in : List (ℕ × Cell) → Records
-records_in cells = record { relocs = relocs_in cells; calls = []; patchable = []; maps = [] }
 
 -- a buffer has recorded what cells at their places record, and beside the traps of islands no more
 pub record HasRecorded (cells : List (ℕ × Cell)) (b : Buffer LabelUse) : Type 0 where

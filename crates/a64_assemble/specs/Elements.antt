@@ -8,7 +8,7 @@ use Rattle.a64_inst.specs.declared.item.Item.{Item}
 use Rattle.a64_inst.specs.declared.item.Item.TheVariants.{Bind, Emit}
 use Rattle.a64_buffer.specs.Classes.{wants, level_of, range_of}
 use Rattle.a64_emit.specs.LabelUses.{label_kinds}
-use Rattle.a64_emit.specs.Cells.{Cell, inst_cells, sites_of}
+use Rattle.a64_emit.specs.Cells.{Cell, kept_cells, sites_of}
 use Rattle.a64_emit.specs.Bounds.{ranges_in, size_of, charge_of, asked}
 use Rattle.a64_emit.specs.Contents.{site_class}
 
@@ -22,7 +22,7 @@ pub data Element : Type 0 where
 module _ (frame : FrameLayout) (flags : EmitFlags) where
   abbrev pub element_of : Item → Element
   element_of (Bind label) = Binding label.0
-  element_of (Emit inst kept) = elim (asked (Emit inst kept)) [ None ↦ Words (inst_cells frame flags inst) | Some space ↦ Asking space ]
+  element_of (Emit inst kept) = elim (asked (Emit inst kept)) [ None ↦ Words (kept_cells frame flags inst kept) | Some space ↦ Asking space ]
 
   abbrev pub elements_of : List Item → List Element
   elements_of items = map element_of items

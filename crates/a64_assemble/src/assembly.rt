@@ -12,7 +12,7 @@ use crate::checks::{Found, bound_labels, check_code, check_items};
 use crate::putting::put_items;
 use crate::reach::{check_reach, is_quiet};
 use a64_buffer::{Constants, Finished, ForceVeneers, MachBuffer};
-use a64_emit::{Code, EmitError, LabelUse};
+use a64_emit::{Code, EmitError, LabelUse, restores_halfwords};
 use a64_inst::{EmitInfo, EmitState, FrameLayout, Item};
 use std::alloc::{AllocError, Global};
 
@@ -90,6 +90,7 @@ pub fn assemble(
     ensures err { IfErr result (IsRefusal frame.now info.now constants.now force items.now) }
 {
     check_items(items, constants, info, frame)?;
+    restores_halfwords(frame);
     let bound = bound_labels(alloc, items)?;
     let found = check_code(items, &bound, info, frame)?;
     check_reach(alloc, items, found, force, info, frame)?;

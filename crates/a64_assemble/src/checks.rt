@@ -5,6 +5,7 @@ ghost use Rattle.std.specs.List.{cons_option, filter_map, list_any};
 ghost use Rattle.a64_emit.specs.declared.error.EmitError.TheVariants.{OutOfMemory};
 ghost use Rattle.a64_emit.specs.Cells.{sites_of, table_labels, listed_uses, two_uses, uses_of};
 ghost use Rattle.a64_emit.specs.FormCells.{HoldsHalfword};
+ghost use Rattle.a64_inst.specs.declared.virtuals.VirtualRegisters.TheVariants.{Refused};
 ghost use Rattle.a64_inst.specs.Faults as inst_faults;
 ghost use Rattle.a64_emit.specs.Faults as Faults;
 ghost use Rattle.a64_emit.specs.Faults.{own_fault, HasLabels, bindings, second_binding, first_missing, used_label, unbound_use, or_else, too_large};
@@ -29,24 +30,26 @@ fn constant_size(inst: &Inst, constants: &Constants) -> Option<u32>
 {
     match inst.group() {
         Group::Memory => constants.size_of(inst.constant()?),
-        Group::Immediate | Group::Register | Group::Control | Group::Sequence => None,
+        Group::Immediate | Group::Register | Group::Control | Group::Sequence | Group::Call => None,
     }
 }
 
-/// What is wrong with an item by itself.
+/// What is wrong with an item by itself. What the frame restores is judged already.
 fn item_fault(
     item: &Item,
     constants: &Constants,
     info: &EmitInfo,
     frame: &FrameLayout,
+    restorable: bool,
 ) -> Option<OwnFault>
+    requires { restorable ≡ inst_faults.is_restorable frame.now info.now Refused }
     ensures { result ≡ Faults.item_fault frame.now info.now constants.now item.now }
 {
     match item {
         Item::Bind(_) => None,
         Item::Emit { inst, map: _ } => {
             let size = constant_size(inst, constants);
-            inst.own_fault(frame, info, size, VirtualRegisters::Refused)
+            inst.own_fault(frame, info, size, VirtualRegisters::Refused, restorable)
         }
     }
 }
@@ -90,9 +93,10 @@ pub fn check_items(
         (λ error. own_fault frame.now info.now constants.now items.now ≡ Some error) }
     ensures halfwords { OnOk result (All HoldsHalfword items.now) }
 {
+    let restorable = frame.is_restorable(info, VirtualRegisters::Refused);
     for (i, item) in items.iter().enumerate() {
         holds_halfword(item);
-        if let Some(fault) = item_fault(item, constants, info, frame) {
+        if let Some(fault) = item_fault(item, constants, info, frame, restorable) {
             return Err(own_error(i, fault));
         }
     }

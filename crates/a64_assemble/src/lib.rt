@@ -4,6 +4,8 @@
 mod ahead;
 mod asking;
 mod assembly;
+#[cfg(test)]
+mod call_tests;
 mod checks;
 mod loose;
 mod marks;

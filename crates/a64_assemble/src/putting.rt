@@ -39,10 +39,10 @@ fn put_inst(
     quiet: bool,
 ) -> Result<(), AllocError>
     requires good { inst_fault state.old.frame info.now buffer.old.constants Refused inst.now ≡ None }
-    requires may { MayMove (element_of state.old.frame info.now (Emit inst.now None)) (elements_of state.old.frame info.now rest.now) buffer.old }
+    requires may { MayMove (element_of state.old.frame info.now (Emit inst.now state.old.map)) (elements_of state.old.frame info.now rest.now) buffer.old }
     requires asked { quiet ≡ false → bounds.asked_of inst.now ≡ None }
-    requires quiet { quiet ≡ true → NeedsNone force (element_of state.old.frame info.now (Emit inst.now None)) (elements_of state.old.frame info.now rest.now) buffer.old }
-    ensures buffer { OnOk result (Moves force (element_of state.old.frame info.now (Emit inst.now None)) (elements_of state.old.frame info.now rest.now) buffer.old buffer.new) }
+    requires quiet { quiet ≡ true → NeedsNone force (element_of state.old.frame info.now (Emit inst.now state.old.map)) (elements_of state.old.frame info.now rest.now) buffer.old }
+    ensures buffer { OnOk result (Moves force (element_of state.old.frame info.now (Emit inst.now state.old.map)) (elements_of state.old.frame info.now rest.now) buffer.old buffer.new) }
     ensures frame { OnOk result (state.new.frame ≡ state.old.frame) }
 {
     let start = buffer.cur_offset();

@@ -67,7 +67,7 @@ fn word_at(bytes: &[u8], place: usize) -> Option<u32> {
 }
 
 /// The words of code.
-fn words_of(alloc: Global, bytes: &[u8]) -> Result<Vec<u32>, AllocError> {
+pub fn words_of(alloc: Global, bytes: &[u8]) -> Result<Vec<u32>, AllocError> {
     let mut words = Vec::new(alloc);
     for four in bytes.chunks_exact(4) {
         words.push(word_at(four, 0).unwrap_or(0))?;

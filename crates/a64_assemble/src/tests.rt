@@ -25,7 +25,20 @@ fn bind(label: u32) -> Item {
     Item::Bind(MachLabel(label))
 }
 
-pub fn assembled(alloc: Global, items: &[Item]) -> Result<Code, EmitError>
+/// A frame that saves nothing but what its first two sizes say.
+pub fn small_frame(alloc: Global, setup_area_size: u32, tail_args_size: u32) -> FrameLayout {
+    FrameLayout {
+        setup_area_size,
+        tail_args_size,
+        clobber_size: 0,
+        fixed_frame_storage_size: 0,
+        outgoing_args_size: 0,
+        restore: ListVec::new(alloc),
+    }
+}
+
+/// The code of items under a frame.
+pub fn assembled_in(alloc: Global, items: &[Item], frame: &FrameLayout) -> Result<Code, EmitError>
     requires { length items.now < 2 ^ 32 }
 {
     let constants = Constants::new(alloc);
@@ -34,15 +47,13 @@ pub fn assembled(alloc: Global, items: &[Item]) -> Result<Code, EmitError>
         enable_table_access_spectre_mitigation: false,
         use_csdb: false,
     });
-    let frame = FrameLayout {
-        setup_area_size: 0,
-        tail_args_size: 0,
-        clobber_size: 0,
-        fixed_frame_storage_size: 0,
-        outgoing_args_size: 0,
-        restore: ListVec::new(alloc),
-    };
-    assemble(alloc, items, &constants, &info, &frame, ForceVeneers::No)
+    assemble(alloc, items, &constants, &info, frame, ForceVeneers::No)
+}
+
+pub fn assembled(alloc: Global, items: &[Item]) -> Result<Code, EmitError>
+    requires { length items.now < 2 ^ 32 }
+{
+    assembled_in(alloc, items, &small_frame(alloc, 0, 0))
 }
 
 #[test]

@@ -28,5 +28,5 @@ returns-in_err-check_reach-clause-err c =
 pub returns-clause-ok : goal.returns-clause-ok
 returns-clause-ok c =
     let found = c.in_ok-found.ensures in
-    assembled c.args.frame.now c.args.info.now c.args.force c.args.items.now c.in_ok-bound.ensures.ok.0 found.all_bound found.short c.in_ok-check_reach.ensures.ok c.args.constants.now c.in_ok-code.code c.in_ok-code.ensures c.in_ok-check_items.ensures.halfwords
+    assembled c.args.frame.now c.args.info.now c.args.force c.args.items.now c.in_ok-bound.ensures.ok.0 found.all_bound found.short c.in_ok-check_reach.ensures.ok c.args.constants.now c.in_ok-code.code c.in_ok-code.ensures c.restores_halfwords.ensures c.in_ok-check_items.ensures.halfwords
     (fault_at_reach c.args.frame.now c.args.info.now c.args.constants.now c.args.force c.args.items.now c.in_ok-check_items.ensures.fault c.in_ok-bound.ensures.ok.0 found.all_bound found.addressed ∙ c.in_ok-check_reach.ensures.ok)

@@ -1,5 +1,4 @@
-use Rattle.std.proofs.Common.{None, sym, ap, subst}
-use Rattle.a64_inst.specs.declared.frame.FrameLayout.{FrameLayout}
+use Rattle.std.proofs.Common.{sym, subst}
 use Rattle.a64_inst.specs.declared.item.Item.{Item}
 use Rattle.a64_inst.specs.declared.item.Item.TheVariants.{Emit}
 use Rattle.a64_inst.specs.State.{State}
@@ -10,15 +9,15 @@ use Rattle.a64_assemble.proofs.putting.put_item.Goals as goal
 
 pub put_inst-requires-clause-may : goal.put_inst-requires-clause-may
 put_inst-requires-clause-may c =
-    subst (λ (f : FrameLayout). MayMove (element_of f c.args.info.now (Emit c.in-Emit.inst None)) (elements_of f c.args.info.now c.args.rest.now) c.args.buffer.now) (sym (ap (λ (s : State). s.frame) c.pre_safepoint.ensures))
+    subst (λ (s : State). MayMove (element_of s.frame c.args.info.now (Emit c.in-Emit.inst s.map)) (elements_of s.frame c.args.info.now c.args.rest.now) c.args.buffer.now) (sym c.pre_safepoint.ensures)
     (subst (λ (item : Item). MayMove (element_of c.args.state.now.frame c.args.info.now item) (elements_of c.args.state.now.frame c.args.info.now c.args.rest.now) c.args.buffer.now) c.in-Emit.is c.requires.may)
 
 pub put_inst-requires-clause-quiet : goal.put_inst-requires-clause-quiet
 put_inst-requires-clause-quiet c = λ quiet.
-    subst (λ (f : FrameLayout). NeedsNone c.args.force (element_of f c.args.info.now (Emit c.in-Emit.inst None)) (elements_of f c.args.info.now c.args.rest.now) c.args.buffer.now) (sym (ap (λ (s : State). s.frame) c.pre_safepoint.ensures))
+    subst (λ (s : State). NeedsNone c.args.force (element_of s.frame c.args.info.now (Emit c.in-Emit.inst s.map)) (elements_of s.frame c.args.info.now c.args.rest.now) c.args.buffer.now) (sym c.pre_safepoint.ensures)
     (subst (λ (item : Item). NeedsNone c.args.force (element_of c.args.state.now.frame c.args.info.now item) (elements_of c.args.state.now.frame c.args.info.now c.args.rest.now) c.args.buffer.now) c.in-Emit.is (c.requires.quiet quiet))
 
 pub returns-in_default-clause-buffer : goal.returns-in_default-clause-buffer
 returns-in_default-clause-buffer c =
     on_ok c.put_inst.result (λ moves. subst (λ (item : Item). Moves c.args.force (element_of c.args.state.now.frame c.args.info.now item) (elements_of c.args.state.now.frame c.args.info.now c.args.rest.now) c.args.buffer.now c.put_inst.new.buffer) (sym c.in-Emit.is)
-    (subst (λ (f : FrameLayout). Moves c.args.force (element_of f c.args.info.now (Emit c.in-Emit.inst None)) (elements_of f c.args.info.now c.args.rest.now) c.args.buffer.now c.put_inst.new.buffer) (ap (λ (s : State). s.frame) c.pre_safepoint.ensures) moves)) c.put_inst.ensures.buffer
+    (subst (λ (s : State). Moves c.args.force (element_of s.frame c.args.info.now (Emit c.in-Emit.inst s.map)) (elements_of s.frame c.args.info.now c.args.rest.now) c.args.buffer.now c.put_inst.new.buffer) c.pre_safepoint.ensures moves)) c.put_inst.ensures.buffer
