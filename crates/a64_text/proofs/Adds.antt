@@ -1,7 +1,7 @@
 -- An item that is put behind the others is an entry that is taken into the state.
-use Rattle.std.proofs.Common.{◌≡◌, ◌∙◌, ℕ, Bool, true, false, List, Option, Some, None, refl, sym, ap, subst}
+use Rattle.std.proofs.Common.{◌≡◌, ◌∙◌, ℕ, Bool, true, false, List, ◌++◌, Option, Some, None, refl, sym, ap, subst}
 use Rattle.std.proofs.lemmas.Bool.{false≢true}
-use Rattle.std.specs.Prelude.{Result, Ok, Err, IfOk}
+use Rattle.std.specs.Prelude.{codes, Result, Ok, Err, IfOk}
 use Rattle.std.specs.Global.{Vec}
 use Rattle.a64_inst.specs.declared.item.Item.{Item}
 use Rattle.a64_text.specs.declared.entry.Entry.{Entry}
@@ -21,6 +21,7 @@ use Rattle.a64_text.specs.States.{contents_of, once_name, said}
 use Rattle.a64_text.specs.Tokens.{line_of, IsEntry}
 use Rattle.a64_text.proofs.Givens.{added, not_added, no_entry}
 use Rattle.a64_text.proofs.LineReads.{line_made, ReadsLine}
+use Rattle.a64_text.proofs.Restores.{plain_read}
 
 pub all_ok : {X E : Type 0} (P Q : X → Type 0) → ((x : X) → P x → Q x) → (r : Result X E) → IfOk r P → IfOk r Q
 all_ok P Q f (Ok x) h = f x h
@@ -33,6 +34,7 @@ puts_made (names.Control control.IndirectBr) values old new made h = h
 puts_made (names.Sequence sequence.Args) values old new made h = h
 puts_made (names.Sequence sequence.Rets) values old new made h = h
 puts_made (names.Sequence sequence.JTSequence) values old new made h = h
+puts_made (names.Call name) values old new made h = h
 puts_made names.Const values old new made h = absurd h
 puts_made name values old new made h = (Some (entry_of name values), refl, h)
 
@@ -47,6 +49,7 @@ module _ (old new : ReaderState) (given : new.given ≡ old.given) (same : conte
   adds_put (Some (entries.Constant addr bytes)) made h = absurd h
   adds_put (Some (entries.Frame field bytes)) made h = absurd h
   adds_put (Some (entries.Flag flag)) made h = absurd h
+  adds_put (Some (entries.Restore inst)) made h = absurd h
 
   pub put_adds : (name its_name : Name) (values : List Value) (items : List Item) (made : Bool) → name ≡ its_name → items ≡ old.file.items.items → Puts its_name values items new.file.items.items made → AddsMade name values old new made
   put_adds name its_name values items made is stay h =
@@ -62,10 +65,6 @@ module _ (old new : ReaderState) (items : Vec Item) (made : Bool) (stay : items.
   pub others_add : (name its_name : Name) (values : List Value) → name ≡ its_name → AddsMade its_name values (record old { file = record old.file { items = items } }) new made → AddsMade name values old new made
   others_add name its_name values is h = subst (λ (n : Name). AddsMade n values old new made) (sym is) (h.0, h.1, room_made h.0 h.2)
 
--- so is an entry that is no item, where room was made for an item that did not come
-pub other_adds : (old new : ReaderState) (items : Vec Item) (name its_name : Name) (values : List Value) (entry : Entry) (made : Bool) → items.items ≡ old.file.items.items → name ≡ its_name → Makes its_name values (Some entry) → AddsEntry (Some entry) (record old { file = record old.file { items = items } }) new made → AddsMade name values old new made
-other_adds old new items name its_name values entry made stay is makes h = others_add old new items made stay name its_name values is (Some entry, makes, h)
-
 -- ---- a line
 
 module _ (line : List ℕ) (old new : ReaderState) (made : Bool) where
@@ -77,9 +76,9 @@ module _ (line : List ℕ) (old new : ReaderState) (made : Bool) where
   adds_false None read h is = no_entry old line read
   adds_false (Some entry) read h is = not_added old new.given line entry (once_name entry) made read refl h.0 is
 
-  module _ (name : Name) (values fields : List Value) (reads : ReadsLine line (Some (name, values))) (same : fields ≡ values) (adds : AddsMade name fields old new made) where
+  module _ (other : (rest : List ℕ) → line ≡ codes "restore " ++ rest → ⊥) (name : Name) (values fields : List Value) (reads : ReadsLine line (Some (name, values))) (same : fields ≡ values) (adds : AddsMade name fields old new made) where
     read : Reads IsEntry line_of line adds.0
-    read = line_made line name values fields adds.0 adds.0 reads same refl adds.1
+    read = plain_read line other adds.0 (line_made line name values fields adds.0 adds.0 reads same refl adds.1)
 
     pub line_added : made ≡ true → (e : Entry) × Added old new line e
     line_added is = adds_true adds.0 read adds.2 is

@@ -1,13 +1,9 @@
 -- No text of a field that may stand with commas between has a byte that stands between fields.
-use Rattle.std.specs.Prelude.{ℕ, ℤ, pos, negsuc, suc, List, [], ◌∷◌, ◌≡◌, refl}
+use Rattle.std.specs.Prelude.{ℕ, List, [], ◌∷◌, ◌≡◌, refl}
 use Rattle.std.proofs.Common.{arith, sym, subst, ap, ◌∙◌}
-use Rattle.std.specs.Fmt.{decimal, signed_decimal}
 use Rattle.std.specs.List.{AllByRecursion, join_with_byte}
-use Rattle.std.proofs.lemmas.Int.{ints}
 use Rattle.a64_base.specs.declared.cond.Cond.{Cond}
 use Rattle.a64_base.specs.declared.cond.Cond.TheVariants.{Eq}
-use Rattle.a64_base.specs.declared.ir_type.IrType.{IrType}
-use Rattle.a64_base.specs.declared.ir_type.IrType.TheVariants.{I8}
 use Rattle.a64_base.specs.declared.shift.ExtendOp.{ExtendOp}
 use Rattle.a64_base.specs.declared.shift.ExtendOp.TheVariants.{UXTB}
 use Rattle.a64_base.specs.declared.size.OperandSize.{OperandSize}
@@ -20,25 +16,15 @@ use Rattle.a64_text.specs.Fields.{HasNo, size_text}
 use Rattle.a64_text.specs.Operators.{cond_text, extend_text, mem_label_name_text}
 use Rattle.a64_text.specs.PartLaws.{part_is}
 use Rattle.a64_text.specs.Parts.{part_text, part_texts, IsPart}
-use Rattle.a64_text.specs.Reads.{IsI64}
-use Rattle.a64_text.specs.RegisterLaws.{append_apart, at_each, behind, digits, reg_apart, IsBetween}
+use Rattle.a64_text.specs.RegisterLaws.{append_apart, at_each, digits, reg_apart, signed_apart, type_apart, IsBetween}
 use Rattle.a64_text.specs.Rows.{texts}
-use Rattle.a64_text.specs.Types.{type_text}
 use Rattle.a64_text.specs.Values.{value_text}
 use Rattle.a64_text.proofs.Offsets.{offset9_fits, pair_offset_fits}
 
 module _ (c : ℕ) (is : IsBetween c) where
-  signed_apart : (z : ℤ) → IsI64 z → HasNo c (signed_decimal z)
-  signed_apart (pos n) fits = digits c is n (omega (arith, ints, fits))
-  signed_apart (negsuc n) fits = behind 45 (decimal (suc n)) refl refl refl c is (digits c is (suc n) (omega (arith, ints, fits)))
-
   extend_apart : (x : ExtendOp) → HasNo c (extend_text x)
   extend_apart UXTB = at_each (λ c. HasNo c (extend_text UXTB)) refl refl refl c is
   extend_apart x = at_each (λ c. HasNo c (extend_text x)) refl refl refl c is
-
-  type_apart : (x : IrType) → HasNo c (type_text x)
-  type_apart I8 = at_each (λ c. HasNo c (type_text I8)) refl refl refl c is
-  type_apart x = at_each (λ c. HasNo c (type_text x)) refl refl refl c is
 
   label_name_apart : (x : MemLabelName) → HasNo c (mem_label_name_text x)
   label_name_apart label_names.PCRel = at_each (λ c. HasNo c (mem_label_name_text label_names.PCRel)) refl refl refl c is
@@ -57,10 +43,10 @@ module _ (c : ℕ) (is : IsBetween c) where
   part_apart (values.Reg x) fits = reg_apart c is x fits
   part_apart (values.Extend x) fits = extend_apart x
   part_apart (values.U32 x) fits = digits c is x (omega (arith, fits))
-  part_apart (values.I64 x) fits = signed_apart x fits
-  part_apart (values.Offset9 x) fits = signed_apart x.value (offset9_fits x fits)
-  part_apart (values.PairOffset x) fits = signed_apart x.value (pair_offset_fits x fits)
-  part_apart (values.Type x) fits = type_apart x
+  part_apart (values.I64 x) fits = signed_apart c is x fits
+  part_apart (values.Offset9 x) fits = signed_apart c is x.value (offset9_fits x fits)
+  part_apart (values.PairOffset x) fits = signed_apart c is x.value (pair_offset_fits x fits)
+  part_apart (values.Type x) fits = type_apart c is x
   part_apart (values.MemLabelName x) fits = label_name_apart x
   part_apart (values.Size x) fits = size_apart x
   part_apart (values.Cond x) fits = cond_apart x

@@ -12,7 +12,7 @@ use Rattle.a64_text.specs.Rows.{texts}
 use Rattle.a64_text.specs.Splitting.{comma_tokens}
 use Rattle.a64_text.proofs.Between.{parts_apart, same_texts}
 use Rattle.a64_text.proofs.Schemas.{Names}
-use Rattle.a64_text.proofs.Splits.{split-join}
+use Rattle.a64_text.specs.SplitLaws.{split-join}
 
 -- fields, of which there is one at least, are split where they were joined
 fields_split : (vs : List Value) → 0 < length vs → AllByRecursion IsPart vs → comma_tokens (join_with_byte 44 (part_texts vs)) ≡ texts vs

@@ -4,7 +4,8 @@ use Rattle.std.specs.List.{join_with_byte}
 use Rattle.std.proofs.lemmas.List.Splits.{join_with_byte-slice_split}
 use Rattle.a64_text.specs.Fields.{IsCall, call_text}
 use Rattle.a64_text.specs.Reads.{Reads}
-use Rattle.a64_text.proofs.Splits.{heads, split, split_at, parts_left, first_plain, IsFront}
+use Rattle.a64_text.specs.SplitLaws.{split_at}
+use Rattle.a64_text.proofs.Splits.{heads, split, parts_left, first_plain, IsFront}
 
 abbrev join : List (List ℕ) → List ℕ
 join tokens = join_with_byte 40 tokens

@@ -17,6 +17,7 @@ said_few (entries.Item item) file = omega (arith, length-append file.items (item
 said_few (entries.Constant addr bytes) file = omega arith
 said_few (entries.Frame field bytes) file = omega arith
 said_few (entries.Flag flag) file = omega arith
+said_few (entries.Restore inst) file = omega arith
 
 chain_few : (old : State) (es : List Entry) (new : State) → Chain old es new → length new.file.items ≤ length old.file.items + length es
 chain_few old [] new h = omega (arith, ap (λ (s : State). length s.file.items) h)

@@ -8,7 +8,7 @@ use Rattle.a64_text.specs.Fields.{HasNo}
 use Rattle.a64_text.specs.Reads.{Reads}
 use Rattle.a64_text.specs.Rows.{AreFields, texts}
 use Rattle.a64_text.specs.Values.{value_text}
-use Rattle.a64_text.proofs.Splits.{split-join}
+use Rattle.a64_text.specs.SplitLaws.{split-join}
 
 -- no text of such a field has the byte
 module _ (c : ℕ) (fits : Value → Type 0) (plain : (v : Value) → fits v → HasNo c (value_text v)) where

@@ -53,6 +53,9 @@ only_of (values.Flags x) token r h = h.only x
 only_of (values.CondBrKind x) token r h = h.only x
 only_of (values.TestBitAndBranchKind x) token r h = h.only x
 only_of (values.List x) token r h = h.only x
+only_of (values.Convention x) token r h = h.only x
+only_of (values.Key x) token r h = h.only x
+only_of (values.Map x) token r h = h.only x
 
 pub kind_read : (kind : Kind) (token : List ℕ) (r : Option Value) → ReadsKind kind token r → Reads (IsOf kind) value_text token r
 kind_read kind token r h = record {

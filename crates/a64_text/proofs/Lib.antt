@@ -8,6 +8,8 @@ pub mod Signed
 pub mod Registers
 pub mod Immediates
 pub mod Splits
+pub mod Fronts
+pub mod SameBytes
 pub mod Calls
 pub mod Between
 pub mod Plain
@@ -18,6 +20,9 @@ pub mod Rest
 pub mod Schemas
 pub mod Joined
 pub mod Lists
+pub mod Triples
+pub mod CommaPairs
+pub mod RegisterSets
 pub mod Bytes
 pub mod LineReads
 pub mod Wides
@@ -25,6 +30,7 @@ pub mod CallReads
 pub mod Logics
 pub mod Sequences
 pub mod Givens
+pub mod Restores
 pub mod Adds
 pub mod Lines
 pub mod Counts

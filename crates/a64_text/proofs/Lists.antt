@@ -1,13 +1,13 @@
 -- Lists, as far as they were read.
-use Rattle.std.proofs.Common.{Bor, ◌≡◌, ℕ, ◌<◌, eqb, List, [], ◌∷◌, ◌++◌, length, map, Option, Some, None, refl, sym, ap, subst, ◌∙◌, append_assoc, append-nil, arith}
+use Rattle.std.proofs.Common.{Bor, ◌≡◌, ℕ, ◌<◌, eqb, List, [], ◌∷◌, ◌++◌, length, map, Option, Some, None, refl, sym, ap, subst, ◌∙◌, append_assoc, append-nil, get_or, length-append, arith}
 use Rattle.std.specs.Prelude.{codes, MatchOption}
-use Rattle.std.specs.List.{AllByRecursion, slice_split}
+use Rattle.std.specs.List.{AllByRecursion, join_with_byte, slice_split}
 use Rattle.a64_text.specs.Fields.{HasNo}
 use Rattle.a64_text.specs.Lists.{list_text, same_text}
 use Rattle.a64_text.specs.Reads.{Reads}
-use Rattle.a64_text.specs.Splitting.{comma_tokens, of_text}
 use Rattle.a64_text.proofs.Joined.{joined_some}
-use Rattle.a64_text.proofs.Splits.{first_plain, heads, parts_left, split-join, split_none}
+use Rattle.a64_text.specs.SplitLaws.{split_none}
+use Rattle.a64_text.proofs.Splits.{first_plain, heads, parts_left}
 
 -- ---- a list as it is written has no space
 
@@ -66,54 +66,50 @@ module _ {X : Type 0} (text : X → List ℕ) (fits : X → Type 0) (tokens : Li
         let found : None ≡ Some n.0 = h.only n.0 n.3 n.5 in
         cc
 
--- the first token of what is left
-pub cut_first : (text first : List ℕ) (more : Option (Bor (List ℕ))) → MatchOption more (slice_split (λ b. eqb b 44) text ≡ first ∷ []) (λ rest. (slice_split (λ b. eqb b 44) text ≡ first ∷ slice_split (λ b. eqb b 44) rest.now) × (length rest.now < length text)) → comma_tokens text ≡ first ∷ of_text comma_tokens more
-cut_first text first None h = h
-cut_first text first (Some rest) h = h.0
-
 -- ---- from the tokens of a list to the list
 
-module _ {X : Type 0} (text : X → List ℕ) (fits : X → Type 0) (apart : (x : X) → fits x → HasNo 44 (text x)) (token : List ℕ) where
-  all_apart : (xs : List X) → AllByRecursion fits xs → AllByRecursion (HasNo 44) (map text xs)
-  all_apart [] are = tt
-  all_apart (x ∷ xs) are = (apart x are.0, all_apart xs are.1)
+-- what is joined of two texts is no dash
+no_join : (t u : List ℕ) → t ++ 44 ∷ u ≡ codes "-" → ⊥
+no_join [] u e = omega (arith, ap (λ (l : List ℕ). get_or l 0 0) e)
+no_join (b ∷ t) u e = omega (arith, length-append t (44 ∷ u), ap (λ (l : List ℕ). length l) e)
 
-  its_tokens : (x : X) (xs : List X) → AllByRecursion fits (x ∷ xs) → token ≡ list_text text (x ∷ xs) → comma_tokens token ≡ map text (x ∷ xs)
-  its_tokens x xs are e = ap comma_tokens e ∙ split-join 44 (text x) (map text xs) (all_apart (x ∷ xs) are)
-
+module _ {X : Type 0} (text : X → List ℕ) (fits : X → Type 0) (token : List ℕ) where
   pub dash : ((x : X) → fits x → text x ≡ codes "-" → ⊥) → token ≡ codes "-" → Reads (AllByRecursion fits) (list_text text) token (Some [])
   dash no_dash is = record { some = (tt, is); only = only }
     where
       only : (all : List X) → AllByRecursion fits all → token ≡ list_text text all → Some [] ≡ Some all
       only [] are e = refl
-      only (x ∷ xs) are e =
-          let one : codes "-" ∷ [] ≡ map text (x ∷ xs) = ap comma_tokens (sym is) ∙ its_tokens x xs are e in
-          absurd (no_dash x are.0 (sym (heads (codes "-") (text x) [] (map text xs) one).0))
+      only (x ∷ []) are e = absurd (no_dash x are.0 (sym e ∙ is))
+      only (x ∷ y ∷ xs) are e = absurd (no_join (text x) (join_with_byte 44 (map text (y ∷ xs))) (sym e ∙ is))
 
-  module _ (other : token ≡ codes "-" → ⊥) where
-    pub no_list : ((all : List X) → AllByRecursion fits all → comma_tokens token ≡ map text all → ⊥) → Reads (AllByRecursion fits) (list_text text) token None
+  module _ (tokens : List ℕ → List (List ℕ)) (apart : (x : X) (xs : List X) → AllByRecursion fits (x ∷ xs) → tokens (join_with_byte 44 (map text (x ∷ xs))) ≡ map text (x ∷ xs)) (other : token ≡ codes "-" → ⊥) where
+    its_tokens : (x : X) (xs : List X) → AllByRecursion fits (x ∷ xs) → token ≡ list_text text (x ∷ xs) → tokens token ≡ map text (x ∷ xs)
+    its_tokens x xs are e = ap tokens e ∙ apart x xs are
+
+    pub no_list : ((all : List X) → AllByRecursion fits all → tokens token ≡ map text all → ⊥) → Reads (AllByRecursion fits) (list_text text) token None
     no_list none = record { some = tt; only = only }
       where
         only : (all : List X) → AllByRecursion fits all → token ≡ list_text text all → None ≡ Some all
         only [] are e = absurd (other e)
         only (x ∷ xs) are e = absurd (none (x ∷ xs) are (its_tokens x xs are e))
 
-    joined : (read : List X) → comma_tokens token ≡ map text read → token ≡ list_text text read
-    joined [] e = absurd (omega (arith, parts_left 44 token, ap (λ (t : List (List ℕ)). length t) e))
-    joined (x ∷ xs) e = joined_some 44 token (map text (x ∷ xs)) e
-
     none_more : (more : List X) → [] ≡ map text more → more ≡ []
     none_more [] e = refl
     none_more (x ∷ more) e = absurd cc
 
-    pub all_listed : (read : List X) → Listing text fits (comma_tokens token) read [] → Reads (AllByRecursion fits) (list_text text) token (Some read)
-    all_listed read l = record { some = (both.0, joined read both.1); only = only }
-      where
-        both : AllByRecursion fits read × (comma_tokens token ≡ map text read)
-        both = rw append-nil at (l.some [] tt refl)
+    module _ (joined : (list : List ℕ) → join_with_byte 44 (tokens list) ≡ list) (some_token : (list : List ℕ) → 0 < length (tokens list)) where
+      its_text : (read : List X) → tokens token ≡ map text read → token ≡ list_text text read
+      its_text [] e = absurd (omega (arith, some_token token, ap (λ (t : List (List ℕ)). length t) e))
+      its_text (x ∷ xs) e = sym (joined token) ∙ ap (λ (ts : List (List ℕ)). join_with_byte 44 ts) e
 
-        only : (all : List X) → AllByRecursion fits all → token ≡ list_text text all → Some read ≡ Some all
-        only [] are e = absurd (other e)
-        only (x ∷ xs) are e =
-            let m = l.only (x ∷ xs) are (its_tokens x xs are e) in
-            ap (λ (t : List X). Some t) (sym (m.1 ∙ ap (λ (t : List X). read ++ t) (none_more m.0 m.3) ∙ append-nil read))
+      pub all_listed : (read : List X) → Listing text fits (tokens token) read [] → Reads (AllByRecursion fits) (list_text text) token (Some read)
+      all_listed read l = record { some = (both.0, its_text read both.1); only = only }
+        where
+          both : AllByRecursion fits read × (tokens token ≡ map text read)
+          both = rw append-nil at (l.some [] tt refl)
+
+          only : (all : List X) → AllByRecursion fits all → token ≡ list_text text all → Some read ≡ Some all
+          only [] are e = absurd (other e)
+          only (x ∷ xs) are e =
+              let m = l.only (x ∷ xs) are (its_tokens x xs are e) in
+              ap (λ (t : List X). Some t) (sym (m.1 ∙ ap (λ (t : List X). read ++ t) (none_more m.0 m.3) ∙ append-nil read))

@@ -6,7 +6,12 @@ use Rattle.std.specs.Fmt.{decimal, signed_decimal}
 use Rattle.std.specs.List.{AllByRecursion, join_with_byte}
 use Rattle.a64_base.specs.RegisterNumbers.{RealRegister}
 use Rattle.a64_base.specs.declared.entity.MachLabel.{MachLabel}
+use Rattle.a64_base.specs.declared.convention.CallConv.{CallConv}
+use Rattle.a64_base.specs.declared.convention.CallConv.TheVariants.{SystemV}
 use Rattle.a64_base.specs.declared.entity.TrapCode.{TrapCode}
+use Rattle.a64_base.specs.declared.entity.UserStackMap.{UserStackMap}
+use Rattle.a64_base.specs.declared.key.APIKey.{APIKey}
+use Rattle.a64_base.specs.declared.key.APIKey.TheVariants.{AZ}
 use Rattle.a64_base.specs.declared.target.BranchTarget.{BranchTarget}
 use Rattle.a64_base.specs.declared.target.BranchTarget.TheVariants as targets
 use Rattle.a64_imms.specs.declared.imm12.Imm12.{Imm12}
@@ -46,12 +51,13 @@ use Rattle.a64_text.specs.Values.{value_text, IsValue}
 use Rattle.a64_text.specs.Reads.{IsU8, IsU32, IsU64, IsI32}
 use Rattle.a64_text.specs.Operators.{alu_op_text, alu_op3_text, bit_op_text, bfm_op_text, move_wide_op_text, shift_op_text, bool_text, emit_flag_text, frame_field_text, test_bit_text}
 use Rattle.a64_text.specs.Branches.{cond_br_name_text, cond_br_name_of, cond_br_fields}
+use Rattle.a64_text.specs.Conventions.{convention_text, key_text}
 use Rattle.a64_text.specs.Modes.{mode_name_text, mode_name_of, mode_fields, pair_name_text, pair_name_of, pair_fields}
 use Rattle.a64_text.specs.Parts.{part_texts, IsPart}
 use Rattle.a64_text.proofs.Between.{join_plain, parts_apart, part_apart}
 use Rattle.a64_text.specs.RegisterLaws.{append_apart, real_apart, space}
 use Rattle.a64_text.specs.DigitLaws.{decimal_apart}
-use Rattle.a64_text.specs.Fields.{HasNo, call_text, flags_text, IsFlags, label_text, IsLabel, target_text, IsTarget, imm12_text, IsImm12, IsPReg, preg_text, wide_text, IsWide, shift_text, IsShift, nzcv_text, uimm5_text}
+use Rattle.a64_text.specs.Fields.{HasNo, call_text, flags_text, IsFlags, map_text, IsMapNumber, label_text, IsLabel, target_text, IsTarget, imm12_text, IsImm12, IsPReg, preg_text, wide_text, IsWide, shift_text, IsShift, nzcv_text, uimm5_text}
 
 pub decimal_plain : (n : ℕ) → IsU64 n → HasNo 32 (decimal n)
 decimal_plain n fits = decimal_apart 32 n (inl (lit< tt)) fits
@@ -153,6 +159,18 @@ flags_plain : (x : Option TrapCode) → IsFlags x → HasNo 32 (flags_text x)
 flags_plain None fits = refl
 flags_plain (Some code) fits = u8_plain code.0 fits
 
+convention_plain : (x : CallConv) → HasNo 32 (convention_text x)
+convention_plain SystemV = refl
+convention_plain _ = refl
+
+key_plain : (x : Option APIKey) → HasNo 32 (key_text x)
+key_plain (Some AZ) = refl
+key_plain _ = refl
+
+map_plain : (x : Option UserStackMap) → IsMapNumber x → HasNo 32 (map_text x)
+map_plain None fits = refl
+map_plain (Some map) fits = u32_plain map.0 fits
+
 -- a name, and fields in parentheses
 call_plain : (name : List ℕ) (vs : List Value) → HasNo 32 name → AllByRecursion IsPart vs → HasNo 32 (call_text (name, join_with_byte 44 (part_texts vs)))
 call_plain name vs plain are =
@@ -200,4 +218,7 @@ value_plain (values.Flags x) fits = flags_plain x fits
 value_plain (values.CondBrKind x) fits = call_plain (cond_br_name_text (cond_br_name_of x)) (cond_br_fields x) (cond_br_name_plain (cond_br_name_of x)) fits.0
 value_plain (values.TestBitAndBranchKind x) fits = test_bit_plain x
 value_plain (values.List x) fits = fits
+value_plain (values.Convention x) fits = convention_plain x
+value_plain (values.Key x) fits = key_plain x
+value_plain (values.Map x) fits = map_plain x fits
 value_plain part fits = part_apart 32 space part fits

@@ -1,33 +1,13 @@
 -- Texts that are cut at a byte, and joined by it.
 use Rattle.std.proofs.Common.{Bor, ◌≡◌, ℕ, ◌+◌, ◌<◌, Bool, true, false, eqb, List, [], ◌∷◌, ◌++◌, length, get_or, take, drop, Option, Some, None, refl, sym, ap, subst, ◌∙◌, arith, add-one}
-use Rattle.std.specs.Prelude.{◌||◌, MatchOption}
-use Rattle.std.specs.List.{slice_split, join_with_byte, list_any, onto_first, AllByRecursion}
+use Rattle.std.specs.Prelude.{MatchOption}
+use Rattle.std.specs.List.{slice_split, list_any, onto_first}
 use Rattle.std.proofs.lemmas.List.{take-append-drop}
 use Rattle.std.proofs.Math.Seq.{drop-cons}
-use Rattle.std.proofs.lemmas.Bool.{eq-eqb}
-use Rattle.std.proofs.lemmas.List.Elements.{All-from_recursion}
-use Rattle.std.proofs.lemmas.List.Splits.{slice_split_none, slice_split_at, slice_split-cons_yes, slice_split-cons_no, length-slice_split}
+use Rattle.std.proofs.lemmas.List.Splits.{slice_split-cons_yes, slice_split-cons_no, length-slice_split}
 use Rattle.a64_text.specs.Fields.{HasNo}
+use Rattle.a64_text.specs.SplitLaws.{neither, split_none, split_at}
 use Rattle.a64_text.specs.Splitting.{lines_of, first, others, first_line, line_tokens, lines_behind, IsCut}
-
-neither : (a b : Bool) → (a || b) ≡ false → (a ≡ false) × (b ≡ false)
-neither true b h = absurd cc
-neither false b h = (refl, h)
-
-apart : (c : ℕ) (xs : List ℕ) → HasNo c xs → AllByRecursion (λ b. eqb b c ≡ false) xs
-apart c [] h = tt
-apart c (x ∷ xs) h = let n = neither (eqb x c) (list_any (λ b. eqb b c) xs) h in (n.0, apart c xs n.1)
-
-pub split_none : (c : ℕ) (xs : List ℕ) → HasNo c xs → slice_split (λ b. eqb b c) xs ≡ xs ∷ []
-split_none c xs h = slice_split_none (λ b. eqb b c) xs (All-from_recursion (λ b. eqb b c ≡ false) xs (apart c xs h))
-
-pub split_at : (c : ℕ) (xs ys : List ℕ) → HasNo c xs → slice_split (λ b. eqb b c) (xs ++ c ∷ ys) ≡ xs ∷ slice_split (λ b. eqb b c) ys
-split_at c xs ys h = slice_split_at (λ b. eqb b c) xs c ys (All-from_recursion (λ b. eqb b c ≡ false) xs (apart c xs h)) (eq-eqb c c refl)
-
--- what was joined is split again
-pub split-join : (c : ℕ) (w : List ℕ) (ws : List (List ℕ)) → AllByRecursion (HasNo c) (w ∷ ws) → slice_split (λ b. eqb b c) (join_with_byte c (w ∷ ws)) ≡ w ∷ ws
-split-join c w [] h = split_none c w h.0
-split-join c w (v ∷ ws) h = split_at c w (join_with_byte c (v ∷ ws)) h.0 ∙ ap (λ (t : List (List ℕ)). w ∷ t) (split-join c v ws h.1)
 
 -- a text in two parts, at a byte
 parts_at : (c i : ℕ) (text : List ℕ) → i < length text → get_or text i 0 ≡ c → text ≡ take i text ++ (c ∷ drop (i + 1) text)

@@ -1,10 +1,14 @@
 -- What taking a line into the state of the reader does.
-use Rattle.std.specs.Prelude.{◌≡◌, ◌↔◌, List, ℕ, Bool, true, false, Option, Some, None, IfSome, IsSomeAnd}
+use Rattle.std.specs.Prelude.{◌≡◌, ◌↔◌, ◌++◌, [], ◌∷◌, codes, List, ℕ, Bool, true, false, Option, Some, None, IfSome, IsSomeAnd}
 use Rattle.std.proofs.Common.{Bor}
 use Rattle.std.specs.BTreeSet.{BTreeSet, contains}
 use Rattle.std.specs.List.{Contains, cons_option}
 use Rattle.std.specs.declared.cmp.Ordering.{Ordering}
+use Rattle.a64_inst.specs.declared.inst.Inst.{Inst}
+use Rattle.a64_inst.specs.declared.item.Item.{Item}
+use Rattle.a64_inst.specs.declared.item.Item.TheVariants.{Emit}
 use Rattle.a64_text.specs.declared.entry.Entry.{Entry}
+use Rattle.a64_text.specs.declared.entry.Entry.TheVariants as entries
 use Rattle.a64_text.specs.declared.entry.OnceName.{OnceName}
 use Rattle.a64_text.specs.declared.name.Name.{Name}
 use Rattle.a64_text.specs.declared.state.ReaderState.{ReaderState}
@@ -12,7 +16,7 @@ use Rattle.a64_text.specs.declared.value.Value.{Value}
 use Rattle.a64_text.specs.contracts.entry.OnceNameOrd.TheImpl as order
 use Rattle.a64_text.specs.Reads.{Reads}
 use Rattle.a64_text.specs.Splitting.{lines_of, first_line, lines_behind, of_text}
-use Rattle.a64_text.specs.Tokens.{line_of, IsEntry}
+use Rattle.a64_text.specs.Tokens.{fields_of, line_of, name_of, IsEntry, IsPlain}
 use Rattle.a64_text.specs.Makes.{Makes}
 use Rattle.a64_text.specs.States.{contents_of, once_name, said, State, MayStand, state_after}
 
@@ -52,6 +56,22 @@ AddsEntry (Some entry) old new made = AddsName old.given new.given (once_name en
 -- so is the entry that the name makes of the fields, where it makes one
 abbrev pub AddsMade : Name → List Value → ReaderState → ReaderState → Bool → Type 0
 AddsMade name values old new made = (r : Option Entry) × Makes name values r × AddsEntry r old new made
+
+-- the last item is taken off: it was this instruction without a map, or else another item, or there was none
+abbrev pub PopsInst : List Item → List Item → Option Inst → Type 0
+PopsInst old new (Some inst) = old ≡ new ++ Emit inst None ∷ []
+PopsInst old new None = (items : List Item) (inst : Inst) → old ≡ items ++ Emit inst None ∷ [] → ⊥
+
+-- true: the instruction of this name with these fields is taken into the state as one that is restored.
+-- False: there is none without a map
+abbrev pub AddsRestored : Name → List Value → ReaderState → ReaderState → Bool → Type 0
+AddsRestored name values old new true = (inst : Inst) × Makes name values (Some (entries.Item (Emit inst None))) × AddsEntry (Some (entries.Restore inst)) old new true
+AddsRestored name values old new false = (inst : Inst) → IsPlain (entries.Item (Emit inst None)) → name_of (entries.Item (Emit inst None)) ≡ name → fields_of (entries.Item (Emit inst None)) ≡ values → (state : State) → ¬ Holds old state
+
+-- what stands behind the word of instructions that are restored, where the text begins with it
+abbrev pub IsBehindRestore : List ℕ → Option (Bor (List ℕ)) → Type 0
+IsBehindRestore text None = (rest : List ℕ) → text ≡ codes "restore " ++ rest → ⊥
+IsBehindRestore text (Some rest) = text ≡ codes "restore " ++ rest.now
 
 -- Some: the first line of the text is taken into the state, and these are the lines behind it. None: it
 -- is no entry that may stand there

@@ -36,7 +36,11 @@ use Rattle.a64_base.specs.declared.shift.ExtendOp.TheVariants as extends
 use Rattle.a64_base.specs.declared.shift.ShiftOp.TheVariants.{LSL}
 use Rattle.a64_base.specs.declared.size.OperandSize.TheVariants.{Size32}
 use Rattle.a64_base.specs.declared.target.BranchTarget.TheVariants as targets
+use Rattle.a64_base.specs.declared.convention.CallConv.{CallConv}
+use Rattle.a64_base.specs.declared.convention.CallConv.TheVariants as conventions
 use Rattle.a64_base.specs.declared.entity.TrapCode.{TrapCode}
+use Rattle.a64_base.specs.declared.entity.UserStackMap.{UserStackMap}
+use Rattle.a64_base.specs.declared.key.APIKey.{APIKey}
 use Rattle.a64_base.specs.declared.ir_type.IrType.{IrType}
 use Rattle.a64_base.specs.declared.ir_type.IrType.TheVariants.{I64}
 use Rattle.a64_imms.specs.declared.offset.SImm9.{SImm9}
@@ -312,3 +316,24 @@ list_of _ = []
 
 abbrev pub list_at : List Value → ℕ → List ℕ
 list_at values i = list_of (slice_get values i)
+
+abbrev pub convention_of : Option Value → CallConv
+convention_of (Some (values.Convention x)) = x
+convention_of _ = conventions.SystemV
+
+abbrev pub convention_at : List Value → ℕ → CallConv
+convention_at values i = convention_of (slice_get values i)
+
+abbrev pub key_of : Option Value → Option APIKey
+key_of (Some (values.Key x)) = x
+key_of _ = None
+
+abbrev pub key_at : List Value → ℕ → Option APIKey
+key_at values i = key_of (slice_get values i)
+
+abbrev pub map_of : Option Value → Option UserStackMap
+map_of (Some (values.Map x)) = x
+map_of _ = None
+
+abbrev pub map_at : List Value → ℕ → Option UserStackMap
+map_at values i = map_of (slice_get values i)

@@ -5,6 +5,7 @@ use Rattle.std.specs.Fmt.{decimal, signed_decimal}
 use Rattle.a64_base.specs.RegisterNumbers.{RealRegister, IsRegisterNumber}
 use Rattle.a64_base.specs.declared.entity.MachLabel.{MachLabel}
 use Rattle.a64_base.specs.declared.entity.TrapCode.{TrapCode}
+use Rattle.a64_base.specs.declared.entity.UserStackMap.{UserStackMap}
 use Rattle.a64_base.specs.declared.ir_type.IrType.TheVariants.{I64}
 use Rattle.a64_imms.specs.declared.offset.SImm9.{SImm9}
 use Rattle.a64_imms.specs.declared.offset.SImm7Scaled.{SImm7Scaled}
@@ -149,6 +150,15 @@ flags_text (Some code) = decimal code.0
 abbrev pub IsFlags : Option TrapCode → Type 0
 IsFlags None = Unit {0}
 IsFlags (Some code) = IsU8 code.0
+
+-- the map of the stack at a call is a dash where there is none, else its number
+abbrev pub map_text : Option UserStackMap → List ℕ
+map_text None = codes "-"
+map_text (Some map) = decimal map.0
+
+abbrev pub IsMapNumber : Option UserStackMap → Type 0
+IsMapNumber None = Unit {0}
+IsMapNumber (Some map) = IsU32 map.0
 
 -- a name without parentheses, and something in parentheses behind it
 abbrev pub call_text : List ℕ × List ℕ → List ℕ

@@ -1,5 +1,5 @@
 -- What has a name stands where its name leads.
-use Rattle.std.specs.Prelude.{◌≡◌, map, Bool, true, Some, refl}
+use Rattle.std.specs.Prelude.{◌≡◌, map, Bool, true, Option, Some, refl}
 use Rattle.a64_ops.specs.declared.operator.ALUOp.{ALUOp}
 use Rattle.a64_ops.specs.declared.operator.ALUOp.TheVariants as alu_ops
 use Rattle.a64_ops.specs.declared.operator.ALUOp3.{ALUOp3}
@@ -18,7 +18,12 @@ use Rattle.a64_base.specs.declared.cond.Cond.{Cond}
 use Rattle.a64_base.specs.declared.cond.Cond.TheVariants as conds
 use Rattle.a64_base.specs.declared.cond.TestBitAndBranchKind.{TestBitAndBranchKind}
 use Rattle.a64_base.specs.declared.cond.TestBitAndBranchKind.TheVariants as bit_tests
+use Rattle.a64_base.specs.declared.convention.CallConv.{CallConv}
+use Rattle.a64_base.specs.declared.convention.CallConv.TheVariants as conventions
+use Rattle.a64_base.specs.declared.key.APIKey.{APIKey}
+use Rattle.a64_base.specs.declared.key.APIKey.TheVariants as keys
 use Rattle.a64_text.specs.declared.branch_name.TheConstants.{TEST_BIT_HOMES, TEST_BITS}
+use Rattle.a64_text.specs.declared.convention.TheConstants.{CONVENTION_HOMES, CONVENTIONS, KEY_HOMES, KEYS}
 use Rattle.a64_base.specs.declared.ir_type.IrType.{IrType}
 use Rattle.a64_base.specs.declared.ir_type.IrType.TheVariants as types
 use Rattle.a64_text.specs.declared.mode_name.MemLabelName.{MemLabelName}
@@ -35,6 +40,7 @@ use Rattle.a64_text.specs.declared.operator.TheConstants.{ALU_OP_HOMES, ALU_OPS,
 use Rattle.a64_text.specs.declared.modifier.TheConstants.{SHIFT_OP_HOMES, SHIFT_OPS, EXTEND_HOMES, EXTENDS, COND_HOMES, CONDS, BOOL_HOMES, BOOLS}
 use Rattle.a64_text.specs.Hash.{look_up}
 use Rattle.a64_text.specs.Operators.{alu_op_text, alu_op3_text, bit_op_text, bfm_op_text, move_wide_op_text, shift_op_text, extend_text, cond_text, bool_text, emit_flag_text, frame_field_text, mem_label_name_text, test_bit_text}
+use Rattle.a64_text.specs.Conventions.{convention_text, key_text}
 use Rattle.a64_text.specs.Types.{type_text}
 
 pub alu_op_found : (x : ALUOp) → look_up ALU_OP_HOMES (map (λ row. row.2) ALU_OPS) (alu_op_text x) ≡ Some x
@@ -88,6 +94,14 @@ emit_flag_found _ = refl
 pub type_found : (x : IrType) → look_up TYPE_HOMES (map (λ row. row.2) TYPES) (type_text x) ≡ Some x
 type_found types.I8 = refl
 type_found _ = refl
+
+pub convention_found : (x : CallConv) → look_up CONVENTION_HOMES (map (λ row. row.2) CONVENTIONS) (convention_text x) ≡ Some x
+convention_found conventions.SystemV = refl
+convention_found _ = refl
+
+pub key_found : (x : Option APIKey) → look_up KEY_HOMES (map (λ row. row.2) KEYS) (key_text x) ≡ Some x
+key_found (Some keys.AZ) = refl
+key_found _ = refl
 
 pub mem_label_found : (x : MemLabelName) → look_up MEM_LABEL_HOMES (map (λ row. row.2) MEM_LABELS) (mem_label_name_text x) ≡ Some x
 mem_label_found label_names.PCRel = refl

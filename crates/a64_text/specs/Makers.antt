@@ -1,5 +1,5 @@
 -- From the fields behind a name to the entry that they make.
-use Rattle.std.specs.Prelude.{ℕ, ◌≡◌, ◌≤◌, List, [], ◌∷◌, length, map, option_map, Option, Some, None, IfSome, refl}
+use Rattle.std.specs.Prelude.{ℕ, ◌≡◌, ◌==◌, ◌≤◌, false, get_or, List, [], ◌∷◌, length, map, option_map, Option, Some, None, IfSome, refl}
 use Rattle.std.proofs.Common.{lit≤, sym, ap, ◌∙◌}
 use Rattle.std.specs.List.{AllByRecursion}
 use Rattle.a64_base.specs.declared.entity.UserStackMap.{UserStackMap}
@@ -8,6 +8,7 @@ use Rattle.a64_inst.specs.declared.inst.Inst.TheVariants as insts
 use Rattle.a64_inst.specs.declared.item.Item.TheVariants.{Bind, Emit}
 use Rattle.a64_text.specs.declared.entry.Entry.{Entry}
 use Rattle.a64_text.specs.declared.entry.Entry.TheVariants as entries
+use Rattle.a64_text.specs.declared.name.CallName.TheVariants as call
 use Rattle.a64_text.specs.declared.name.ControlName.TheVariants as control
 use Rattle.a64_text.specs.declared.name.IntegerName.TheVariants as integer
 use Rattle.a64_text.specs.declared.name.MemoryName.TheVariants as memory
@@ -18,13 +19,14 @@ use Rattle.a64_text.specs.declared.name.Name.TheVariants as names
 use Rattle.a64_text.specs.declared.name_table.TheConstants.{NAME_HOMES, NAMES}
 use Rattle.a64_text.specs.declared.value.Value.{Value}
 use Rattle.a64_text.specs.declared.value.Value.TheVariants as values
-use Rattle.a64_text.specs.At.{label_at, list_at, reg_at, u32_at}
+use Rattle.a64_text.specs.At.{convention_at, key_at, label_at, list_at, map_at, reg_at, truth_at, u32_at}
+use Rattle.a64_text.specs.Calls.{call_arg_text, call_lists_text, AreCallLists, IsCallArg}
 use Rattle.a64_text.specs.Fields.{HasNo, label_text, IsLabel}
 use Rattle.a64_text.specs.Hash.{look_up}
 use Rattle.a64_text.specs.Hex.{hex_text, HasHex}
 use Rattle.a64_text.specs.Lists.{list_text}
 use Rattle.a64_text.specs.ModeLaws.{made_of}
-use Rattle.a64_text.specs.Makes.{emitted, constant_of, entry_of, jump_of, Makes}
+use Rattle.a64_text.specs.Makes.{called, call_of, call_texts_at, emitted, constant_of, entry_of, jump_of, name_at, return_call_of, Makes}
 use Rattle.a64_text.specs.Names.{name_text, kinds_of}
 use Rattle.a64_text.specs.RegisterPairs.{arg_pair_text, IsArgPair, ret_pair_text, IsRetPair}
 use Rattle.a64_text.specs.Same.{at_their_places}
@@ -35,6 +37,13 @@ made : (P : Entry → Type 0) (r : Option Entry) (e : Entry) → r ≡ Some e �
 made P r e is h = rw is h
 
 -- ---- by cases: one line for all names that need nothing but their fields, and one for each other
+
+-- the fields of a call, and of a return that calls, of which the lists have these texts
+abbrev call_values : Value → List ℕ × List ℕ × List ℕ → List Value → List Value
+call_values dest t vs = dest ∷ values.List t.0 ∷ values.List t.1 ∷ values.List t.2 ∷ values.Convention (convention_at vs 4) ∷ values.Convention (convention_at vs 5) ∷ values.U32 (u32_at vs 6) ∷ values.Bool (truth_at vs 7) ∷ values.Map (map_at vs 8) ∷ []
+
+abbrev return_call_values : Value → List ℕ → List Value → List Value
+return_call_values dest t vs = dest ∷ values.List t ∷ values.U32 (u32_at vs 2) ∷ values.Key (key_at vs 3) ∷ values.Bool (truth_at vs 4) ∷ []
 
 abbrev pub IsMade : Name → List Value → Entry → Type 0
 IsMade name values entry = (name_of entry ≡ name) × (fields_of entry ≡ values) × IsOwn entry
@@ -62,6 +71,22 @@ made_some (names.Sequence sequence.JTSequence) vs r h are =
     (λ targets own is. (refl, ap (λ (t : List ℕ). values.Label (label_at vs 0) ∷ values.List t ∷ values.Reg (reg_at vs 2) ∷ values.Reg (reg_at vs 3) ∷ values.Reg (reg_at vs 4) ∷ []) (sym is) ∙ at_their_places (kinds_of (names.Sequence sequence.JTSequence)) vs are, (own, refl)))
     h.0 h.1 r h.2
 made_some (names.Sequence name) values r h are = made (IsMade (names.Sequence name) values) r (entry_of (names.Sequence name) values) h (refl, at_their_places (kinds_of (names.Sequence name)) values are, (tt, refl))
+made_some (names.Call call.Call) vs r h are =
+    made_of AreCallLists call_lists_text (call_texts_at vs) (λ lists. called (insts.Call (call_of (name_at vs) vs lists)) (map_at vs 8)) (IsMade (names.Call call.Call) vs)
+    (λ lists own is. (refl, ap (λ (t : List ℕ × List ℕ × List ℕ). call_values (values.U32 (u32_at vs 0)) t vs) (sym is) ∙ at_their_places (kinds_of (names.Call call.Call)) vs are, (own, tt)))
+    h.0 h.1 r h.2
+made_some (names.Call call.CallInd) vs r h are =
+    made_of AreCallLists call_lists_text (call_texts_at vs) (λ lists. called (insts.CallInd (call_of (reg_at vs 0) vs lists)) (map_at vs 8)) (IsMade (names.Call call.CallInd) vs)
+    (λ lists own is. (refl, ap (λ (t : List ℕ × List ℕ × List ℕ). call_values (values.Reg (reg_at vs 0)) t vs) (sym is) ∙ at_their_places (kinds_of (names.Call call.CallInd)) vs are, (own, tt)))
+    h.0 h.1 r h.2
+made_some (names.Call call.ReturnCall) vs r h are =
+    made_of (AllByRecursion IsCallArg) (list_text call_arg_text) (list_at vs 1) (λ uses. emitted (insts.ReturnCall (return_call_of (name_at vs) vs uses))) (IsMade (names.Call call.ReturnCall) vs)
+    (λ uses own is. (refl, ap (λ (t : List ℕ). return_call_values (values.U32 (u32_at vs 0)) t vs) (sym is) ∙ at_their_places (kinds_of (names.Call call.ReturnCall)) vs are, (own, refl)))
+    h.0 h.1 r h.2
+made_some (names.Call call.ReturnCallInd) vs r h are =
+    made_of (AllByRecursion IsCallArg) (list_text call_arg_text) (list_at vs 1) (λ uses. emitted (insts.ReturnCallInd (return_call_of (reg_at vs 0) vs uses))) (IsMade (names.Call call.ReturnCallInd) vs)
+    (λ uses own is. (refl, ap (λ (t : List ℕ). return_call_values (values.Reg (reg_at vs 0)) t vs) (sym is) ∙ at_their_places (kinds_of (names.Call call.ReturnCallInd)) vs are, (own, refl)))
+    h.0 h.1 r h.2
 made_some (names.Memory memory.LoadAddr) values r h are = made (IsMade (names.Memory memory.LoadAddr) values) r (entry_of (names.Memory memory.LoadAddr) values) h (refl, at_their_places (kinds_of (names.Memory memory.LoadAddr)) values are, (tt, refl))
 made_some (names.Memory name) values r h are = made (IsMade (names.Memory name) values) r (entry_of (names.Memory name) values) h (refl, at_their_places (kinds_of (names.Memory name)) values are, (tt, refl))
 made_some (names.Access ops.ULoad8) values r h are = made (IsMade (names.Access ops.ULoad8) values) r (entry_of (names.Access ops.ULoad8) values) h (refl, at_their_places (kinds_of (names.Access ops.ULoad8)) values are, (tt, refl))
@@ -92,11 +117,35 @@ inst_only (insts.JTSequence default targets ridx rtmp1 rtmp2) vs r h fits own e 
     h.2
     ∙ ap (λ o. option_map (λ ts. emitted (jump_of vs ts)) o) (h.1.only targets own (ap (λ (t : List Value). list_at t 1) (sym e)))
     ∙ ap (λ (t : List Value). Some (emitted (jump_of t targets))) (sym e)
+inst_only (insts.Call info) vs r h fits own e =
+    h.2
+    ∙ ap (λ o. option_map (λ ls. called (insts.Call (call_of (name_at vs) vs ls)) (map_at vs 8)) o) (h.1.only (info.uses, info.defs, info.clobbers) own (ap (λ (t : List Value). call_texts_at t) (sym e)))
+    ∙ ap (λ (t : List Value). Some (called (insts.Call (call_of (name_at t) t (info.uses, info.defs, info.clobbers))) (map_at t 8))) (sym e)
+inst_only (insts.CallInd info) vs r h fits own e =
+    h.2
+    ∙ ap (λ o. option_map (λ ls. called (insts.CallInd (call_of (reg_at vs 0) vs ls)) (map_at vs 8)) o) (h.1.only (info.uses, info.defs, info.clobbers) own (ap (λ (t : List Value). call_texts_at t) (sym e)))
+    ∙ ap (λ (t : List Value). Some (called (insts.CallInd (call_of (reg_at t 0) t (info.uses, info.defs, info.clobbers))) (map_at t 8))) (sym e)
+inst_only (insts.ReturnCall info) vs r h fits own e =
+    h.2
+    ∙ ap (λ o. option_map (λ us. emitted (insts.ReturnCall (return_call_of (name_at vs) vs us))) o) (h.1.only info.uses own (ap (λ (t : List Value). list_at t 1) (sym e)))
+    ∙ ap (λ (t : List Value). Some (emitted (insts.ReturnCall (return_call_of (name_at t) t info.uses)))) (sym e)
+inst_only (insts.ReturnCallInd info) vs r h fits own e =
+    h.2
+    ∙ ap (λ o. option_map (λ us. emitted (insts.ReturnCallInd (return_call_of (reg_at vs 0) vs us))) o) (h.1.only info.uses own (ap (λ (t : List Value). list_at t 1) (sym e)))
+    ∙ ap (λ (t : List Value). Some (emitted (insts.ReturnCallInd (return_call_of (reg_at t 0) t info.uses)))) (sym e)
 inst_only inst values r h fits own e = h ∙ ap (λ (t : List Value). Some (entry_of (inst_parts inst).name t)) (sym e)
 
 pub made_only : (entry : Entry) (values : List Value) (r : Option Entry) → Makes (name_of entry) values r → AllByRecursion IsValue (fields_of entry) → IsOwn entry → fields_of entry ≡ values → r ≡ Some entry
 unfolding Makes
 made_only (entries.Item (Bind label)) values r h fits own e = h ∙ ap (λ (t : List Value). Some (entry_of names.Bind t)) (sym e)
+made_only (entries.Item (Emit (insts.Call info) map)) vs r h fits own e =
+    h.2
+    ∙ ap (λ o. option_map (λ ls. called (insts.Call (call_of (name_at vs) vs ls)) (map_at vs 8)) o) (h.1.only (info.uses, info.defs, info.clobbers) own.0 (ap (λ (t : List Value). call_texts_at t) (sym e)))
+    ∙ ap (λ (t : List Value). Some (called (insts.Call (call_of (name_at t) t (info.uses, info.defs, info.clobbers))) (map_at t 8))) (sym e)
+made_only (entries.Item (Emit (insts.CallInd info) map)) vs r h fits own e =
+    h.2
+    ∙ ap (λ o. option_map (λ ls. called (insts.CallInd (call_of (reg_at vs 0) vs ls)) (map_at vs 8)) o) (h.1.only (info.uses, info.defs, info.clobbers) own.0 (ap (λ (t : List Value). call_texts_at t) (sym e)))
+    ∙ ap (λ (t : List Value). Some (called (insts.CallInd (call_of (reg_at t 0) t (info.uses, info.defs, info.clobbers))) (map_at t 8))) (sym e)
 made_only (entries.Item (Emit inst map)) values r h fits own e = without_map inst map r own.1 (inst_only inst values r h fits own.0 e)
 made_only (entries.Constant addr bytes) vs r h fits own e =
     h.2
@@ -104,22 +153,25 @@ made_only (entries.Constant addr bytes) vs r h fits own e =
     ∙ ap (λ (t : List Value). Some (constant_of t bytes)) (sym e)
 made_only (entries.Frame field bytes) values r h fits own e = h ∙ ap (λ (t : List Value). Some (entry_of names.Frame t)) (sym e)
 made_only (entries.Flag flag) values r h fits own e = h ∙ ap (λ (t : List Value). Some (entry_of names.Flag t)) (sym e)
+made_only (entries.Restore inst) values r h fits own e = absurd own
 
-inst_kinds : (inst : Inst) → map kind_of (inst_parts inst).fields ≡ kinds_of (inst_parts inst).name
-inst_kinds insts.Nop4 = refl
-inst_kinds inst = refl
+item_kinds : (inst : Inst) (map_of_it : Option UserStackMap) → map kind_of (fields_of (called inst map_of_it)) ≡ kinds_of (name_of (called inst map_of_it))
+item_kinds insts.Nop4 m = refl
+item_kinds inst m = refl
 
 pub fields_kinds : (entry : Entry) → map kind_of (fields_of entry) ≡ kinds_of (name_of entry)
 fields_kinds (entries.Item (Bind label)) = refl
-fields_kinds (entries.Item (Emit inst map)) = inst_kinds inst
+fields_kinds (entries.Item (Emit inst map)) = item_kinds inst map
 fields_kinds (entries.Constant addr bytes) = refl
 fields_kinds (entries.Frame field bytes) = refl
 fields_kinds (entries.Flag flag) = refl
+fields_kinds (entries.Restore inst) = item_kinds inst None
 
 pub few_kinds : (name : Name) → length (kinds_of name) ≤ 12
 few_kinds (names.Integer integer.Nop4) = lit≤ tt
 few_kinds (names.Control control.Ret) = lit≤ tt
 few_kinds (names.Sequence sequence.DummyUse) = lit≤ tt
+few_kinds (names.Call call.Call) = lit≤ tt
 few_kinds (names.Memory memory.LoadAddr) = lit≤ tt
 few_kinds (names.Access ops.ULoad8) = lit≤ tt
 few_kinds _ = lit≤ tt
@@ -128,14 +180,26 @@ pub name_plain : (name : Name) → HasNo 32 (name_text name)
 name_plain (names.Integer integer.Nop4) = refl
 name_plain (names.Control control.Ret) = refl
 name_plain (names.Sequence sequence.DummyUse) = refl
+name_plain (names.Call call.Call) = refl
 name_plain (names.Memory memory.LoadAddr) = refl
 name_plain (names.Access ops.ULoad8) = refl
 name_plain _ = refl
+
+-- no name begins as the word of instructions that are restored
+pub name_first : (name : Name) → (get_or (name_text name) 0 0 == 114) ≡ false
+name_first (names.Integer integer.Nop4) = refl
+name_first (names.Control control.Ret) = refl
+name_first (names.Sequence sequence.DummyUse) = refl
+name_first (names.Call call.Call) = refl
+name_first (names.Memory memory.LoadAddr) = refl
+name_first (names.Access ops.ULoad8) = refl
+name_first _ = refl
 
 pub name_found : (x : Name) → look_up NAME_HOMES (map (λ row. row.2) NAMES) (name_text x) ≡ Some x
 name_found (names.Integer integer.Nop4) = refl
 name_found (names.Control control.Ret) = refl
 name_found (names.Sequence sequence.DummyUse) = refl
+name_found (names.Call call.Call) = refl
 name_found (names.Memory memory.LoadAddr) = refl
 name_found (names.Access ops.ULoad8) = refl
 name_found _ = refl

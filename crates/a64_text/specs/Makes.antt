@@ -1,17 +1,23 @@
 -- What a name makes of the fields behind it.
 use Rattle.std.specs.Prelude.{◌≡◌, ℕ, map, List, Option, Some, None, IfSome}
 use Rattle.std.specs.List.{AllByRecursion}
+use Rattle.a64_base.specs.declared.entity.ExternalName.{ExternalName}
 use Rattle.a64_base.specs.declared.entity.MachLabel.{MachLabel}
+use Rattle.a64_base.specs.declared.entity.UserStackMap.{UserStackMap}
 use Rattle.a64_base.specs.declared.reg.Reg.{Reg}
 use Rattle.a64_base.specs.declared.size.OperandSize.{OperandSize}
 use Rattle.a64_imms.specs.declared.imm_logic.ImmLogic.{ImmLogic}
 use Rattle.a64_inst.specs.Accesses.{inst_with}
+use Rattle.a64_inst.specs.declared.call.CallArgPair.{CallArgPair}
+use Rattle.a64_inst.specs.declared.call.CallInfo.{CallInfo}
+use Rattle.a64_inst.specs.declared.call.ReturnCallInfo.{ReturnCallInfo}
 use Rattle.a64_inst.specs.declared.inst.Inst.{Inst}
 use Rattle.a64_inst.specs.declared.inst.Inst.TheVariants as insts
 use Rattle.a64_inst.specs.declared.item.Item.TheVariants.{Bind, Emit}
 use Rattle.a64_ops.specs.declared.operator.ALUOp.{ALUOp}
 use Rattle.a64_text.specs.declared.entry.Entry.{Entry}
 use Rattle.a64_text.specs.declared.entry.Entry.TheVariants as entries
+use Rattle.a64_text.specs.declared.name.CallName.TheVariants as call
 use Rattle.a64_text.specs.declared.name.ControlName.{ControlName}
 use Rattle.a64_text.specs.declared.name.ControlName.TheVariants as control
 use Rattle.a64_text.specs.declared.name.IntegerName.{IntegerName}
@@ -23,14 +29,15 @@ use Rattle.a64_text.specs.declared.name.SequenceName.TheVariants as sequence
 use Rattle.a64_text.specs.declared.name.Name.{Name}
 use Rattle.a64_text.specs.declared.name.Name.TheVariants as names
 use Rattle.a64_text.specs.declared.value.Value.{Value}
-use Rattle.a64_text.specs.At.{alu_op3_at, alu_op_at, bfm_op_at, bit_op_at, cond_at, cond_br_kind_at, emit_flag_at, extend_at, flags_at, frame_field_at, i32_at, i64_at, imm12_at, imm_shift_at, label_at, list_at, mode_at, move_wide_op_at, nzcv_at, pair_mode_at, preg_at, reg_at, shift_at, size_at, target_at, test_bit_kind_at, truth_at, u32_at, u64_at, u8_at, uimm5_at, uimm6_at, wide_at}
+use Rattle.a64_text.specs.At.{alu_op3_at, alu_op_at, bfm_op_at, bit_op_at, cond_at, cond_br_kind_at, convention_at, emit_flag_at, extend_at, flags_at, frame_field_at, i32_at, i64_at, imm12_at, imm_shift_at, key_at, label_at, list_at, map_at, mode_at, move_wide_op_at, nzcv_at, pair_mode_at, preg_at, reg_at, shift_at, size_at, target_at, test_bit_kind_at, truth_at, u32_at, u64_at, u8_at, uimm5_at, uimm6_at, wide_at}
+use Rattle.a64_text.specs.Calls.{call_arg_text, call_lists_text, AreCallLists, CallLists, IsCallArg}
 use Rattle.a64_text.specs.Fields.{label_text, IsLabel}
 use Rattle.a64_text.specs.Hex.{hex_text, HasHex}
 use Rattle.a64_text.specs.Lists.{list_text}
 use Rattle.a64_text.specs.ModeMakes.{MakesOf}
 use Rattle.a64_text.specs.Names.{kinds_of}
 use Rattle.a64_text.specs.RegisterPairs.{arg_pair_text, IsArgPair, ret_pair_text, IsRetPair}
-use Rattle.a64_text.specs.Tokens.{name_of, fields_of, IsOwn, IsEntry}
+use Rattle.a64_text.specs.Tokens.{name_of, fields_of, IsOwn, IsPlain}
 use Rattle.a64_text.specs.Values.{kind_of}
 
 -- the entry that is an instruction without a map
@@ -97,6 +104,40 @@ memory_of memory.LoadAddr values = insts.LoadAddr (reg_at values 0) (mode_at val
 abbrev pub jump_of : List Value → List MachLabel → Inst
 jump_of values targets = insts.JTSequence (label_at values 0) targets (reg_at values 2) (reg_at values 3) (reg_at values 4)
 
+-- the entry that is a call with this map
+abbrev pub called : Inst → Option UserStackMap → Entry
+called inst map = entries.Item (Emit inst map)
+
+-- what is known of a call of this destination, with these lists
+abbrev pub call_of : {T : Type 0} → T → List Value → CallLists → CallInfo T
+call_of dest values lists = record {
+  dest = dest;
+  uses = lists.0;
+  defs = lists.1;
+  clobbers = lists.2;
+  caller_conv = convention_at values 4;
+  callee_conv = convention_at values 5;
+  callee_pop_size = u32_at values 6;
+  patchable = truth_at values 7;
+}
+
+-- and of a return that calls this destination
+abbrev pub return_call_of : {T : Type 0} → T → List Value → List CallArgPair → ReturnCallInfo T
+return_call_of dest values uses = record {
+  dest = dest;
+  uses = uses;
+  new_stack_arg_size = u32_at values 2;
+  key = key_at values 3;
+  sign_return_address_all = truth_at values 4;
+}
+
+abbrev pub name_at : List Value → ExternalName
+name_at values = record { 0 = u32_at values 0 }
+
+-- the texts of the lists of a call
+abbrev pub call_texts_at : List Value → List ℕ × List ℕ × List ℕ
+call_texts_at values = (list_at values 1, list_at values 2, list_at values 3)
+
 -- the constant of these fields, with these bytes
 abbrev pub constant_of : List Value → List ℕ → Entry
 constant_of values bytes = entries.Constant (record { 0 = u32_at values 0 }) bytes
@@ -106,6 +147,7 @@ abbrev pub entry_of : Name → List Value → Entry
 entry_of (names.Integer name) values = emitted (integer_of name values)
 entry_of (names.Control name) values = emitted (control_of name values)
 entry_of (names.Sequence name) values = emitted (sequence_of name values)
+entry_of (names.Call name) values = emitted insts.Nop0
 entry_of (names.Memory name) values = emitted (memory_of name values)
 entry_of (names.Access op) values = emitted (inst_with op (reg_at values 0) (mode_at values 1) (flags_at values 2))
 entry_of names.Bind values = entries.Item (Bind (label_at values 0))
@@ -116,7 +158,7 @@ entry_of names.Flag values = entries.Flag (emit_flag_at values 0)
 -- some entry of this name with these fields, exactly where there is one. `make` makes all entries of the name
 pub record MakesOwn {X : Type 0} (name : Name) (make : X → Entry) (values : List Value) (result : Option Entry) : Type 0 where
   pub some : map kind_of values ≡ kinds_of name → IfSome result (λ entry. (name_of entry ≡ name) × (fields_of entry ≡ values) × IsOwn entry)
-  pub only : (x : X) → IsEntry (make x) → fields_of (make x) ≡ values → result ≡ Some (make x)
+  pub only : (x : X) → IsPlain (make x) → fields_of (make x) ≡ values → result ≡ Some (make x)
 
 unfoldable pub Makes : Name → List Value → Option Entry → Type 0
 Makes (names.Integer integer.AluRRImmLogic) values result = MakesOwn (names.Integer integer.AluRRImmLogic) (λ (x : ALUOp × OperandSize × Reg × Reg × ImmLogic). emitted (insts.AluRRImmLogic x.0 x.1 x.2 x.3 x.4)) values result
@@ -124,5 +166,9 @@ Makes (names.Control control.IndirectBr) values result = MakesOf (AllByRecursion
 Makes (names.Sequence sequence.Args) values result = MakesOf (AllByRecursion IsArgPair) (list_text arg_pair_text) (list_at values 0) (λ args. emitted (insts.Args args)) result
 Makes (names.Sequence sequence.Rets) values result = MakesOf (AllByRecursion IsRetPair) (list_text ret_pair_text) (list_at values 0) (λ rets. emitted (insts.Rets rets)) result
 Makes (names.Sequence sequence.JTSequence) values result = MakesOf (AllByRecursion IsLabel) (list_text label_text) (list_at values 1) (λ targets. emitted (jump_of values targets)) result
+Makes (names.Call call.Call) values result = MakesOf AreCallLists call_lists_text (call_texts_at values) (λ lists. called (insts.Call (call_of (name_at values) values lists)) (map_at values 8)) result
+Makes (names.Call call.CallInd) values result = MakesOf AreCallLists call_lists_text (call_texts_at values) (λ lists. called (insts.CallInd (call_of (reg_at values 0) values lists)) (map_at values 8)) result
+Makes (names.Call call.ReturnCall) values result = MakesOf (AllByRecursion IsCallArg) (list_text call_arg_text) (list_at values 1) (λ uses. emitted (insts.ReturnCall (return_call_of (name_at values) values uses))) result
+Makes (names.Call call.ReturnCallInd) values result = MakesOf (AllByRecursion IsCallArg) (list_text call_arg_text) (list_at values 1) (λ uses. emitted (insts.ReturnCallInd (return_call_of (reg_at values 0) values uses))) result
 Makes names.Const values result = MakesOf HasHex hex_text (list_at values 1) (constant_of values) result
 Makes name values result = result ≡ Some (entry_of name values)

@@ -1,9 +1,11 @@
 -- The names of entries, each with the kinds of its fields.
-use Rattle.std.specs.Prelude.{ℕ, List, [], ◌∷◌, codes}
+use Rattle.std.specs.Prelude.{ℕ, Bool, true, false, List, [], ◌∷◌, codes}
 use Rattle.a64_text.specs.declared.name.IntegerName.{IntegerName}
 use Rattle.a64_text.specs.declared.name.IntegerName.TheVariants as integer
 use Rattle.a64_text.specs.declared.name.ControlName.{ControlName}
 use Rattle.a64_text.specs.declared.name.ControlName.TheVariants as control
+use Rattle.a64_text.specs.declared.name.CallName.{CallName}
+use Rattle.a64_text.specs.declared.name.CallName.TheVariants as call
 use Rattle.a64_text.specs.declared.name.MemoryName.{MemoryName}
 use Rattle.a64_text.specs.declared.name.MemoryName.TheVariants as memory
 use Rattle.a64_ops.specs.declared.access.AccessOp.{AccessOp}
@@ -11,7 +13,7 @@ use Rattle.a64_ops.specs.declared.access.AccessOp.TheVariants as ops
 use Rattle.a64_text.specs.declared.name.Name.{Name}
 use Rattle.a64_text.specs.declared.name.SequenceName.{SequenceName}
 use Rattle.a64_text.specs.declared.name.SequenceName.TheVariants as sequence
-use Rattle.a64_text.specs.declared.name.Name.TheVariants.{Integer, Control, Sequence, Memory, Access, Bind, Const, Frame, Flag}
+use Rattle.a64_text.specs.declared.name.Name.TheVariants.{Integer, Control, Sequence, Call, Memory, Access, Bind, Const, Frame, Flag}
 use Rattle.a64_text.specs.declared.value.Kind.{Kind}
 use Rattle.a64_text.specs.declared.value.Kind.TheVariants as kinds
 
@@ -75,6 +77,12 @@ sequence_heading sequence.LoadExtNameNear = record { text = codes "LoadExtNameNe
 sequence_heading sequence.LoadExtNameFar = record { text = codes "LoadExtNameFar"; kinds = kinds.Reg ∷ kinds.U32 ∷ kinds.I64 ∷ [] }
 sequence_heading sequence.StackProbeLoop = record { text = codes "StackProbeLoop"; kinds = kinds.Reg ∷ kinds.Reg ∷ kinds.Imm12 ∷ [] }
 
+abbrev pub call_heading : CallName → Heading
+call_heading call.Call = record { text = codes "Call"; kinds = kinds.U32 ∷ kinds.List ∷ kinds.List ∷ kinds.List ∷ kinds.Convention ∷ kinds.Convention ∷ kinds.U32 ∷ kinds.Bool ∷ kinds.Map ∷ [] }
+call_heading call.CallInd = record { text = codes "CallInd"; kinds = kinds.Reg ∷ kinds.List ∷ kinds.List ∷ kinds.List ∷ kinds.Convention ∷ kinds.Convention ∷ kinds.U32 ∷ kinds.Bool ∷ kinds.Map ∷ [] }
+call_heading call.ReturnCall = record { text = codes "ReturnCall"; kinds = kinds.U32 ∷ kinds.List ∷ kinds.U32 ∷ kinds.Key ∷ kinds.Bool ∷ [] }
+call_heading call.ReturnCallInd = record { text = codes "ReturnCallInd"; kinds = kinds.Reg ∷ kinds.List ∷ kinds.U32 ∷ kinds.Key ∷ kinds.Bool ∷ [] }
+
 abbrev pub memory_heading : MemoryName → Heading
 memory_heading memory.LoadP64 = record { text = codes "LoadP64"; kinds = kinds.Reg ∷ kinds.Reg ∷ kinds.PairMode ∷ kinds.Flags ∷ [] }
 memory_heading memory.StoreP64 = record { text = codes "StoreP64"; kinds = kinds.Reg ∷ kinds.Reg ∷ kinds.PairMode ∷ kinds.Flags ∷ [] }
@@ -109,6 +117,7 @@ abbrev pub heading : Name → Heading
 heading (Integer name) = integer_heading name
 heading (Control name) = control_heading name
 heading (Sequence name) = sequence_heading name
+heading (Call name) = call_heading name
 heading (Memory name) = memory_heading name
 heading (Access op) = access_heading op
 heading Bind = record { text = codes "bind"; kinds = kinds.Label ∷ [] }
@@ -121,3 +130,11 @@ name_text name = (heading name).text
 
 abbrev pub kinds_of : Name → List Kind
 kinds_of name = (heading name).kinds
+
+-- whether a name is that of an instruction
+abbrev pub names_inst : Name → Bool
+names_inst Bind = false
+names_inst Const = false
+names_inst Frame = false
+names_inst Flag = false
+names_inst name = true

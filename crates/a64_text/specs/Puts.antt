@@ -18,6 +18,7 @@ PutsEntry (Some (entries.Item item)) old new made = (made ≡ true) × (new ≡ 
 PutsEntry (Some (entries.Constant addr bytes)) old new made = ⊥
 PutsEntry (Some (entries.Frame field bytes)) old new made = ⊥
 PutsEntry (Some (entries.Flag flag)) old new made = ⊥
+PutsEntry (Some (entries.Restore inst)) old new made = ⊥
 
 -- the entry that the name makes of the fields, where it makes one, is an item and is put behind the others
 abbrev pub PutsMade : Name → List Value → List Item → List Item → Bool → Type 0
@@ -30,4 +31,5 @@ Puts (names.Control control.IndirectBr) values old new made = PutsMade (names.Co
 Puts (names.Sequence sequence.Args) values old new made = PutsMade (names.Sequence sequence.Args) values old new made
 Puts (names.Sequence sequence.Rets) values old new made = PutsMade (names.Sequence sequence.Rets) values old new made
 Puts (names.Sequence sequence.JTSequence) values old new made = PutsMade (names.Sequence sequence.JTSequence) values old new made
+Puts (names.Call name) values old new made = PutsMade (names.Call name) values old new made
 Puts name values old new made = PutsEntry (Some (entry_of name values)) old new made

@@ -1,16 +1,20 @@
 -- Bytes that stand between fields, of which no text of a register has one.
-use Rattle.std.specs.Prelude.{ℕ, ◌==◌, ◌<◌, ◌^◌, ◌⊎◌, ◌++◌, if◌then◌else◌, Bool, true, false, codes, List, ◌∷◌, ◌≡◌, refl}
+use Rattle.std.specs.Prelude.{ℕ, ℤ, pos, negsuc, suc, ◌==◌, ◌<◌, ◌^◌, ◌⊎◌, ◌++◌, if◌then◌else◌, Bool, true, false, codes, List, ◌∷◌, ◌≡◌, refl}
 use Rattle.std.proofs.Common.{arith, lit<, inl, inr, sym, subst}
-use Rattle.std.specs.Fmt.{decimal}
+use Rattle.std.specs.Fmt.{decimal, signed_decimal}
+use Rattle.std.proofs.lemmas.Int.{ints}
 use Rattle.std.proofs.lemmas.List.Folds.{list_any-append}
 use Rattle.a64_base.specs.RegisterNumbers.{IsRegisterNumber}
+use Rattle.a64_base.specs.declared.ir_type.IrType.{IrType}
+use Rattle.a64_base.specs.declared.ir_type.IrType.TheVariants.{I8}
 use Rattle.a64_base.specs.declared.reg.Reg.{Reg}
 use Rattle.a64_base.specs.declared.reg.Reg.TheVariants.{Real, Virtual}
 use Rattle.a64_base.specs.declared.reg.RegClass.{RegClass}
 use Rattle.a64_base.specs.declared.reg.RegClass.TheVariants.{Int, Float}
 use Rattle.a64_text.specs.DigitLaws.{decimal_apart, IsNoDigit}
 use Rattle.a64_text.specs.Fields.{HasNo, integer_text, real_text, virtual_text, reg_text, IsReg}
-use Rattle.a64_text.specs.Reads.{IsU32}
+use Rattle.a64_text.specs.Reads.{IsU32, IsI64}
+use Rattle.a64_text.specs.Types.{type_text}
 
 -- the bytes that stand between fields: a space, a comma and an equals sign
 abbrev pub IsBetween : ℕ → Type 0
@@ -66,3 +70,12 @@ module _ (c : ℕ) (is : IsBetween c) where
   pub reg_apart : (reg : Reg) → IsReg reg → HasNo c (reg_text reg)
   reg_apart (Real p) fits = real_apart p.class p.number fits
   reg_apart (Virtual index class) fits = virtual_apart class index fits
+
+  -- nor has one of a number, or of a type
+  pub signed_apart : (z : ℤ) → IsI64 z → HasNo c (signed_decimal z)
+  signed_apart (pos n) fits = digits n (omega (arith, ints, fits))
+  signed_apart (negsuc n) fits = behind 45 (decimal (suc n)) refl refl refl c is (digits (suc n) (omega (arith, ints, fits)))
+
+  pub type_apart : (x : IrType) → HasNo c (type_text x)
+  type_apart I8 = at_each (λ c. HasNo c (type_text I8)) refl refl refl c is
+  type_apart x = at_each (λ c. HasNo c (type_text x)) refl refl refl c is

@@ -6,7 +6,7 @@ use Rattle.a64_text.specs.declared.value.Kind.TheVariants as kinds
 use Rattle.a64_text.specs.declared.value.Value.{Value}
 use Rattle.a64_text.specs.declared.value.Value.TheVariants as values
 use Rattle.a64_text.specs.Values.{kind_of}
-use Rattle.a64_text.specs.At.{alu_op_of, alu_op3_of, bit_op_of, bfm_op_of, move_wide_op_of, size_of, reg_of, preg_of, imm12_of, wide_of, imm_shift_of, uimm5_of, uimm6_of, shift_of, extend_of, cond_of, nzcv_of, truth_of, u8_of, u32_of, u64_of, i32_of, target_of, label_of, frame_field_of, emit_flag_of, i64_of, offset9_of, pair_offset_of, type_of, mem_label_name_of, mode_of, pair_mode_of, flags_of, cond_br_kind_of, test_bit_kind_of, list_of}
+use Rattle.a64_text.specs.At.{alu_op_of, alu_op3_of, bit_op_of, bfm_op_of, move_wide_op_of, size_of, reg_of, preg_of, imm12_of, wide_of, imm_shift_of, uimm5_of, uimm6_of, shift_of, extend_of, cond_of, nzcv_of, truth_of, u8_of, u32_of, u64_of, i32_of, target_of, label_of, frame_field_of, emit_flag_of, i64_of, offset9_of, pair_offset_of, type_of, mem_label_name_of, mode_of, pair_mode_of, flags_of, cond_br_kind_of, test_bit_kind_of, list_of, convention_of, key_of, map_of}
 
 -- a field of the kind, which is the given one where that is of the kind
 abbrev pub as_kind : Kind → Option Value → Value
@@ -47,6 +47,9 @@ as_kind kinds.Flags v = values.Flags (flags_of v)
 as_kind kinds.CondBrKind v = values.CondBrKind (cond_br_kind_of v)
 as_kind kinds.TestBitAndBranchKind v = values.TestBitAndBranchKind (test_bit_kind_of v)
 as_kind kinds.List v = values.List (list_of v)
+as_kind kinds.Convention v = values.Convention (convention_of v)
+as_kind kinds.Key v = values.Key (key_of v)
+as_kind kinds.Map v = values.Map (map_of v)
 
 pub as_own_kind : (v : Value) → as_kind (kind_of v) (Some v) ≡ v
 as_own_kind (values.AluOp x) = refl

@@ -1,5 +1,5 @@
 -- Texts, cut into lines and tokens.
-use Rattle.std.specs.Prelude.{ℕ, ◌≡◌, ◌==◌, List, [], ◌∷◌, Option, Some, None}
+use Rattle.std.specs.Prelude.{ℕ, ◌≡◌, ◌==◌, List, [], ◌∷◌, ◌++◌, Option, Some, None}
 use Rattle.std.specs.List.{slice_split}
 use Rattle.std.proofs.Common.{Bor}
 
@@ -30,6 +30,16 @@ lines_behind text = others (lines_of text)
 -- the fields that a text has, with commas between
 abbrev pub comma_tokens : List ℕ → List (List ℕ)
 comma_tokens text = slice_split (λ b. b == 44) text
+
+-- texts by twos, with the comma between. One that is left over stands alone
+abbrev pub by_twos : List (List ℕ) → List (List ℕ)
+by_twos [] = []
+by_twos (a ∷ []) = a ∷ []
+by_twos (a ∷ b ∷ ts) = (a ++ 44 ∷ b) ∷ by_twos ts
+
+-- the fields that a text has, where each has a comma of its own
+abbrev pub comma_pairs : List ℕ → List (List ℕ)
+comma_pairs text = by_twos (comma_tokens text)
 
 -- what some text has, where there is one
 abbrev pub of_text : (List ℕ → List (List ℕ)) → Option (Bor (List ℕ)) → List (List ℕ)

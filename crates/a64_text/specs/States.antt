@@ -56,12 +56,14 @@ pub record State : Type 0 where
 abbrev pub start : State
 start = record { file = default_contents; given = [] }
 
--- the name that an entry gives, where a file gives it at most once. Items may come as often as they like.
+-- the name that an entry gives, where a file gives it at most once. Items and what is restored
+-- may come as often as they like.
 abbrev pub once_name : Entry → Option OnceName
 once_name (entries.Item item) = None
 once_name (entries.Constant addr bytes) = Some (once_names.Constant addr.0)
 once_name (entries.Frame field bytes) = Some (once_names.Frame field)
 once_name (entries.Flag flag) = Some (once_names.Flag flag)
+once_name (entries.Restore inst) = None
 
 -- what the file says with the entry too
 abbrev pub said : Entry → Contents → Contents
@@ -69,6 +71,7 @@ said (entries.Item item) file = record file { items = file.items ++ item ∷ [] 
 said (entries.Constant addr bytes) file = record file { constants = inserted file.constants addr.0 bytes }
 said (entries.Frame field bytes) file = record file { frame = frame_with field bytes file.frame }
 said (entries.Flag flag) file = record file { flags = flags_with flag file.flags }
+said (entries.Restore inst) file = record file { frame = record file.frame { restore = file.frame.restore ++ inst ∷ [] } }
 
 -- a constant has as many bytes as constants have
 abbrev pub IsSized : Entry → Type 0

@@ -1,10 +1,12 @@
 -- The line of an entry: its name and its fields, with one space between.
-use Rattle.std.specs.Prelude.{ℕ, ◌≡◌, List, [], ◌∷◌, map, Option, None}
+use Rattle.std.specs.Prelude.{ℕ, ◌≡◌, List, [], ◌∷◌, ◌++◌, codes, map, Option, None}
 use Rattle.std.specs.List.{join_with_byte, AllByRecursion}
 use Rattle.a64_base.specs.declared.entity.TrapCode.{TrapCode}
 use Rattle.a64_base.specs.declared.entity.UserStackMap.{UserStackMap}
 use Rattle.a64_base.specs.declared.reg.Reg.{Reg}
 use Rattle.a64_imms.specs.Logic.{logic_value, IsLogicOf}
+use Rattle.a64_inst.specs.declared.call.CallInfo.{CallInfo}
+use Rattle.a64_inst.specs.declared.call.ReturnCallInfo.{ReturnCallInfo}
 use Rattle.a64_inst.specs.declared.inst.Inst.{Inst}
 use Rattle.a64_inst.specs.declared.inst.Inst.TheVariants as insts
 use Rattle.a64_inst.specs.declared.item.Item.{Item}
@@ -14,6 +16,8 @@ use Rattle.a64_ops.specs.declared.access.AccessOp.{AccessOp}
 use Rattle.a64_ops.specs.declared.access.AccessOp.TheVariants as ops
 use Rattle.a64_text.specs.declared.entry.Entry.{Entry}
 use Rattle.a64_text.specs.declared.entry.Entry.TheVariants as entries
+use Rattle.a64_text.specs.declared.name.CallName.{CallName}
+use Rattle.a64_text.specs.declared.name.CallName.TheVariants as call
 use Rattle.a64_text.specs.declared.name.ControlName.TheVariants as control
 use Rattle.a64_text.specs.declared.name.IntegerName.TheVariants as integer
 use Rattle.a64_text.specs.declared.name.MemoryName.TheVariants as memory
@@ -22,6 +26,8 @@ use Rattle.a64_text.specs.declared.name.Name.{Name}
 use Rattle.a64_text.specs.declared.name.Name.TheVariants as names
 use Rattle.a64_text.specs.declared.value.Value.{Value}
 use Rattle.a64_text.specs.declared.value.Value.TheVariants as values
+use Rattle.a64_text.specs.Calls.{call_arg_text, IsCallArg, call_ret_text, AreCallLists}
+use Rattle.a64_text.specs.Clobbers.{clobbers_text}
 use Rattle.a64_text.specs.Fields.{label_text, IsLabel}
 use Rattle.a64_text.specs.Hex.{hex_text, HasHex}
 use Rattle.a64_text.specs.Lists.{list_text}
@@ -36,6 +42,13 @@ pub record Parts : Type 0 where
 
 abbrev pub access_parts : AccessOp → Reg → AMode → Option TrapCode → Parts
 access_parts op rd mem flags = record { name = names.Access op; fields = values.Reg rd ∷ values.Mode mem ∷ values.Flags flags ∷ [] }
+
+-- of a call, but for its map
+abbrev pub call_parts : {T : Type 0} → CallName → Value → CallInfo T → Parts
+call_parts name dest info = record { name = names.Call name; fields = dest ∷ values.List (list_text call_arg_text info.uses) ∷ values.List (list_text call_ret_text info.defs) ∷ values.List (clobbers_text info.clobbers) ∷ values.Convention info.caller_conv ∷ values.Convention info.callee_conv ∷ values.U32 info.callee_pop_size ∷ values.Bool info.patchable ∷ [] }
+
+abbrev pub return_call_parts : {T : Type 0} → CallName → Value → ReturnCallInfo T → Parts
+return_call_parts name dest info = record { name = names.Call name; fields = dest ∷ values.List (list_text call_arg_text info.uses) ∷ values.U32 info.new_stack_arg_size ∷ values.Key info.key ∷ values.Bool info.sign_return_address_all ∷ [] }
 
 abbrev pub inst_parts : Inst → Parts
 inst_parts insts.Nop0 = record { name = names.Integer integer.Nop0; fields = [] }
@@ -87,6 +100,10 @@ inst_parts (insts.LoadExtNameGot rd name) = record { name = names.Sequence seque
 inst_parts (insts.LoadExtNameNear rd name offset) = record { name = names.Sequence sequence.LoadExtNameNear; fields = values.Reg rd ∷ values.U32 name.0 ∷ values.I64 offset ∷ [] }
 inst_parts (insts.LoadExtNameFar rd name offset) = record { name = names.Sequence sequence.LoadExtNameFar; fields = values.Reg rd ∷ values.U32 name.0 ∷ values.I64 offset ∷ [] }
 inst_parts (insts.StackProbeLoop start end step) = record { name = names.Sequence sequence.StackProbeLoop; fields = values.Reg start ∷ values.Reg end ∷ values.Imm12 step ∷ [] }
+inst_parts (insts.Call info) = call_parts call.Call (values.U32 info.dest.0) info
+inst_parts (insts.CallInd info) = call_parts call.CallInd (values.Reg info.dest) info
+inst_parts (insts.ReturnCall info) = return_call_parts call.ReturnCall (values.U32 info.dest.0) info
+inst_parts (insts.ReturnCallInd info) = return_call_parts call.ReturnCallInd (values.Reg info.dest) info
 inst_parts (insts.LoadP64 rt rt2 mem flags) = record { name = names.Memory memory.LoadP64; fields = values.Reg rt ∷ values.Reg rt2 ∷ values.PairMode mem ∷ values.Flags flags ∷ [] }
 inst_parts (insts.StoreP64 rt rt2 mem flags) = record { name = names.Memory memory.StoreP64; fields = values.Reg rt ∷ values.Reg rt2 ∷ values.PairMode mem ∷ values.Flags flags ∷ [] }
 inst_parts (insts.LoadAddr rd mem) = record { name = names.Memory memory.LoadAddr; fields = values.Reg rd ∷ values.Mode mem ∷ [] }
@@ -110,15 +127,22 @@ inst_parts (insts.FpuStore32 rd mem flags) = access_parts ops.FpuStore32 rd mem 
 inst_parts (insts.FpuStore64 rd mem flags) = access_parts ops.FpuStore64 rd mem flags
 inst_parts (insts.FpuStore128 rd mem flags) = access_parts ops.FpuStore128 rd mem flags
 
+-- a call alone has a field for its map, behind the others
+abbrev pub map_fields : Inst → Option UserStackMap → List Value
+map_fields (insts.Call info) map = values.Map map ∷ []
+map_fields (insts.CallInd info) map = values.Map map ∷ []
+map_fields inst map = []
+
 abbrev pub item_parts : Item → Parts
 item_parts (Bind label) = record { name = names.Bind; fields = values.Label label ∷ [] }
-item_parts (Emit inst map) = inst_parts inst
+item_parts (Emit inst map) = record { name = (inst_parts inst).name; fields = (inst_parts inst).fields ++ map_fields inst map }
 
 abbrev pub parts : Entry → Parts
 parts (entries.Item item) = item_parts item
 parts (entries.Constant addr bytes) = record { name = names.Const; fields = values.U32 addr.0 ∷ values.List (hex_text bytes) ∷ [] }
 parts (entries.Frame field bytes) = record { name = names.Frame; fields = values.FrameField field ∷ values.U32 bytes ∷ [] }
 parts (entries.Flag flag) = record { name = names.Flag; fields = values.EmitFlag flag ∷ [] }
+parts (entries.Restore inst) = item_parts (Emit inst None)
 
 abbrev pub name_of : Entry → Name
 name_of entry = (parts entry).name
@@ -133,10 +157,16 @@ IsOwnInst (insts.IndirectBr rn targets) = AllByRecursion IsLabel targets
 IsOwnInst (insts.Args args) = AllByRecursion IsArgPair args
 IsOwnInst (insts.Rets rets) = AllByRecursion IsRetPair rets
 IsOwnInst (insts.JTSequence default targets ridx rtmp1 rtmp2) = AllByRecursion IsLabel targets
+IsOwnInst (insts.Call info) = AreCallLists (info.uses, info.defs, info.clobbers)
+IsOwnInst (insts.CallInd info) = AreCallLists (info.uses, info.defs, info.clobbers)
+IsOwnInst (insts.ReturnCall info) = AllByRecursion IsCallArg info.uses
+IsOwnInst (insts.ReturnCallInd info) = AllByRecursion IsCallArg info.uses
 IsOwnInst _ = Unit {0}
 
--- no instruction so far has a map
+-- other instructions have no map
 abbrev pub IsMap : Inst → Option UserStackMap → Type 0
+IsMap (insts.Call info) map = Unit {0}
+IsMap (insts.CallInd info) map = Unit {0}
 IsMap inst map = map ≡ None
 
 abbrev pub IsOwnItem : Item → Type 0
@@ -148,15 +178,26 @@ IsOwn (entries.Item item) = IsOwnItem item
 IsOwn (entries.Constant addr bytes) = HasHex bytes
 IsOwn (entries.Frame field bytes) = Unit {0}
 IsOwn (entries.Flag flag) = Unit {0}
+IsOwn (entries.Restore inst) = ⊥
 
--- an entry that has a line
-pub record IsEntry (entry : Entry) : Type 0 where
+-- an entry whose line is its name and its fields
+pub record IsPlain (entry : Entry) : Type 0 where
   pub fields : AllByRecursion IsValue (fields_of entry)
   pub own : IsOwn entry
 
--- the tokens of an entry, and its line
+-- their tokens, and this line
 abbrev pub tokens_of : Entry → List (List ℕ)
 tokens_of entry = name_text (name_of entry) ∷ map value_text (fields_of entry)
 
+abbrev pub plain_line : Entry → List ℕ
+plain_line entry = join_with_byte 32 (tokens_of entry)
+
+-- an entry that has a line. An instruction that is restored has the line of the item that is the instruction
+-- without a map, behind a word
+abbrev pub IsEntry : Entry → Type 0
+IsEntry (entries.Restore inst) = IsPlain (entries.Item (Emit inst None))
+IsEntry entry = IsPlain entry
+
 abbrev pub line_of : Entry → List ℕ
-line_of entry = join_with_byte 32 (tokens_of entry)
+line_of (entries.Restore inst) = codes "restore " ++ plain_line (entries.Item (Emit inst None))
+line_of entry = plain_line entry

@@ -24,7 +24,10 @@ use Rattle.a64_base.specs.declared.target.BranchTarget.{BranchTarget}
 use Rattle.a64_base.specs.declared.entity.MachLabel.{MachLabel}
 use Rattle.a64_text.specs.declared.emit_flag.EmitFlag.{EmitFlag}
 use Rattle.a64_text.specs.declared.frame_field.FrameField.{FrameField}
+use Rattle.a64_base.specs.declared.convention.CallConv.{CallConv}
 use Rattle.a64_base.specs.declared.entity.TrapCode.{TrapCode}
+use Rattle.a64_base.specs.declared.entity.UserStackMap.{UserStackMap}
+use Rattle.a64_base.specs.declared.key.APIKey.{APIKey}
 use Rattle.a64_base.specs.declared.ir_type.IrType.{IrType}
 use Rattle.a64_imms.specs.declared.offset.SImm9.{SImm9}
 use Rattle.a64_imms.specs.declared.offset.SImm7Scaled.{SImm7Scaled}
@@ -38,10 +41,11 @@ use Rattle.a64_text.specs.declared.value.Value.TheVariants as values
 use Rattle.a64_text.specs.Reads.{Always, IsU8, IsU64, IsI32}
 use Rattle.a64_text.specs.Operators.{alu_op3_text, alu_op_text, bfm_op_text, bit_op_text, bool_text, emit_flag_text, frame_field_text, move_wide_op_text, test_bit_text}
 use Rattle.a64_text.specs.Branches.{cond_br_text, IsCondBr}
+use Rattle.a64_text.specs.Conventions.{convention_text, key_text}
 use Rattle.a64_text.specs.Lists.{same_text}
 use Rattle.a64_text.specs.Modes.{mode_text, IsMode, pair_text, IsPairMode}
 use Rattle.a64_text.specs.Parts.{part_text, IsPart}
-use Rattle.a64_text.specs.Fields.{flags_text, imm12_text, imm_shift_text, label_text, nzcv_text, preg_text, shift_text, target_text, uimm5_text, uimm6_text, wide_text, HasNo, IsFlags, IsImm12, IsImmShift, IsLabel, IsPReg, IsShift, IsTarget, IsUImm6, IsWide}
+use Rattle.a64_text.specs.Fields.{flags_text, imm12_text, imm_shift_text, label_text, map_text, nzcv_text, preg_text, shift_text, target_text, uimm5_text, uimm6_text, wide_text, HasNo, IsFlags, IsImm12, IsImmShift, IsLabel, IsMapNumber, IsPReg, IsShift, IsTarget, IsUImm6, IsWide}
 
 abbrev pub kind_of : Value → Kind
 kind_of (values.AluOp x) = kinds.AluOp
@@ -81,6 +85,9 @@ kind_of (values.Flags x) = kinds.Flags
 kind_of (values.CondBrKind x) = kinds.CondBrKind
 kind_of (values.TestBitAndBranchKind x) = kinds.TestBitAndBranchKind
 kind_of (values.List x) = kinds.List
+kind_of (values.Convention x) = kinds.Convention
+kind_of (values.Key x) = kinds.Key
+kind_of (values.Map x) = kinds.Map
 
 -- the text of a field. Those that may stand with commas between have theirs in Parts
 abbrev pub value_text : Value → List ℕ
@@ -111,6 +118,9 @@ value_text (values.Flags x) = flags_text x
 value_text (values.CondBrKind x) = cond_br_text x
 value_text (values.TestBitAndBranchKind x) = test_bit_text x
 value_text (values.List x) = same_text x
+value_text (values.Convention x) = convention_text x
+value_text (values.Key x) = key_text x
+value_text (values.Map x) = map_text x
 value_text part = part_text part
 
 -- a field that has a text
@@ -142,6 +152,9 @@ IsValue (values.Flags x) = IsFlags x
 IsValue (values.CondBrKind x) = IsCondBr x
 IsValue (values.TestBitAndBranchKind x) = Always x
 IsValue (values.List x) = HasNo 32 x
+IsValue (values.Convention x) = Always x
+IsValue (values.Key x) = Always x
+IsValue (values.Map x) = IsMapNumber x
 IsValue part = IsPart part
 
 -- a field of this kind that has a text
@@ -191,3 +204,6 @@ ReadsKind kinds.Flags = ReadsAs kinds.Flags (λ (x : Option TrapCode). values.Fl
 ReadsKind kinds.CondBrKind = ReadsAs kinds.CondBrKind (λ (x : CondBrKind). values.CondBrKind x)
 ReadsKind kinds.TestBitAndBranchKind = ReadsAs kinds.TestBitAndBranchKind (λ (x : TestBitAndBranchKind). values.TestBitAndBranchKind x)
 ReadsKind kinds.List = ReadsAs kinds.List (λ (x : List ℕ). values.List x)
+ReadsKind kinds.Convention = ReadsAs kinds.Convention (λ (x : CallConv). values.Convention x)
+ReadsKind kinds.Key = ReadsAs kinds.Key (λ (x : Option APIKey). values.Key x)
+ReadsKind kinds.Map = ReadsAs kinds.Map (λ (x : Option UserStackMap). values.Map x)

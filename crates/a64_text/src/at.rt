@@ -2,15 +2,16 @@
 //! answer is some value of the type: no caller looks there.
 
 ghost use Rattle.std.specs.Prelude.{◌≡◌, None};
-ghost use Rattle.a64_text.specs.At.{uimm5_of, shift_of, alu_op_at, alu_op3_at, bit_op_at, bfm_op_at, move_wide_op_at, size_at, reg_at, preg_at, imm12_at, wide_at, imm_shift_at, uimm5_at, uimm6_at, shift_at, extend_at, cond_at, nzcv_at, truth_at, u8_at, u32_at, u64_at, i32_at, target_at, label_at, frame_field_at, emit_flag_at, i64_at, offset9_at, pair_offset_at, type_at, mem_label_name_at, mode_at, pair_mode_at, flags_at, cond_br_kind_at, test_bit_kind_at, list_at};
+ghost use Rattle.a64_text.specs.At.{uimm5_of, shift_of, alu_op_at, alu_op3_at, bit_op_at, bfm_op_at, move_wide_op_at, size_at, reg_at, preg_at, imm12_at, wide_at, imm_shift_at, uimm5_at, uimm6_at, shift_at, extend_at, cond_at, nzcv_at, truth_at, u8_at, u32_at, u64_at, i32_at, target_at, label_at, frame_field_at, emit_flag_at, i64_at, offset9_at, pair_offset_at, type_at, mem_label_name_at, mode_at, pair_mode_at, flags_at, cond_br_kind_at, test_bit_kind_at, list_at, convention_at, key_at, map_at};
 
 use crate::emit_flag::EmitFlag;
 use crate::frame_field::FrameField;
 use crate::mode_name::MemLabelName;
 use crate::value::Value;
 use a64_base::{
-    BranchTarget, Cond, CondBrKind, ExtendOp, IrType, MachLabel, MemFlagsData, OperandSize, PReg,
-    Reg, RegClass, ShiftOp, ShiftOpAndAmt, ShiftOpShiftImm, TestBitAndBranchKind,
+    APIKey, BranchTarget, CallConv, Cond, CondBrKind, ExtendOp, IrType, MachLabel, MemFlagsData,
+    OperandSize, PReg, Reg, RegClass, ShiftOp, ShiftOpAndAmt, ShiftOpShiftImm,
+    TestBitAndBranchKind, UserStackMap,
 };
 use a64_imms::{Imm12, ImmShift, MoveWideConst, NZCV, SImm7Scaled, SImm9, UImm5, UImm6};
 use a64_inst::{AMode, PairAMode};
@@ -422,5 +423,35 @@ pub fn list<'t>(values: &[Value<'t>], i: usize) -> &'t [u8]
     match values.get(i) {
         Some(Value::List(text)) => text.as_bytes(),
         _ => b"",
+    }
+}
+
+/// A calling convention.
+pub fn convention(values: &[Value], i: usize) -> CallConv
+    ensures { result ≡ convention_at values.now i }
+{
+    match values.get(i) {
+        Some(Value::Convention(x)) => *x,
+        _ => CallConv::SystemV,
+    }
+}
+
+/// The key that authenticates a return address, where one does.
+pub fn key(values: &[Value], i: usize) -> Option<APIKey>
+    ensures { result ≡ key_at values.now i }
+{
+    match values.get(i) {
+        Some(Value::Key(x)) => *x,
+        _ => None,
+    }
+}
+
+/// The map of the stack at a call, where there is one.
+pub fn map(values: &[Value], i: usize) -> Option<UserStackMap>
+    ensures { result ≡ map_at values.now i }
+{
+    match values.get(i) {
+        Some(Value::Map(x)) => *x,
+        _ => None,
     }
 }

@@ -6,7 +6,7 @@ ghost use Rattle.a64_text.specs.States.{once_name};
 use crate::emit_flag::EmitFlag;
 use crate::frame_field::FrameField;
 use a64_base::VCodeConstant;
-use a64_inst::Item;
+use a64_inst::{Inst, Item};
 use a64_list::ListVec;
 
 /// A name that a file gives at most once.
@@ -31,6 +31,8 @@ pub enum Entry {
     Frame(FrameField, u32),
     /// A setting, which is true.
     Flag(EmitFlag),
+    /// An instruction with which a return restores registers.
+    Restore(Inst),
 }
 
 impl Entry {
@@ -40,7 +42,7 @@ impl Entry {
         ensures { result ≡ once_name self.now }
     {
         match self {
-            Entry::Item(_) => None,
+            Entry::Item(_) | Entry::Restore(_) => None,
             Entry::Constant(addr, _) => Some(OnceName::Constant(addr.0)),
             Entry::Frame(field, _) => Some(OnceName::Frame(*field)),
             Entry::Flag(flag) => Some(OnceName::Flag(*flag)),

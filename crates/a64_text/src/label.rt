@@ -1,11 +1,15 @@
 //! Reads labels and branch targets.
 
+ghost use Rattle.std.specs.Prelude.{◌≡◌, ◌∷◌};
 ghost use Rattle.a64_text.specs.Reads.{Reads};
+ghost use Rattle.a64_text.specs.SplitLaws.{comma_joined};
+ghost use Rattle.a64_text.specs.Splitting.{comma_tokens, of_text};
+ghost use Rattle.a64_text.specs.TokenLaws.{some_token};
 ghost use Rattle.a64_text.specs.ListLaws.{label_apart, label_no_dash};
 ghost use Rattle.a64_text.specs.Fields.{label_text, IsLabel, target_text, IsTarget};
 
 use crate::decimal::read_u32;
-use crate::list::Listed;
+use crate::list::{Listed, cut_comma};
 use crate::offset::{after, read_i32};
 use a64_base::{BranchTarget, MachLabel};
 
@@ -25,11 +29,21 @@ impl Listed for MachLabel {
 
     ghost fits = { IsLabel };
 
+    ghost tokens = { comma_tokens };
+
+    fn cut(list: &[u8]) -> (&[u8], Option<&[u8]>) {
+        cut_comma(list)
+    }
+
     fn read(token: &[u8]) -> Option<MachLabel> {
         read_label(token)
     }
 
     ghost apart = { label_apart };
+
+    ghost joined = { comma_joined };
+
+    ghost some_token = { some_token 44 };
 
     ghost no_dash = { label_no_dash };
 }

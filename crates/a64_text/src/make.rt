@@ -1,5 +1,6 @@
 //! Makes entries of their names and fields. An item is put where it is made, so that none is moved.
 
+pub mod call;
 pub mod control;
 pub mod integer;
 pub mod memory;
@@ -9,7 +10,7 @@ pub mod sequence;
 ghost use Rattle.std.specs.Prelude.{◌≡◌, ◌<◌, true, Some, option_map, IfOk, IfSome};
 ghost use Rattle.std.specs.Vec.{vec_len, vec_capacity};
 ghost use Rattle.a64_text.specs.declared.name.Name.TheVariants as names;
-ghost use Rattle.a64_text.specs.Makes.{emitted, Makes};
+ghost use Rattle.a64_text.specs.Makes.{called, emitted, Makes};
 ghost use Rattle.a64_text.specs.Puts.{PutsEntry, Puts};
 ghost use Rattle.a64_text.specs.States.{IsSized};
 
@@ -17,7 +18,7 @@ use crate::at;
 use crate::entry::Entry;
 use crate::hex::read_constant;
 use crate::value::Value;
-use a64_base::VCodeConstant;
+use a64_base::{UserStackMap, VCodeConstant};
 use a64_inst::{Inst, Item};
 use std::alloc::{AllocError, Global};
 
@@ -39,6 +40,21 @@ fn emit_some(items: &mut Vec<Item>, inst: Option<Inst>) -> bool
 {
     match inst {
         Some(inst) => emit(items, inst),
+        None => false,
+    }
+}
+
+/// Puts the call with its map of the stack behind the items, where there is one.
+#[inline(always)]
+fn emit_called(items: &mut Vec<Item>, inst: Option<Inst>, map: Option<UserStackMap>) -> bool
+    requires { vec_len items.old < vec_capacity items.old }
+    ensures { PutsEntry (option_map (λ i. called i map) inst) items.old.items items.new.items result }
+{
+    match inst {
+        Some(inst) => {
+            items.push_reserved(Item::Emit { inst, map });
+            true
+        }
         None => false,
     }
 }

@@ -115,6 +115,19 @@ pub enum SequenceName {
     StackProbeLoop,
 }
 
+/// The name of a call, or of a return that calls.
+#[derive(Clone, Copy)]
+pub enum CallName {
+    /// `Call`.
+    Call,
+    /// `CallInd`.
+    CallInd,
+    /// `ReturnCall`.
+    ReturnCall,
+    /// `ReturnCallInd`.
+    ReturnCallInd,
+}
+
 /// The name of an instruction of memory that is no load or store of one register.
 #[derive(Clone, Copy)]
 pub enum MemoryName {
@@ -135,6 +148,8 @@ pub enum Name {
     Control(ControlName),
     /// A sequence around a table, a symbol or the stack, or what has no word.
     Sequence(SequenceName),
+    /// A call, or a return that calls.
+    Call(CallName),
     /// An instruction of memory that is no load or store of one register.
     Memory(MemoryName),
     /// A load or store of one register.

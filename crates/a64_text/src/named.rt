@@ -1,11 +1,12 @@
 //! Reads names.
 
-ghost use Rattle.std.specs.Prelude.{◌≡◌, ◌↔◌, true, ℕ, List, map, option_map, Option, Some, IfSome};
+ghost use Rattle.std.specs.Prelude.{◌≡◌, ◌↔◌, ◌+◌, ◌≤◌, length, take, drop, true, ℕ, List, map, option_map, Option, Some, IfSome};
 ghost use Rattle.a64_text.specs.declared.value.Kind.{Kind};
 ghost use Rattle.a64_text.specs.Reads.{Reads, Always};
 ghost use Rattle.a64_text.specs.Hash.{hash, look_up};
 
 use crate::value::Kind;
+use std::simd::prelude::*;
 
 /// A name, the kinds of the fields behind it, and what it names.
 pub type Row<T> = (&'static [u8], &'static [Kind], T);
@@ -52,6 +53,68 @@ fn hash_of(token: &[u8]) -> usize
     }
 }
 
+/// Whether two bytes of two texts, from a place on, are the same.
+#[inline(always)]
+fn has_same_two(a: &[u8], b: &[u8], place: usize) -> bool
+    requires { (place + 2 ≤ length a.now) × (place + 2 ≤ length b.now) }
+    ensures { (result ≡ true) ↔ (take 2 (drop place a.now) ≡ take 2 (drop place b.now)) }
+{
+    u8x2::from_slice(&a[place..])
+        .simd_eq(u8x2::from_slice(&b[place..]))
+        .to_bitmask()
+        == 3
+}
+
+/// Whether four bytes of two texts, from a place on, are the same.
+#[inline(always)]
+fn has_same_four(a: &[u8], b: &[u8], place: usize) -> bool
+    requires { (place + 4 ≤ length a.now) × (place + 4 ≤ length b.now) }
+    ensures { (result ≡ true) ↔ (take 4 (drop place a.now) ≡ take 4 (drop place b.now)) }
+{
+    u8x4::from_slice(&a[place..])
+        .simd_eq(u8x4::from_slice(&b[place..]))
+        .to_bitmask()
+        == 15
+}
+
+/// Whether eight bytes of two texts, from a place on, are the same.
+#[inline(always)]
+fn has_same_eight(a: &[u8], b: &[u8], place: usize) -> bool
+    requires { (place + 8 ≤ length a.now) × (place + 8 ≤ length b.now) }
+    ensures { (result ≡ true) ↔ (take 8 (drop place a.now) ≡ take 8 (drop place b.now)) }
+{
+    u8x8::from_slice(&a[place..])
+        .simd_eq(u8x8::from_slice(&b[place..]))
+        .to_bitmask()
+        == 255
+}
+
+/// Whether two texts are the same, byte by byte.
+#[inline(never)]
+fn is_same_long(a: &[u8], b: &[u8]) -> bool
+    ensures { (result ≡ true) ↔ (a.now ≡ b.now) }
+{
+    a == b
+}
+
+/// Whether two texts are the same. Those of 2 to 16 bytes, as names are, are compared by two looks at
+/// as many bytes, which may overlap.
+#[inline(always)]
+fn is_same(a: &[u8], b: &[u8]) -> bool
+    ensures { (result ≡ true) ↔ (a.now ≡ b.now) }
+{
+    let len = a.len();
+    if len != b.len() {
+        return false;
+    }
+    match len {
+        2..=3 => has_same_two(a, b, 0) && has_same_two(a, b, len - 2),
+        4..=8 => has_same_four(a, b, 0) && has_same_four(a, b, len - 4),
+        9..=16 => has_same_eight(a, b, 0) && has_same_eight(a, b, len - 8),
+        _ => is_same_long(a, b),
+    }
+}
+
 /// What the token names, and the kinds of the fields behind it.
 #[inline(always)]
 pub fn read_heading<T: Named>(token: &[u8]) -> Option<(&'static [Kind], T)>
@@ -64,7 +127,7 @@ pub fn read_heading<T: Named>(token: &[u8]) -> Option<(&'static [Kind], T)>
     }
     let home = homes[hash_of(token) % homes.len()];
     let (name, kinds, value) = rows.get(home as usize)?;
-    if *name == token {
+    if is_same(name, token) {
         Some((*kinds, *value))
     } else {
         None

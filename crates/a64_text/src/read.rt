@@ -1,11 +1,13 @@
 //! Reads files.
 
-ghost use Rattle.std.specs.Prelude.{◌≡◌, ◌≤◌, ◌+◌, [], ◌∷◌, ◌++◌, length, Some, IfOk, OnOk};
+ghost use Rattle.std.specs.Prelude.{◌≡◌, ◌≤◌, ◌+◌, [], ◌∷◌, ◌++◌, codes, length, map, None, Some, IfOk, OnOk};
 ghost use Rattle.a64_text.specs.States.{contents_of, said, IsSized};
 ghost use Rattle.a64_text.specs.FileText as FileText;
 ghost use Rattle.a64_text.specs.declared.name.Name.TheVariants as names;
+ghost use Rattle.a64_text.specs.Names.{kinds_of, names_inst};
 ghost use Rattle.a64_text.specs.Splitting.{first_line};
-ghost use Rattle.a64_text.specs.AddsLine.{AddsName, AddsEntry, AddsMade, AddsLine};
+ghost use Rattle.a64_text.specs.Values.{kind_of};
+ghost use Rattle.a64_text.specs.AddsLine.{AddsName, AddsEntry, AddsMade, AddsRestored, AddsLine, IsBehindRestore, PopsInst};
 ghost use Rattle.a64_text.specs.Reading.{Answers};
 
 use crate::emit_flag::set_emit_flag;
@@ -13,6 +15,7 @@ use crate::entry::{Entry, OnceName};
 use crate::file::{File, FileError};
 use crate::frame_field::set_frame_field;
 use crate::line::read_line;
+use crate::make::call::put_call;
 use crate::make::control::put_control;
 use crate::make::integer::put_integer;
 use crate::make::memory::{put_access, put_memory};
@@ -22,6 +25,7 @@ use crate::name::Name;
 use crate::split::cut;
 use crate::state::{ReaderState, start_state};
 use crate::value::{Fields, Value};
+use a64_inst::{Inst, Item};
 use std::alloc::{AllocError, Global};
 use std::collections::BTreeSet;
 
@@ -67,6 +71,7 @@ fn add_entry(file: &mut File, entry: Entry) -> Result<(), AllocError>
             set_emit_flag(&mut file.info, flag);
             Ok(())
         }
+        Entry::Restore(inst) => Ok(file.frame.restore.push(inst)?),
     }
 }
 
@@ -82,7 +87,24 @@ fn add_once(state: &mut ReaderState, entry: Entry) -> Result<bool, AllocError>
     Ok(true)
 }
 
+/// Takes the size of the frame into the state. False: it was given before.
+#[inline(never)]
+fn add_frame(state: &mut ReaderState, values: &[Value]) -> Result<bool, AllocError>
+    ensures { IfOk result (AddsMade names.Frame values.now state.old state.new) }
+{
+    add_once(state, make_frame(values))
+}
+
+/// Takes the setting into the state. False: it was given before.
+#[inline(never)]
+fn add_flag(state: &mut ReaderState, values: &[Value]) -> Result<bool, AllocError>
+    ensures { IfOk result (AddsMade names.Flag values.now state.old state.new) }
+{
+    add_once(state, make_flag(values))
+}
+
 /// Takes the constant into the state. False: there is none, or its number was given before.
+#[inline(never)]
 fn add_constant(
     alloc: Global,
     state: &mut ReaderState,
@@ -112,12 +134,108 @@ fn add_made(
         Name::Integer(name) => Ok(put_integer(&mut state.file.items, name, values)),
         Name::Control(name) => put_control(alloc, &mut state.file.items, name, values),
         Name::Sequence(name) => put_sequence(alloc, &mut state.file.items, name, values),
+        Name::Call(name) => put_call(alloc, &mut state.file.items, name, values),
         Name::Memory(name) => Ok(put_memory(&mut state.file.items, name, values)),
         Name::Access(op) => Ok(put_access(&mut state.file.items, op, values)),
         Name::Bind => Ok(put_bind(&mut state.file.items, values)),
         Name::Const => add_constant(alloc, state, values),
-        Name::Frame => add_once(state, make_frame(values)),
-        Name::Flag => add_once(state, make_flag(values)),
+        Name::Frame => add_frame(state, values),
+        Name::Flag => add_flag(state, values),
+    }
+}
+
+/// Whether the name is that of an instruction.
+fn is_inst_name(name: Name) -> bool
+    ensures { result ≡ names_inst name }
+{
+    !matches!(name, Name::Bind | Name::Const | Name::Frame | Name::Flag)
+}
+
+/// The instruction of the last item, where that has no map. The item is taken off.
+fn pop_inst(items: &mut Vec<Item>) -> Option<Inst>
+    ensures { PopsInst items.old.items items.new.items result }
+{
+    match items.pop() {
+        Some(Item::Emit { inst, map: None }) => Some(inst),
+        _ => None,
+    }
+}
+
+/// Takes the instruction of this name with these fields into the state, as one that is restored. False:
+/// there is none without a map. Then what the state says is not told.
+fn add_restored(
+    alloc: Global,
+    state: &mut ReaderState,
+    name: Name,
+    values: &[Value],
+) -> Result<bool, AllocError>
+    requires { map kind_of values.now ≡ kinds_of name }
+    ensures { IfOk result (AddsRestored name values.now state.old state.new) }
+{
+    if !is_inst_name(name) {
+        return Ok(false);
+    }
+    if !add_made(alloc, state, name, values)? {
+        return Ok(false);
+    }
+    // It was put where items stand.
+    let Some(inst) = pop_inst(&mut state.file.items) else {
+        return Ok(false);
+    };
+    add_entry(&mut state.file, Entry::Restore(inst))?;
+    Ok(true)
+}
+
+/// The text behind the word with which lines begin whose instruction is restored.
+#[inline(always)]
+fn after_restore(text: &[u8]) -> Option<&[u8]>
+    ensures { IsBehindRestore text.now result }
+{
+    match text {
+        [b'r', b'e', b's', b't', b'o', b'r', b'e', b' ', rest @ ..] => Some(rest),
+        _ => None,
+    }
+}
+
+/// Takes what the first line says into the state, and answers the lines behind it, where it is no line of
+/// an instruction that is restored. None: it is no entry that may stand there. `values` is room for the
+/// fields.
+#[inline(always)]
+fn add_plain<'t>(
+    alloc: Global,
+    state: &mut ReaderState,
+    text: &'t [u8],
+    values: &mut Fields<'t>,
+) -> Result<Option<Option<&'t [u8]>>, AllocError>
+    requires { IsBehindRestore text.now None }
+    ensures { IfOk result (AddsLine state.old state.new text.now) }
+{
+    let Some((name, lines)) = read_line(text, values) else {
+        return Ok(None);
+    };
+    if add_made(alloc, state, name, values.as_slice())? {
+        Ok(Some(lines))
+    } else {
+        Ok(None)
+    }
+}
+
+/// The same where this text stands behind the word of instructions that are restored.
+fn add_behind_restore<'t>(
+    alloc: Global,
+    state: &mut ReaderState,
+    text: &'t [u8],
+    values: &mut Fields<'t>,
+) -> Result<Option<Option<&'t [u8]>>, AllocError>
+    ensures { IfOk result (AddsLine state.old state.new (codes "restore " ++ text.now)) }
+{
+    let Some((name, lines)) = read_line(text, values) else {
+        return Ok(None);
+    };
+    if add_restored(alloc, state, name, values.as_slice())? {
+        Ok(Some(lines))
+    } else {
+        Ok(None)
     }
 }
 
@@ -132,13 +250,9 @@ fn add_line<'t>(
 ) -> Result<Option<Option<&'t [u8]>>, AllocError>
     ensures { IfOk result (AddsLine state.old state.new text.now) }
 {
-    let Some((name, lines)) = read_line(text, values) else {
-        return Ok(None);
-    };
-    if add_made(alloc, state, name, values.as_slice())? {
-        Ok(Some(lines))
-    } else {
-        Ok(None)
+    match after_restore(text) {
+        Some(rest) => add_behind_restore(alloc, state, rest, values),
+        None => add_plain(alloc, state, text, values),
     }
 }
 

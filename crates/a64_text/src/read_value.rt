@@ -12,6 +12,7 @@ use crate::frame_field::FrameField;
 use crate::immediate::{read_imm_shift, read_imm12, read_nzcv, read_uimm5, read_uimm6};
 use crate::label::{read_label, read_target};
 use crate::list_text::read_list_text;
+use crate::map::read_map;
 use crate::mode_name::{MemLabelName, ModeName, PairModeName};
 use crate::named::read_named;
 use crate::offset::{read_i32, read_i64, read_offset9, read_pair_offset};
@@ -20,7 +21,7 @@ use crate::shift::read_shift;
 use crate::size::read_size;
 use crate::value::{Kind, Value};
 use crate::wide::read_wide;
-use a64_base::{Cond, ExtendOp, IrType, TestBitAndBranchKind};
+use a64_base::{APIKey, CallConv, Cond, ExtendOp, IrType, TestBitAndBranchKind};
 use a64_ops::{ALUOp, ALUOp3, BfmOp, BitOp, MoveWideOp};
 
 /// Reads an integer operator.
@@ -324,6 +325,30 @@ fn list(token: &[u8]) -> Option<Value<'_>>
     Some(Value::List(read_list_text(token)?))
 }
 
+/// Reads a calling convention.
+#[tactic(auto, unfolding(crate::specs::Values::ReadsKind))]
+fn convention(token: &[u8]) -> Option<Value<'_>>
+    ensures { ReadsKind Kind.Convention token.now result }
+{
+    Some(Value::Convention(read_named::<CallConv>(token)?))
+}
+
+/// Reads the key that authenticates a return address, where one does.
+#[tactic(auto, unfolding(crate::specs::Values::ReadsKind))]
+fn key(token: &[u8]) -> Option<Value<'_>>
+    ensures { ReadsKind Kind.Key token.now result }
+{
+    Some(Value::Key(read_named::<Option<APIKey>>(token)?))
+}
+
+/// Reads the map of the stack at a call, where there is one.
+#[tactic(auto, unfolding(crate::specs::Values::ReadsKind))]
+fn map(token: &[u8]) -> Option<Value<'_>>
+    ensures { ReadsKind Kind.Map token.now result }
+{
+    Some(Value::Map(read_map(token)?))
+}
+
 /// The field of the kind that the token is, where such a field may stand with commas between.
 pub fn read_part(kind: Kind, token: &[u8]) -> Option<Value<'_>>
     ensures { ReadsPart kind token.now result }
@@ -385,5 +410,8 @@ pub fn read_value(kind: Kind, token: &[u8]) -> Option<Value<'_>>
         Kind::CondBrKind => cond_br_kind(token),
         Kind::TestBitAndBranchKind => test_bit_kind(token),
         Kind::List => list(token),
+        Kind::Convention => convention(token),
+        Kind::Key => key(token),
+        Kind::Map => map(token),
     }
 }

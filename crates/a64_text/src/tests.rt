@@ -116,6 +116,16 @@ LoadExtNameFar v0 1 -1
 StackProbeLoop x0 x1 4096
 StackProbeLoop sp xzr 4095
 StackProbeLoop x0 %i1 16773120
+Call 3 - - - SystemV SystemV 0 false 7
+Call 42311 v5=x14 x0=reg(v22,i8x4),v2=stack(4626,i8x16) x9,v14,v20 AppleAarch64 Tail 0 false -
+Call 4294967295 xzr=%i0,%f1=sp %i7=stack(-9223372036854775808,f64) xzr,sp,v0,v31 Tail Tail 4294967295 true 4294967295
+CallInd x16 v18=x30,x8=v10 - x24,v30,v31 Tail SystemV 0 false -
+CallInd %f3 - x0=reg(x0,i64),x1=reg(x1,i64) x0,x30,xzr,sp,v0 SystemV AppleAarch64 16 true 0
+ReturnCall 3 - 16 AZ false
+ReturnCall 0 x0=x1,v3=v9 4294967295 - true
+ReturnCallInd x28 xzr=v19,v4=v28 0 BSP true
+ReturnCallInd v0 - 0 ASP false
+ReturnCallInd %i1 - 0 BZ false
 ULoad64 x0 Label(Mach,4294967295) -
 ULoad64 x0 Label(Pool,0) -
 Store8 x0 Label(Pool,4294967295) -
@@ -162,7 +172,7 @@ bind L7";
 #[test]
 fn takes_entries(rt: HostRuntime) -> Result<(), Fail> {
     let file = read_file(rt.alloc(), ENTRIES.as_bytes())?;
-    assert_eq!(rt; file.items.len(), 152);
+    assert_eq!(rt; file.items.len(), 162);
     match file.items.as_slice().last() {
         Some(Item::Bind(label)) => assert_eq!(rt; *label, MachLabel(7)),
         _ => assert!(rt; false),
@@ -198,6 +208,31 @@ fn takes_the_sizes_of_a_frame(rt: HostRuntime) -> Result<(), Fail> {
     assert_eq!(rt; file.frame.clobber_size, 0);
     assert_eq!(rt; file.frame.fixed_frame_storage_size, 4294967295);
     assert_eq!(rt; file.frame.outgoing_args_size, 8);
+    Ok(())
+}
+
+#[test]
+fn takes_what_is_restored(rt: HostRuntime) -> Result<(), Fail> {
+    let file = read_file(
+        rt.alloc(),
+        b"restore Ret\nNop4\nrestore Call 3 - - - SystemV SystemV 0 false -\nrestore Nop0\nrestore Ret",
+    )?;
+    assert_eq!(rt; file.items.len(), 1);
+    assert!(rt;
+        matches!(
+            file.items.as_slice(),
+            [Item::Emit {
+                inst: Inst::Nop4,
+                map: None
+            }]
+        )
+    );
+    assert!(rt;
+        matches!(
+            file.frame.restore.as_slice(),
+            [Inst::Ret, Inst::Call { .. }, Inst::Nop0, Inst::Ret]
+        )
+    );
     Ok(())
 }
 
@@ -591,10 +626,75 @@ LoadP64 x0 x1 SPPostIndexed(12) -
 LoadP64 x0 x1 SPPostIndexed(512) -
 LoadP64 x0 x1 Unscaled(x1,8) -
 StoreP64 x0 x1 SignedOffset(x1,-520) -
+restore
+restore bind L0
+restore restore Ret
+restore const 0 01020304
+restore frame clobber_size 16
+restore flag use_csdb
+restore Nop5
+restored Ret
+Restore Ret
+restore Call 3 - - - SystemV SystemV 0 false 7
+restore Call 3 - - - SystemV SystemV 0 false
+Call
+Call 3 - - - SystemV SystemV 0 false
+Call 3 - - - SystemV SystemV 0 false 7 7
+Call 3 - - - SystemV SystemV 0 false -1
+Call 3 - - - SystemV SystemV 0 false 4294967296
+Call 3 - - - SystemV SystemV 0 0 7
+Call 3 - - - SystemV SystemV -1 false 7
+Call 3 - - - SystemV systemv 0 false 7
+Call 3 - - - SystemV Fast 0 false 7
+Call 3 - - - - SystemV 0 false 7
+Call 3 - - x0, SystemV SystemV 0 false 7
+Call 3 - - x1,x0 SystemV SystemV 0 false 7
+Call 3 - - x0,x0 SystemV SystemV 0 false 7
+Call 3 - - v0,x0 SystemV SystemV 0 false 7
+Call 3 - - sp,xzr SystemV SystemV 0 false 7
+Call 3 - - xzr,x30 SystemV SystemV 0 false 7
+Call 3 - - %i0 SystemV SystemV 0 false 7
+Call 3 - - x31 SystemV SystemV 0 false 7
+Call 3 - - -,x0 SystemV SystemV 0 false 7
+Call 3 x0 - - SystemV SystemV 0 false 7
+Call 3 x0=x1,- - - SystemV SystemV 0 false 7
+Call 3 - x0=x1 - SystemV SystemV 0 false 7
+Call 3 - x0=stack(1) - SystemV SystemV 0 false 7
+Call 3 - x0=reg(x1) - SystemV SystemV 0 false 7
+Call 3 - x0=reg(x1,i64),x0 - SystemV SystemV 0 false 7
+Call 3 - x0=reg(x1,i64),x0=reg(x1,i64), - SystemV SystemV 0 false 7
+Call 3 - x0=reg(8,i64) - SystemV SystemV 0 false 7
+Call 3 - x0=stack(x1,i64) - SystemV SystemV 0 false 7
+Call 3 - x0=stack(8,i65) - SystemV SystemV 0 false 7
+Call 3 - x0=Stack(8,i64) - SystemV SystemV 0 false 7
+Call 3 - x0=stack(8,i64),- - SystemV SystemV 0 false 7
+Call x3 - - - SystemV SystemV 0 false 7
+CallInd 3 - - - SystemV SystemV 0 false 7
+CallInd x3 - - - SystemV SystemV 0 false
+ReturnCall 3 - 16 AZ
+ReturnCall 3 - 16 AZ false 7
+ReturnCall 3 - 16 AZ false -
+ReturnCall 3 - 16 az false
+ReturnCall 3 - 16 AZA false
+ReturnCall x3 - 16 AZ false
+ReturnCallInd 3 - 16 AZ false
+ReturnCallInd x3 - - AZ false
+Nop4 -
+Nop4 7
 LoadAddr x0 SPOffset(65536) -";
 
 /// Lines that are no entries because of what stands between their words.
-const SPACES: [&str; 6] = ["Nop4 ", "Nop4\r", " Nop4", " ; x", " ", "IndirectBr x9 "];
+const SPACES: [&str; 9] = [
+    "Nop4 ",
+    "Nop4\r",
+    " Nop4",
+    " ; x",
+    " ",
+    "IndirectBr x9 ",
+    "restore ",
+    "restore  Ret",
+    "restore Ret ",
+];
 
 #[test]
 fn refuses_lines_that_are_no_entries(rt: HostRuntime) {
@@ -623,6 +723,7 @@ fn reports_the_first_bad_line(rt: HostRuntime) -> Result<(), Fail> {
         ("Nop4\nNop5\nNop6\n", "line 2: not an entry"),
         ("Jump L1\n\n \n", "line 3: not an entry"),
         ("Nop4 \nNop4\n", "line 1: not an entry"),
+        ("Nop4\nNop4\t\n; and a long line", "line 2: not an entry"),
         (
             "frame clobber_size 0\nframe clobber_size 0",
             "line 2: not an entry",

@@ -5,8 +5,8 @@ use crate::frame_field::FrameField;
 use crate::list_text::ListText;
 use crate::mode_name::MemLabelName;
 use a64_base::{
-    BranchTarget, Cond, CondBrKind, ExtendOp, IrType, MachLabel, MemFlagsData, OperandSize, PReg,
-    Reg, ShiftOpAndAmt, TestBitAndBranchKind,
+    APIKey, BranchTarget, CallConv, Cond, CondBrKind, ExtendOp, IrType, MachLabel, MemFlagsData,
+    OperandSize, PReg, Reg, ShiftOpAndAmt, TestBitAndBranchKind, UserStackMap,
 };
 use a64_imms::{Imm12, ImmShift, MoveWideConst, NZCV, SImm7Scaled, SImm9, UImm5, UImm6};
 use a64_inst::{AMode, PairAMode};
@@ -90,6 +90,12 @@ pub enum Kind {
     TestBitAndBranchKind,
     /// A list, which takes memory: it is read where the item is made.
     List,
+    /// A calling convention.
+    Convention,
+    /// The key that authenticates a return address, where one does.
+    Key,
+    /// The map of the stack at a call, where there is one.
+    Map,
 }
 
 /// A field.
@@ -169,6 +175,12 @@ pub enum Value<'t> {
     TestBitAndBranchKind(TestBitAndBranchKind),
     /// A list, as it is written.
     List(ListText<'t>),
+    /// A calling convention.
+    Convention(CallConv),
+    /// The key that authenticates a return address, where one does.
+    Key(Option<APIKey>),
+    /// The map of the stack at a call, where there is one.
+    Map(Option<UserStackMap>),
 }
 
 /// The fields of an entry: a name has few of them.

@@ -36,7 +36,7 @@ fn indirect_br(alloc: Global, values: &[Value]) -> Result<Option<Inst>, AllocErr
 ///
 /// Want of memory, for the targets of an indirect branch.
 #[tactic(auto, unfolding(crate::specs::Puts::Puts))]
-#[inline(always)]
+#[inline(never)]
 pub fn put_control(
     alloc: Global,
     items: &mut Vec<Item>,

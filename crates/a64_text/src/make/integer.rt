@@ -30,6 +30,17 @@ fn alu_rr_imm_logic(values: &[Value]) -> Option<Inst>
     })
 }
 
+/// Puts the operation with the immediate that the constructor gives behind the items, where there is
+/// one. Not inlined, so that other instructions have no room for it to clear.
+#[tactic(auto, unfolding(crate::specs::Puts::Puts))]
+#[inline(never)]
+fn put_alu_rr_imm_logic(items: &mut Vec<Item>, values: &[Value]) -> bool
+    requires { vec_len items.old < vec_capacity items.old }
+    ensures { Puts (names.Integer integer.AluRRImmLogic) values.now items.old.items items.new.items result }
+{
+    emit_some(items, alu_rr_imm_logic(values))
+}
+
 /// Puts the instruction of this name with these fields behind the items.
 #[tactic(auto, unfolding(crate::specs::Puts::Puts))]
 #[inline(always)]
@@ -71,7 +82,7 @@ pub fn put_integer(items: &mut Vec<Item>, name: IntegerName, values: &[Value]) -
                 imm12: at::imm12(values, 4),
             },
         ),
-        IntegerName::AluRRImmLogic => emit_some(items, alu_rr_imm_logic(values)),
+        IntegerName::AluRRImmLogic => put_alu_rr_imm_logic(items, values),
         IntegerName::AluRRImmShift => emit(
             items,
             Inst::AluRRImmShift {

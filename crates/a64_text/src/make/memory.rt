@@ -14,6 +14,7 @@ use a64_inst::{Access, AccessOp, Inst, Item};
 
 /// Puts the load or store of one register with these fields behind the items.
 #[tactic(auto, unfolding(crate::specs::Puts::Puts))]
+#[inline(never)]
 pub fn put_access(items: &mut Vec<Item>, op: AccessOp, values: &[Value]) -> bool
     requires { vec_len items.old < vec_capacity items.old }
     ensures { Puts (names.Access op) values.now items.old.items items.new.items result }
@@ -29,6 +30,7 @@ pub fn put_access(items: &mut Vec<Item>, op: AccessOp, values: &[Value]) -> bool
 
 /// Puts the instruction of this name with these fields behind the items.
 #[tactic(auto, unfolding(crate::specs::Puts::Puts))]
+#[inline(never)]
 pub fn put_memory(items: &mut Vec<Item>, name: MemoryName, values: &[Value]) -> bool
     requires { vec_len items.old < vec_capacity items.old }
     ensures { Puts (names.Memory name) values.now items.old.items items.new.items result }

@@ -61,6 +61,7 @@ fn jt_sequence(alloc: Global, values: &[Value]) -> Result<Option<Inst>, AllocErr
 ///
 /// Want of memory, for a list of registers or of labels.
 #[tactic(auto, unfolding(crate::specs::Puts::Puts))]
+#[inline(never)]
 pub fn put_sequence(
     alloc: Global,
     items: &mut Vec<Item>,

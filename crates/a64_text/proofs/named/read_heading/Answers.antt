@@ -1,7 +1,5 @@
 use Rattle.std.proofs.Common.{◌≡◌, ℕ, ◌%◌, ◌<◌, ◌≤◌, List, [], ◌∷◌, length, get_or, sym, ap, subst, ◌∙◌, arith}
 use Rattle.std.proofs.lemmas.Bool.{eqb-true, false≢true}
-use Rattle.std.proofs.lemmas.Bool.Decides.{Decides-eqb}
-use Rattle.std.proofs.lemmas.Slice.Eq.{slice_eq-Decides}
 use Rattle.a64_text.specs.Hash.{hash, home}
 use Rattle.a64_text.proofs.Headings.{no_homes, no_row, its_kinds, named, not_named}
 use Rattle.a64_text.proofs.named.read_heading.Goals as goal
@@ -25,28 +23,28 @@ returns-in_err-name-clause-read g c =
     let at = at_home c.table.result.0.now n.homes c.args.token.now c.hash_of.result c.table.ensures.homes c.hash_of.ensures in
     rw c.from_residual.ensures (no_row n.text n.kinds_of n.homes n.rows g.met.T.Named.found c.args.token.now c.table.result.1.now c.table.ensures.values (subst (λ (i : ℕ). length c.table.result.1.now ≤ i) at c.in_err-name.ensures.lookup.3))
 
-pub returns-then-eq-clause-read : goal.returns-then-eq-clause-read
-returns-then-eq-clause-read g c =
+pub returns-then-is_same-clause-read : goal.returns-then-is_same-clause-read
+returns-then-is_same-clause-read g c =
     let n = g.T.Named in
     let at = at_home c.table.result.0.now n.homes c.args.token.now c.hash_of.result c.table.ensures.homes c.hash_of.ensures in
     let row = c.in_ok-name.field-0.now in
     let rows = c.table.result.1.now in
-    let same = (slice_eq-Decides Decides-eqb row.0.now c.args.token.now c.eq.result c.eq.ensures).0 c.if-eq.true in
+    let same = c.is_same.ensures.0 c.if-is_same.true in
     named n.text n.kinds_of n.homes n.rows g.met.T.Named.found c.args.token.now rows c.table.ensures.values row (subst (λ (i : ℕ). i < length rows) at c.in_ok-name.ensures.lookup.3.0) (c.in_ok-name.ensures.lookup.1 ∙ ap (λ (i : ℕ). get_or rows i row) at) c.table.ensures.texts same
 
-pub returns-then-eq-clause-kinds : goal.returns-then-eq-clause-kinds
-returns-then-eq-clause-kinds g c =
+pub returns-then-is_same-clause-kinds : goal.returns-then-is_same-clause-kinds
+returns-then-is_same-clause-kinds g c =
     let n = g.T.Named in
     let at = at_home c.table.result.0.now n.homes c.args.token.now c.hash_of.result c.table.ensures.homes c.hash_of.ensures in
     let row = c.in_ok-name.field-0.now in
     let rows = c.table.result.1.now in
     its_kinds n.text n.kinds_of n.homes n.rows g.met.T.Named.found c.args.token.now rows c.table.ensures.values row (subst (λ (i : ℕ). i < length rows) at c.in_ok-name.ensures.lookup.3.0) (c.in_ok-name.ensures.lookup.1 ∙ ap (λ (i : ℕ). get_or rows i row) at) c.table.ensures.kinds
 
-pub returns-else-eq-clause-read : goal.returns-else-eq-clause-read
-returns-else-eq-clause-read g c =
+pub returns-else-is_same-clause-read : goal.returns-else-is_same-clause-read
+returns-else-is_same-clause-read g c =
     let n = g.T.Named in
     let at = at_home c.table.result.0.now n.homes c.args.token.now c.hash_of.result c.table.ensures.homes c.hash_of.ensures in
     let row = c.in_ok-name.field-0.now in
     let rows = c.table.result.1.now in
-    let apart : (row.0.now ≡ c.args.token.now → ⊥) = λ same. absurd (false≢true (sym c.if-eq.false ∙ (slice_eq-Decides Decides-eqb row.0.now c.args.token.now c.eq.result c.eq.ensures).1 same)) in
+    let apart : (row.0.now ≡ c.args.token.now → ⊥) = λ same. absurd (false≢true (sym c.if-is_same.false ∙ c.is_same.ensures.1 same)) in
     not_named n.text n.kinds_of n.homes n.rows g.met.T.Named.found c.args.token.now rows c.table.ensures.values row (subst (λ (i : ℕ). i < length rows) at c.in_ok-name.ensures.lookup.3.0) (c.in_ok-name.ensures.lookup.1 ∙ ap (λ (i : ℕ). get_or rows i row) at) c.table.ensures.texts apart

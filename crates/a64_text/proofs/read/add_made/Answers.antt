@@ -1,11 +1,11 @@
-use Rattle.std.proofs.Common.{Bool, Some, refl}
+use Rattle.std.proofs.Common.{Bool, refl}
 use Rattle.std.specs.Global.{Vec}
 use Rattle.a64_inst.specs.declared.item.Item.{Item}
 use Rattle.a64_text.specs.declared.name.Name.TheVariants as names
 use Rattle.a64_text.specs.declared.state.ReaderState.{ReaderState}
-use Rattle.a64_text.specs.AddsLine.{AddsEntry, AddsMade}
+use Rattle.a64_text.specs.AddsLine.{AddsMade}
 use Rattle.a64_text.specs.Puts.{Puts}
-use Rattle.a64_text.proofs.Adds.{all_ok, put_adds, other_adds, others_add}
+use Rattle.a64_text.proofs.Adds.{all_ok, put_adds, others_add}
 use Rattle.a64_text.proofs.read.add_made.Goals as goal
 
 -- the state with these items
@@ -29,6 +29,13 @@ returns-in-Sequence c =
     (λ made h. put_adds c.args.state.now new refl refl c.args.name (names.Sequence c.in-Sequence.name) c.args.values.now c.reserve.new.self.items made c.in-Sequence.is c.reserve.ensures.items h)
     c.put_sequence.result c.put_sequence.ensures
 
+pub returns-in-Call : goal.returns-in-Call
+returns-in-Call c =
+    let new = with_items c.args.state.now c.put_call.new.items in
+    all_ok (Puts (names.Call c.in-Call.name) c.args.values.now c.reserve.new.self.items new.file.items.items) (AddsMade c.args.name c.args.values.now c.args.state.now new)
+    (λ made h. put_adds c.args.state.now new refl refl c.args.name (names.Call c.in-Call.name) c.args.values.now c.reserve.new.self.items made c.in-Call.is c.reserve.ensures.items h)
+    c.put_call.result c.put_call.ensures
+
 pub returns-in-Memory : goal.returns-in-Memory
 returns-in-Memory c = put_adds c.args.state.now (with_items c.args.state.now c.put_memory.new.items) refl refl c.args.name (names.Memory c.in-Memory.name) c.args.values.now c.reserve.new.self.items c.put_memory.result c.in-Memory.is c.reserve.ensures.items c.put_memory.ensures
 
@@ -48,13 +55,13 @@ returns-in-Const c =
 pub returns-in-Frame : goal.returns-in-Frame
 returns-in-Frame c =
     let reserved = with_items c.args.state.now c.reserve.new.self in
-    all_ok (λ (made : Bool). AddsEntry (Some c.make_frame.result) reserved c.add_once.new.state made) (AddsMade c.args.name c.args.values.now c.args.state.now c.add_once.new.state)
-    (λ made h. other_adds c.args.state.now c.add_once.new.state c.reserve.new.self c.args.name names.Frame c.args.values.now c.make_frame.result made c.reserve.ensures.items c.in-Frame.is c.make_frame.ensures.made h)
-    c.add_once.result c.add_once.ensures
+    all_ok (λ (made : Bool). AddsMade names.Frame c.args.values.now reserved c.add_frame.new.state made) (AddsMade c.args.name c.args.values.now c.args.state.now c.add_frame.new.state)
+    (λ made h. others_add c.args.state.now c.add_frame.new.state c.reserve.new.self made c.reserve.ensures.items c.args.name names.Frame c.args.values.now c.in-Frame.is h)
+    c.add_frame.result c.add_frame.ensures
 
 pub returns-in-Flag : goal.returns-in-Flag
 returns-in-Flag c =
     let reserved = with_items c.args.state.now c.reserve.new.self in
-    all_ok (λ (made : Bool). AddsEntry (Some c.make_flag.result) reserved c.add_once-in-Flag.new.state made) (AddsMade c.args.name c.args.values.now c.args.state.now c.add_once-in-Flag.new.state)
-    (λ made h. other_adds c.args.state.now c.add_once-in-Flag.new.state c.reserve.new.self c.args.name names.Flag c.args.values.now c.make_flag.result made c.reserve.ensures.items c.in-Flag.is c.make_flag.ensures.made h)
-    c.add_once-in-Flag.result c.add_once-in-Flag.ensures
+    all_ok (λ (made : Bool). AddsMade names.Flag c.args.values.now reserved c.add_flag.new.state made) (AddsMade c.args.name c.args.values.now c.args.state.now c.add_flag.new.state)
+    (λ made h. others_add c.args.state.now c.add_flag.new.state c.reserve.new.self made c.reserve.ensures.items c.args.name names.Flag c.args.values.now c.in-Flag.is h)
+    c.add_flag.result c.add_flag.ensures

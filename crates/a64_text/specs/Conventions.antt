@@ -1,0 +1,19 @@
+-- The names of calling conventions, and of keys where a return may have none.
+use Rattle.std.specs.Prelude.{ℕ, List, codes, Option, Some, None}
+use Rattle.a64_base.specs.declared.convention.CallConv.{CallConv}
+use Rattle.a64_base.specs.declared.convention.CallConv.TheVariants as conventions
+use Rattle.a64_base.specs.declared.key.APIKey.{APIKey}
+use Rattle.a64_base.specs.declared.key.APIKey.TheVariants as keys
+
+abbrev pub convention_text : CallConv → List ℕ
+convention_text conventions.SystemV = codes "SystemV"
+convention_text conventions.Tail = codes "Tail"
+convention_text conventions.AppleAarch64 = codes "AppleAarch64"
+
+-- the key that authenticates a return address; a dash where none does
+abbrev pub key_text : Option APIKey → List ℕ
+key_text None = codes "-"
+key_text (Some keys.AZ) = codes "AZ"
+key_text (Some keys.ASP) = codes "ASP"
+key_text (Some keys.BZ) = codes "BZ"
+key_text (Some keys.BSP) = codes "BSP"
