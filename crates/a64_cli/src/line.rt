@@ -80,8 +80,9 @@ fn put_hex_byte(line: &mut LineBuffer, end: usize, byte: u8) -> usize
     put_text(line, end, &[high, low])
 }
 
-/// Puts the eight hexadecimal digits of a word before what begins at `end`.
-#[inline]
+/// Puts the eight hexadecimal digits of a word before what begins at `end`. It is not inlined, so that a
+/// loop over words that seldom differ loads each word whole.
+#[inline(never)]
 pub fn put_hex(line: &mut LineBuffer, end: usize, word: u32) -> usize
     requires { (8 ≤ end) × (end ≤ 128) }
     ensures start { result + 8 ≡ end }

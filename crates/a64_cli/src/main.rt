@@ -4,6 +4,8 @@
 
 mod adapter;
 mod assembling;
+#[cfg(test)]
+mod call_tests;
 mod command;
 #[cfg(test)]
 mod command_tests;
@@ -39,6 +41,7 @@ use run::run;
 use std::alloc::AllocError;
 use std::env;
 use std::io::ErrorKind;
+use std::mem::forget;
 use std::process::ExitCode;
 
 /// The status where there is no memory for the words.
@@ -65,5 +68,8 @@ fn main(rt: HostRuntime) -> ExitCode {
     let mut sink = WriteSink::new(rt.stdout());
     let mut errs = WriteSink::new(rt.stderr());
     let ran = run(rt.alloc(), &words, &mut source, &mut sink, &mut errs);
-    ExitCode::from(ran.status)
+    let status = ran.status;
+    // The memory of what was read and made goes with the process: nothing is gone over to free it.
+    forget(ran);
+    ExitCode::from(status)
 }
