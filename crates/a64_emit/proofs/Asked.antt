@@ -9,17 +9,12 @@ use Rattle.a64_inst.specs.declared.inst.Inst.{Inst}
 use Rattle.a64_inst.specs.declared.inst.Inst.TheVariants as insts
 use Rattle.a64_inst.specs.declared.item.Item.{Item}
 use Rattle.a64_inst.specs.declared.item.Item.TheVariants.{Bind, Emit}
-use Rattle.a64_inst.specs.State.{State}
-use Rattle.a64_buffer.specs.Buffer.{Buffer}
 use Rattle.a64_emit.specs.declared.extent.Light.{Light}
-use Rattle.a64_emit.specs.declared.label_use.LabelUse.{LabelUse}
 use Rattle.a64_emit.specs.Cells.{shape_of, only_word, inst_cells, kept_by, kept_cells, cells_of}
 use Rattle.a64_emit.specs.Bounds.{AreExtent, IsExtent, ranges_in, size_of, charge_of, asked_of, growth_of, item_charge, item_size, least, saturated}
 use Rattle.a64_emit.specs.Lights.{IsLight}
 use Rattle.a64_emit.specs.Reach.{is_near}
-use Rattle.a64_emit.specs.Emission.{appended, IsAppendedInPart, IslandsIfNeeded, Puts, Emits}
 use Rattle.a64_emit.proofs.Burdens.{charge_least, charge_some}
-use Rattle.a64_emit.proofs.Holding.{none_put}
 use Rattle.a64_emit.proofs.Keeping.{keep_charge, keep_ranges, keep_sites, keep_size, keep_uses}
 
 module _ (frame : FrameLayout) (flags : EmitFlags) where
@@ -87,17 +82,3 @@ module _ (frame : FrameLayout) (flags : EmitFlags) where
         growth_is = is.growth_is ∙ sym (ap₂ (λ own asked. item_size frame flags (Emit inst kept) + (own + unwrap_or asked 0)) (words_charge inst kept none) none ∙ omega (arith, keep_size map cells));
         range_is = is.range_is ∙ ap least (sym (keep_ranges map cells));
       }
-
--- ---- what is emitted
-
-module _ (flags : EmitFlags) (state : State) (inst : Inst) (b b' : Buffer LabelUse) where
-  -- emission of words, and of an island where one is needed
-  pub emits_words : asked_of inst ≡ None → b' ≡ appended b (kept_cells state.frame flags inst state.map) → Emits flags state inst b b'
-  emits_words none e = subst (λ o. Puts o (kept_cells state.frame flags inst state.map) b b') (sym none) e
-
-  pub emits_island : (space : ℕ) → asked_of inst ≡ Some space → IslandsIfNeeded space b b' → Emits flags state inst b b'
-  emits_island space is e = subst (λ o. Puts o (kept_cells state.frame flags inst state.map) b b') (sym is) e
-
-  -- nothing was emitted
-  pub none_emitted : b' ≡ b → IsAppendedInPart b b' (kept_cells state.frame flags inst state.map)
-  none_emitted e = none_put b b' (kept_cells state.frame flags inst state.map) e

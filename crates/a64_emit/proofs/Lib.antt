@@ -8,6 +8,7 @@ pub mod MemoryWords
 pub mod Holding
 pub mod Keeping
 pub mod KeptWords
+pub mod Emitted
 pub mod Joined
 pub mod AsPut
 pub mod Lasts

@@ -1,7 +1,7 @@
 //! Emission of single instructions.
 
 ghost use Rattle.std.specs.Prelude.{◌≡◌, ◌≢◌, ◌⊎◌, ◌+◌, ◌*◌, ◌/◌, ◌%◌, ◌^◌, ◌<◌, [], ◌∷◌, ◌++◌, length, map, OnOk, OnErr, IfSome, true, None};
-ghost use Rattle.a64_inst.specs.declared.group.Group.TheVariants.{Call, Control, Memory};
+ghost use Rattle.a64_inst.specs.declared.group.Group.TheVariants.{Call, Control, Immediate, Memory, Register};
 ghost use Rattle.a64_inst.specs.declared.emission.EmitFlags.{EmitFlags};
 ghost use Rattle.a64_inst.specs.declared.virtuals.VirtualRegisters.TheVariants.{Refused};
 ghost use Rattle.a64_inst.specs.Faults.{has_operands, has_mode};
@@ -11,11 +11,12 @@ ghost use Rattle.a64_inst.specs.State.{State};
 ghost use Rattle.a64_buffer.specs.Buffer.{Buffer, end_of};
 ghost use Rattle.a64_buffer.specs.Classes.{Fits};
 ghost use Rattle.a64_emit.specs.declared.label_use.LabelUse.{LabelUse};
+ghost use Rattle.a64_emit.specs.Bounds.{asked_of};
 ghost use Rattle.a64_emit.specs.Cells as cells;
-ghost use Rattle.a64_emit.specs.Cells.{Data, data_cell, reloc_cell, shape_of, only_word, inst_cells, kept_by, keep};
+ghost use Rattle.a64_emit.specs.Cells.{Data, data_cell, reloc_cell, shape_of, only_word, inst_cells, kept_cells};
 ghost use Rattle.a64_emit.specs.Words.{MayBePut, IsThere, as_put, put_cell, put_cells, put_branches, put_for};
 ghost use Rattle.a64_emit.specs.LabelUses.{label_kinds};
-ghost use Rattle.a64_emit.specs.Emission.{trapped, PutsInPart, appended, IslandsIfNeeded, Emits, EmitsInPart, IsAppendedInPart, HasRoom, CellsFit, HasIslandRoom, IsReady};
+ghost use Rattle.a64_emit.specs.Emission.{trapped, PutsInPart, appended, IslandsIfNeeded, Puts, Emits, EmitsInPart, IsAppendedInPart, HasRoom, CellsFit, HasIslandRoom, IsReady};
 
 use crate::call::emit_calling;
 use crate::extent::asked_space;
@@ -396,26 +397,86 @@ pub fn emit_plain_inst(
     }
 }
 
-/// A call, or another instruction with uses or of more words, at which a map of the stack is kept.
+/// An operation on integers with an immediate: one word without a use.
 #[inline(always)]
-fn emit_kept(
+fn emit_immediate(
+    inst: &Inst,
+    sink: &mut MachBuffer<'_, LabelUse>,
+    info: &EmitInfo,
+    frame: &FrameLayout,
+) -> Result<(), AllocError>
+    requires group { group_of inst.now ≡ Immediate }
+    requires ready { IsReady sink.old frame.now info.now inst.now }
+    ensures ok { OnOk result (Puts (asked_of inst.now) (inst_cells frame.now info.now inst.now) sink.old sink.new) }
+    ensures err { OnErr result (IsAppendedInPart sink.old sink.new (inst_cells frame.now info.now inst.now)) }
+{
+    match only_immediate_word(inst, frame, info) {
+        Some(word) => emit_plain(sink, word),
+        None => unreachable!(),
+    }
+}
+
+/// An operation on integers in registers: one word without a use.
+#[inline(always)]
+fn emit_register(
+    inst: &Inst,
+    sink: &mut MachBuffer<'_, LabelUse>,
+    info: &EmitInfo,
+    frame: &FrameLayout,
+) -> Result<(), AllocError>
+    requires group { group_of inst.now ≡ Register }
+    requires ready { IsReady sink.old frame.now info.now inst.now }
+    ensures ok { OnOk result (Puts (asked_of inst.now) (inst_cells frame.now info.now inst.now) sink.old sink.new) }
+    ensures err { OnErr result (IsAppendedInPart sink.old sink.new (inst_cells frame.now info.now inst.now)) }
+{
+    match only_register_word(inst, frame, info) {
+        Some(word) => emit_plain(sink, word),
+        None => unreachable!(),
+    }
+}
+
+/// A branch, a hint, an address, data, or a place for an island.
+#[inline(always)]
+fn emit_control_inst(
+    inst: &Inst,
+    sink: &mut MachBuffer<'_, LabelUse>,
+    info: &EmitInfo,
+    frame: &FrameLayout,
+) -> Result<(), AllocError>
+    requires group { group_of inst.now ≡ Control }
+    requires ready { IsReady sink.old frame.now info.now inst.now }
+    ensures ok { OnOk result (Puts (asked_of inst.now) (inst_cells frame.now info.now inst.now) sink.old sink.new) }
+    ensures err { OnErr result (IsAppendedInPart sink.old sink.new (inst_cells frame.now info.now inst.now)) }
+{
+    match only_control_word(inst, frame, info) {
+        Some(word) => emit_plain(sink, word),
+        None => match asked_space(inst) {
+            Some(space) => emit_asked(sink, space),
+            None => emit_control(inst, sink, info, frame),
+        },
+    }
+}
+
+/// An instruction, by one look at its group. A map of the stack is kept where it is a call that returns behind it.
+#[inline(always)]
+fn emit_by_group(
     inst: &Inst,
     sink: &mut MachBuffer<'_, LabelUse>,
     info: &EmitInfo,
     frame: &FrameLayout,
     kept: Option<UserStackMap>,
 ) -> Result<(), AllocError>
-    requires room { HasRoom sink.old (keep (kept_by inst.now kept) (put_for frame.now info.now inst.now)) }
-    requires fits { CellsFit sink.old (keep (kept_by inst.now kept) (put_for frame.now info.now inst.now)) }
-    requires good { has_operands frame.now info.now Refused inst.now ≡ true }
-    requires mode { has_mode inst.now ≡ true }
-    requires there { IsThere sink.old.constants inst.now }
-    ensures ok { OnOk result (sink.new ≡ appended sink.old (keep (kept_by inst.now kept) (put_for frame.now info.now inst.now))) }
-    ensures err { OnErr result (IsAppendedInPart sink.old sink.new (keep (kept_by inst.now kept) (put_for frame.now info.now inst.now))) }
+    requires { IsReady sink.old frame.now info.now inst.now }
+    ensures ok { OnOk result (Puts (asked_of inst.now) (kept_cells frame.now info.now inst.now kept) sink.old sink.new) }
+    ensures err { OnErr result (IsAppendedInPart sink.old sink.new (kept_cells frame.now info.now inst.now kept)) }
 {
     match inst.group() {
+        Group::Memory => emit_memory(inst, sink, info, frame),
         Group::Call => emit_calling(inst, sink, info, frame, kept),
-        _ => emit_other(inst, sink, info, frame),
+        Group::Sequence => emit_sequence(inst, sink, info, frame),
+        Group::Immediate => emit_immediate(inst, sink, info, frame),
+        Group::Register => emit_register(inst, sink, info, frame),
+        Group::Control => emit_control_inst(inst, sink, info, frame),
     }
 }
 
@@ -433,13 +494,6 @@ impl MachInstEmit for Inst {
         state: &mut EmitState,
     ) -> Result<(), AllocError> {
         let kept = state.take_stack_map();
-        let frame = state.frame_layout();
-        match only_word(self, frame, info) {
-            Some(word) => emit_plain(sink, word),
-            None => match asked_space(self) {
-                Some(space) => emit_asked(sink, space),
-                None => emit_kept(self, sink, info, frame, kept),
-            },
-        }
+        emit_by_group(self, sink, info, state.frame_layout(), kept)
     }
 }
