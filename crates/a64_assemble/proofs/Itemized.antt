@@ -68,7 +68,7 @@ module _ (frame : FrameLayout) (flags : EmitFlags) where
   charge_same (Emit (insts.EmitIsland space) kept) = refl
   charge_same (Emit _ kept) = refl
 
-  grows_same : (x : Item) → growth_in (element_of frame flags x) + space_in (element_of frame flags x) ≡ growth_of frame flags x
+  pub grows_same : (x : Item) → growth_in (element_of frame flags x) + space_in (element_of frame flags x) ≡ growth_of frame flags x
   grows_same (Bind label) = refl
   grows_same (Emit (insts.EmitIsland space) kept) = omega arith
   grows_same (Emit _ kept) = omega arith

@@ -36,6 +36,7 @@ pub mod Itemized
 pub mod Compact
 pub mod NextRooms
 pub mod Stepped
+pub mod Widths
 pub mod Owners
 pub mod Placing
 pub mod Needing

@@ -53,7 +53,7 @@ none_more None = refl
 none_more (Some k) = ap (λ n. Some n) (omega arith)
 
 module _ (frame : FrameLayout) (flags : EmitFlags) where
-  charge_same : (x : Item) → charge_in (element_of frame flags x) + space_in (element_of frame flags x) ≡ item_charge frame flags x + unwrap_or (asked x) 0
+  pub charge_same : (x : Item) → charge_in (element_of frame flags x) + space_in (element_of frame flags x) ≡ item_charge frame flags x + unwrap_or (asked x) 0
   charge_same (Bind label) = refl
   charge_same (Emit (insts.EmitIsland space) kept) = refl
   charge_same (Emit _ kept) = refl

@@ -1,7 +1,8 @@
 -- One item more is put, by its emission and an island behind it.
-use Rattle.std.proofs.Common.{ℕ, ◌≡◌, ◌≢◌, ◌+◌, ◌*◌, ◌^◌, ◌<◌, List, [], ◌∷◌, ◌++◌, length, Option, None, Some, refl, sym, ap, ◌∙◌, subst, arith, inl, inr, nat_cmp, Result, Ok, Err}
+use Rattle.std.proofs.Common.{ℕ, ◌≡◌, ◌≢◌, ◌+◌, ◌*◌, ◌^◌, ◌<◌, ◌≤◌, List, [], ◌∷◌, ◌++◌, length, Option, None, Some, refl, sym, ap, ◌∙◌, subst, arith, inl, inr, nat_cmp, Result, Ok, Err}
 use Rattle.std.specs.Prelude.{OnOk, IsSome}
 use Rattle.std.specs.FinMap.{FinMap}
+use Rattle.std.specs.Option.{unwrap_or}
 use Rattle.std.proofs.lemmas.Bool.{false≢true}
 use Rattle.a64_inst.specs.declared.virtuals.VirtualRegisters.TheVariants.{Refused}
 use Rattle.a64_inst.specs.Faults.{inst_fault}
@@ -16,16 +17,18 @@ use Rattle.a64_inst.specs.declared.item.Item.TheVariants.{Emit}
 use Rattle.a64_base.specs.declared.entity.UserStackMap.{UserStackMap}
 use Rattle.a64_buffer.specs.declared.force.ForceVeneers.{ForceVeneers}
 use Rattle.a64_buffer.specs.Buffer.{Buffer, end_of}
-use Rattle.a64_buffer.specs.Classes.{owed}
+use Rattle.a64_buffer.specs.Classes.{owed, Fits}
 use Rattle.a64_buffer.specs.Classes as classes
 use Rattle.a64_buffer.specs.Sound.{IsWhole}
+use Rattle.a64_buffer.proofs.Clients.{word_fits}
 use Rattle.a64_buffer.specs.declared.force.ForceVeneers.TheVariants.{No, Yes}
 use Rattle.a64_emit.specs.declared.label_use.LabelUse.{LabelUse}
 use Rattle.a64_emit.specs.LabelUses.{label_kinds}
+use Rattle.a64_emit.specs.LabelLaws.{label_kinds_lawful}
 use Rattle.a64_emit.specs.Cells.{Cell, inst_cells, kept_by, keep, kept_cells}
 use Rattle.a64_emit.specs.Bounds.{asked_of}
 use Rattle.a64_emit.specs.Emission.{uses_from, appended, HasRoom, CellsFit, IsReady, Puts, Emits}
-use Rattle.a64_assemble.specs.Elements.{Element, Words, Asking, element_of, next_room}
+use Rattle.a64_assemble.specs.Elements.{Element, Words, Asking, element_of, next_room, room_of}
 use Rattle.a64_assemble.specs.Asks.{AsksNext, PutsWords, MayMove, Moves, HasNextRoom, NeedsNone}
 use Rattle.a64_assemble.proofs.Moving.{appended_none, words_fit, put_owed}
 
@@ -69,6 +72,13 @@ module _ (force : ForceVeneers) (rest : List Element) (b : Buffer LabelUse) wher
         whole = subst (IsWhole label_kinds) e whole;
         outcome = inr (record { fits = room distance is; unforced = λ f. let z : No ≡ Yes = f in cc; same = e });
       }
+
+  -- where there is room for as much as the next words need at most, there is for what they need
+  next_fits : (cells : List Cell) (m : Buffer LabelUse) (widest : ℕ) → m ≡ appended b cells → room_of rest ≤ widest → Fits label_kinds m widest → HasNextRoom cells rest b
+  next_fits [] m widest e le fits = tt
+  next_fits (c ∷ cs) m widest e le fits = λ distance is.
+      word_fits label_kinds label_kinds_lawful (appended b (c ∷ cs)) widest distance (omega (arith, le, ap (λ o. unwrap_or o 0) is))
+      (subst (λ (v : Buffer LabelUse). Fits label_kinds v widest) e fits)
 
 -- ---- items
 
@@ -114,6 +124,13 @@ module _ (frame : FrameLayout) (flags : EmitFlags) where
             fits = subst (CellsFit b) (sym (asked_words frame flags inst space e)) (subst (λ us. classes.HasRoom label_kinds (end_of b) us 0) (sym (append-nil b.uses)) asking.whole.fits);
             good = is_good;
           }
+
+-- words behind which as much has room as the next need at most need no island
+pub needs_none : (flags : EmitFlags) (force : ForceVeneers) (state : State) (inst : Inst) (rest : List Element) (b b' : Buffer LabelUse) (widest : ℕ) → asked_of inst ≡ None → room_of rest ≤ widest → Fits label_kinds b' widest → Emits flags state inst b b' → NeedsNone force (element_of state.frame flags (Emit inst state.map)) rest b
+needs_none flags force state inst rest b b' widest none le fits emitted =
+    let cells : List Cell = kept_cells state.frame flags inst state.map in
+    subst (λ (x : Element). NeedsNone force x rest b) (sym (words_element state.frame flags inst state.map none))
+    (next_fits force rest b cells b' widest (put_cells (asked_of inst) cells b b' none emitted) le fits)
 
 -- and in quiet code all that is done
 pub emit_moves : (flags : EmitFlags) (force : ForceVeneers) (state : State) (inst : Inst) (rest : List Element) (b b' : Buffer LabelUse) → MayMove (element_of state.frame flags (Emit inst state.map)) rest b → NeedsNone force (element_of state.frame flags (Emit inst state.map)) rest b → IsWhole label_kinds b' → Emits flags state inst b b' → Moves force (element_of state.frame flags (Emit inst state.map)) rest b b'

@@ -1,5 +1,5 @@
 -- What items are to the layout of code, and what they add to it.
-use Rattle.std.specs.Prelude.{ℕ, ◌≡◌, ◌+◌, ◌*◌, ◌<◌, ◌≤◌, Bool, true, false, nat_eq, List, [], ◌∷◌, All, length, map, sum_by, slice_index_or, Option, None, Some}
+use Rattle.std.specs.Prelude.{ℕ, ◌≡◌, ◌+◌, ◌*◌, ◌<◌, ◌≤◌, Bool, true, false, nat_eq, List, [], ◌∷◌, All, length, map, drop, sum_by, slice_index_or, Option, None, Some}
 use Rattle.std.specs.List.{list_any}
 use Rattle.std.specs.Option.{unwrap_or}
 use Rattle.a64_inst.specs.declared.emission.EmitFlags.{EmitFlags}
@@ -130,6 +130,10 @@ next_room (Asking space ∷ xs) = add_more 4 (next_room xs)
 -- the same, and nothing where no words follow
 abbrev pub room_of : List Element → ℕ
 room_of xs = unwrap_or (next_room xs) 0
+
+-- a number bounds it wherever one begins: behind no element do the next words need more
+abbrev pub BoundsRooms : ℕ → List Element → Type 0
+BoundsRooms widest xs = (k : ℕ) → room_of (drop k xs) ≤ widest
 
 -- what an island behind an element, in front of the rest, makes room for: the space that it asks for, or
 -- what the next words need

@@ -7,6 +7,7 @@ use Rattle.a64_emit.specs.Bounds.{whole, shortest}
 use Rattle.a64_emit.specs.Faults.{unbound_use, too_large}
 use Rattle.a64_emit.specs.Reach.{has_near}
 use Rattle.a64_assemble.specs.declared.checks.Found.{Found}
+use Rattle.a64_assemble.specs.Elements.{BoundsRooms, elements_of}
 
 pub record IsFound (frame : FrameLayout) (flags : EmitFlags) (items : List Item) (found : Found) : Type 0 where
   pub all_bound : unbound_use frame flags items ≡ None
@@ -15,3 +16,4 @@ pub record IsFound (frame : FrameLayout) (flags : EmitFlags) (items : List Item)
   pub size_is : found.size ≡ whole frame flags items
   pub shortest_is : found.shortest ≡ shortest frame flags items
   pub near_is : found.near ≡ has_near frame flags items
+  pub wide : BoundsRooms found.widest (elements_of frame flags items)

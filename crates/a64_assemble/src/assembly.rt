@@ -61,7 +61,16 @@ fn placed(
     let mut state = EmitState::new(frame.try_clone(alloc)?);
     let mut buffer = buffer_for(alloc, constants, items.len(), found.users)?;
     let quiet = is_quiet(found, force);
-    let places = put_items(alloc, items, &mut buffer, info, &mut state, force, quiet)?;
+    let places = put_items(
+        alloc,
+        items,
+        &mut buffer,
+        info,
+        &mut state,
+        force,
+        quiet,
+        found.widest,
+    )?;
     constants.are_sized();
     let finished = buffer.finish()?;
     let code = code_of(places, finished);

@@ -1,8 +1,9 @@
 //! The checks of items before they are emitted.
 
-ghost use Rattle.std.specs.Prelude.{◌≡◌, ◌⊎◌, None, Some, All, length, OnOk, IfOk, IfErr, MatchResult, [], ℕ};
+ghost use Rattle.std.specs.Prelude.{◌≡◌, ◌≢◌, ◌⊎◌, ◌+◌, ◌-◌, ◌^◌, ◌≤◌, max, None, Some, All, length, OnOk, IfOk, IfErr, MatchResult, [], ℕ};
 ghost use Rattle.std.specs.List.{cons_option, filter_map, list_any};
 ghost use Rattle.a64_emit.specs.declared.error.EmitError.TheVariants.{OutOfMemory};
+ghost use Rattle.a64_emit.specs.Bounds.{saturated};
 ghost use Rattle.a64_emit.specs.Cells.{sites_of, table_labels, listed_uses, two_uses, uses_of};
 ghost use Rattle.a64_emit.specs.FormCells.{HoldsHalfword};
 ghost use Rattle.a64_inst.specs.declared.virtuals.VirtualRegisters.TheVariants.{Refused};
@@ -15,7 +16,8 @@ ghost use Rattle.a64_assemble.specs.Found.{IsFound};
 use a64_base::MachLabel;
 use a64_buffer::{Constants, Target};
 use a64_emit::{
-    Burden, EmitError, Site, Table, Uses, burden_of, has_halfword, lesser, light_of, near_label,
+    Burden, EmitError, Extent, Site, Table, Uses, burden_of, has_halfword, lesser, light_of,
+    near_label,
 };
 use a64_inst::{EmitInfo, FrameLayout, Group, Inst, Item, OwnFault, VirtualRegisters};
 use a64_label_map::LabelMap;
@@ -236,11 +238,44 @@ pub struct Found {
     /// How many uses they may have, each entry of a table counted. Memory for these is taken at once, so no
     /// clause tells it.
     pub users: usize,
+    /// How many bytes the next words need behind any item at most, or more than that: the greatest number
+    /// where some item is a place for an island.
+    pub widest: u32,
 }
 
-/// How many bytes code of the items may have, the shortest range of its uses that may want veneers, and
-/// whether some use of it needs its label near, where each label that they use is bound, and the code can
-/// be addressed.
+/// How many bytes most items add to code at most: two words, a jump over an island, and 28 bytes for each
+/// of two uses.
+const USUAL_WIDTH: u64 = 68;
+
+/// The greater of two widths in bytes, of which the first is at least the usual one.
+#[inline(always)]
+fn wider(widest: u64, width: u64) -> u64
+    requires { 68 ≤ widest }
+    ensures { result ≡ max widest width }
+{
+    if width <= USUAL_WIDTH {
+        return widest;
+    }
+    widest.max(width)
+}
+
+/// How many bytes the words of an item with this extent may need behind the item before them, and a jump
+/// over an island more: its size and its charge, or the greatest number of 64 bits where that is less. Of a
+/// place for an island, which adds to what the words behind it need, it is the greatest number of 32 bits.
+fn width_of(extent: Extent) -> u64
+    ensures place { extent.size ≡ 0 → extent.charge ≢ 0 → result ≡ 2 ^ 32 - 1 }
+    ensures words { (extent.size ≡ 0 → extent.charge ≡ 0) → result ≡ saturated (extent.size + extent.charge) }
+{
+    if extent.size == 0 && extent.charge != 0 {
+        u64::from(u32::MAX)
+    } else {
+        extent.size.saturating_add(extent.charge)
+    }
+}
+
+/// How many bytes code of the items may have, the shortest range of its uses that may want veneers,
+/// whether some use of it needs its label near, and a bound on what the next words need behind any item,
+/// where each label that they use is bound, and the code can be addressed.
 ///
 /// # Errors
 ///
@@ -260,12 +295,14 @@ pub fn check_code(
     let mut whole: u64 = 0;
     let mut shortest = None;
     let mut users: usize = 0;
+    let mut widest: u64 = USUAL_WIDTH;
     for item in items {
         if let Some(light) = light_of(item, frame, info) {
             if let Some(label) = missing_in_two(light.first, light.second, bound) {
                 return Err(EmitError::UnboundLabel(label));
             }
             whole = whole.saturating_add(light.growth);
+            widest = wider(widest, light.growth);
             shortest = lesser(shortest, light.range);
             users = users.wrapping_add(count_of(light.first, light.second));
             continue;
@@ -276,6 +313,7 @@ pub fn check_code(
         }
         near |= near_in(uses);
         users = users.wrapping_add(use_count(uses));
+        widest = wider(widest, width_of(extent));
         whole = whole
             .saturating_add(extent.size)
             .saturating_add(extent.charge);
@@ -289,5 +327,6 @@ pub fn check_code(
         shortest,
         near,
         users,
+        widest: widest.min(u64::from(u32::MAX)) as u32,
     })
 }

@@ -1,6 +1,6 @@
 //! Items in a buffer that writes islands.
 
-ghost use Rattle.std.specs.Prelude.{◌≡◌, ◌^◌, ◌<◌, true, false, None, [], IfOk, OnOk};
+ghost use Rattle.std.specs.Prelude.{◌≡◌, ◌^◌, ◌<◌, ◌≤◌, true, false, None, [], IfOk, OnOk};
 ghost use Rattle.std.specs.FinMap.{empty};
 ghost use Rattle.a64_inst.specs.declared.item.Item.TheVariants.{Emit};
 ghost use Rattle.a64_inst.specs.declared.virtuals.VirtualRegisters.TheVariants.{Refused};
@@ -10,7 +10,7 @@ ghost use Rattle.a64_emit.specs.Bounds as bounds;
 ghost use Rattle.a64_emit.specs.Bounds.{whole};
 ghost use Rattle.a64_emit.specs.Faults.{item_fault, own_fault, second_binding};
 ghost use Rattle.a64_assemble.specs.Asks.{MayMove, Moves, NeedsNone};
-ghost use Rattle.a64_assemble.specs.Elements.{element_of, elements_of};
+ghost use Rattle.a64_assemble.specs.Elements.{BoundsRooms, element_of, elements_of, room_of};
 ghost use Rattle.a64_assemble.specs.Made.{HasPutAll};
 ghost use Rattle.a64_assemble.specs.Progress.{AreQuiet};
 
@@ -23,7 +23,8 @@ use std::alloc::{AllocError, Global};
 
 /// Emits an instruction at the end of a buffer; where it has words, an island comes behind them where the
 /// next words need one, and gives veneers to all far uses where islands are forced. In quiet code none
-/// comes, nor at a place for one.
+/// comes, nor at a place for one. The next words need no more than `widest` bytes, so that the rest is
+/// looked at only where an island is needed before so many.
 ///
 /// # Errors
 ///
@@ -37,10 +38,12 @@ fn put_inst(
     state: &mut EmitState,
     force: ForceVeneers,
     quiet: bool,
+    widest: u32,
 ) -> Result<(), AllocError>
     requires good { inst_fault state.old.frame info.now buffer.old.constants Refused inst.now ≡ None }
     requires may { MayMove (element_of state.old.frame info.now (Emit inst.now state.old.map)) (elements_of state.old.frame info.now rest.now) buffer.old }
     requires asked { quiet ≡ false → bounds.asked_of inst.now ≡ None }
+    requires wide { room_of (elements_of state.old.frame info.now rest.now) ≤ widest }
     requires quiet { quiet ≡ true → NeedsNone force (element_of state.old.frame info.now (Emit inst.now state.old.map)) (elements_of state.old.frame info.now rest.now) buffer.old }
     ensures buffer { OnOk result (Moves force (element_of state.old.frame info.now (Emit inst.now state.old.map)) (elements_of state.old.frame info.now rest.now) buffer.old buffer.new) }
     ensures frame { OnOk result (state.new.frame ≡ state.old.frame) }
@@ -54,6 +57,9 @@ fn put_inst(
     if end == start {
         return Ok(());
     }
+    if !buffer.island_needed(widest) {
+        return Ok(());
+    }
     match next_room(rest, state.frame_layout(), info) {
         Some(distance) => ask(buffer, distance, ForceVeneers::No, force),
         None => Ok(()),
@@ -61,7 +67,7 @@ fn put_inst(
 }
 
 /// Puts an item at the end of a buffer, and an island behind it where what follows needs one, or where it
-/// asks for one. In quiet code none is needed, nor forced.
+/// asks for one. In quiet code none is needed, nor forced. The next words need no more than `widest` bytes.
 ///
 /// # Errors
 ///
@@ -75,9 +81,11 @@ fn put_item(
     state: &mut EmitState,
     force: ForceVeneers,
     quiet: bool,
+    widest: u32,
 ) -> Result<(), AllocError>
     requires good { item_fault state.old.frame info.now buffer.old.constants item.now ≡ None }
     requires may { MayMove (element_of state.old.frame info.now item.now) (elements_of state.old.frame info.now rest.now) buffer.old }
+    requires wide { room_of (elements_of state.old.frame info.now rest.now) ≤ widest }
     requires quiet { quiet ≡ true → NeedsNone force (element_of state.old.frame info.now item.now) (elements_of state.old.frame info.now rest.now) buffer.old }
     ensures buffer { OnOk result (Moves force (element_of state.old.frame info.now item.now) (elements_of state.old.frame info.now rest.now) buffer.old buffer.new) }
     ensures frame { OnOk result (state.new.frame ≡ state.old.frame) }
@@ -90,13 +98,14 @@ fn put_item(
                 return ask(buffer, space, force, force);
             }
             state.pre_safepoint(*map);
-            put_inst(inst, rest, buffer, info, state, force, quiet)
+            put_inst(inst, rest, buffer, info, state, force, quiet, widest)
         }
     }
 }
 
 /// Puts items one after another into a buffer without code, with islands between them, and answers their
-/// places. Between items that are quiet no island is asked for.
+/// places. Between items that are quiet no island is asked for. Behind no item do the next words need more
+/// than `widest` bytes.
 ///
 /// # Errors
 ///
@@ -109,6 +118,7 @@ pub fn put_items(
     state: &mut EmitState,
     force: ForceVeneers,
     quiet: bool,
+    widest: u32,
 ) -> Result<Vec<u32>, AllocError>
     requires words { buffer.old.words ≡ [] }
     requires uses { buffer.old.uses ≡ [] }
@@ -119,6 +129,7 @@ pub fn put_items(
     requires good { own_fault state.old.frame info.now buffer.old.constants items.now ≡ None }
     requires once { second_binding items.now ≡ None }
     requires short { whole state.old.frame info.now items.now < 2 ^ 31 }
+    requires wide { BoundsRooms widest (elements_of state.old.frame info.now items.now) }
     requires quiet { quiet ≡ true → AreQuiet force (elements_of state.old.frame info.now items.now) }
     ensures put { IfOk result (λ places. HasPutAll force (elements_of state.old.frame info.now items.now) places.items buffer.new) }
     ensures constants { OnOk result (buffer.new.constants ≡ buffer.old.constants) }
@@ -135,6 +146,7 @@ pub fn put_items(
             state,
             force,
             quiet,
+            widest,
         )?;
         place = buffer.cur_offset();
     }

@@ -6,7 +6,7 @@ use Rattle.a64_buffer.specs.Constants.{AreConstants}
 use Rattle.a64_emit.specs.declared.label_use.LabelUse.{LabelUse}
 use Rattle.a64_emit.specs.Bounds.{whole}
 use Rattle.a64_emit.specs.Faults.{own_fault}
-use Rattle.a64_assemble.specs.Elements.{elements_of}
+use Rattle.a64_assemble.specs.Elements.{BoundsRooms, elements_of}
 use Rattle.a64_assemble.specs.Made.{HasPutAll}
 use Rattle.a64_assemble.specs.Progress.{AreQuiet}
 use Rattle.a64_assemble.proofs.Made.{quiet_elements, short_enough, bound_uses, direct_uses}
@@ -23,6 +23,11 @@ pub put_items-requires-clause-short : goal.put_items-requires-clause-short
 put_items-requires-clause-short c =
     let frame_is : c.new-state.result.frame ≡ c.args.frame.now = ap (λ s. s.frame) c.new-state.ensures ∙ c.in_ok-try_clone.ensures in
     subst (λ frame. whole frame c.args.info.now c.args.items.now < 2 ^ 31) (sym frame_is) c.requires.found.short
+
+pub put_items-requires-clause-wide : goal.put_items-requires-clause-wide
+put_items-requires-clause-wide c =
+    let frame_is : c.new-state.result.frame ≡ c.args.frame.now = ap (λ s. s.frame) c.new-state.ensures ∙ c.in_ok-try_clone.ensures in
+    subst (λ (frame : FrameLayout). BoundsRooms c.args.found.widest (elements_of frame c.args.info.now c.args.items.now)) (sym frame_is) c.requires.found.wide
 
 pub put_items-requires-clause-quiet : goal.put_items-requires-clause-quiet
 put_items-requires-clause-quiet c = λ quiet.

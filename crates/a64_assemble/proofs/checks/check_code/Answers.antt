@@ -1,5 +1,5 @@
-use Rattle.std.proofs.Common.{◌≡◌, ◌∙◌, ◌+◌, ap, sym, take, option_map, None, Some, arith}
-use Rattle.std.specs.Prelude.{◌||◌}
+use Rattle.std.proofs.Common.{ℕ, ◌≡◌, ◌∙◌, ◌+◌, All, ap, sym, subst, take, option_map, None, Some, arith}
+use Rattle.std.specs.Prelude.{◌||◌, min}
 use Rattle.std.specs.Option.{unwrap_or}
 use Rattle.std.proofs.lemmas.List.{take_all}
 use Rattle.a64_emit.specs.declared.error.EmitError.TheVariants.{UnboundLabel}
@@ -7,9 +7,11 @@ use Rattle.a64_emit.specs.Cells.{cells_of}
 use Rattle.a64_emit.specs.Bounds.{lesser, saturated, whole, shortest, item_size, item_charge, asked}
 use Rattle.a64_emit.specs.Faults.{bindings, or_else, too_large, unbound_use}
 use Rattle.a64_emit.specs.Reach.{has_near}
+use Rattle.a64_assemble.specs.Elements.{BoundsRooms, elements_of}
 use Rattle.a64_assemble.proofs.Bindings.{missing_skip, missing_found, missing_end}
 use Rattle.a64_assemble.proofs.Sizes.{whole_more, shortest_more, whole_all, too_large_at, short_at, not_large, saturated_more, saturated_once}
 use Rattle.a64_assemble.proofs.Nears.{near_more, near_skip, near_all_items}
+use Rattle.a64_assemble.proofs.Widths.{IsItemWithin, extent_width, found_wide, light_width, within_more}
 use Rattle.a64_assemble.proofs.checks.check_code.Goals as goal
 
 pub loop-item-preserved : goal.loop-item-preserved
@@ -39,6 +41,11 @@ loop-item-preserved c =
       shortest_is =
           c.lesser-shortest-in-loop-item.ensures ∙ ap (λ o. lesser o extent.range) c.loop-item.invariant.shortest_is
           ∙ sym (shortest_more frame flags c.args.items.now c.loop-item.item-index c.item-item.result c.item-item.result _ c.loop-item-test.true (sym c.item-item.is) e.range_is);
+      usual = omega (arith, c.wider-widest-in-loop-item.ensures, c.loop-item.invariant.usual);
+      wide =
+          within_more frame flags c.args.items.now c.loop-item.item-index c.item-item.result c.item-item.result c.loop-item.widest c.width_of.result c.wider-widest-in-loop-item.result c.loop-item-test.true (sym c.item-item.is) c.loop-item.invariant.wide
+          (extent_width frame flags item extent.size extent.charge extent.range c.width_of.result e c.width_of.ensures.place c.width_of.ensures.words)
+          (omega (arith, c.wider-widest-in-loop-item.ensures)) (omega (arith, c.wider-widest-in-loop-item.ensures));
     }
 
 -- an item of which a look says what it adds
@@ -62,6 +69,11 @@ loop-item-preserved-in-Some c =
       shortest_is =
           c.lesser-shortest.ensures ∙ ap (λ o. lesser o c.in-Some.light.range) c.loop-item.invariant.shortest_is
           ∙ sym (shortest_more frame flags c.args.items.now c.loop-item.item-index c.item-item.result c.item-item.result _ c.loop-item-test.true (sym c.item-item.is) light.range_is);
+      usual = omega (arith, c.wider-widest.ensures, c.loop-item.invariant.usual);
+      wide =
+          within_more frame flags c.args.items.now c.loop-item.item-index c.item-item.result c.item-item.result c.loop-item.widest c.in-Some.light.growth c.wider-widest.result c.loop-item-test.true (sym c.item-item.is) c.loop-item.invariant.wide
+          (light_width frame flags item c.in-Some.light.growth c.in-Some.ensures.place light.growth_is)
+          (omega (arith, c.wider-widest.ensures)) (omega (arith, c.wider-widest.ensures));
     }
 
 pub returns-in-Some-missing_in_two : goal.returns-in-Some-missing_in_two
@@ -102,4 +114,8 @@ returns c =
       size_is = omega (arith, all, short);
       shortest_is = c.loop-item.invariant.shortest_is ∙ ap (shortest frame flags) (take_all c.loop-item.item-index c.args.items.now c.loop-item-test.false);
       near_is = c.loop-item.invariant.near_is ∙ near_all_items frame flags c.args.items.now c.loop-item.item-index c.loop-item-test.false;
+      wide =
+          subst (λ (n : ℕ). BoundsRooms n (elements_of frame flags c.args.items.now)) (sym (c.min.ensures ∙ ap (min c.loop-item.widest) c.from.ensures))
+          (found_wide frame flags c.args.items.now c.loop-item.widest
+          (subst (All (IsItemWithin frame flags c.loop-item.widest)) (take_all c.loop-item.item-index c.args.items.now c.loop-item-test.false) c.loop-item.invariant.wide) short);
     }

@@ -6,7 +6,7 @@ use Rattle.a64_emit.specs.Bounds.{asked_of}
 use Rattle.a64_emit.specs.Cells.{Cell, kept_cells}
 use Rattle.a64_assemble.specs.Asks.{MayMove, Moves}
 use Rattle.a64_assemble.specs.Elements.{Element, elements_of, next_room}
-use Rattle.a64_assemble.proofs.Stepped.{on_ok, put_cells, island_short, words_put, words_element, emit_ready, emit_moves}
+use Rattle.a64_assemble.proofs.Stepped.{on_ok, put_cells, island_short, words_put, words_element, emit_ready, emit_moves, needs_none}
 use Rattle.a64_assemble.proofs.putting.put_inst.Goals as goal
 
 pub emit-requires : goal.emit-requires
@@ -17,6 +17,15 @@ pub returns-then-quiet-clause-buffer : goal.returns-then-quiet-clause-buffer
 returns-then-quiet-clause-buffer c =
     emit_moves c.args.info.now c.args.force c.args.state.now c.args.inst.now (elements_of c.args.state.now.frame c.args.info.now c.args.rest.now) c.args.buffer.now c.emit.new.sink
     c.requires.may (c.requires.quiet c.if-quiet.true) c.cur_offset-end.ensures.whole c.in_ok-emit.ensures.ok
+
+pub returns-then-not-island_needed-clause-buffer : goal.returns-then-not-island_needed-clause-buffer
+returns-then-not-island_needed-clause-buffer c =
+    let rest : List Element = elements_of c.args.state.now.frame c.args.info.now c.args.rest.now in
+    emit_moves c.args.info.now c.args.force c.args.state.now c.args.inst.now rest c.args.buffer.now c.emit.new.sink
+    c.requires.may
+    (needs_none c.args.info.now c.args.force c.args.state.now c.args.inst.now rest c.args.buffer.now c.emit.new.sink c.args.widest
+    (c.requires.asked c.if-quiet.false) c.requires.wide c.if-not-island_needed.ensures c.in_ok-emit.ensures.ok)
+    c.cur_offset-end.ensures.whole c.in_ok-emit.ensures.ok
 
 pub ask-requires : goal.ask-requires
 ask-requires c =

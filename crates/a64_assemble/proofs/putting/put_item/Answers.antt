@@ -1,9 +1,9 @@
-use Rattle.std.proofs.Common.{sym, subst}
+use Rattle.std.proofs.Common.{◌≤◌, sym, subst}
 use Rattle.a64_inst.specs.declared.item.Item.{Item}
 use Rattle.a64_inst.specs.declared.item.Item.TheVariants.{Emit}
 use Rattle.a64_inst.specs.State.{State}
 use Rattle.a64_assemble.specs.Asks.{MayMove, Moves, NeedsNone}
-use Rattle.a64_assemble.specs.Elements.{element_of, elements_of}
+use Rattle.a64_assemble.specs.Elements.{element_of, elements_of, room_of}
 use Rattle.a64_assemble.proofs.Stepped.{on_ok}
 use Rattle.a64_assemble.proofs.putting.put_item.Goals as goal
 
@@ -11,6 +11,10 @@ pub put_inst-requires-clause-may : goal.put_inst-requires-clause-may
 put_inst-requires-clause-may c =
     subst (λ (s : State). MayMove (element_of s.frame c.args.info.now (Emit c.in-Emit.inst s.map)) (elements_of s.frame c.args.info.now c.args.rest.now) c.args.buffer.now) (sym c.pre_safepoint.ensures)
     (subst (λ (item : Item). MayMove (element_of c.args.state.now.frame c.args.info.now item) (elements_of c.args.state.now.frame c.args.info.now c.args.rest.now) c.args.buffer.now) c.in-Emit.is c.requires.may)
+
+pub put_inst-requires-clause-wide : goal.put_inst-requires-clause-wide
+put_inst-requires-clause-wide c =
+    subst (λ (s : State). room_of (elements_of s.frame c.args.info.now c.args.rest.now) ≤ c.args.widest) (sym c.pre_safepoint.ensures) c.requires.wide
 
 pub put_inst-requires-clause-quiet : goal.put_inst-requires-clause-quiet
 put_inst-requires-clause-quiet c = λ quiet.

@@ -5,7 +5,7 @@ use Rattle.a64_inst.specs.declared.item.Item.{Item}
 use Rattle.a64_buffer.specs.Buffer.{end_of}
 use Rattle.a64_emit.specs.Faults.{item_fault}
 use Rattle.a64_assemble.specs.Asks.{MayMove, Moves, NeedsNone}
-use Rattle.a64_assemble.specs.Elements.{Element, element_of, elements_of, element_at}
+use Rattle.a64_assemble.specs.Elements.{Element, element_of, elements_of, element_at, room_of}
 use Rattle.a64_assemble.specs.Made.{HasPutFirst}
 use Rattle.a64_assemble.proofs.FirstPut.{first_none, first_may, first_quiet, first_constants, first_step, first_all, are_good, count_same, element_is, rest_is}
 use Rattle.a64_assemble.proofs.Owns.{none_at}
@@ -44,6 +44,15 @@ put_item-requires-clause-may c =
     (subst (λ (ys : List Element). MayMove (element_of frame c.args.info.now c.index-items-index.result) ys c.loop-index.buffer) (rest_is frame c.args.info.now items k)
     (subst (λ (x : Element). MayMove x (drop (k + 1) xs) c.loop-index.buffer) (element_is frame c.args.info.now items k c.index-items-index.result c.loop-index-test.true c.index-items-index.is)
     (first_may c.args.force xs (are_good frame c.args.info.now items c.requires.once c.requires.short) k c.loop-index.places.items c.loop-index.buffer c.loop-index.buffer within c.loop-index.invariant.first)))
+
+pub put_item-requires-clause-wide : goal.put_item-requires-clause-wide
+put_item-requires-clause-wide c =
+    let frame : FrameLayout = c.args.state.now.frame in
+    let items : List Item = c.args.items.now in
+    let k : ℕ = c.loop-index.index in
+    let rest : List Item = take (length items - (k + 1)) (drop (k + 1) items) in
+    subst (λ (f : FrameLayout). room_of (elements_of f c.args.info.now rest) ≤ c.args.widest) (sym c.loop-index.invariant.frame)
+    (subst (λ (ys : List Element). room_of ys ≤ c.args.widest) (rest_is frame c.args.info.now items k) (c.requires.wide (k + 1)))
 
 pub put_item-requires-clause-quiet : goal.put_item-requires-clause-quiet
 put_item-requires-clause-quiet c = λ quiet.
