@@ -11,18 +11,34 @@ these a remainder takes one machine instruction.
 import sys
 
 
+def word_at(token, place):
+    """The number that four bytes of a token are from a place on, the least first."""
+    return int.from_bytes(token[place : place + 4], "little")
+
+
+def mixed(first, middle, last):
+    """Three numbers mixed into one of 11 bits, the top bits of a sum modulo 2^32."""
+    total = first * 0xB4AF80C3 + middle * 0x8BDCFBC5 + last * 0x6974E419
+    return total % 2**32 // 2**21
+
+
 def hash_of(name):
-    """The hash of a name, as the reader computes it: of its length and four of its bytes."""
+    """The hash of a name, as the reader computes it: of its first, middle and last four bytes, or of its
+    first, middle and last byte where it has no four.
+    """
     token = name.encode()
     size = len(token)
-    third, half = token[size // 3], token[size // 2]
-    return token[0] * 47 + third * 27 + half * 85 + token[-1] * 33 + size % 64 * 89
+    if size >= 4:
+        return mixed(word_at(token, 0), word_at(token, (size - 4) // 2), word_at(token, size - 4))
+    if size == 0:
+        return 0
+    return mixed(token[0], token[size // 2], token[-1])
 
 
 def homes_of(names):
     """The shortest table of homes in which each name has a place of its own."""
     if len({hash_of(name) for name in names}) < len(names):
-        raise SystemExit("two names have one hash: choose other factors in `hash_of`")
+        raise SystemExit("two names have one hash: choose other factors in `mixed`")
     length = 1
     while len({hash_of(name) % length for name in names}) < len(names):
         length *= 2

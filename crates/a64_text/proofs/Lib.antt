@@ -1,5 +1,6 @@
 pub mod Headings
 pub mod Decimals
+pub mod TwoDigits
 pub mod RegisterPairReads
 pub mod Offsets
 pub mod Scaled
@@ -16,6 +17,7 @@ pub mod Plain
 pub mod Shifts
 pub mod KindsRead
 pub mod PartsRead
+pub mod Putting
 pub mod Rest
 pub mod Schemas
 pub mod Joined

@@ -1,5 +1,5 @@
 -- Texts of registers.
-use Rattle.std.proofs.Common.{◌≡◌, ℕ, ◌≤◌, ◌-◌, Bool, true, false, if◌then◌else◌, eqb, List, [], ◌∷◌, ◌++◌, length, take, drop, get_or, ◌⊎◌, inl, inr, Option, Some, None, refl, sym, ap, ◌∙◌, arith}
+use Rattle.std.proofs.Common.{◌≡◌, ℕ, ◌<◌, ◌≤◌, ◌-◌, Bool, true, false, if◌then◌else◌, eqb, List, [], ◌∷◌, ◌++◌, length, take, drop, get_or, ◌⊎◌, inl, inr, Option, Some, None, refl, sym, ap, ◌∙◌, arith}
 use Rattle.std.specs.Prelude.{codes}
 use Rattle.std.specs.Fmt.{decimal}
 use Rattle.std.proofs.Math.Seq.{take-length}
@@ -9,7 +9,7 @@ use Rattle.a64_base.specs.declared.reg.Reg.{Reg}
 use Rattle.a64_base.specs.declared.reg.Reg.TheVariants.{Real, Virtual}
 use Rattle.a64_base.specs.declared.reg.RegClass.{RegClass}
 use Rattle.a64_base.specs.declared.reg.RegClass.TheVariants.{Int, Float}
-use Rattle.a64_text.specs.Reads.{Reads, IsU32}
+use Rattle.a64_text.specs.Reads.{Reads, IsBelowHundred}
 use Rattle.a64_text.specs.Fields.{integer_text, real_text, virtual_text, preg_text, IsPReg, reg_text, IsReg}
 use Rattle.a64_text.proofs.Decimals.{decimal_first}
 
@@ -49,18 +49,11 @@ after_x : (rest : List ℕ) (reg : Reg) → IsReg reg → 120 ∷ rest ≡ reg_t
 after_x rest (Real p) fits e = after_real rest p.class p.number fits e
 after_x rest (Virtual index class) fits e = absurd (after_virtual rest class index e)
 
-no_decimal : (n : ℕ) → n ≤ 30 → codes "zr" ≡ decimal n → ⊥
+no_decimal : (n : ℕ) → n < 100 → codes "zr" ≡ decimal n → ⊥
 no_decimal n fits e = omega (arith, decimal_first (122 ∷ 114 ∷ []) n (omega arith) e)
 
-zero_only : (reg : Reg) → AfterX (codes "zr") reg → Some (integer 31) ≡ Some reg
-zero_only reg (inl h) = ap (λ (r : Reg). Some r) (sym h.1)
-zero_only reg (inr h) = absurd (no_decimal h.0 h.1 h.2)
-
-pub is_xzr : (token : List ℕ) → token ≡ codes "xzr" → Reads IsReg reg_text token (Some (integer 31))
-is_xzr token w = record { some = (refl, w); only = λ reg fits e. zero_only reg (after_x (codes "zr") reg fits (sym w ∙ e)) }
-
-number_only : (rest : List ℕ) (n : ℕ) (reg : Reg) → n ≤ 30 → Reads IsU32 decimal rest (Some n) → AfterX rest reg → Some (integer n) ≡ Some reg
-number_only rest n reg fits h (inl z) = absurd (no_decimal n fits (sym z.0 ∙ h.some.1))
+number_only : (rest : List ℕ) (n : ℕ) (reg : Reg) → n ≤ 30 → Reads IsBelowHundred decimal rest (Some n) → AfterX rest reg → Some (integer n) ≡ Some reg
+number_only rest n reg fits h (inl z) = absurd (no_decimal n h.some.0 (sym z.0 ∙ h.some.1))
 number_only rest n reg fits h (inr m) =
     let s : Some n ≡ Some m.0 = h.only m.0 (omega (arith, m.1)) m.2 in
     let k : n ≡ m.0 = cc in
@@ -78,14 +71,28 @@ after_front (b ∷ bytes) h =
     let less : length (b ∷ bytes) - 1 ≡ length bytes = omega arith in
     rw (h, less, take-length bytes) refl
 
-x_is : (token rest : List ℕ) (n : ℕ) → token ≡ 120 ∷ rest → Reads IsU32 decimal rest (Some n) → n ≤ 30 → Reads IsReg reg_text token (Some (integer n))
+x_is : (token rest : List ℕ) (n : ℕ) → token ≡ 120 ∷ rest → Reads IsBelowHundred decimal rest (Some n) → n ≤ 30 → Reads IsReg reg_text token (Some (integer n))
 x_is token rest n w h fits = record {
   some = (is_number n fits, w ∙ ap (λ (t : List ℕ). 120 ∷ t) h.some.1 ∙ number_text n fits);
   only = λ reg f e. number_only rest n reg fits h (after_x rest reg f (sym w ∙ e));
 }
 
-pub is_x : (token : List ℕ) (n : ℕ) → get_or token 0 0 ≡ 120 → Reads IsU32 decimal (take (length token - 1) (drop 1 token)) (Some n) → n ≤ 30 → Reads IsReg reg_text token (Some (integer n))
+pub is_x : (token : List ℕ) (n : ℕ) → get_or token 0 0 ≡ 120 → Reads IsBelowHundred decimal (take (length token - 1) (drop 1 token)) (Some n) → n ≤ 30 → Reads IsReg reg_text token (Some (integer n))
 is_x token n x h fits = x_is token (take (length token - 1) (drop 1 token)) n (after_front token x) h fits
+
+none_so_large : (rest : List ℕ) (n : ℕ) (reg : Reg) → 31 ≤ n → Reads IsBelowHundred decimal rest (Some n) → AfterX rest reg → ⊥
+none_so_large rest n reg large h (inl z) = no_decimal n h.some.0 (sym z.0 ∙ h.some.1)
+none_so_large rest n reg large h (inr m) =
+    let s : Some n ≡ Some m.0 = h.only m.0 (omega (arith, m.1)) m.2 in
+    let k : n ≡ m.0 = cc in
+    omega (arith, m.1, k)
+
+-- no register has a number so large
+pub no_x : (token : List ℕ) (n : ℕ) → get_or token 0 0 ≡ 120 → Reads IsBelowHundred decimal (take (length token - 1) (drop 1 token)) (Some n) → 31 ≤ n → Reads IsReg reg_text token None
+no_x token n x h large = record {
+  some = tt;
+  only = λ reg f e. absurd (none_so_large (take (length token - 1) (drop 1 token)) n reg large h (after_x (take (length token - 1) (drop 1 token)) reg f (sym (after_front token x) ∙ e)));
+}
 
 -- ---- registers of the machine
 

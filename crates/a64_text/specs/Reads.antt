@@ -11,6 +11,9 @@ pub record Reads {X T : Type 0} (fits : X → Type 0) (text : X → T) (token : 
 abbrev pub Always : {X : Type 0} → X → Type 0
 Always x = Unit {0}
 
+abbrev pub IsBelowHundred : ℕ → Type 0
+IsBelowHundred n = n < 100
+
 abbrev pub IsU8 : ℕ → Type 0
 IsU8 n = n < 2 ^ 8
 

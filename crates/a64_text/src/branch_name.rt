@@ -26,7 +26,7 @@ pub enum CondBrName {
 }
 
 /// For each remainder of a hash, the row of the name that has it.
-pub static COND_BR_HOMES: [u8; 8] = [2, 0, 0, 0, 0, 0, 1, 0];
+pub static COND_BR_HOMES: [u8; 4] = [1, 0, 0, 2];
 
 /// What a conditional branch tests.
 pub static COND_BRS: [Row<CondBrName>; 3] = [

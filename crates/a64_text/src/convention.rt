@@ -9,7 +9,9 @@ use crate::named::{Named, Row};
 use a64_base::{APIKey, CallConv};
 
 /// For each remainder of a hash, the row of the name that has it.
-pub static CONVENTION_HOMES: [u8; 8] = [0, 0, 0, 2, 1, 0, 0, 0];
+pub static CONVENTION_HOMES: [u8; 32] = [
+    1, 0, 0, 0, 0, 0, 0, 0, 0, 0, 0, 0, 0, 0, 0, 0, 2, 0, 0, 0, 0, 0, 0, 0, 0, 0, 0, 0, 0, 0, 0, 0,
+];
 
 /// The calling conventions.
 pub static CONVENTIONS: [Row<CallConv>; 3] = [
@@ -35,9 +37,7 @@ impl Named for CallConv {
 }
 
 /// For each remainder of a hash, the row of the name that has it.
-pub static KEY_HOMES: [u8; 32] = [
-    0, 0, 3, 0, 0, 0, 0, 0, 0, 4, 0, 0, 0, 0, 0, 0, 0, 0, 0, 0, 0, 0, 0, 0, 1, 0, 2, 0, 0, 0, 0, 0,
-];
+pub static KEY_HOMES: [u8; 8] = [3, 0, 1, 4, 0, 2, 0, 0];
 
 /// The keys, and a dash for none.
 pub static KEYS: [Row<Option<APIKey>>; 5] = [

@@ -1,7 +1,7 @@
 //! Reads decimal numbers.
 
 ghost use Rattle.std.specs.Fmt.{decimal};
-ghost use Rattle.a64_text.specs.Reads.{Reads, IsU8, IsU32, IsU64};
+ghost use Rattle.a64_text.specs.Reads.{Reads, IsBelowHundred, IsU8, IsU32, IsU64};
 
 /// The number below 2^64 whose decimal text the token is. No text has a sign, or a needless `0` at
 /// its front.
@@ -44,4 +44,17 @@ pub fn read_u8(token: &[u8]) -> Option<u8>
         return None;
     }
     Some(value as u8)
+}
+
+/// The number below 100 whose decimal text the token is: one digit, or two of which the first is not `0`.
+#[tactic(auto, using(crate::proofs::TwoDigits::has_digits))]
+#[inline(always)]
+pub fn read_below_hundred(token: &[u8]) -> Option<u8>
+    ensures { Reads IsBelowHundred decimal token.now result }
+{
+    match token {
+        [u @ b'0'..=b'9'] => Some(*u - b'0'),
+        [t @ b'1'..=b'9', u @ b'0'..=b'9'] => Some((*t - b'0') * 10 + (*u - b'0')),
+        _ => None,
+    }
 }

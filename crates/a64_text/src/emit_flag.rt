@@ -21,7 +21,7 @@ pub enum EmitFlag {
 }
 
 /// For each remainder of a hash, the row of the name that has it.
-pub static EMIT_FLAG_HOMES: [u8; 8] = [0, 0, 0, 2, 0, 0, 0, 1];
+pub static EMIT_FLAG_HOMES: [u8; 4] = [0, 2, 1, 0];
 
 /// The settings.
 pub static EMIT_FLAGS: [Row<EmitFlag>; 3] = [

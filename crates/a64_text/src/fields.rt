@@ -1,11 +1,11 @@
 //! Reads fields that stand in a row.
 
-ghost use Rattle.std.specs.Prelude.{◌≡◌, ◌≤◌, ◌<◌, ℕ, List, length, option_map, IfSome};
+ghost use Rattle.std.specs.Prelude.{◌≡◌, ◌≤◌, ◌<◌, ℕ, true, false, List, length, option_map, IfSome, MatchOption};
 ghost use Rattle.a64_text.specs.declared.value.Value.{Value};
 ghost use Rattle.a64_text.specs.Reads.{Reads};
-ghost use Rattle.a64_text.specs.Values.{kind_of, value_text, IsValue};
+ghost use Rattle.a64_text.specs.Values.{kind_of, IsValue};
 ghost use Rattle.a64_text.specs.Splitting.{lines_of, of_text, behind_text, IsCut};
-ghost use Rattle.a64_text.specs.Rows.{AreFields, texts};
+ghost use Rattle.a64_text.specs.Rows.{AreFields, texts, IsPut};
 
 use crate::split::CutToken;
 use crate::value::{Kind, Value};
@@ -26,9 +26,10 @@ pub trait FieldRow {
     fn cut(text: &[u8]) -> CutToken<'_>
         ensures { IsCut tokens behind text.now result.token.now result.more result.lines };
 
-    /// The field of the kind that the token is.
-    fn read(kind: Kind, token: &[u8]) -> Option<Value<'_>>
-        ensures { Reads (λ v. (kind_of v ≡ kind) × fits v) value_text token.now result };
+    /// Puts the field of the kind that the token is into `slot`.
+    /// False: it is no such field, and the slot stays as it is.
+    fn put<'t>(kind: Kind, token: &'t [u8], slot: &mut Value<'t>) -> bool
+        ensures { IsPut (λ v. (kind_of v ≡ kind) × fits v) token.now slot.old slot.new result };
 
     /// A text has a token.
     ghost some_token: { (text : List ℕ) → 0 < length (tokens text) };
@@ -55,12 +56,30 @@ pub fn read_fields<'t, L: FieldRow, const N: usize>(
     let mut left = lines;
     for kind in kinds {
         let cut = L::cut(more?);
-        values.push(L::read(*kind, cut.token)?);
+        let place = values.len();
+        values.push(Value::default());
+        if !L::put(*kind, cut.token, &mut values[place]) {
+            return None;
+        }
         more = cut.more;
         left = cut.lines;
     }
     match more {
         None => Some(left),
         Some(_) => None,
+    }
+}
+
+/// Puts the value, where there is one, into `slot`, and answers whether there is one.
+#[inline(always)]
+pub fn put_read<'t>(slot: &mut Value<'t>, value: Option<Value<'t>>) -> bool
+    ensures { MatchOption value.entry ((result ≡ false) × (slot.new ≡ slot.old)) (λ v. (result ≡ true) × (slot.new ≡ v)) }
+{
+    match value {
+        Some(value) => {
+            *slot = value;
+            true
+        }
+        None => false,
     }
 }

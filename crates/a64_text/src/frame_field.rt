@@ -25,9 +25,7 @@ pub enum FrameField {
 }
 
 /// For each remainder of a hash, the row of the name that has it.
-pub static FRAME_FIELD_HOMES: [u8; 32] = [
-    0, 3, 0, 0, 0, 0, 0, 1, 0, 0, 0, 0, 0, 0, 2, 0, 0, 0, 0, 0, 0, 0, 0, 4, 0, 0, 0, 0, 0, 0, 0, 0,
-];
+pub static FRAME_FIELD_HOMES: [u8; 16] = [0, 0, 4, 0, 0, 0, 0, 0, 0, 3, 2, 1, 0, 0, 0, 0];
 
 /// The sizes of a frame.
 pub static FRAME_FIELDS: [Row<FrameField>; 5] = [

@@ -4,15 +4,15 @@ ghost use Rattle.std.specs.Prelude.{◌≡◌, ◌∷◌, List, option_map, IfSo
 ghost use Rattle.a64_text.specs.declared.name.Name.{Name};
 ghost use Rattle.a64_text.specs.declared.value.Value.{Value};
 ghost use Rattle.a64_text.specs.Reads.{Reads};
-ghost use Rattle.a64_text.specs.Values.{IsValue};
+ghost use Rattle.a64_text.specs.Values.{IsOf, IsValue};
 ghost use Rattle.a64_text.specs.Splitting.{first_line, lines_of, line_tokens, lines_behind, of_text};
 ghost use Rattle.a64_text.specs.TokenLaws.{some_token};
 ghost use Rattle.a64_text.specs.Names.{kinds_of, name_text};
-ghost use Rattle.a64_text.specs.Rows.{AreFields, texts};
+ghost use Rattle.a64_text.specs.Rows.{AreFields, texts, IsPut};
 
-use crate::fields::FieldRow;
+use crate::fields::{FieldRow, put_read};
 use crate::name::Name;
-use crate::read_value::read_value;
+use crate::read_value::{alu_op, label, read_value, reg, size, target};
 use crate::schema::read_schema;
 use crate::split::{CutToken, cut_token};
 use crate::value::{Fields, Kind, Value};
@@ -33,8 +33,15 @@ impl FieldRow for LineFields {
     }
 
     #[inline(always)]
-    fn read(kind: Kind, token: &[u8]) -> Option<Value<'_>> {
-        read_value(kind, token)
+    fn put<'t>(kind: Kind, token: &'t [u8], slot: &mut Value<'t>) -> bool {
+        match kind {
+            Kind::Reg => put_reg(slot, token),
+            Kind::Size => put_size(slot, token),
+            Kind::AluOp => put_alu_op(slot, token),
+            Kind::Target => put_target(slot, token),
+            Kind::Label => put_label(slot, token),
+            _ => put_other(slot, kind, token),
+        }
     }
 
     ghost some_token = { λ text. some_token 32 (first_line text) };
@@ -52,4 +59,64 @@ pub fn read_line<'t>(text: &'t [u8], values: &mut Fields<'t>) -> Option<(Name, O
 {
     let cut = cut_token(text);
     read_schema::<Name, LineFields, 12>(cut.token, cut.more, cut.lines, values)
+}
+
+/// Puts the register that the token is into `slot`.
+/// False: it is none, and the slot stays as it is.
+#[tactic(auto, using(crate::proofs::Putting::kind_put))]
+#[inline(always)]
+fn put_reg<'t>(slot: &mut Value<'t>, token: &'t [u8]) -> bool
+    ensures { IsPut (IsOf Kind.Reg) token.now slot.old slot.new result }
+{
+    put_read(slot, reg(token))
+}
+
+/// Puts the size of operands that the token is into `slot`.
+/// False: it is none, and the slot stays as it is.
+#[tactic(auto, using(crate::proofs::Putting::kind_put))]
+#[inline(always)]
+fn put_size<'t>(slot: &mut Value<'t>, token: &'t [u8]) -> bool
+    ensures { IsPut (IsOf Kind.Size) token.now slot.old slot.new result }
+{
+    put_read(slot, size(token))
+}
+
+/// Puts the integer operator that the token is into `slot`.
+/// False: it is none, and the slot stays as it is.
+#[tactic(auto, using(crate::proofs::Putting::kind_put))]
+#[inline(always)]
+fn put_alu_op<'t>(slot: &mut Value<'t>, token: &'t [u8]) -> bool
+    ensures { IsPut (IsOf Kind.AluOp) token.now slot.old slot.new result }
+{
+    put_read(slot, alu_op(token))
+}
+
+/// Puts the target of a branch that the token is into `slot`.
+/// False: it is none, and the slot stays as it is.
+#[tactic(auto, using(crate::proofs::Putting::kind_put))]
+#[inline(always)]
+fn put_target<'t>(slot: &mut Value<'t>, token: &'t [u8]) -> bool
+    ensures { IsPut (IsOf Kind.Target) token.now slot.old slot.new result }
+{
+    put_read(slot, target(token))
+}
+
+/// Puts the label that the token is into `slot`.
+/// False: it is none, and the slot stays as it is.
+#[tactic(auto, using(crate::proofs::Putting::kind_put))]
+#[inline(always)]
+fn put_label<'t>(slot: &mut Value<'t>, token: &'t [u8]) -> bool
+    ensures { IsPut (IsOf Kind.Label) token.now slot.old slot.new result }
+{
+    put_read(slot, label(token))
+}
+
+/// Puts the field of the kind that the token is into `slot`.
+/// False: it is no such field, and the slot stays as it is.
+#[tactic(auto, using(crate::proofs::Putting::kind_put))]
+#[inline(always)]
+fn put_other<'t>(slot: &mut Value<'t>, kind: Kind, token: &'t [u8]) -> bool
+    ensures { IsPut (IsOf kind) token.now slot.old slot.new result }
+{
+    put_read(slot, read_value(kind, token))
 }

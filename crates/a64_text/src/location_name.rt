@@ -22,7 +22,7 @@ pub enum LocationName {
 }
 
 /// For each remainder of a hash, the row of the name that has it.
-pub static LOCATION_HOMES: [u8; 4] = [0, 0, 1, 0];
+pub static LOCATION_HOMES: [u8; 2] = [0, 1];
 
 /// Where functions leave results.
 pub static LOCATIONS: [Row<LocationName>; 2] = [

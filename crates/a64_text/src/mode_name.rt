@@ -51,9 +51,9 @@ pub enum ModeName {
 
 /// For each remainder of a hash, the row of the name that has it.
 pub static MODE_HOMES: [u8; 64] = [
-    0, 0, 0, 0, 8, 12, 0, 0, 0, 9, 2, 0, 0, 0, 0, 0, 3, 0, 0, 11, 0, 0, 13, 0, 0, 0, 0, 0, 0, 4, 0,
-    0, 0, 0, 6, 0, 0, 0, 0, 0, 0, 0, 0, 0, 10, 0, 0, 0, 0, 0, 0, 1, 0, 0, 0, 0, 0, 14, 7, 0, 0, 0,
-    5, 0,
+    0, 14, 0, 13, 0, 0, 0, 12, 0, 10, 0, 0, 0, 0, 0, 0, 0, 0, 0, 0, 1, 0, 4, 0, 0, 2, 0, 0, 0, 11,
+    0, 0, 0, 0, 9, 0, 7, 0, 0, 0, 0, 0, 0, 0, 3, 0, 0, 0, 0, 0, 0, 0, 8, 0, 0, 0, 0, 0, 5, 6, 0, 0,
+    0, 0,
 ];
 
 /// The addressing modes.
@@ -143,7 +143,9 @@ pub enum PairModeName {
 }
 
 /// For each remainder of a hash, the row of the name that has it.
-pub static PAIR_MODE_HOMES: [u8; 4] = [2, 0, 1, 0];
+pub static PAIR_MODE_HOMES: [u8; 32] = [
+    0, 0, 0, 0, 1, 0, 0, 0, 0, 0, 0, 0, 0, 0, 0, 0, 0, 0, 0, 0, 2, 0, 0, 0, 0, 0, 0, 0, 0, 0, 0, 0,
+];
 
 /// The addressing modes of pairs.
 pub static PAIR_MODES: [Row<PairModeName>; 3] = [
@@ -220,7 +222,7 @@ pub enum MemLabelName {
 }
 
 /// For each remainder of a hash, the row of the name that has it.
-pub static MEM_LABEL_HOMES: [u8; 8] = [2, 1, 0, 0, 0, 0, 0, 0];
+pub static MEM_LABEL_HOMES: [u8; 4] = [0, 2, 1, 0];
 
 /// The addresses in the code.
 pub static MEM_LABELS: [Row<MemLabelName>; 3] = [

@@ -3,7 +3,7 @@
 ghost use Rattle.std.specs.Prelude.{◌≡◌, ◌↔◌, ◌+◌, ◌≤◌, length, take, drop, true, ℕ, List, map, option_map, Option, Some, IfSome};
 ghost use Rattle.a64_text.specs.declared.value.Kind.{Kind};
 ghost use Rattle.a64_text.specs.Reads.{Reads, Always};
-ghost use Rattle.a64_text.specs.Hash.{hash, look_up};
+ghost use Rattle.a64_text.specs.Hash.{word_at, mixed, hash, look_up};
 
 use crate::value::Kind;
 use std::simd::prelude::*;
@@ -36,21 +36,48 @@ pub trait Named: Copy + Drop + 'static {
     ghost found: { (x : Self) → look_up homes rows (text x) ≡ Some x };
 }
 
-/// A number that the token has, of its length and four of its bytes.
+/// The number that four bytes of a text are from a place on, the least first.
+#[inline(always)]
+fn word_at(text: &[u8], place: usize) -> u32
+    requires { place + 4 ≤ length text.now }
+    ensures { result ≡ word_at text.now place }
+{
+    u32::from(text[place])
+        + 0x100 * u32::from(text[place + 1])
+        + 0x1_0000 * u32::from(text[place + 2])
+        + 0x100_0000 * u32::from(text[place + 3])
+}
+
+/// Three numbers mixed into one of 11 bits.
+#[inline(always)]
+fn mixed(first: u32, middle: u32, last: u32) -> usize
+    ensures { result ≡ mixed first middle last }
+{
+    let sum = first
+        .wrapping_mul(0xb4af_80c3)
+        .wrapping_add(middle.wrapping_mul(0x8bdc_fbc5))
+        .wrapping_add(last.wrapping_mul(0x6974_e419));
+    (sum >> 21) as usize
+}
+
+/// A number that the token has, of its first, middle and last four bytes, or bytes where it has no four.
 #[inline(always)]
 fn hash_of(token: &[u8]) -> usize
     ensures { result ≡ hash token.now }
 {
-    match token {
-        [] => 0,
-        [first, ..] => {
-            let len = token.len();
-            let third = token[len / 3] as usize;
-            let half = token[len / 2] as usize;
-            let last = token[len - 1] as usize;
-            *first as usize * 47 + third * 27 + half * 85 + last * 33 + len % 64 * 89
-        }
+    let len = token.len();
+    if len >= 4 {
+        let middle = word_at(token, (len - 4) / 2);
+        return mixed(word_at(token, 0), middle, word_at(token, len - 4));
     }
+    if len == 0 {
+        return 0;
+    }
+    mixed(
+        u32::from(token[0]),
+        u32::from(token[len / 2]),
+        u32::from(token[len - 1]),
+    )
 }
 
 /// Whether two bytes of two texts, from a place on, are the same.

@@ -9,16 +9,12 @@ use crate::named::{Named, Row};
 use a64_ops::{ALUOp, ALUOp3, BfmOp, BitOp, MoveWideOp};
 
 /// For each remainder of a hash, the row of the name that has it.
-pub static ALU_OP_HOMES: [u8; 256] = [
-    0, 18, 0, 0, 0, 0, 0, 0, 0, 0, 0, 0, 0, 0, 0, 0, 0, 0, 0, 0, 0, 0, 0, 0, 0, 0, 1, 0, 0, 0, 5,
-    0, 0, 0, 0, 0, 0, 0, 0, 0, 0, 0, 0, 0, 0, 0, 0, 0, 0, 0, 0, 0, 0, 3, 0, 0, 0, 0, 21, 17, 0, 0,
-    15, 0, 0, 0, 0, 0, 0, 0, 0, 0, 0, 0, 0, 0, 0, 0, 0, 0, 0, 0, 0, 0, 0, 0, 0, 0, 0, 0, 0, 0, 0,
-    0, 0, 0, 0, 0, 0, 0, 0, 0, 0, 0, 0, 0, 0, 8, 0, 0, 0, 0, 0, 13, 0, 0, 0, 0, 0, 9, 0, 0, 0, 0,
-    0, 11, 0, 0, 0, 0, 0, 0, 0, 0, 0, 0, 0, 14, 0, 0, 0, 0, 0, 0, 0, 0, 0, 0, 0, 0, 0, 0, 22, 0, 0,
-    0, 0, 0, 0, 0, 0, 10, 0, 0, 0, 0, 0, 0, 0, 0, 0, 0, 0, 0, 0, 0, 0, 0, 0, 0, 0, 0, 0, 0, 0, 0,
-    0, 0, 0, 0, 0, 0, 0, 0, 0, 0, 0, 0, 2, 0, 0, 0, 0, 0, 0, 0, 0, 0, 0, 0, 0, 0, 7, 0, 0, 0, 0, 0,
-    0, 0, 0, 0, 0, 0, 16, 0, 0, 0, 0, 0, 0, 0, 0, 0, 0, 12, 0, 20, 0, 0, 0, 0, 0, 0, 0, 0, 0, 0, 6,
-    0, 0, 0, 19, 0, 4, 0,
+pub static ALU_OP_HOMES: [u8; 128] = [
+    21, 3, 0, 0, 5, 0, 0, 0, 0, 22, 0, 0, 0, 0, 0, 0, 0, 0, 0, 0, 20, 0, 0, 0, 0, 0, 0, 0, 0, 0, 7,
+    0, 0, 16, 0, 0, 0, 0, 0, 0, 0, 0, 13, 0, 0, 17, 0, 2, 0, 0, 0, 8, 0, 14, 0, 0, 0, 0, 0, 0, 0,
+    12, 0, 0, 0, 15, 0, 0, 0, 0, 0, 0, 0, 0, 10, 0, 0, 0, 0, 0, 0, 0, 9, 0, 0, 0, 0, 19, 11, 4, 0,
+    0, 0, 0, 0, 0, 0, 0, 0, 0, 0, 0, 0, 0, 0, 0, 0, 0, 0, 0, 0, 0, 0, 6, 0, 18, 0, 0, 0, 0, 0, 0,
+    0, 0, 0, 1, 0, 0,
 ];
 
 /// The integer operators.
@@ -65,7 +61,7 @@ impl Named for ALUOp {
 }
 
 /// For each remainder of a hash, the row of the name that has it.
-pub static ALU_OP3_HOMES: [u8; 8] = [0, 0, 0, 1, 2, 0, 3, 0];
+pub static ALU_OP3_HOMES: [u8; 8] = [3, 0, 1, 2, 0, 0, 0, 0];
 
 /// The integer operators with three operands.
 pub static ALU_OP3S: [Row<ALUOp3>; 4] = [
@@ -92,12 +88,7 @@ impl Named for ALUOp3 {
 }
 
 /// For each remainder of a hash, the row of the name that has it.
-pub static BIT_OP_HOMES: [u8; 128] = [
-    0, 0, 0, 0, 0, 0, 0, 0, 0, 0, 0, 0, 0, 0, 0, 0, 0, 0, 4, 0, 0, 0, 3, 0, 0, 0, 0, 0, 0, 0, 0, 0,
-    0, 0, 0, 0, 0, 0, 0, 0, 0, 0, 0, 0, 0, 0, 0, 0, 0, 0, 0, 0, 0, 0, 0, 0, 0, 0, 0, 0, 0, 0, 0, 0,
-    0, 0, 0, 0, 0, 0, 0, 0, 0, 0, 0, 0, 0, 0, 0, 0, 0, 0, 1, 0, 5, 0, 0, 0, 0, 0, 0, 0, 0, 0, 0, 0,
-    0, 0, 0, 0, 0, 0, 0, 0, 0, 0, 0, 2, 0, 0, 0, 0, 0, 0, 0, 0, 0, 0, 0, 0, 0, 0, 0, 0, 0, 0, 0, 0,
-];
+pub static BIT_OP_HOMES: [u8; 16] = [4, 0, 5, 0, 0, 2, 1, 0, 0, 0, 0, 0, 0, 0, 3, 0];
 
 /// The operations on bits.
 pub static BIT_OPS: [Row<BitOp>; 6] = [
@@ -126,7 +117,10 @@ impl Named for BitOp {
 }
 
 /// For each remainder of a hash, the row of the name that has it.
-pub static BFM_OP_HOMES: [u8; 4] = [0, 0, 1, 0];
+pub static BFM_OP_HOMES: [u8; 64] = [
+    0, 0, 0, 0, 0, 0, 0, 0, 0, 0, 0, 0, 0, 0, 0, 0, 0, 0, 0, 0, 0, 0, 0, 0, 0, 0, 0, 0, 0, 0, 0, 0,
+    0, 0, 0, 0, 0, 0, 0, 0, 0, 0, 0, 0, 0, 0, 0, 0, 0, 0, 0, 0, 1, 0, 0, 0, 0, 0, 0, 0, 0, 0, 0, 0,
+];
 
 /// The moves of a bitfield.
 pub static BFM_OPS: [Row<BfmOp>; 2] = [(b"UBfm", &[], BfmOp::UBfm), (b"SBfm", &[], BfmOp::SBfm)];
@@ -148,7 +142,10 @@ impl Named for BfmOp {
 }
 
 /// For each remainder of a hash, the row of the name that has it.
-pub static MOVE_WIDE_OP_HOMES: [u8; 8] = [1, 0, 0, 0, 0, 0, 0, 0];
+pub static MOVE_WIDE_OP_HOMES: [u8; 64] = [
+    0, 0, 0, 0, 0, 0, 0, 0, 0, 0, 0, 0, 0, 0, 0, 0, 0, 0, 0, 0, 0, 0, 0, 0, 0, 0, 0, 0, 1, 0, 0, 0,
+    0, 0, 0, 0, 0, 0, 0, 0, 0, 0, 0, 0, 0, 0, 0, 0, 0, 0, 0, 0, 0, 0, 0, 0, 0, 0, 0, 0, 0, 0, 0, 0,
+];
 
 /// The wide moves.
 pub static MOVE_WIDE_OPS: [Row<MoveWideOp>; 2] = [

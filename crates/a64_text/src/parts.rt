@@ -6,7 +6,7 @@ ghost use Rattle.a64_text.specs.PartLaws.{part_field};
 ghost use Rattle.a64_text.specs.Splitting.{comma_tokens};
 ghost use Rattle.a64_text.specs.TokenLaws.{some_token};
 
-use crate::fields::FieldRow;
+use crate::fields::{FieldRow, put_read};
 use crate::read_value::read_part;
 use crate::split::{CutToken, cut};
 use crate::value::{Kind, Value};
@@ -30,8 +30,8 @@ impl FieldRow for Parts {
         }
     }
 
-    fn read(kind: Kind, token: &[u8]) -> Option<Value<'_>> {
-        read_part(kind, token)
+    fn put<'t>(kind: Kind, token: &'t [u8], slot: &mut Value<'t>) -> bool {
+        put_read(slot, read_part(kind, token))
     }
 
     ghost some_token = { some_token 44 };

@@ -27,7 +27,7 @@ use a64_ops::{ALUOp, ALUOp3, BfmOp, BitOp, MoveWideOp};
 /// Reads an integer operator.
 #[tactic(auto, unfolding(crate::specs::Values::ReadsKind))]
 #[inline(always)]
-fn alu_op(token: &[u8]) -> Option<Value<'_>>
+pub fn alu_op(token: &[u8]) -> Option<Value<'_>>
     ensures { ReadsKind Kind.AluOp token.now result }
 {
     Some(Value::AluOp(read_named::<ALUOp>(token)?))
@@ -68,7 +68,7 @@ fn move_wide_op(token: &[u8]) -> Option<Value<'_>>
 /// Reads the size of operands.
 #[tactic(auto, unfolding(crate::specs::Values::ReadsKind))]
 #[inline(always)]
-fn size(token: &[u8]) -> Option<Value<'_>>
+pub fn size(token: &[u8]) -> Option<Value<'_>>
     ensures { ReadsKind Kind.Size token.now result }
 {
     Some(Value::Size(read_size(token)?))
@@ -77,7 +77,7 @@ fn size(token: &[u8]) -> Option<Value<'_>>
 /// Reads a register.
 #[tactic(auto, unfolding(crate::specs::Values::ReadsKind))]
 #[inline(always)]
-fn reg(token: &[u8]) -> Option<Value<'_>>
+pub fn reg(token: &[u8]) -> Option<Value<'_>>
     ensures { ReadsKind Kind.Reg token.now result }
 {
     Some(Value::Reg(read_reg(token)?))
@@ -206,7 +206,7 @@ fn i32(token: &[u8]) -> Option<Value<'_>>
 /// Reads where a branch goes.
 #[tactic(auto, unfolding(crate::specs::Values::ReadsKind))]
 #[inline(always)]
-fn target(token: &[u8]) -> Option<Value<'_>>
+pub fn target(token: &[u8]) -> Option<Value<'_>>
     ensures { ReadsKind Kind.Target token.now result }
 {
     Some(Value::Target(read_target(token)?))
@@ -215,7 +215,7 @@ fn target(token: &[u8]) -> Option<Value<'_>>
 /// Reads a label.
 #[tactic(auto, unfolding(crate::specs::Values::ReadsKind))]
 #[inline(always)]
-fn label(token: &[u8]) -> Option<Value<'_>>
+pub fn label(token: &[u8]) -> Option<Value<'_>>
     ensures { ReadsKind Kind.Label token.now result }
 {
     Some(Value::Label(read_label(token)?))

@@ -3,7 +3,7 @@
 ghost use Rattle.a64_text.specs.Reads.{Reads};
 ghost use Rattle.a64_text.specs.Fields.{reg_text, IsReg, preg_text, IsPReg};
 
-use crate::decimal::read_u32;
+use crate::decimal::{read_below_hundred, read_u32};
 use a64_base::{PReg, Reg, RegClass};
 
 /// The register that the token is: `x0` to `x30`, `xzr`, `sp`, `v0` to `v31`, `%i` and a number, or
@@ -14,22 +14,26 @@ pub fn read_reg(token: &[u8]) -> Option<Reg>
     ensures { Reads IsReg reg_text token.now result }
 {
     match token {
-        [b's', b'p'] => Some(Reg::Real(PReg::new(63, RegClass::Int))),
-        [b'x', b'z', b'r'] => Some(Reg::Real(PReg::new(31, RegClass::Int))),
-        [b'x', number @ ..] => {
-            let n = read_u32(number)?;
-            if n > 30 {
-                return None;
+        [b'x', number @ ..] => match read_below_hundred(number) {
+            Some(n) => {
+                if n > 30 {
+                    return None;
+                }
+                Some(Reg::Real(PReg::new(n, RegClass::Int)))
             }
-            Some(Reg::Real(PReg::new(n as u8, RegClass::Int)))
-        }
+            None => match number {
+                [b'z', b'r'] => Some(Reg::Real(PReg::new(31, RegClass::Int))),
+                _ => None,
+            },
+        },
         [b'v', number @ ..] => {
-            let n = read_u32(number)?;
+            let n = read_below_hundred(number)?;
             if n > 31 {
                 return None;
             }
-            Some(Reg::Real(PReg::new(n as u8, RegClass::Float)))
+            Some(Reg::Real(PReg::new(n, RegClass::Float)))
         }
+        [b's', b'p'] => Some(Reg::Real(PReg::new(63, RegClass::Int))),
         [b'%', b'i', number @ ..] => Some(Reg::Virtual {
             index: read_u32(number)?,
             class: RegClass::Int,
