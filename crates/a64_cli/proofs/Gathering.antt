@@ -1,5 +1,5 @@
 -- What several puts do together, where text waits for a sink.
-use Rattle.std.proofs.Common.{◌≡◌, ℕ, ◌+◌, List, [], ◌++◌, length, take, refl, ap, sym, ◌∙◌, arith, append_assoc, append-nil, length-append, Option, None, Some, Result, Ok, Err, OnErr}
+use Rattle.std.proofs.Common.{◌≡◌, ℕ, ◌+◌, List, [], ◌++◌, length, take, refl, ap, sym, ◌∙◌, subst, arith, append_assoc, append-nil, length-append, Option, None, Some, Result, Ok, Err, OnErr}
 use Rattle.std.proofs.lemmas.List.{take-append-le}
 use Rattle.std.proofs.Math.Seq.{take-append-add}
 use Rattle.a64_cli.specs.Streams.{Takes, TakesPart, Puts, IsCut}
@@ -112,3 +112,50 @@ puts_part (Some before) mid taken' faults f waits whole h k =
 pub on_err : {T E P : Type 0} (r : Result T E) → P → OnErr r P
 on_err (Ok x) p = tt
 on_err (Err e) p = p
+
+-- ---- a text of which some is put, and the rest would stand behind what waits
+
+-- nothing is put yet
+pub left_start : (taken : Option (List ℕ)) (faults : ℕ) (waits whole : List ℕ) → Puts taken faults waits taken faults (waits ++ whole) whole
+left_start None faults waits whole = record { told = tt; rises = omega arith }
+left_start (Some before) faults waits whole = record { told = ([], ap Some (sym (append-nil before)), refl); rises = omega arith }
+
+-- what waits may go on
+pub left_moved : (taken : Option (List ℕ)) (left : List ℕ) {mid taken' : Option (List ℕ)} {faults f faults' : ℕ} {waits w w' whole : List ℕ}
+    → Puts taken faults waits mid f (w ++ left) whole → Puts mid f w taken' faults' w' [] → Puts taken faults waits taken' faults' (w' ++ left) whole
+left_moved None left {mid} {taken'} {faults} {f} {faults'} {waits} {w} {w'} {whole} h k = record { told = tt; rises = omega (arith, h.rises, k.rises) }
+left_moved (Some before) left {mid} {taken'} {faults} {f} {faults'} {waits} {w} {w'} {whole} h k =
+    let p = h.told in
+    let q = rw p.1 at k.told in
+    record {
+      told = (
+        p.0 ++ q.0,
+        q.1 ∙ ap Some (append_assoc before p.0 q.0),
+        append_assoc p.0 q.0 (w' ++ left)
+            ∙ ap (λ t. p.0 ++ t) (sym (append_assoc q.0 w' left) ∙ ap (λ t. t ++ left) (q.2 ∙ append-nil w))
+            ∙ p.2,
+      );
+      rises = omega (arith, h.rises, k.rises);
+    }
+
+-- a write of what waits was cut off
+pub left_cut : (taken : Option (List ℕ)) (left : List ℕ) {mid taken' : Option (List ℕ)} {faults f faults' : ℕ} {waits w whole : List ℕ}
+    → Puts taken faults waits mid f (w ++ left) whole → IsCut mid f w taken' faults' [] → IsCut taken faults waits taken' faults' whole
+left_cut None left {mid} {taken'} {faults} {f} {faults'} {waits} {w} {whole} h k = record { part = tt; cause = failed_after faults f faults' h.rises k.cause }
+left_cut (Some before) left {mid} {taken'} {faults} {f} {faults'} {waits} {w} {whole} h k =
+    let p = h.told in
+    let q = rw p.1 at (cut_more mid taken' f faults' w [] left k).part in
+    record {
+      part = rw (← p.2) (
+        length p.0 + q.0,
+        omega (arith, length-append p.0 (w ++ left), q.1),
+        q.2 ∙ ap Some (append_assoc before p.0 (take q.0 (w ++ left)) ∙ ap (λ t. before ++ t) (sym (take-append-add p.0 (w ++ left) q.0))),
+      );
+      cause = failed_after faults f faults' h.rises k.cause;
+    }
+
+-- nothing is left
+pub left_end : {taken taken' : Option (List ℕ)} {faults faults' : ℕ} {waits w left whole : List ℕ}
+    → Puts taken faults waits taken' faults' (w ++ left) whole → left ≡ [] → Puts taken faults waits taken' faults' w whole
+left_end {taken} {taken'} {faults} {faults'} {waits} {w} {left} {whole} h e =
+    subst (λ t. Puts taken faults waits taken' faults' t whole) (ap (λ t. w ++ t) e ∙ append-nil w) h

@@ -1,12 +1,14 @@
 -- Lines that are kept, and digits in them that are written anew.
-use Rattle.std.proofs.Common.{◌≡◌, ℕ, ◌+◌, ◌-◌, ◌*◌, ◌/◌, ◌%◌, ◌^◌, ◌<◌, ◌≤◌, List, [], ◌∷◌, ◌++◌, length, take, drop, refl, sym, ap, ◌∙◌, arith, codes, append_assoc, length-append, length-drop, take-append-drop}
-use Rattle.std.proofs.lemmas.List.{drop-drop, length-take-le, drop-append-le, drop-take}
+use Rattle.std.proofs.Common.{◌≡◌, ℕ, ◌+◌, ◌-◌, ◌*◌, ◌/◌, ◌%◌, ◌^◌, ◌<◌, ◌≤◌, List, [], ◌∷◌, ◌++◌, length, take, drop, get_or, refl, sym, ap, ◌∙◌, arith, codes, append_assoc, length-append, length-drop, take-append-drop}
+use Rattle.std.proofs.lemmas.List.{drop-drop, drop_more, length-take-le, drop-append-le, drop-take}
 use Rattle.std.proofs.lemmas.Fmt.{length-decimal-le}
 use lib.Seq.{drop_at, take_at}
 use Rattle.itoa.proofs.Decimal.{decimal_pair}
 use Rattle.std.specs.Fmt.{decimal}
-use Rattle.a64_cli.specs.Report.{item_line, word_line, hex_word}
-use Rattle.a64_cli.specs.Kept.{last_digits, Shares, KeepsItem, KeepsWord, placed_word}
+use Rattle.std.specs.Int.{w32, from_le_bytes}
+use Rattle.a64_cli.specs.Report.{item_line, word_line, words_in, hex_word}
+use Rattle.std.specs.List.{flat_map, enumerate_from}
+use Rattle.a64_cli.specs.Kept.{last_digits, Shares, KeepsItem, KeepsWord, placed_word, word_lines}
 
 -- a list keeps its text, and has another end
 pub ends_anew : (start m : ℕ) (xs was text ys : List ℕ) → start ≤ length xs → length xs ≡ m + length was → drop start xs ≡ text ++ was
@@ -34,21 +36,22 @@ regrouped : (before front back rest : List ℕ) → before ++ ((front ++ back) +
 regrouped before front back rest = ap (λ t. before ++ t) (append_assoc front back rest) ∙ sym (append_assoc before front (back ++ rest))
 
 -- the last two digits of a number in a buffer are written anew
-pub renumbered : (start end first old number : ℕ) (buffer before : List ℕ) → start ≤ length buffer → 2 ≤ end → end ≤ length buffer
-    → 100 ≤ first → first % 100 ≡ 0 → old / 100 ≡ first / 100 → number / 100 ≡ first / 100 → old < 2 ^ 64 → number < 2 ^ 64
+pub renumbered : (start end first old number offset : ℕ) (buffer before : List ℕ) → start ≤ length buffer → 2 ≤ end → end ≤ length buffer
+    → 100 ≤ first → first % 100 ≡ 0 → old / 100 ≡ first / 100 → number / 100 ≡ first / 100 → old < 2 ^ 64 → number < 2 ^ 64 → number ≡ first + offset
     → drop start buffer ≡ before ++ (decimal old ++ drop end buffer)
-    → drop start (take (end - 2) buffer ++ (last_digits (number - first) ++ drop end buffer)) ≡ before ++ (decimal number ++ drop end buffer)
-renumbered start end first old number buffer before low two high some whole same same' fits fits' e =
+    → drop start (take (end - 2) buffer ++ (last_digits offset ++ drop end buffer)) ≡ before ++ (decimal number ++ drop end buffer)
+renumbered start end first old number offset buffer before low two high some whole same same' fits fits' sum e =
     let rest = drop end buffer in
     let was = last_digits (old - first) in
-    let now = last_digits (number - first) in
+    let now = last_digits offset in
+    let behind_first : number - first ≡ offset = omega arith in
     let head = decimal (first / 100) in
     let e' : drop start buffer ≡ (before ++ head) ++ (was ++ rest) =
     e ∙ ap (λ t. before ++ (t ++ rest)) (hundreds_and_last old first some whole same fits) ∙ regrouped before head was rest in
     let long : length buffer ≡ (end - 2) + length (was ++ rest) = omega (arith, length-append was rest, length-drop end buffer) in
     ends_anew start (end - 2) buffer (was ++ rest) (before ++ head) (now ++ rest) low long e'
     ∙ sym (regrouped before head now rest)
-    ∙ ap (λ t. before ++ (t ++ rest)) (sym (hundreds_and_last number first some whole same' fits'))
+    ∙ ap (λ t. before ++ (t ++ rest)) (sym (hundreds_and_last number first some whole same' fits' ∙ ap (λ n. head ++ last_digits n) behind_first))
 
 -- what stands behind them stays
 pub behind : (end k : ℕ) (buffer two : List ℕ) → length two ≡ 2 → 2 ≤ end → end ≤ k → end ≤ length buffer
@@ -142,20 +145,20 @@ word_text buffer start place word long h =
     ap (take (64 - start)) e ∙ take_at line (drop 64 buffer) (64 - start) l
 
 -- a number that is near is one of the same hundred
-pub shares_again : (first span number number' : ℕ) → Shares first span number → first ≤ number' → number' < first + span → Shares first span number'
-shares_again first span number number' s low high =
+pub shares_again : (first span number number' offset : ℕ) → Shares first span number → number' ≡ first + offset → offset < span → Shares first span number'
+shares_again first span number number' offset s sum near =
     let few = s.few in
     record { few = few; fits = s.fits; some = λ h. let k = s.some h in (k.0, k.1, omega (arith, k.1)) }
 
 -- the line of an item in whose numbers the last two digits are written anew
-pub item_again : (buffer : List ℕ) (start index_end index place i_first i_span p_first p_span index' place' : ℕ) → length buffer ≡ 128
+pub item_again : (buffer : List ℕ) (start index_end index place i_first i_span p_first p_span index' place' i_offset p_offset : ℕ) → length buffer ≡ 128
     → KeepsItem buffer start index_end index place → Shares i_first i_span index → Shares p_first p_span place
-    → i_first ≤ index' → index' < i_first + i_span → p_first ≤ place' → place' < p_first + p_span
-    → let b = take (index_end - 2) buffer ++ (last_digits (index' - i_first) ++ drop index_end buffer) in
-    KeepsItem (take (63 - 2) b ++ (last_digits (place' - p_first) ++ drop 63 b)) start index_end index' place'
-item_again buffer start index_end index place i_first i_span p_first p_span index' place' long h i p low high low' high' =
-    let b = take (index_end - 2) buffer ++ (last_digits (index' - i_first) ++ drop index_end buffer) in
-    let b' = take (63 - 2) b ++ (last_digits (place' - p_first) ++ drop 63 b) in
+    → index' ≡ i_first + i_offset → i_offset < i_span → place' ≡ p_first + p_offset → p_offset < p_span
+    → let b = take (index_end - 2) buffer ++ (last_digits i_offset ++ drop index_end buffer) in
+    KeepsItem (take (63 - 2) b ++ (last_digits p_offset ++ drop 63 b)) start index_end index' place'
+item_again buffer start index_end index place i_first i_span p_first p_span index' place' i_offset p_offset long h i p i_sum i_near p_sum p_near =
+    let b = take (index_end - 2) buffer ++ (last_digits i_offset ++ drop index_end buffer) in
+    let b' = take (63 - 2) b ++ (last_digits p_offset ++ drop 63 b) in
     let i_some = i.some (omega arith) in
     let p_some = p.some (omega arith) in
     let i_few = i.few in
@@ -171,37 +174,37 @@ item_again buffer start index_end index place i_first i_span p_first p_span inde
     let e : drop index_end buffer ≡ r =
     suffix start index_end buffer (codes "item " ++ decimal index) r h.text (omega (arith, h.front, length-append (codes "item ") (decimal index))) in
     let t : drop start b ≡ codes "item " ++ (decimal index' ++ drop index_end buffer) =
-    renumbered start index_end i_first index index' buffer (codes "item ") (omega arith) two (omega arith) i_some.0 i_some.1 i_some.2 i_same h.index_fits (omega arith)
+    renumbered start index_end i_first index index' i_offset buffer (codes "item ") (omega arith) two (omega arith) i_some.0 i_some.1 i_some.2 i_same h.index_fits (omega arith) i_sum
     (h.text ∙ ap (λ t. codes "item " ++ (decimal index ++ t)) (sym e)) in
-    let long' : length b ≡ 128 = long_again index_end buffer (last_digits (index' - i_first)) refl two (omega arith) ∙ long in
-    let same : drop 63 b ≡ drop 63 buffer = behind index_end 63 buffer (last_digits (index' - i_first)) refl two end (omega arith) in
+    let long' : length b ≡ 128 = long_again index_end buffer (last_digits i_offset) refl two (omega arith) ∙ long in
+    let same : drop 63 b ≡ drop 63 buffer = behind index_end 63 buffer (last_digits i_offset) refl two end (omega arith) in
     let before = codes "item " ++ (decimal index' ++ codes " ") in
     let t' : drop start b ≡ before ++ (decimal place ++ drop 63 b) =
     t ∙ ap (λ t. codes "item " ++ (decimal index' ++ t)) (e ∙ ap (λ t. codes " " ++ (decimal place ++ t)) (sym same))
     ∙ ap (λ t. codes "item " ++ t) (sym (append_assoc (decimal index') (codes " ") (decimal place ++ drop 63 b))) in
     let u : drop start b' ≡ before ++ (decimal place' ++ drop 63 b) =
-    renumbered start 63 p_first place place' b before (omega arith) (omega arith) (omega arith) p_some.0 p_some.1 p_some.2 p_same h.place_fits (omega arith) t' in
+    renumbered start 63 p_first place place' p_offset b before (omega arith) (omega arith) (omega arith) p_some.0 p_some.1 p_some.2 p_same h.place_fits (omega arith) p_sum t' in
     made_item start index_end index' place' b' (drop 64 buffer)
-    (long_again 63 b (last_digits (place' - p_first)) refl (omega arith) (omega arith) ∙ long') (length-drop 64 buffer ∙ omega arith) begins (omega arith) (omega arith)
+    (long_again 63 b (last_digits p_offset) refl (omega arith) (omega arith) ∙ long') (length-drop 64 buffer ∙ omega arith) begins (omega arith) (omega arith)
     (u ∙ ap (λ t. codes "item " ++ t) (append_assoc (decimal index') (codes " ") (decimal place' ++ drop 63 b))
     ∙ ap (λ t. codes "item " ++ (decimal index' ++ (codes " " ++ (decimal place' ++ t)))) (same ∙ h.last))
     (h.front ∙ ap (λ n. start + (5 + n)) (same_length index index' i_first i_some.0 i_some.1 i_some.2 i_same h.index_fits (omega arith)))
 
 -- the line of a word in whose place the last two digits are written anew
-pub word_again : (buffer buffer' : List ℕ) (start place word first span place' : ℕ) → length buffer ≡ 128
-    → KeepsWord buffer start place word → Shares first span place → first ≤ place' → place' < first + span
-    → buffer' ≡ take (54 - 2) buffer ++ (last_digits (place' - first) ++ drop 54 buffer)
+pub word_again : (buffer buffer' : List ℕ) (start place word first span place' offset : ℕ) → length buffer ≡ 128
+    → KeepsWord buffer start place word → Shares first span place → place' ≡ first + offset → offset < span
+    → buffer' ≡ take (54 - 2) buffer ++ (last_digits offset ++ drop 54 buffer)
     → KeepsWord buffer' start place' word
-word_again buffer buffer' start place word first span place' long h s low high e =
+word_again buffer buffer' start place word first span place' offset long h s sum near e =
     let some = s.some (omega arith) in
     let few = s.few in
     let fits = s.fits in
     let same : place' / 100 ≡ first / 100 = omega (arith, some.1) in
     let begins = h.low in
-    let b = take (54 - 2) buffer ++ (last_digits (place' - first) ++ drop 54 buffer) in
+    let b = take (54 - 2) buffer ++ (last_digits offset ++ drop 54 buffer) in
     let t : drop start b ≡ codes "word " ++ (decimal place' ++ drop 54 buffer) =
-    renumbered start 54 first place place' buffer (codes "word ") (omega arith) (omega arith) (omega arith) some.0 some.1 some.2 same h.fits (omega arith) h.text in
-    rw e (made_word start place' word b (drop 64 buffer) (long_again 54 buffer (last_digits (place' - first)) refl (omega arith) (omega arith) ∙ long) (length-drop 64 buffer ∙ omega arith) (omega arith) (omega arith)
+    renumbered start 54 first place place' offset buffer (codes "word ") (omega arith) (omega arith) (omega arith) some.0 some.1 some.2 same h.fits (omega arith) sum h.text in
+    rw e (made_word start place' word b (drop 64 buffer) (long_again 54 buffer (last_digits offset) refl (omega arith) (omega arith) ∙ long) (length-drop 64 buffer ∙ omega arith) (omega arith) (omega arith)
     (t ∙ ap (λ t. codes "word " ++ (decimal place' ++ t)) (h.rest ∙ ap (λ t. 32 ∷ t) (h.digits ∙ ap (λ t. hex_word word ++ t) h.last))))
 
 -- the line of a word whose digits are written anew
@@ -227,3 +230,36 @@ pub word_line_of : (place word : ℕ) → place % 4 ≡ 0 → placed_word place 
 word_line_of place word h =
     let four : place ≡ 4 * (place / 4) = omega (arith, h) in
     ap (λ n. placed_word n word) four
+
+-- the words from a place on are the one there and those of the next place on
+pub words_step : (code : List ℕ) (place : ℕ) → place + 4 ≤ length code
+    → words_in (drop place code) ≡ from_le_bytes w32 (get_or code place 0 ∷ get_or code (place + 1) 0 ∷ get_or code (place + 2) 0 ∷ get_or code (place + 3) 0 ∷ []) ∷ words_in (drop (place + 4) code)
+words_step code place h =
+    let one : place + 1 + 1 ≡ place + 2 = omega arith in
+    let two : place + 2 + 1 ≡ place + 3 = omega arith in
+    let three : place + 3 + 1 ≡ place + 4 = omega arith in
+    let first = drop_more code place 0 (omega arith) in
+    let second = drop_more code (place + 1) 0 (omega arith) ∙ ap (λ k. get_or code (place + 1) 0 ∷ drop k code) one in
+    let third = drop_more code (place + 2) 0 (omega arith) ∙ ap (λ k. get_or code (place + 2) 0 ∷ drop k code) two in
+    let fourth = drop_more code (place + 3) 0 (omega arith) ∙ ap (λ k. get_or code (place + 3) 0 ∷ drop k code) three in
+    ap words_in (first ∙ ap (λ t. get_or code place 0 ∷ t) (second ∙ ap (λ t. get_or code (place + 1) 0 ∷ t) (third ∙ ap (λ t. get_or code (place + 2) 0 ∷ t) fourth)))
+
+-- fewer than four bytes hold no word
+pub no_words : (bytes : List ℕ) → length bytes < 4 → words_in bytes ≡ []
+no_words [] h = refl
+no_words (a ∷ []) h = refl
+no_words (a ∷ b ∷ []) h = refl
+no_words (a ∷ b ∷ c ∷ []) h = refl
+no_words (a ∷ b ∷ c ∷ d ∷ bytes) h = absurd (omega arith)
+
+-- the lines of the words from a place on are that of the word there and those of the next place on
+pub word_lines_step : (code : List ℕ) (place word : ℕ) → place + 4 ≤ length code → place % 4 ≡ 0
+    → word ≡ from_le_bytes w32 (get_or code place 0 ∷ get_or code (place + 1) 0 ∷ get_or code (place + 2) 0 ∷ get_or code (place + 3) 0 ∷ [])
+    → word_lines code place ≡ placed_word place word ++ word_lines code (place + 4)
+word_lines_step code place word h whole is =
+    let rest = words_in (drop (place + 4) code) in
+    let next : place / 4 + 1 ≡ (place + 4) / 4 = omega arith in
+    ap (λ ws. flat_map word_line (enumerate_from (place / 4) ws)) (words_step code place h)
+    ∙ ap (λ w. word_line (place / 4, w) ++ flat_map word_line (enumerate_from (place / 4 + 1) rest)) (sym is)
+    ∙ ap (λ t. t ++ flat_map word_line (enumerate_from (place / 4 + 1) rest)) (sym (word_line_of place word whole))
+    ∙ ap (λ n. placed_word place word ++ flat_map word_line (enumerate_from n rest)) next

@@ -1,7 +1,8 @@
 -- Lines that are kept.
 use Rattle.std.specs.Prelude.{ℕ, ◌≡◌, ◌+◌, ◌/◌, ◌%◌, ◌^◌, ◌<◌, ◌≤◌, List, [], ◌∷◌, ◌++◌, drop, length, codes}
 use Rattle.std.specs.Fmt.{decimal}
-use Rattle.a64_cli.specs.Report.{hex_word}
+use Rattle.std.specs.List.{flat_map, enumerate_from}
+use Rattle.a64_cli.specs.Report.{hex_word, item_line, word_line, words_in}
 
 -- the two digits of a number below 100
 abbrev pub last_digits : ℕ → List ℕ
@@ -37,3 +38,11 @@ pub record KeepsWord (buffer : List ℕ) (start place word : ℕ) : Type 0 where
   pub begins : 16 ≤ start
   pub low : start ≤ 54
   pub fits : place < 2 ^ 64
+
+-- the lines of the items from the one with this index on
+abbrev pub item_lines : List ℕ → ℕ → List ℕ
+item_lines places index = flat_map item_line (enumerate_from index (drop index places))
+
+-- the lines of the words of code from the one at this place on
+abbrev pub word_lines : List ℕ → ℕ → List ℕ
+word_lines code place = flat_map word_line (enumerate_from (place / 4) (words_in (drop place code)))

@@ -1,6 +1,6 @@
 //! Numbers whose texts differ in the last two digits alone.
 
-ghost use Rattle.std.specs.Prelude.{◌≡◌, ◌+◌, ◌-◌, ◌^◌, ◌<◌, ◌≤◌, ◌++◌, true, drop, take};
+ghost use Rattle.std.specs.Prelude.{◌≡◌, ◌+◌, ◌-◌, ◌^◌, ◌<◌, ◌≤◌, ◌++◌, drop, take, IfSome};
 ghost use Rattle.a64_cli.specs.Kept.{Shares, last_digits};
 
 use crate::line::LineBuffer;
@@ -31,23 +31,28 @@ impl Hundred {
         }
     }
 
-    /// Whether the number is one of them.
+    /// How far the number is behind the first of them, where it is one of them.
     #[inline(always)]
-    pub fn has(self, number: u64) -> bool
+    pub fn offset_of(self, number: u64) -> Option<u64>
         requires { self.first + self.span < 2 ^ 64 }
-        ensures { result ≡ true → (self.first ≤ number) × (number < self.first + self.span) }
+        ensures { IfSome result (λ offset. (number ≡ self.first + offset) × (offset < self.span)) }
     {
-        number.wrapping_sub(self.first) < self.span
+        let offset = number.wrapping_sub(self.first);
+        if offset < self.span {
+            Some(offset)
+        } else {
+            None
+        }
     }
+}
 
-    /// Writes the last two digits of one of them before `end`.
-    #[inline(always)]
-    pub fn write_last(self, line: &mut LineBuffer, end: usize, number: u64)
-        requires place { (2 ≤ end) × (end ≤ 128) }
-        requires one { (self.first ≤ number) × (number < self.first + 100) }
-        ensures { line.new ≡ take (end - 2) line.old ++ (last_digits (number - self.first) ++ drop end line.old) }
-    {
-        let from = (number - self.first) as usize * 2;
-        line[end - 2..end].copy_from_slice(&PAIRS[from..from + 2]);
-    }
+/// Writes the last two digits of a number before `end`: those of its offset behind a multiple of 100.
+#[inline(always)]
+pub fn write_last(line: &mut LineBuffer, end: usize, offset: u64)
+    requires place { (2 ≤ end) × (end ≤ 128) }
+    requires near { offset < 100 }
+    ensures { line.new ≡ take (end - 2) line.old ++ (last_digits offset ++ drop end line.old) }
+{
+    let from = offset as usize * 2;
+    line[end - 2..end].copy_from_slice(&PAIRS[from..from + 2]);
 }

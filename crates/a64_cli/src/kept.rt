@@ -3,16 +3,16 @@
 //! A line stands in its buffer with its end at `END`, so that what is written anew stands mostly at the
 //! same place.
 
-ghost use Rattle.std.specs.Prelude.{◌≡◌, ◌-◌, ◌≤◌, ℕ, List, drop, take, OnOk, OnErr};
+ghost use Rattle.std.specs.Prelude.{◌≡◌, ◌+◌, ◌-◌, ◌≤◌, ◌++◌, ℕ, List, drop, take, length};
 ghost use Rattle.a64_cli.specs.Report.{item_line};
-ghost use Rattle.a64_cli.specs.Streams.{Puts, IsCut};
 ghost use Rattle.a64_cli.specs.Kept.{Shares, KeepsItem, KeepsWord, placed_word};
 
-use crate::hundred::Hundred;
+use crate::hundred::{Hundred, write_last};
 use crate::line::{LineBuffer, SIZE, put_decimal, put_hex, put_text};
-use crate::piece::{Piece, SHORT};
-use crate::stream::{Failed, Sink};
 use std::marker::Model;
+
+/// The most bytes of a kept line, which goes by a copy of this length whatever its own.
+pub const SHORT: usize = 48;
 
 /// Where a kept line ends. What stands behind it is no part of the line.
 const END: usize = 64;
@@ -20,19 +20,18 @@ const END: usize = 64;
 /// Where the place of a word ends: before a space, eight digits and a line feed.
 const PLACE_END: usize = 54;
 
-/// Puts a kept line that begins at `start`.
+/// Copies a kept line that begins at `start` into a text, behind what stands there up to `at`, and
+/// answers where it ends. What stands behind it is no part of it.
 #[inline(always)]
-fn put_kept<K: Sink>(
-    sink: &mut K,
-    piece: &mut Piece,
-    line: &LineBuffer,
-    start: usize,
-) -> Result<(), Failed>
-    requires { (16 ≤ start) × (start ≤ 64) }
-    ensures ok { OnOk result (Puts (K.taken sink.old) (K.faults sink.old) piece.old (K.taken sink.new) (K.faults sink.new) piece.new (take (64 - start) (drop start line.now))) }
-    ensures err { OnErr result (IsCut (K.taken sink.old) (K.faults sink.old) piece.old (K.taken sink.new) (K.faults sink.new) (take (64 - start) (drop start line.now))) }
+fn copy_kept(line: &LineBuffer, start: usize, text: &mut [u8], at: usize) -> usize
+    requires begins { (16 ≤ start) × (start ≤ 64) }
+    requires room { at + 48 ≤ length text.old }
+    ensures long { length text.new ≡ length text.old }
+    ensures few { result ≤ at + 48 }
+    ensures copied { take result text.new ≡ take at text.old ++ take (64 - start) (drop start line.now) }
 {
-    piece.put_short(sink, &line[start..start + SHORT], END - start)
+    text[at..at + SHORT].copy_from_slice(&line[start..start + SHORT]);
+    at + (END - start)
 }
 
 /// Composes the line of an item. Answers where it begins, and where the text of its number ends.
@@ -99,26 +98,25 @@ impl ItemLine {
         ensures { self.new ≡ item_line (index, place) }
     {
         let number = u64::from(place);
-        if self.index.has(index) && self.place.has(number) {
-            self.index
-                .write_last(&mut self.buffer, self.index_end, index);
-            self.place.write_last(&mut self.buffer, END - 1, number);
-        } else {
-            self.compose(index, place);
+        match (self.index.offset_of(index), self.place.offset_of(number)) {
+            (Some(index), Some(place)) => {
+                write_last(&mut self.buffer, self.index_end, index);
+                write_last(&mut self.buffer, END - 1, place);
+            }
+            _ => self.compose(index, place),
         }
     }
 
-    /// Puts it.
-    ///
-    /// # Errors
-    ///
-    /// A write failed; some first bytes of what waited may have been taken, but not all.
+    /// Copies it into a text, behind what stands there up to `at`, and answers where it ends, at most
+    /// 48 bytes on.
     #[inline(always)]
-    pub fn put<K: Sink>(&self, sink: &mut K, piece: &mut Piece) -> Result<(), Failed>
-        ensures ok { OnOk result (Puts (K.taken sink.old) (K.faults sink.old) piece.old (K.taken sink.new) (K.faults sink.new) piece.new self.now) }
-        ensures err { OnErr result (IsCut (K.taken sink.old) (K.faults sink.old) piece.old (K.taken sink.new) (K.faults sink.new) self.now) }
+    pub fn copy_to(&self, text: &mut [u8], at: usize) -> usize
+        requires { at + 48 ≤ length text.old }
+        ensures long { length text.new ≡ length text.old }
+        ensures few { result ≤ at + 48 }
+        ensures copied { take result text.new ≡ take at text.old ++ self.now }
     {
-        put_kept(sink, piece, &self.buffer, self.start)
+        copy_kept(&self.buffer, self.start, text, at)
     }
 }
 
@@ -180,27 +178,26 @@ impl WordLine {
     pub fn set(&mut self, place: u64, word: u32)
         ensures { self.new ≡ placed_word place word }
     {
-        if self.place.has(place) {
-            self.place.write_last(&mut self.buffer, PLACE_END, place);
-            if word != self.word {
-                put_hex(&mut self.buffer, END - 1, word);
-                self.word = word;
-            }
-        } else {
+        let Some(offset) = self.place.offset_of(place) else {
             self.compose(place, word);
+            return;
+        };
+        write_last(&mut self.buffer, PLACE_END, offset);
+        if word != self.word {
+            put_hex(&mut self.buffer, END - 1, word);
+            self.word = word;
         }
     }
 
-    /// Puts it.
-    ///
-    /// # Errors
-    ///
-    /// A write failed; some first bytes of what waited may have been taken, but not all.
+    /// Copies it into a text, behind what stands there up to `at`, and answers where it ends, at most
+    /// 48 bytes on.
     #[inline(always)]
-    pub fn put<K: Sink>(&self, sink: &mut K, piece: &mut Piece) -> Result<(), Failed>
-        ensures ok { OnOk result (Puts (K.taken sink.old) (K.faults sink.old) piece.old (K.taken sink.new) (K.faults sink.new) piece.new self.now) }
-        ensures err { OnErr result (IsCut (K.taken sink.old) (K.faults sink.old) piece.old (K.taken sink.new) (K.faults sink.new) self.now) }
+    pub fn copy_to(&self, text: &mut [u8], at: usize) -> usize
+        requires { at + 48 ≤ length text.old }
+        ensures long { length text.new ≡ length text.old }
+        ensures few { result ≤ at + 48 }
+        ensures copied { take result text.new ≡ take at text.old ++ self.now }
     {
-        put_kept(sink, piece, &self.buffer, self.start)
+        copy_kept(&self.buffer, self.start, text, at)
     }
 }

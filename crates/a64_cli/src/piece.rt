@@ -1,8 +1,10 @@
 //! Gathers text into pieces that are written whole.
 
-ghost use Rattle.std.specs.Prelude.{◌≡◌, ◌≤◌, ◌+◌, List, ℕ, [], ◌++◌, take, length, IfOk, OnOk, OnErr};
+ghost use Rattle.std.specs.Prelude.{◌≡◌, ◌<◌, ◌≤◌, ◌+◌, ◌%◌, List, ℕ, [], ◌++◌, take, length, IfOk, OnOk, OnErr};
 ghost use Rattle.a64_cli.specs.Streams.{HasFailed, Takes, TakesPart, Puts, IsCut};
+ghost use Rattle.a64_cli.specs.Kept.{item_lines, word_lines};
 
+use crate::kept::{ItemLine, SHORT, WordLine};
 use crate::output::write_all;
 use crate::stream::{Failed, Sink};
 use std::alloc::{AllocError, Global};
@@ -10,9 +12,6 @@ use std::marker::Model;
 
 /// The most bytes that are gathered.
 const SIZE: usize = 65_536;
-
-/// The most bytes of a short text, which goes by a copy of fixed length.
-pub const SHORT: usize = 48;
 
 /// Copies a text. One of 16 to 32 bytes, as most lines are, goes by two copies of 16 bytes that may
 /// overlap, which are an instruction or two each.
@@ -112,37 +111,116 @@ impl Piece {
         Ok(())
     }
 
-    /// Puts a short text behind what waits, where there is room for both.
-    #[inline(always)]
-    fn add_short(&mut self, text: &[u8], len: usize)
-        requires short { (length text.now ≡ 48) × (len ≤ 48) }
-        requires room { length self.old + len ≤ 65536 }
-        ensures { self.new ≡ self.old ++ take len text.now }
-    {
-        self.bytes[self.len..self.len + SHORT].copy_from_slice(text);
-        self.len += len;
-    }
-
-    /// Puts a short text behind what waits, as `put` does: the first bytes of these.
+    /// Writes what waits, where there is no room for a kept line behind it.
     ///
     /// # Errors
     ///
     /// A write failed; some first bytes of what waited may have been taken, but not all.
     #[inline(always)]
-    pub fn put_short<K: Sink>(
-        &mut self,
-        sink: &mut K,
-        text: &[u8],
-        len: usize,
-    ) -> Result<(), Failed>
-        requires { (length text.now ≡ 48) × (len ≤ 48) }
-        ensures ok { OnOk result (Puts (K.taken sink.old) (K.faults sink.old) self.old (K.taken sink.new) (K.faults sink.new) self.new (take len text.now)) }
-        ensures err { OnErr result (IsCut (K.taken sink.old) (K.faults sink.old) self.old (K.taken sink.new) (K.faults sink.new) (take len text.now)) }
+    pub fn make_room<K: Sink>(&mut self, sink: &mut K) -> Result<(), Failed>
+        ensures room { OnOk result (length self.new + 48 ≤ 65536) }
+        ensures ok { OnOk result (Puts (K.taken sink.old) (K.faults sink.old) self.old (K.taken sink.new) (K.faults sink.new) self.new []) }
+        ensures err { OnErr result (IsCut (K.taken sink.old) (K.faults sink.old) self.old (K.taken sink.new) (K.faults sink.new) []) }
     {
-        if self.len + len > SIZE {
+        if self.len > SIZE - SHORT {
             self.flush(sink)?;
         }
-        self.add_short(text, len);
         Ok(())
     }
+
+    /// Puts the lines of the items from the one at `from` on, as many as there is room for, and answers
+    /// which is the next: a later one, where there was room for a line. Its line, kept, is set anew for each.
+    #[inline(always)]
+    pub fn fill_items(&mut self, line: &mut ItemLine, places: &[u32], from: usize) -> usize
+        requires { from ≤ length places.now }
+        ensures within { (from ≤ result) × (result ≤ length places.now) }
+        ensures next { length self.old + 48 ≤ 65536 → from < length places.now → from < result }
+        ensures filled { self.new ++ item_lines places.now result ≡ self.old ++ item_lines places.now from }
+    {
+        let bytes = &mut self.bytes[..];
+        let (index, len) = fill_items(bytes, self.len, line, places, from);
+        self.len = len;
+        index
+    }
+
+    /// Puts the lines of the words of code from the one at the place `from` on, as many as there is room
+    /// for, and answers the place of the next: a later one, where there was room for a line. Its line,
+    /// kept, is set anew for each.
+    #[inline(always)]
+    pub fn fill_words(&mut self, line: &mut WordLine, code: &[u8], from: usize) -> usize
+        requires { (from ≤ length code.now) × (from % 4 ≡ 0) }
+        ensures within { (from ≤ result) × (result ≤ length code.now) }
+        ensures whole { result % 4 ≡ 0 }
+        ensures next { length self.old + 48 ≤ 65536 → from + 4 ≤ length code.now → from < result }
+        ensures filled { self.new ++ word_lines code.now result ≡ self.old ++ word_lines code.now from }
+    {
+        let bytes = &mut self.bytes[..];
+        let (place, len) = fill_words(bytes, self.len, line, code, from);
+        self.len = len;
+        place
+    }
+}
+
+/// Puts the lines of the items from the one at `from` on into a text, behind what stands there up to
+/// `len`, while there is room for a line. Answers which item is the next, and where the lines end.
+#[inline(always)]
+fn fill_items(
+    text: &mut [u8],
+    len: usize,
+    line: &mut ItemLine,
+    places: &[u32],
+    from: usize,
+) -> (usize, usize)
+    requires text { (length text.old ≡ 65584) × (len ≤ 65536) }
+    requires item { from ≤ length places.now }
+    ensures long { length text.new ≡ length text.old }
+    ensures few { result.1 ≤ 65536 }
+    ensures within { (from ≤ result.0) × (result.0 ≤ length places.now) }
+    ensures next { len + 48 ≤ 65536 → from < length places.now → from < result.0 }
+    ensures filled { take result.1 text.new ++ item_lines places.now result.0 ≡ take len text.old ++ item_lines places.now from }
+{
+    let mut at = len;
+    let mut index = from;
+    while index < places.len() && at <= SIZE - SHORT {
+        line.set(index as u64, places[index]);
+        at = line.copy_to(text, at);
+        index += 1;
+    }
+    (index, at)
+}
+
+/// Puts the lines of the words of code from the one at the place `from` on into a text, behind what
+/// stands there up to `len`, while there is room for a line. Answers the place of the next word, and
+/// where the lines end.
+#[inline(always)]
+fn fill_words(
+    text: &mut [u8],
+    len: usize,
+    line: &mut WordLine,
+    code: &[u8],
+    from: usize,
+) -> (usize, usize)
+    requires text { (length text.old ≡ 65584) × (len ≤ 65536) }
+    requires word { (from ≤ length code.now) × (from % 4 ≡ 0) }
+    ensures long { length text.new ≡ length text.old }
+    ensures few { result.1 ≤ 65536 }
+    ensures within { (from ≤ result.0) × (result.0 ≤ length code.now) }
+    ensures whole { result.0 % 4 ≡ 0 }
+    ensures next { len + 48 ≤ 65536 → from + 4 ≤ length code.now → from < result.0 }
+    ensures filled { take result.1 text.new ++ word_lines code.now result.0 ≡ take len text.old ++ word_lines code.now from }
+{
+    let mut at = len;
+    let mut place = from;
+    while place + 4 <= code.len() && at <= SIZE - SHORT {
+        let word = u32::from_le_bytes([
+            code[place],
+            code[place + 1],
+            code[place + 2],
+            code[place + 3],
+        ]);
+        line.set(place as u64, word);
+        at = line.copy_to(text, at);
+        place += 4;
+    }
+    (place, at)
 }

@@ -42,11 +42,10 @@ fn put_items<K: Sink>(sink: &mut K, piece: &mut Piece, places: &[u32]) -> Result
     ensures err { OnErr result (IsCut (K.taken sink.old) (K.faults sink.old) piece.old (K.taken sink.new) (K.faults sink.new) (flat_map item_line (enumerate_from 0 places.now))) }
 {
     let mut line = ItemLine::of(0, 0);
-    let mut index: u64 = 0;
-    for place in places {
-        line.set(index, *place);
-        line.put(sink, piece)?;
-        index += 1;
+    let mut index = 0;
+    while index < places.len() {
+        piece.make_room(sink)?;
+        index = piece.fill_items(&mut line, places, index);
     }
     Ok(())
 }
@@ -81,13 +80,10 @@ fn put_words<K: Sink>(sink: &mut K, piece: &mut Piece, bytes: &[u8]) -> Result<(
     ensures err { OnErr result (IsCut (K.taken sink.old) (K.faults sink.old) piece.old (K.taken sink.new) (K.faults sink.new) (flat_map word_line (enumerate_from 0 (words_in bytes.now)))) }
 {
     let mut line = WordLine::of(0, 0);
-    let mut place: u64 = 0;
-    let mut rest = bytes;
-    while let Some((word, tail)) = first_word(rest) {
-        line.set(place, word);
-        line.put(sink, piece)?;
-        place += 4;
-        rest = tail;
+    let mut place = 0;
+    while place + 4 <= bytes.len() {
+        piece.make_room(sink)?;
+        place = piece.fill_words(&mut line, bytes, place);
     }
     Ok(())
 }

@@ -87,7 +87,7 @@ fn long_code(alloc: Global) -> Result<(Code, Vec<u8>), AllocError> {
 fn a_long_report_goes_in_pieces(rt: HostRuntime) -> Result<(), Fail> {
     let alloc = rt.alloc();
     let (code, report) = long_code(alloc)?;
-    for (call, least, most) in [(1_u64, 0, 0), (2, 65_521, 65_536)] {
+    for (call, least, most) in [(1_u64, 0, 0), (2, 65_489, 65_536)] {
         let mut sink = MemSink::new(alloc, report.len(), usize::MAX, vec![in alloc; call]?)?;
         let mut piece = Piece::new(alloc)?;
         assert!(rt; write_report(&mut sink, &mut piece, &code) == Err(Failed));

@@ -1,24 +1,24 @@
-use Rattle.std.proofs.Common.{◌+◌, refl, ap, drop}
+use Rattle.std.proofs.Common.{ap, arith}
 use Rattle.std.specs.List.{flat_map, enumerate_from}
+use Rattle.std.proofs.lemmas.List.{drop_all}
 use Rattle.a64_cli.specs.Report.{item_line}
-use Rattle.a64_cli.proofs.Numbered.{lines_left}
-use Rattle.a64_cli.proofs.Gathering.{front_start, front_more, front_cut, on_err}
+use Rattle.a64_cli.specs.Kept.{item_lines}
+use Rattle.a64_cli.proofs.Gathering.{left_start, left_moved, left_cut, left_end, on_err}
 use Rattle.a64_cli.proofs.report.put_items.Goals as goal
 
-pub loop-place-init : goal.loop-place-init
-loop-place-init g c = (front_start _ _ _ _, refl)
+pub loop-index-init : goal.loop-index-init
+loop-index-init g c = (left_start _ _ _ _, omega arith)
 
-pub loop-place-preserved : goal.loop-place-preserved
-loop-place-preserved g c = (
-  front_more (flat_map item_line (enumerate_from (c.loop-place.place-index + 1) (drop (c.loop-place.place-index + 1) c.args.places.now))) c.loop-place.invariant.0
-      (rw (c.set.ensures, c.loop-place.invariant.1) at c.in_ok-put.ensures.ok)
-      (lines_left item_line c.args.places.now c.loop-place.place-index 0 c.loop-place-test.true),
-  ap (λ k. k + 1) c.loop-place.invariant.1,
+pub loop-index-preserved : goal.loop-index-preserved
+loop-index-preserved g c = (
+  rw c.fill_items-index.ensures.filled (left_moved _ (item_lines c.args.places.now c.loop-index.index) c.loop-index.invariant.0 c.in_ok-make_room.ensures.ok),
+  c.fill_items-index.ensures.within.1,
 )
 
-pub returns-in_err-put-clause-err : goal.returns-in_err-put-clause-err
-returns-in_err-put-clause-err g c =
-    on_err c.from_residual.result
-    (front_cut (flat_map item_line (enumerate_from (c.loop-place.place-index + 1) (drop (c.loop-place.place-index + 1) c.args.places.now))) c.loop-place.invariant.0
-    (rw (c.set.ensures, c.loop-place.invariant.1) at c.in_err-put.ensures.err)
-    (lines_left item_line c.args.places.now c.loop-place.place-index 0 c.loop-place-test.true))
+pub returns-in_err-make_room-clause-err : goal.returns-in_err-make_room-clause-err
+returns-in_err-make_room-clause-err g c = on_err c.from_residual.result (left_cut _ (item_lines c.args.places.now c.loop-index.index) c.loop-index.invariant.0 c.in_err-make_room.ensures.err)
+
+pub returns-clause-ok : goal.returns-clause-ok
+returns-clause-ok g c =
+    left_end c.loop-index.invariant.0
+    (ap (λ xs. flat_map item_line (enumerate_from c.loop-index.index xs)) (drop_all c.loop-index.index c.args.places.now (omega arith)))
