@@ -1,3 +1,4 @@
 pub mod Numbered
 pub mod Wholes
 pub mod Sorted
+pub mod Counted

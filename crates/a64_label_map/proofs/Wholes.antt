@@ -145,13 +145,17 @@ module _ {X : Type 0} where
         ∙ sym (get-insert nat_cmp_total (whole table others) number value q)))
 
   -- the balance once a number got a value
-  pub balanced_put : (table table' : List (Option X)) (others others' : BTreeMap ℕ X) (count count' expected number : ℕ) (value : X) (old : Option X) → IsBalanced table others count expected → AreShared table' others' → length table' ≡ length table → whole table' others' ≡ insert (whole table others) number value → old ≡ get (whole table others) number → count ≤ count' → count' ≤ count + cond (is_some old) 0 1 → IsBalanced table' others' count' expected
-  balanced_put table table' others others' count count' expected number value old b s long is was least most = record {
+  pub balanced_put : (table table' : List (Option X)) (others others' : BTreeMap ℕ X) (count count' expected number : ℕ) (value : X) (old : Option X) → IsBalanced table others count expected → AreShared table' others' → length table' ≡ length table → number < 2 ^ 32 → whole table' others' ≡ insert (whole table others) number value → old ≡ get (whole table others) number → count ≤ count' → count' ≤ count + cond (is_some old) 0 1 → IsBalanced table' others' count' expected
+  balanced_put table table' others others' count count' expected number value old b s long small is was least most = record {
     shared = s;
     counted =
         let more : len (whole table' others') ≡ cond (is_some old) (len (whole table others)) (len (whole table others) + 1) =
         ap len is ∙ (len-insert nat_cmp_total (whole table others) number value ∙ ap (λ o. cond (is_some o) (len (whole table others)) (len (whole table others) + 1)) (sym was)) in
         go (is_some old) (len (whole table' others')) more most;
+    within = λ q ge.
+        ap (λ m. get m q) is
+        ∙ (get-insert nat_cmp_total (whole table others) number value q
+        ∙ (ap (λ t. cond t (Some value) (get (whole table others) q)) (apart_by_cmp q number (λ same. omega arith)) ∙ b.within q ge));
     few = omega (arith, b.few);
   }
     where

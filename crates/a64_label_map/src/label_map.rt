@@ -1,6 +1,6 @@
 //! A map from numbers.
 
-ghost use Rattle.std.specs.Prelude.{◌≡◌, ◌+◌, ◌*◌, ◌^◌, ◌<◌, ◌≤◌, IfOk, OnOk, OnErr, if◌then◌else◌, is_some, IsSome};
+ghost use Rattle.std.specs.Prelude.{◌≡◌, ◌*◌, ◌^◌, ◌<◌, ◌≤◌, IfOk, OnOk, OnErr, IsSome};
 ghost use Rattle.std.specs.FinMap as map;
 ghost use Rattle.std.specs.Ordering.{nat_cmp};
 
@@ -39,18 +39,6 @@ impl<V> Model for LabelMap<V> {
     ghost view = { λ a. whole a.table.items a.others };
 
     ghost invariant = { λ a. IsBalanced a.table.items a.others a.count a.expected };
-}
-
-/// A count, and one more where there was no value before.
-#[inline(always)]
-fn counted<V: Copy>(count: u64, old: Option<V>) -> u64
-    ensures least { count ≤ result }
-    ensures most { result ≤ count + (if is_some old then 0 else 1) }
-{
-    match old {
-        Some(_) => count,
-        None => count.saturating_add(1),
-    }
 }
 
 /// The length of a table that gets at least another length, and no more than a bound: twice its own and
@@ -148,7 +136,9 @@ impl<V: Copy> LabelMap<V> {
     {
         self.make_room(number)?;
         let old = put(&mut self.table, &mut self.others, number, value)?;
-        self.count = counted(self.count, old);
+        if old.is_none() {
+            self.count += 1;
+        }
         Ok(old)
     }
 

@@ -91,7 +91,7 @@ pub fn list_table<V: Copy>(alloc: Global, table: &[Option<V>]) -> Result<Vec<(u3
         let Some(value) = value else {
             continue;
         };
-        list.push((number as u32, value))?;
+        list.push_reserved((number as u32, value));
     }
     Ok(list)
 }
