@@ -25,7 +25,9 @@ pub fn patch_field(buffer: &mut [u8], low: u32, bits: u32, value: u32)
         ≡ outside (mask_of low bits) (from_le_bytes w32 buffer.old) }
     ensures field { field_bits low bits (from_le_bytes w32 buffer.new) ≡ value % 2 ^ bits }
 {
-    let word = u32::from_le_bytes([buffer[0], buffer[1], buffer[2], buffer[3]]);
+    let mut bytes = [0; 4];
+    bytes.copy_from_slice(buffer);
+    let word = u32::from_le_bytes(bytes);
     let patched = with_field(word, low, bits, value);
     buffer.copy_from_slice(&patched.to_le_bytes());
 }

@@ -89,7 +89,7 @@ pub fn labels_in_order(
     let entries = labels.entries(alloc)?;
     let mut list = Vec::with_capacity(alloc, entries.len())?;
     for &(label, place) in &entries {
-        list.push((MachLabel(label), place))?;
+        list.push_reserved((MachLabel(label), place));
     }
     Ok(list)
 }
