@@ -61,7 +61,9 @@ fn add_distance(buffer: &mut [u8], distance: u32)
     requires word { length buffer.old ≡ 4 }
     ensures { from_le_bytes w32 buffer.new ≡ (from_le_bytes w32 buffer.old + distance) % 2 ^ 32 }
 {
-    let word = u32::from_le_bytes([buffer[0], buffer[1], buffer[2], buffer[3]]);
+    let mut bytes = [0; 4];
+    bytes.copy_from_slice(buffer);
+    let word = u32::from_le_bytes(bytes);
     buffer.copy_from_slice(&word.wrapping_add(distance).to_le_bytes());
 }
 
