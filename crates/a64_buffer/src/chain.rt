@@ -1,11 +1,13 @@
 //! The uses of each label in a chain, so that binding a label visits no other uses, and the loads that
 //! wait for a constant in one, so that a copy of it visits those alone.
 
-ghost use Rattle.std.specs.Prelude.{◌≡◌, ◌<◌, length, map, slice_set, slice_index_or};
+ghost use Rattle.std.specs.Prelude.{◌≡◌, ◌<◌, false, is_some, length, map, slice_set, slice_index_or};
 ghost use Rattle.a64_buffer.specs.Buffer.{reached, closed_at};
+ghost use Rattle.a64_buffer.specs.Classes as classes;
 ghost use Rattle.a64_buffer.specs.Queues.{AllHold, AllLimits, AreBurdens, AreWaiting};
 ghost use Rattle.a64_buffer.specs.Chain.{with_stop, labels_of, emptied, IsChained, IsLast};
 
+use crate::class::Class;
 use crate::label_use::MachInstLabelUse;
 use crate::queue::Queue;
 use crate::queues::close_queued;
@@ -61,12 +63,43 @@ fn close_use<K: MachInstLabelUse>(
     if site.stop.is_some() {
         return;
     }
+    // Each arm names its class, so that what depends on the class is settled when it is compiled.
+    match site.class() {
+        Class::Near => close_as(uses, queues, burdens, index, place, Class::Near),
+        Class::Load => close_as(uses, queues, burdens, index, place, Class::Load),
+        Class::Trapping => close_as(uses, queues, burdens, index, place, Class::Trapping),
+        Class::Middle => close_as(uses, queues, burdens, index, place, Class::Middle),
+        Class::Far => close_as(uses, queues, burdens, index, place, Class::Far),
+        Class::Direct => close_as(uses, queues, burdens, index, place, Class::Direct),
+    }
+}
+
+/// Lets a use of this class, which has no stop, stop at a place, in bytes from the start of the code,
+/// where it reaches that.
+#[inline(always)]
+fn close_as<K: MachInstLabelUse>(
+    uses: &mut [Use<K>],
+    queues: &mut [Queue; 5],
+    burdens: &mut Burdens,
+    index: usize,
+    place: u32,
+    class: Class,
+)
+    requires index { index < length uses.old }
+    requires waiting { AreWaiting K.kinds uses.old queues.old burdens.old }
+    requires stop { (d : _) → is_some (slice_index_or uses.old index d).stop ≡ false }
+    requires class { (d : _) → classes.class K.kinds (slice_index_or uses.old index d) ≡ class }
+    ensures uses { (d : _) → uses.new ≡ slice_set uses.old index (with_stop K.kinds place (slice_index_or uses.old index d)) }
+    ensures hold { AllHold K.kinds uses.new queues.new }
+    ensures limits { AllLimits K.kinds uses.new queues.new }
+    ensures burdens { AreBurdens K.kinds uses.new burdens.new }
+{
+    let site = uses[index];
     let stop = reached(site.kind, site.offset, place);
     if stop.is_none() {
         return;
     }
     uses[index].stop = stop;
-    let class = site.class();
     if class.wants() {
         burdens.lose(class);
         let none = burdens.has_none(class);
