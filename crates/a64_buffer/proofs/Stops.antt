@@ -4,8 +4,10 @@ use Rattle.std.specs.Option.{MatchOption, unwrap_or}
 use Rattle.std.specs.FinMap.{FinMap, get, insert}
 use Rattle.std.proofs.lemmas.Bool.{cases_eq, cases_lt, eq-eqb, ne_eqb}
 use Rattle.std.proofs.lemmas.List.{length-map, map-append, length-set, get_or-map, get_or_default, get_or-set_same, get_or-set_other, same_lists}
+use Rattle.a64_base.specs.declared.entity.MachLabel.{MachLabel}
 use Rattle.a64_buffer.specs.declared.site.Use.{Use}
 use Rattle.a64_buffer.specs.declared.site.Target.{Target}
+use Rattle.a64_buffer.specs.declared.site.Target.TheVariants.{Label}
 use Rattle.a64_buffer.specs.Kinds.{Kinds}
 use Rattle.a64_buffer.specs.Buffer.{label_of, stop_of, made_use}
 use Rattle.a64_buffer.specs.Chain.{constant_of, load_of, labels_of, loads_of, emptied, IsLast, IsChained, AreChained}
@@ -83,6 +85,12 @@ module _ {K : Type 0} where
         | None ↦ λ l. absurd (l.none index (omega arith) (omega (arith, length-map uses (λ (w : Use K). label_of w.target))) e)
         | Some x ↦ λ l. refl
       ] (c.last label)
+
+  pub head_of_label : (uses : List (Use K)) (earlier : List ℕ) (heads : FinMap nat_cmp ℕ) (index : ℕ) (label : MachLabel) (kind : K) → IsChained (labels_of uses) earlier heads → index < length uses → ((d : Use K) → (get_or uses index d).target ≡ Label label) → IsSome (get heads label.0)
+  head_of_label uses earlier heads index label kind c h is =
+      let d : Use K = record { offset = 0; target = Label label; kind = kind; stop = None } in
+      let u : Use K = get_or uses index d in
+      subst (λ t. IfSome (label_of t) (λ l. IsSome (get heads l))) (is d) (has_head uses earlier heads index u c h (get_or_default uses index d u h))
 
   -- one more use, of a number of the heads, or of none
   chain_more : (f : Use K → Option ℕ) (uses uses' : List (Use K)) (earlier earlier' : List ℕ) (heads heads' : FinMap nat_cmp ℕ) (u : Use K) (last : ℕ) → IsChained (map f uses) earlier heads → uses' ≡ uses ++ u ∷ [] → earlier' ≡ earlier ++ last ∷ [] → IfSome (f u) (λ n. last ≡ unwrap_or (get heads n) 0) → heads' ≡ with_head (f u) heads (length uses + 1) → IsChained (map f uses') earlier' heads'

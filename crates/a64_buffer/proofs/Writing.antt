@@ -1,11 +1,12 @@
 -- Open uses are given what they wait for, one after another.
-use Rattle.std.proofs.Common.{ℕ, ◌≡◌, ◌⊎◌, ◌+◌, ◌*◌, ◌^◌, ◌<◌, ◌≤◌, Bool, true, false, cond, List, [], ◌∷◌, ◌++◌, All, length, get_or, Option, None, Some, refl, sym, ap, ◌∙◌, subst, arith, inl, inr, nat_cmp}
+use Rattle.std.proofs.Common.{ℕ, ◌≡◌, ◌⊎◌, ◌+◌, ◌*◌, ◌^◌, ◌<◌, ◌≤◌, Bool, true, false, cond, List, [], ◌∷◌, ◌++◌, All, length, map, get_or, Option, None, Some, refl, sym, ap, ◌∙◌, subst, arith, inl, inr, nat_cmp}
 use Rattle.std.specs.Prelude.{IfSome, IsSome, IsSomeAnd, nat_eq}
 use Rattle.std.specs.FinMap.{FinMap, get}
 use Rattle.std.proofs.lemmas.Bool.{cases_lt, cases_eq, false≢true}
-use Rattle.std.proofs.lemmas.List.{get_or_default}
+use Rattle.std.proofs.lemmas.List.{get_or_default, length-append, length-map}
 use Rattle.std.proofs.lemmas.List.Elements.{All-append, All-cons}
 use Rattle.std.proofs.lemmas.List.Sums.{get_or-le-sum_by}
+use Rattle.a64_base.specs.declared.entity.MachLabel.{MachLabel}
 use Rattle.a64_base.specs.declared.entity.TrapCode.{TrapCode}
 use Rattle.a64_base.specs.declared.entity.VCodeConstant.{VCodeConstant}
 use Rattle.a64_buffer.specs.declared.site.Use.{Use}
@@ -19,19 +20,18 @@ use Rattle.a64_buffer.specs.Constants.{IsConstant}
 use Rattle.a64_buffer.specs.Buffer.{Buffer, end_of, label_of, goal_of}
 use Rattle.a64_buffer.specs.Areas.{InArea}
 use Rattle.a64_buffer.specs.Chain.{AreChained}
-use Rattle.a64_buffer.specs.Classes.{third, urgency_number, level_of, label_class, wants, rank_of, cost, veneer_uses, trap_words, class, is_open, weigh, weight_of, owed, class_of}
+use Rattle.a64_buffer.specs.Classes.{third, label_class, wants, rank_of, cost, veneer_uses, class, is_open, weigh, weight_of, owed, class_of}
 use Rattle.a64_buffer.specs.Later.{IsSameUse, IsLater}
-use Rattle.a64_buffer.specs.Sound.{seen, IsPlaced, IsKinded, IsKnown, IsSound}
+use Rattle.a64_buffer.specs.Sound.{seen, IsPlaced, AreApart, IsKnown, IsSound}
 use Rattle.a64_buffer.specs.Islands.{IsVeneerUse}
 use Rattle.a64_buffer.specs.Space.{SameRoom, HasSpace}
 use Rattle.a64_buffer.specs.Pieces.{key_of, ComesBefore, Serves}
-use Rattle.a64_buffer.specs.Steps.{AtGoal, GivesJump, GivesFar, GivesTrap, GivesCopy, IsPart, everywhere, HoldFrom, ServesNext, GivesAll, MayWrite, IsWriting, Writes, IsNextOpen, IsReady}
-use Rattle.a64_buffer.proofs.Rooms.{open_wants, wanting_urgency}
-use Rattle.a64_buffer.proofs.Pays.{label_is}
+use Rattle.a64_buffer.specs.Steps.{stopped, waits_for, AtGoal, GivesJump, GivesFar, GivesTrap, GivesCopy, IsPart, everywhere, HoldFrom, ServesNext, GivesAll, MayWrite, IsWriting, Writes, IsNextOpen, IsReady}
+use Rattle.a64_buffer.proofs.Rooms.{open_wants}
 use Rattle.a64_buffer.proofs.Laters.{later_none, later_trans, was_open}
 use Rattle.a64_buffer.proofs.Serving.{same_class, same_key, serves_none, served_behind, serves_join, open_none}
 use Rattle.a64_buffer.proofs.Pieces.{jump_next, far_next, trap_next, copy_next}
-use Rattle.a64_buffer.proofs.Given.{wants_veneer, jump_given, far_given, trap_given, copy_given}
+use Rattle.a64_buffer.proofs.Given.{jump_given, far_given, trap_given, copy_given}
 
 module _ {K : Type 0} (r : Kinds K) where
   pub part_none : (b : Buffer K) → IsPart r b b
@@ -229,6 +229,10 @@ module _ {K : Type 0} (r : Kinds K) where
 
 -- ---- one use that is ready
 
+-- uses that stop are as many as before
+pub stopped_count : {K : Type 0} (test : Use K → Bool) (place : ℕ) (us us' : List (Use K)) → us' ≡ map (stopped test place) us ++ [] → length us' ≡ length us
+stopped_count test place us us' e = omega (arith, ap length e, length-append (map (stopped test place) us) [], length-map us (stopped test place))
+
 module _ {K : Type 0} (r : Kinds K) (law : IsLawful r) (p : Parts K) (index : ℕ) (ready : IsReady r p index) (u : Use K) (is : u ≡ get_or p.uses.items index u) where
   open' : is_open r u ≡ true
   open' = ap (is_open r) is ∙ (ready.next u).0
@@ -283,34 +287,18 @@ module _ {K : Type 0} (r : Kinds K) (law : IsLawful r) (p : Parts K) (index : �
   known_content : (constant : VCodeConstant) → u.target ≡ Constant constant → IsSomeAnd (get (seen p).constants constant.0) IsConstant
   known_content constant e = subst (IsKnown (seen p).constants) (ap (λ (v : Use K). v.target) (sym is) ∙ e) (ready.may.sound.known index u ready.within)
 
-  pub some_content : (constant : VCodeConstant) → u.target ≡ Constant constant → IsSome (get (seen p).constants constant.0)
-  some_content constant e = elim (get (seen p).constants constant.0) as (λ o. IsSomeAnd o IsConstant → IsSome o) [ None ↦ λ h. absurd h | Some c ↦ λ h. refl ] (known_content constant e)
-
   pub copy_ready : (b' : Buffer K) (constant : VCodeConstant) → u.target ≡ Constant constant → IfSome (get (seen p).constants constant.0) (λ content. GivesCopy r constant.0 content (seen p) b') → GivesAll r (class r u) (seen p) b'
   copy_ready b' constant e g = elim (get (seen p).constants constant.0) as (λ o. get (seen p).constants constant.0 ≡ o → IsSomeAnd o IsConstant → IfSome o (λ content. GivesCopy r constant.0 content (seen p) b') → GivesAll r (class r u) (seen p) b') [
     | None ↦ λ q h g. absurd h
     | Some content ↦ λ q h g. copy_all b' constant content e q h g
   ] refl (known_content constant e) g
 
-  -- how much is kept for a use of a class
-  pub kept_owed : (c : Class) → class r u ≡ c → cost third c ≤ owed r (seen p)
-  kept_owed c e = omega (arith, ap (cost third) e, kept_weight (cost third))
-
-  pub kept_uses : (c : Class) → class r u ≡ c → veneer_uses c ≤ weight_of r veneer_uses p.uses.items
-  kept_uses c e = omega (arith, ap veneer_uses e, kept_weight veneer_uses)
-
-  pub kept_traps : (c : Class) → class r u ≡ c → trap_words c ≤ weight_of r trap_words p.uses.items
-  kept_traps c e = omega (arith, ap trap_words e, kept_weight trap_words)
-
-  -- a far use is of the last urgency, and may have a veneer
-  pub far_urgency : class r u ≡ Far → r.urgency u.kind ≡ 3
-  far_urgency e =
-      let k : IsKinded r u.target u.kind = subst (λ (w : Use K). IsKinded r w.target w.kind) (sym is) (ready.may.sound.kinded index u ready.within) in
-      let q : urgency_number (level_of (class r u)) ≡ r.urgency u.kind = wanting_urgency r law u.target u.kind k (open_wants r u open') in
-      sym q ∙ ap (λ c. urgency_number (level_of c)) e
-
-  pub far_veneers : class r u ≡ Far → r.veneers u.kind ≡ true
-  far_veneers e = wants_veneer r u.target u.kind (label_is r u.target u.kind (inr (inr e))).0 (label_is r u.target u.kind (inr (inr e))).1 (open_wants r u open')
+  -- no use is added for a constant
+  pub copy_count : (b' : Buffer K) (constant : VCodeConstant) → u.target ≡ Constant constant → IfSome (get (seen p).constants constant.0) (λ content. GivesCopy r constant.0 content (seen p) b') → length b'.uses ≡ length p.uses.items
+  copy_count b' constant e g = elim (get (seen p).constants constant.0) as (λ o. IsSomeAnd o IsConstant → IfSome o (λ content. GivesCopy r constant.0 content (seen p) b') → length b'.uses ≡ length p.uses.items) [
+    | None ↦ λ h g. absurd h
+    | Some content ↦ λ h g. stopped_count (waits_for constant.0) _ p.uses.items b'.uses g.uses
+  ] (known_content constant e) g
 
   -- a use of a label that is open is near, middle or far
   pub label_not : (label : ℕ) → label_of u.target ≡ Some label → (class r u ≡ Load) ⊎ (class r u ≡ Trapping) ⊎ (class r u ≡ Direct) → ⊥
@@ -333,6 +321,45 @@ module _ {K : Type 0} (r : Kinds K) (law : IsLawful r) (p : Parts K) (index : �
       go (Constant c) e h w = let z : None ≡ Some label = e in cc
       go (Trap c) e h w = let z : None ≡ Some label = e in cc
       go IslandEnd e h w = let z : None ≡ Some label = e in cc
+
+-- ---- one use that is ready, of a class
+
+module _ {K : Type 0} (r : Kinds K) (law : IsLawful r) (p : Parts K) (index : ℕ) (ready : IsReady r p index) (c : Class) (is_class : (d : Use K) → class r (get_or p.uses.items index d) ≡ c) where
+  abbrev here : Use K
+  here = get_or p.uses.items index (record { offset = 0; target = IslandEnd; kind = r.jump; stop = None })
+
+  is_here : here ≡ get_or p.uses.items index here
+  is_here = get_or_default p.uses.items index _ here ready.within
+
+  class_here : class r here ≡ c
+  class_here = is_class _
+
+  pub ready_wants : wants c ≡ true
+  ready_wants = ap wants (sym class_here) ∙ open_wants r here (open' r law p index ready here is_here)
+
+  -- what is kept for it
+  pub kept_for : (w : Class → ℕ) → w c ≤ weight_of r w p.uses.items
+  kept_for w = omega (arith, kept_weight r law p index ready here is_here w, ap w class_here)
+
+  pub jump_kept : (c ≡ Near) ⊎ (c ≡ Middle) → (24 ≤ owed r (seen p)) × (2 ≤ weight_of r veneer_uses p.uses.items)
+  jump_kept h = elim h [
+    | inl e ↦ (omega (arith, kept_for (cost third), ap (cost third) e), omega (arith, kept_for veneer_uses, ap veneer_uses e))
+    | inr e ↦ (omega (arith, kept_for (cost third), ap (cost third) e), omega (arith, kept_for veneer_uses, ap veneer_uses e))
+  ]
+
+  pub far_kept : c ≡ Far → (20 ≤ owed r (seen p)) × (1 ≤ weight_of r veneer_uses p.uses.items)
+  far_kept e = (omega (arith, kept_for (cost third), ap (cost third) e), omega (arith, kept_for veneer_uses, ap veneer_uses e))
+
+  -- what it gets
+  pub jump_ready : (b' : Buffer K) → (c ≡ Near) ⊎ (c ≡ Middle) → ((d : Use K) → AreApart p.uses.items → GivesJump r (get_or p.uses.items index d) (seen p) b') → GivesAll r c (seen p) b'
+  jump_ready b' h a = subst (λ k. GivesAll r k (seen p) b') class_here (jump_all r law p index ready here is_here b' (subst (λ k. (k ≡ Near) ⊎ (k ≡ Middle)) (sym class_here) h) (a _ ready.may.sound.apart))
+
+  pub far_ready : (b' : Buffer K) → c ≡ Far → ((d : Use K) → AreApart p.uses.items → GivesFar r (get_or p.uses.items index d) (seen p) b') → GivesAll r c (seen p) b'
+  far_ready b' e a = subst (λ k. GivesAll r k (seen p) b') class_here (far_all r law p index ready here is_here b' (class_here ∙ e) (a _ ready.may.sound.apart))
+
+  -- a use of a label waits for a veneer
+  pub label_waits : (label : MachLabel) → ((d : Use K) → (get_or p.uses.items index d).target ≡ Label label) → (c ≡ Load) ⊎ (c ≡ Trapping) ⊎ (c ≡ Direct) → ⊥
+  label_waits label t h = label_not r law p index ready here is_here label.0 (ap label_of (t _)) (subst (λ k. (k ≡ Load) ⊎ (k ≡ Trapping) ⊎ (k ≡ Direct)) (sym class_here) h)
 
 -- the memory that is left is enough for what is left
 pub space_after : {K : Type 0} (r : Kinds K) (p p' : Parts K) (c : Class) → HasSpace r p → SameRoom p p' → GivesAll r c (seen p) (seen p') → HasSpace r p'

@@ -1,5 +1,5 @@
 -- What gives open uses what they wait for, one after another.
-use Rattle.std.specs.Prelude.{ℕ, ◌≡◌, ◌⊎◌, ◌+◌, ◌*◌, ◌^◌, ◌<◌, ◌≤◌, Bool, true, false, ◌&&◌, nat_eq, if◌then◌else◌, List, [], ◌∷◌, ◌++◌, All, map, length, slice_index_or, replicate, Option, Some, is_none, IfSome, MatchOption}
+use Rattle.std.specs.Prelude.{ℕ, ◌≡◌, ◌⊎◌, ◌+◌, ◌*◌, ◌^◌, ◌<◌, ◌≤◌, Bool, true, false, ◌&&◌, nat_eq, if◌then◌else◌, List, [], ◌∷◌, ◌++◌, All, map, length, take, slice_index_or, replicate, Option, Some, is_none, IfSome, MatchOption}
 use Rattle.std.specs.Ordering.{nat_cmp}
 use Rattle.std.specs.FinMap.{FinMap, get}
 use Rattle.a64_base.specs.declared.entity.TrapCode.{TrapCode}
@@ -54,6 +54,10 @@ pub record Adds {K : Type 0} (test : Use K → Bool) (place : ℕ) (added : List
   pub traps_are : b'.traps ≡ b.traps ++ traps
   pub constants : b'.constants ≡ b.constants
   pub records : b'.records ≡ b.records
+
+-- a use stands behind as many uses as there were
+abbrev pub AddsUse : {K : Type 0} → List (Use K) → List (Use K) → Use K → Type 0
+AddsUse us us' u = us' ≡ take (length us) us' ++ u ∷ []
 
 -- an island from a place on is ended
 abbrev pub ended : {K : Type 0} → ℕ → Buffer K → Buffer K

@@ -5,11 +5,14 @@ ghost use Rattle.std.specs.Option.{unwrap_or};
 ghost use Rattle.std.specs.FinMap as finmap;
 ghost use Rattle.a64_buffer.specs.Word.{words_of};
 ghost use Rattle.a64_buffer.specs.Buffer.{end_of, label_of};
+ghost use Rattle.a64_buffer.specs.declared.class.Class.TheVariants.{Trapping, Far};
+ghost use Rattle.a64_buffer.specs.declared.site.Target.TheVariants.{Label};
 
+use crate::class::Class;
 use crate::label_use::MachInstLabelUse;
 use crate::parts::{Parts, target_label};
-use crate::site::Use;
-use a64_base::TrapCode;
+use crate::site::{Target, Use};
+use a64_base::{MachLabel, TrapCode};
 
 /// Adds the words that bytes are to words that have room for them.
 pub fn push_words(words: &mut Vec<u32>, bytes: &[u8])
@@ -45,16 +48,18 @@ fn push_far_words<K: MachInstLabelUse>(words: &mut Vec<u32>, kind: K, place: u32
 
 impl<'c, K: MachInstLabelUse> Parts<'c, K> {
     ghost use Rattle.a64_buffer.specs.Sound.{seen, AreApart};
-    ghost use Rattle.a64_buffer.specs.Steps.{stopped, stands_at, GivesJump, GivesFar, GivesTrap};
+    ghost use Rattle.a64_buffer.specs.Steps.{stopped, stands_at, AddsUse, GivesJump, GivesFar, GivesTrap};
     ghost use Rattle.a64_buffer.specs.Chain.{constant_of, AreChained};
-    ghost use Rattle.a64_buffer.specs.Queues.{AreBurdens};
+    ghost use Rattle.a64_buffer.specs.Queues.{IsWaitingClass, AreBurdens};
     ghost use Rattle.a64_buffer.specs.Space.{SameRoom};
 
-    /// Lets the use at an index, which loads no constant, stop at a place.
+    /// Lets the use at an index, which loads no constant, stop at a place, in bytes from the start of
+    /// the code. The class is what the use waits for, where it waits.
     #[inline(always)]
-    pub fn stop_at(&mut self, index: usize, place: u32)
+    pub fn stop_at(&mut self, index: usize, place: u32, class: Class)
         requires index { index < length self.old.uses.items }
         requires target { (d : _) → constant_of (slice_index_or self.old.uses.items index d).target ≡ None }
+        requires class { (d : _) → IsWaitingClass K.kinds (slice_index_or self.old.uses.items index d) class }
         requires chained { AreChained self.old.uses.items self.old.earlier.items self.old.heads self.old.loads }
         requires burdens { AreBurdens K.kinds self.old.uses.items self.old.burdens }
         ensures uses { (d : _) → AreApart self.old.uses.items → self.new.uses.items ≡ map (stopped (stands_at (slice_index_or self.old.uses.items index d).offset) place) self.old.uses.items }
@@ -65,7 +70,6 @@ impl<'c, K: MachInstLabelUse> Parts<'c, K> {
         ensures less { self.new.burdens.third ≤ self.old.burdens.third }
         ensures rest { self.new ≡ record self.old { uses = self.new.uses; burdens = self.new.burdens } }
     {
-        let class = self.uses[index].waiting_class();
         self.uses[index].stop = Some(place);
         self.burdens.lose(class);
     }
@@ -112,11 +116,13 @@ impl<'c, K: MachInstLabelUse> Parts<'c, K> {
         earlier
     }
 
-    /// Gives an open use a jump word at the end.
+    /// Gives an open use of a label and a class a jump word at the end, and answers the use that the
+    /// jump word is.
     #[inline(always)]
-    pub fn give_jump(&mut self, index: usize)
+    pub fn give_jump(&mut self, index: usize, label: MachLabel, class: Class) -> Use<K>
         requires within { index < length self.old.uses.items }
-        requires target { (d : _) → constant_of (slice_index_or self.old.uses.items index d).target ≡ None }
+        requires label { (d : _) → (slice_index_or self.old.uses.items index d).target ≡ Label label }
+        requires class { (d : _) → IsWaitingClass K.kinds (slice_index_or self.old.uses.items index d) class }
         requires short { end_of (seen self.old) + 4 < 2 ^ 31 }
         requires words { vec_len self.old.words < vec_capacity self.old.words }
         requires uses { vec_len self.old.uses < vec_capacity self.old.uses }
@@ -125,29 +131,34 @@ impl<'c, K: MachInstLabelUse> Parts<'c, K> {
         requires burdens { AreBurdens K.kinds self.old.uses.items self.old.burdens }
         requires few { self.old.burdens.third < 2 ^ 32 }
         ensures gives { (d : _) → AreApart self.old.uses.items → GivesJump K.kinds (slice_index_or self.old.uses.items index d) (seen self.old) (seen self.new) }
+        ensures added { AddsUse self.old.uses.items self.new.uses.items result }
         ensures chained { AreChained self.new.uses.items self.new.earlier.items self.new.heads self.new.loads }
         ensures room { SameRoom self.old self.new }
         ensures queues { self.new.queues ≡ self.old.queues }
         ensures burdens { AreBurdens K.kinds self.new.uses.items self.new.burdens }
     {
         let place = self.end();
-        let target = self.uses[index].target;
+        let target = Target::Label(label);
         let stop = self.stop_of(place, target, K::jump_use());
-        self.stop_at(index, place);
+        self.stop_at(index, place, class);
         self.words.push_reserved(K::jump_word());
-        self.push_use(Use {
+        let site = Use {
             offset: place,
             target,
             kind: K::jump_use(),
             stop,
-        });
+        };
+        self.push_use(site);
+        site
     }
 
-    /// Gives an open use a far veneer at the end.
+    /// Gives an open use of a label, which is a far one, a far veneer at the end, and answers the use
+    /// that the last word of that is.
     #[inline(never)]
-    pub fn give_far(&mut self, index: usize)
+    pub fn give_far(&mut self, index: usize, label: MachLabel) -> Use<K>
         requires within { index < length self.old.uses.items }
-        requires target { (d : _) → constant_of (slice_index_or self.old.uses.items index d).target ≡ None }
+        requires label { (d : _) → (slice_index_or self.old.uses.items index d).target ≡ Label label }
+        requires class { (d : _) → IsWaitingClass K.kinds (slice_index_or self.old.uses.items index d) Far }
         requires veneers { (d : _) → IsTrue (K.kinds.veneers (slice_index_or self.old.uses.items index d).kind) }
         requires urgency { (d : _) → K.kinds.urgency (slice_index_or self.old.uses.items index d).kind ≡ 3 }
         requires short { end_of (seen self.old) + 20 < 2 ^ 31 }
@@ -158,6 +169,7 @@ impl<'c, K: MachInstLabelUse> Parts<'c, K> {
         requires burdens { AreBurdens K.kinds self.old.uses.items self.old.burdens }
         requires few { self.old.burdens.third < 2 ^ 32 }
         ensures gives { (d : _) → AreApart self.old.uses.items → GivesFar K.kinds (slice_index_or self.old.uses.items index d) (seen self.old) (seen self.new) }
+        ensures added { AddsUse self.old.uses.items self.new.uses.items result }
         ensures chained { AreChained self.new.uses.items self.new.earlier.items self.new.heads self.new.loads }
         ensures room { SameRoom self.old self.new }
         ensures queues { self.new.queues ≡ self.old.queues }
@@ -166,14 +178,17 @@ impl<'c, K: MachInstLabelUse> Parts<'c, K> {
         let place = self.end();
         let site = self.uses[index];
         let (offset, kind) = push_far_words(&mut self.words, site.kind, place);
-        let stop = self.stop_of(offset, site.target, kind);
-        self.stop_at(index, place);
-        self.push_use(Use {
+        let target = Target::Label(label);
+        let stop = self.stop_of(offset, target, kind);
+        self.stop_at(index, place, Class::Far);
+        let site = Use {
             offset,
-            target: site.target,
+            target,
             kind,
             stop,
-        });
+        };
+        self.push_use(site);
+        site
     }
 
     /// Gives a use of a trap its trap word at the end.
@@ -181,6 +196,7 @@ impl<'c, K: MachInstLabelUse> Parts<'c, K> {
     pub fn give_trap(&mut self, index: usize, code: TrapCode)
         requires within { index < length self.old.uses.items }
         requires target { (d : _) → constant_of (slice_index_or self.old.uses.items index d).target ≡ None }
+        requires class { (d : _) → IsWaitingClass K.kinds (slice_index_or self.old.uses.items index d) Trapping }
         requires short { end_of (seen self.old) + 4 < 2 ^ 31 }
         requires words { vec_len self.old.words < vec_capacity self.old.words }
         requires traps { vec_len self.old.traps < vec_capacity self.old.traps }
@@ -194,7 +210,7 @@ impl<'c, K: MachInstLabelUse> Parts<'c, K> {
         ensures burdens { AreBurdens K.kinds self.new.uses.items self.new.burdens }
     {
         let place = self.end();
-        self.stop_at(index, place);
+        self.stop_at(index, place, Class::Trapping);
         self.words.push_reserved(K::trap_word());
         self.traps.push_reserved((place, code));
     }

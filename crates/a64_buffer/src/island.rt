@@ -1,16 +1,19 @@
 //! Islands, and what gives open uses what they wait for.
 
-ghost use Rattle.std.specs.Prelude.{◌≡◌, ◌⊎◌, ◌+◌, ◌*◌, ◌^◌, ◌<◌, ◌≤◌, All, IsSome, MatchBool, OnOk, OnErr, length, slice_index_or, vec_len, vec_capacity};
-ghost use Rattle.a64_buffer.specs.Buffer.{end_of, label_of};
-ghost use Rattle.a64_buffer.specs.Classes.{class, veneer_uses, weight_of, owed, Fits};
+ghost use Rattle.std.specs.Prelude.{◌≡◌, ◌⊎◌, ◌+◌, ◌*◌, ◌^◌, ◌<◌, ◌≤◌, All, MatchBool, MatchOption, OnOk, OnErr, length, slice_index_or, vec_len, vec_capacity};
+ghost use Rattle.a64_buffer.specs.Buffer.{end_of};
+ghost use Rattle.a64_buffer.specs.Classes as classes;
+ghost use Rattle.a64_buffer.specs.Classes.{veneer_uses, weight_of, owed, Fits};
 ghost use Rattle.a64_buffer.specs.declared.force.ForceVeneers.TheVariants.{No, Yes};
+ghost use Rattle.a64_buffer.specs.declared.site.Target.TheVariants.{Label};
 
 use crate::class::Class;
 use crate::force::ForceVeneers;
 use crate::label_use::MachInstLabelUse;
 use crate::parts::Parts;
-use crate::queues::first_below;
+use crate::queues::{first_below, queue_use};
 use crate::site::{Target, Use};
+use a64_base::MachLabel;
 use std::alloc::AllocError;
 
 impl<'c, K: MachInstLabelUse> Parts<'c, K> {
@@ -18,7 +21,7 @@ impl<'c, K: MachInstLabelUse> Parts<'c, K> {
     ghost use Rattle.a64_buffer.specs.Chain.{constant_of, AreChained};
     ghost use Rattle.a64_buffer.specs.Queues.{HaveRoomFor, AllHold, AllLimits, AreBurdens, AreWaiting};
     ghost use Rattle.a64_buffer.specs.Space.{SameRoom, HasSpace, HasSpaceForMore};
-    ghost use Rattle.a64_buffer.specs.Steps.{IsNextOpen, IsReady, GivesAll, MayWrite, Writes, WritesFar, ended};
+    ghost use Rattle.a64_buffer.specs.Steps.{AddsUse, IsNextOpen, IsReady, GivesAll, MayWrite, Writes, WritesFar, ended};
     ghost use Rattle.a64_buffer.specs.Pieces.{begun};
     ghost use Rattle.a64_buffer.specs.Islands.{HasIsland};
 
@@ -34,56 +37,61 @@ impl<'c, K: MachInstLabelUse> Parts<'c, K> {
         first_below(&self.queues, limit)
     }
 
-    /// Gives an open use of a label its veneer.
+    /// Gives an open use of a label and a class its veneer, and answers the use that was added.
     #[inline(always)]
-    fn give_veneer(&mut self, index: usize)
+    fn give_veneer(&mut self, index: usize, label: MachLabel, class: Class) -> Use<K>
         requires ready { IsReady K.kinds self.old index }
+        requires class { (d : _) → classes.class K.kinds (slice_index_or self.old.uses.items index d) ≡ class }
+        requires label { (d : _) → (slice_index_or self.old.uses.items index d).target ≡ Label label }
         requires burdens { AreBurdens K.kinds self.old.uses.items self.old.burdens }
-        requires label { (d : _) → IsSome (label_of (slice_index_or self.old.uses.items index d).target) }
-        ensures gives { (d : _) → GivesAll K.kinds (class K.kinds (slice_index_or self.old.uses.items index d)) (seen self.old) (seen self.new) }
+        ensures gives { GivesAll K.kinds class (seen self.old) (seen self.new) }
+        ensures added { AddsUse self.old.uses.items self.new.uses.items result }
         ensures chained { AreChained self.new.uses.items self.new.earlier.items self.new.heads self.new.loads }
         ensures room { SameRoom self.old self.new }
         ensures queues { self.new.queues ≡ self.old.queues }
         ensures burdens { AreBurdens K.kinds self.new.uses.items self.new.burdens }
     {
-        let site = self.uses[index];
-        match site.class() {
-            Class::Near => self.give_jump(index),
-            Class::Middle => self.give_jump(index),
-            Class::Far => self.give_far(index),
+        match class {
+            Class::Near | Class::Middle => self.give_jump(index, label, class),
+            Class::Far => self.give_far(index, label),
             Class::Load | Class::Trapping | Class::Direct => unreachable!(),
         }
     }
 
-    /// Gives the open use that comes first what it waits for.
+    /// Gives the open use that comes first, which is of a class, what it waits for, and answers the use
+    /// that was added, if any.
     #[inline(always)]
-    fn give(&mut self, index: usize)
+    fn give(&mut self, index: usize, class: Class) -> Option<Use<K>>
         requires ready { IsReady K.kinds self.old index }
+        requires class { (d : _) → classes.class K.kinds (slice_index_or self.old.uses.items index d) ≡ class }
         requires burdens { AreBurdens K.kinds self.old.uses.items self.old.burdens }
-        ensures gives { (d : _) → GivesAll K.kinds (class K.kinds (slice_index_or self.old.uses.items index d)) (seen self.old) (seen self.new) }
+        ensures gives { GivesAll K.kinds class (seen self.old) (seen self.new) }
+        ensures added { MatchOption result (length self.new.uses.items ≡ length self.old.uses.items) (AddsUse self.old.uses.items self.new.uses.items) }
         ensures chained { AreChained self.new.uses.items self.new.earlier.items self.new.heads self.new.loads }
         ensures room { SameRoom self.old self.new }
         ensures queues { self.new.queues ≡ self.old.queues }
         ensures burdens { AreBurdens K.kinds self.new.uses.items self.new.burdens }
     {
-        let site = self.uses[index];
-        match site.target {
-            Target::Label(_) => self.give_veneer(index),
+        match self.uses[index].target {
+            Target::Label(label) => return Some(self.give_veneer(index, label, class)),
             Target::Constant(constant) => self.give_copy(constant),
             Target::Trap(code) => self.give_trap(index, code),
             Target::IslandEnd => unreachable!(),
         }
+        None
     }
 
-    /// Gives the open use that comes first what it waits for, and keeps what waits then.
+    /// Gives the open use that comes first, which is of a class, what it waits for, and keeps what waits
+    /// then.
     #[inline(always)]
-    fn serve(&mut self, index: usize)
+    fn serve_as(&mut self, index: usize, class: Class)
         requires ready { IsReady K.kinds self.old index }
+        requires class { (d : _) → classes.class K.kinds (slice_index_or self.old.uses.items index d) ≡ class }
         requires hold { AllHold K.kinds self.old.uses.items self.old.queues }
         requires limits { AllLimits K.kinds self.old.uses.items self.old.queues }
         requires burdens { AreBurdens K.kinds self.old.uses.items self.old.burdens }
         requires queued { HaveRoomFor (weight_of K.kinds veneer_uses self.old.uses.items) self.old.queues }
-        ensures gives { (d : _) → GivesAll K.kinds (class K.kinds (slice_index_or self.old.uses.items index d)) (seen self.old) (seen self.new) }
+        ensures gives { GivesAll K.kinds class (seen self.old) (seen self.new) }
         ensures chained { AreChained self.new.uses.items self.new.earlier.items self.new.heads self.new.loads }
         ensures room { SameRoom self.old self.new }
         ensures hold { AllHold K.kinds self.new.uses.items self.new.queues }
@@ -92,10 +100,45 @@ impl<'c, K: MachInstLabelUse> Parts<'c, K> {
         ensures queued { HaveRoomFor (weight_of K.kinds veneer_uses self.new.uses.items) self.new.queues }
     {
         let from = self.uses.len();
-        let class = self.uses[index].class();
-        self.give(index);
+        let added = self.give(index, class);
         self.settle_class(from, class);
-        self.queue_new(from);
+        if let Some(site) = added {
+            queue_use(
+                &mut self.queues,
+                &site,
+                site.waiting_class(),
+                site.limit(),
+                from,
+            );
+        }
+    }
+
+    /// Gives the open use that comes first what it waits for, and keeps what waits then.
+    ///
+    /// Each arm names its class, so that what depends on the class is settled when it is compiled.
+    #[inline(always)]
+    fn serve(&mut self, index: usize)
+        requires ready { IsReady K.kinds self.old index }
+        requires hold { AllHold K.kinds self.old.uses.items self.old.queues }
+        requires limits { AllLimits K.kinds self.old.uses.items self.old.queues }
+        requires burdens { AreBurdens K.kinds self.old.uses.items self.old.burdens }
+        requires queued { HaveRoomFor (weight_of K.kinds veneer_uses self.old.uses.items) self.old.queues }
+        ensures gives { (d : _) → GivesAll K.kinds (classes.class K.kinds (slice_index_or self.old.uses.items index d)) (seen self.old) (seen self.new) }
+        ensures chained { AreChained self.new.uses.items self.new.earlier.items self.new.heads self.new.loads }
+        ensures room { SameRoom self.old self.new }
+        ensures hold { AllHold K.kinds self.new.uses.items self.new.queues }
+        ensures burdens { AreBurdens K.kinds self.new.uses.items self.new.burdens }
+        ensures limits { AllLimits K.kinds self.new.uses.items self.new.queues }
+        ensures queued { HaveRoomFor (weight_of K.kinds veneer_uses self.new.uses.items) self.new.queues }
+    {
+        match self.uses[index].class() {
+            Class::Near => self.serve_as(index, Class::Near),
+            Class::Load => self.serve_as(index, Class::Load),
+            Class::Trapping => self.serve_as(index, Class::Trapping),
+            Class::Middle => self.serve_as(index, Class::Middle),
+            Class::Far => self.serve_as(index, Class::Far),
+            Class::Direct => unreachable!(),
+        }
     }
 
     /// Gives all open uses whose rank is below a limit what they wait for, in the order of islands.
@@ -144,7 +187,8 @@ impl<'c, K: MachInstLabelUse> Parts<'c, K> {
         Ok(())
     }
 
-    /// Begins an island with a jump, whose end is not known yet.
+    /// Begins an island with a jump, whose end is not known yet. That waits for nothing, so it is in no
+    /// queue.
     fn begin_island(&mut self)
         requires short { end_of (seen self.old) + 4 < 2 ^ 31 }
         requires words { vec_len self.old.words < vec_capacity self.old.words }
@@ -166,7 +210,6 @@ impl<'c, K: MachInstLabelUse> Parts<'c, K> {
         ensures islands { self.new.islands ≡ self.old.islands }
     {
         let offset = self.end();
-        let from = self.uses.len();
         self.words.push_reserved(K::jump_word());
         self.push_use(Use {
             offset,
@@ -174,7 +217,6 @@ impl<'c, K: MachInstLabelUse> Parts<'c, K> {
             kind: K::jump_use(),
             stop: None,
         });
-        self.queue_new(from);
     }
 
     /// Ends an island, and lets its jump, the use at an index, lead there.
@@ -193,7 +235,8 @@ impl<'c, K: MachInstLabelUse> Parts<'c, K> {
         ensures capacity { vec_capacity self.new.uses ≡ vec_capacity self.old.uses }
     {
         let end = self.end();
-        self.stop_at(index, end);
+        let class = self.uses[index].waiting_class();
+        self.stop_at(index, end, class);
         self.islands.push_reserved((start, end));
     }
 

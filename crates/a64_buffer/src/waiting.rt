@@ -1,6 +1,6 @@
 //! What is kept of the uses that wait for islands.
 
-ghost use Rattle.std.specs.Prelude.{◌≡◌, ◌+◌, ◌^◌, ◌<◌, ◌≤◌, ◌≢◌, ◌↔◌, ◌++◌, ◌∷◌, [], ℕ, All, IsTrue, OnOk, ◌-◌, length, take, slice_index_or};
+ghost use Rattle.std.specs.Prelude.{◌≡◌, ◌+◌, ◌^◌, ◌<◌, ◌≤◌, ◌≢◌, ◌↔◌, ◌++◌, ◌∷◌, [], ℕ, All, IsTrue, OnOk, length, take, slice_index_or};
 ghost use Rattle.a64_buffer.specs.Buffer.{end_of};
 ghost use Rattle.a64_buffer.specs.Classes.{wants, rank_of, third, veneer_uses, weight_of, burden, owed, Fits};
 ghost use Rattle.a64_buffer.specs.Queues.{IsSameQueue, HaveRoomFor, LoseRoom, HaveRoomForOne, IsWaitingClass, limit_of, IsLimit, AllHold, AllLimits, AreBurdens, AreWaiting};
@@ -9,9 +9,7 @@ ghost use Rattle.a64_buffer.specs.declared.queue.Queue.{Queue};
 use crate::class::Class;
 use crate::label_use::MachInstLabelUse;
 use crate::parts::Parts;
-use crate::queues::{
-    have_room, queue_from, queue_use, reserve_queues, settle_queue, settle_queues,
-};
+use crate::queues::{have_room, queue_use, reserve_queues, settle_queue, settle_queues};
 use crate::site::Use;
 use std::alloc::AllocError;
 
@@ -66,21 +64,6 @@ impl<'c, K: MachInstLabelUse> Parts<'c, K> {
     {
         let none = self.burdens.has_none(class);
         settle_queue(&mut self.queues, &self.uses[..from], class, none);
-    }
-
-    /// Keeps the open uses from an index on.
-    #[inline(always)]
-    pub fn queue_new(&mut self, from: usize)
-        requires from { from ≤ length self.old.uses.items }
-        requires hold { AllHold K.kinds (take from self.old.uses.items) self.old.queues }
-        requires limits { AllLimits K.kinds (take from self.old.uses.items) self.old.queues }
-        requires room { HaveRoomFor (length self.old.uses.items - from) self.old.queues }
-        ensures hold { AllHold K.kinds self.old.uses.items self.new.queues }
-        ensures limits { AllLimits K.kinds self.old.uses.items self.new.queues }
-        ensures room { LoseRoom (length self.old.uses.items - from) self.old.queues self.new.queues }
-        ensures rest { self.new ≡ record self.old { queues = self.new.queues } }
-    {
-        queue_from(&mut self.queues, &self.uses, from);
     }
 
     /// Keeps what waits once an island stands.

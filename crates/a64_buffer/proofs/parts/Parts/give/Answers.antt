@@ -1,20 +1,34 @@
-use Rattle.std.proofs.Common.{sym, ◌∙◌, subst}
-use Rattle.std.proofs.lemmas.List.{get_or_default}
+use Rattle.std.proofs.Common.{◌≡◌, length, sym, ◌∙◌, ap, subst}
 use Rattle.a64_buffer.specs.Classes.{class}
 use Rattle.a64_buffer.specs.Sound.{seen}
-use Rattle.a64_buffer.specs.Steps.{GivesAll, GivesTrap}
-use Rattle.a64_buffer.proofs.Writing.{copy_ready, trap_all}
+use Rattle.a64_buffer.specs.Steps.{stands_at, GivesAll, GivesTrap}
+use Rattle.a64_buffer.proofs.Writing.{stopped_count, copy_ready, copy_count, trap_all}
+use Rattle.a64_buffer.proofs.parts.Parts.give.Goals.{in-Constant, in-Trap}
 use Rattle.a64_buffer.proofs.parts.Parts.give.Goals as goal
 
-pub returns-in-Constant-clause-gives : goal.returns-in-Constant-clause-gives
-returns-in-Constant-clause-gives g c = λ d.
-    let here = c.index-site.ensures ∙ get_or_default c.args.self.now.uses.items c.args.index c.index-site.result.now d c.requires.ready.within in
-    subst (λ u. GivesAll g.K.MachInstLabelUse.kinds (class g.K.MachInstLabelUse.kinds u) (seen c.args.self.now) (seen c.give_copy.new.self)) here
-    (copy_ready g.K.MachInstLabelUse.kinds g.met.K.MachInstLabelUse.lawful c.args.self.now c.args.index c.requires.ready c.index-site.result.now c.index-site.ensures (seen c.give_copy.new.self) c.in-Constant.constant c.in-Constant.is c.give_copy.ensures.gives)
+pub returns-clause-gives : goal.returns-clause-gives
+returns-clause-gives g c =
+    let r = g.K.MachInstLabelUse.kinds in
+    let law = g.met.K.MachInstLabelUse.lawful in
+    let p = c.args.self.now in
+    let u = c.index.result.now in
+    let is_class : class r u ≡ c.args.class = ap (class r) c.index.ensures ∙ c.requires.class u in
+    subst (λ k. GivesAll r k (seen p) (seen c.match-index.self)) is_class
+    (elim c.match-index.branch [
+      | in-Constant w ↦ subst (λ q. GivesAll r (class r u) (seen p) (seen q)) (sym w.self-is)
+          (copy_ready r law p c.args.index c.requires.ready u c.index.ensures (seen w.give_copy.new.self) w.in-Constant.constant w.in-Constant.is w.give_copy.ensures.gives)
+      | in-Trap w ↦ subst (λ q. GivesAll r (class r u) (seen p) (seen q)) (sym w.self-is)
+          (trap_all r law p c.args.index c.requires.ready u c.index.ensures (seen w.give_trap.new.self) w.in-Trap.code w.in-Trap.is
+          (subst (λ v. GivesTrap r v w.in-Trap.code (seen p) (seen w.give_trap.new.self)) (sym c.index.ensures) (w.give_trap.ensures.gives u c.requires.ready.may.sound.apart)))
+    ])
 
-pub returns-in-Trap-clause-gives : goal.returns-in-Trap-clause-gives
-returns-in-Trap-clause-gives g c = λ d.
-    let here = c.index-site.ensures ∙ get_or_default c.args.self.now.uses.items c.args.index c.index-site.result.now d c.requires.ready.within in
-    subst (λ u. GivesAll g.K.MachInstLabelUse.kinds (class g.K.MachInstLabelUse.kinds u) (seen c.args.self.now) (seen c.give_trap.new.self)) here
-    (trap_all g.K.MachInstLabelUse.kinds g.met.K.MachInstLabelUse.lawful c.args.self.now c.args.index c.requires.ready c.index-site.result.now c.index-site.ensures (seen c.give_trap.new.self) c.in-Trap.code c.in-Trap.is
-    (subst (λ u. GivesTrap g.K.MachInstLabelUse.kinds u c.in-Trap.code (seen c.args.self.now) (seen c.give_trap.new.self)) (sym c.index-site.ensures) (c.give_trap.ensures.gives c.index-site.result.now c.requires.ready.may.sound.apart)))
+pub returns-clause-added : goal.returns-clause-added
+returns-clause-added g c =
+    let r = g.K.MachInstLabelUse.kinds in
+    let law = g.met.K.MachInstLabelUse.lawful in
+    let p = c.args.self.now in
+    let u = c.index.result.now in
+    elim c.match-index.branch [
+      | in-Constant w ↦ ap (λ q. length q.uses.items) w.self-is ∙ copy_count r law p c.args.index c.requires.ready u c.index.ensures (seen w.give_copy.new.self) w.in-Constant.constant w.in-Constant.is w.give_copy.ensures.gives
+      | in-Trap w ↦ ap (λ q. length q.uses.items) w.self-is ∙ stopped_count (stands_at _) _ p.uses.items w.give_trap.new.self.uses.items (w.give_trap.ensures.gives u c.requires.ready.may.sound.apart).uses
+    ]

@@ -1,30 +1,30 @@
-use Rattle.std.proofs.Common.{◌≡◌, ◌++◌, ◌∷◌, [], get_or, map, sym, ◌∙◌, ap, subst, arith}
-use Rattle.std.specs.Prelude.{IfSome, IsSome}
+use Rattle.std.proofs.Common.{◌++◌, ◌∷◌, [], get_or, map, sym, ◌∙◌, ap, subst, arith}
+use Rattle.std.specs.Prelude.{IsSome}
 use Rattle.std.specs.FinMap.{get}
-use Rattle.std.proofs.lemmas.List.{get_or_default, append-nil}
-use Rattle.a64_buffer.specs.Buffer.{label_of, stop_of, end_of}
+use Rattle.std.proofs.lemmas.List.{append-nil}
+use Rattle.a64_buffer.specs.declared.site.Target.TheVariants.{Label}
+use Rattle.a64_buffer.specs.Buffer.{stop_of, end_of}
 use Rattle.a64_buffer.specs.Sound.{seen}
 use Rattle.a64_buffer.specs.Steps.{stopped, stands_at}
-use Rattle.a64_buffer.proofs.Stops.{has_head, made_is}
+use Rattle.a64_buffer.proofs.Stops.{head_of_label, made_is}
 use Rattle.a64_buffer.proofs.parts.Parts.give_jump.Goals as goal
 
 pub push_use-requires-clause-known : goal.push_use-requires-clause-known
 push_use-requires-clause-known g c =
-    subst (λ p. IfSome (label_of c.index.result.now.target) (λ label. IsSome (get p.heads label))) (sym c.stop_at.ensures.rest)
-    (has_head c.args.self.now.uses.items c.args.self.now.earlier.items c.args.self.now.heads c.args.index c.index.result.now c.requires.chained.labels c.requires.within c.index.ensures)
+    subst (λ p. IsSome (get p.heads c.args.label.0)) (sym c.stop_at.ensures.rest)
+    (head_of_label c.args.self.now.uses.items c.args.self.now.earlier.items c.args.self.now.heads c.args.index c.args.label g.K.MachInstLabelUse.kinds.jump c.requires.chained.labels c.requires.within c.requires.label)
 
 pub push_use-requires-clause-few : goal.push_use-requires-clause-few
 push_use-requires-clause-few g c = omega (arith, c.requires.few, c.stop_at.ensures.less)
 
 pub returns-clause-gives : goal.returns-clause-gives
 returns-clause-gives g c = λ d apart.
-    let here : c.index.result.now ≡ get_or c.args.self.now.uses.items c.args.index d = c.index.ensures ∙ get_or_default c.args.self.now.uses.items c.args.index c.index.result.now d c.requires.within in
-    let made = made_is g.K.MachInstLabelUse.kinds c.args.self.now.labels c.end-place.result (end_of (seen c.args.self.now)) c.index.result.now.target (get_or c.args.self.now.uses.items c.args.index d).target c.jump_use-2.result g.K.MachInstLabelUse.kinds.jump c.stop_of-stop.result c.end-place.ensures (ap (λ u. u.target) here) c.jump_use-2.ensures (c.stop_of-stop.ensures ∙ ap (λ k. stop_of g.K.MachInstLabelUse.kinds c.args.self.now.labels k c.end-place.result c.index.result.now.target) c.jump_use.ensures) in
+    let made = made_is g.K.MachInstLabelUse.kinds c.args.self.now.labels c.end-place.result (end_of (seen c.args.self.now)) (Label c.args.label) (get_or c.args.self.now.uses.items c.args.index d).target c.jump_use-2.result g.K.MachInstLabelUse.kinds.jump c.stop_of-stop.result c.end-place.ensures (sym (c.requires.label d)) c.jump_use-2.ensures (c.stop_of-stop.ensures ∙ ap (λ k. stop_of g.K.MachInstLabelUse.kinds c.args.self.now.labels k c.end-place.result (Label c.args.label)) c.jump_use.ensures) in
     record {
       words = ap (λ p. p.words.items) c.push_use.ensures.rest ∙ (c.push_reserved.ensures.items ∙ (ap (λ p. p.words.items ++ c.jump_word.result ∷ []) c.stop_at.ensures.rest ∙ ap (λ w. c.args.self.now.words.items ++ w ∷ []) c.jump_word.ensures));
       uses =
           c.push_use.ensures.uses
-          ∙ (ap (λ us. us ++ record { offset = c.end-place.result; target = c.index.result.now.target; kind = c.jump_use-2.result; stop = c.stop_of-stop.result } ∷ [])
+          ∙ (ap (λ us. us ++ record { offset = c.end-place.result; target = Label c.args.label; kind = c.jump_use-2.result; stop = c.stop_of-stop.result } ∷ [])
           (c.stop_at.ensures.uses d apart ∙ ap (λ place. map (stopped (stands_at (get_or c.args.self.now.uses.items c.args.index d).offset) place) c.args.self.now.uses.items) c.end-place.ensures)
           ∙ ap (λ u. map (stopped (stands_at (get_or c.args.self.now.uses.items c.args.index d).offset) (end_of (seen c.args.self.now))) c.args.self.now.uses.items ++ u ∷ []) made);
       labels = ap (λ p. p.labels) c.push_use.ensures.rest ∙ ap (λ p. p.labels) c.stop_at.ensures.rest;

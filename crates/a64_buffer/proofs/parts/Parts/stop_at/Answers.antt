@@ -1,7 +1,8 @@
-use Rattle.std.proofs.Common.{◌≡◌, ◌+◌, List, Some, set, refl, ◌∙◌, ap, arith}
+use Rattle.std.proofs.Common.{◌≡◌, ◌+◌, List, Some, set, refl, sym, ◌∙◌, ap, subst, arith}
 use Rattle.a64_buffer.specs.declared.site.Use.{Use}
 use Rattle.a64_buffer.specs.Chain.{constant_of}
 use Rattle.a64_buffer.specs.Classes.{first, second, third, cost, burden}
+use Rattle.a64_buffer.specs.Queues.{IsWaitingClass}
 use Rattle.a64_buffer.proofs.Queued.{stopped_closed}
 use Rattle.a64_buffer.proofs.Burdens.{stop_burden, stopped_burdens}
 use Rattle.a64_buffer.proofs.Stops.{set_is_map, chained_set}
@@ -17,26 +18,30 @@ returns-clause-chained g c =
 
 pub lose-requires-clause-first : goal.lose-requires-clause-first
 lose-requires-clause-first g c =
+    let waits : IsWaitingClass g.K.MachInstLabelUse.kinds c.index_mut.result.now c.args.class = subst (λ u. IsWaitingClass g.K.MachInstLabelUse.kinds u c.args.class) (sym c.index_mut.ensures.value) (c.requires.class c.index_mut.result.now) in
     let us : List (Use g.row.K.Denot) = c.args.self.now.uses.items in
-    let v : Use g.row.K.Denot = record c.index.result.now { stop = Some c.args.place } in
-    let paid : burden g.K.MachInstLabelUse.kinds first (set us c.args.index v) + cost first c.waiting_class-class.result ≡ burden g.K.MachInstLabelUse.kinds first us = stop_burden g.K.MachInstLabelUse.kinds first us c.args.index c.index.result.now v c.waiting_class-class.result c.requires.index c.index.ensures c.waiting_class-class.ensures (stopped_closed g.K.MachInstLabelUse.kinds v refl) in
+    let v : Use g.row.K.Denot = record c.index_mut.result.now { stop = Some c.args.place } in
+    let paid : burden g.K.MachInstLabelUse.kinds first (set us c.args.index v) + cost first c.args.class ≡ burden g.K.MachInstLabelUse.kinds first us = stop_burden g.K.MachInstLabelUse.kinds first us c.args.index c.index_mut.result.now v c.args.class c.requires.index c.index_mut.ensures.value waits (stopped_closed g.K.MachInstLabelUse.kinds v refl) in
     omega (arith, paid, c.requires.burdens.first_is)
 
 pub lose-requires-clause-second : goal.lose-requires-clause-second
 lose-requires-clause-second g c =
+    let waits : IsWaitingClass g.K.MachInstLabelUse.kinds c.index_mut.result.now c.args.class = subst (λ u. IsWaitingClass g.K.MachInstLabelUse.kinds u c.args.class) (sym c.index_mut.ensures.value) (c.requires.class c.index_mut.result.now) in
     let us : List (Use g.row.K.Denot) = c.args.self.now.uses.items in
-    let v : Use g.row.K.Denot = record c.index.result.now { stop = Some c.args.place } in
-    let paid : burden g.K.MachInstLabelUse.kinds second (set us c.args.index v) + cost second c.waiting_class-class.result ≡ burden g.K.MachInstLabelUse.kinds second us = stop_burden g.K.MachInstLabelUse.kinds second us c.args.index c.index.result.now v c.waiting_class-class.result c.requires.index c.index.ensures c.waiting_class-class.ensures (stopped_closed g.K.MachInstLabelUse.kinds v refl) in
+    let v : Use g.row.K.Denot = record c.index_mut.result.now { stop = Some c.args.place } in
+    let paid : burden g.K.MachInstLabelUse.kinds second (set us c.args.index v) + cost second c.args.class ≡ burden g.K.MachInstLabelUse.kinds second us = stop_burden g.K.MachInstLabelUse.kinds second us c.args.index c.index_mut.result.now v c.args.class c.requires.index c.index_mut.ensures.value waits (stopped_closed g.K.MachInstLabelUse.kinds v refl) in
     omega (arith, paid, c.requires.burdens.second_is)
 
 pub lose-requires-clause-third : goal.lose-requires-clause-third
 lose-requires-clause-third g c =
+    let waits : IsWaitingClass g.K.MachInstLabelUse.kinds c.index_mut.result.now c.args.class = subst (λ u. IsWaitingClass g.K.MachInstLabelUse.kinds u c.args.class) (sym c.index_mut.ensures.value) (c.requires.class c.index_mut.result.now) in
     let us : List (Use g.row.K.Denot) = c.args.self.now.uses.items in
-    let v : Use g.row.K.Denot = record c.index.result.now { stop = Some c.args.place } in
-    let paid : burden g.K.MachInstLabelUse.kinds third (set us c.args.index v) + cost third c.waiting_class-class.result ≡ burden g.K.MachInstLabelUse.kinds third us = stop_burden g.K.MachInstLabelUse.kinds third us c.args.index c.index.result.now v c.waiting_class-class.result c.requires.index c.index.ensures c.waiting_class-class.ensures (stopped_closed g.K.MachInstLabelUse.kinds v refl) in
+    let v : Use g.row.K.Denot = record c.index_mut.result.now { stop = Some c.args.place } in
+    let paid : burden g.K.MachInstLabelUse.kinds third (set us c.args.index v) + cost third c.args.class ≡ burden g.K.MachInstLabelUse.kinds third us = stop_burden g.K.MachInstLabelUse.kinds third us c.args.index c.index_mut.result.now v c.args.class c.requires.index c.index_mut.ensures.value waits (stopped_closed g.K.MachInstLabelUse.kinds v refl) in
     omega (arith, paid, c.requires.burdens.third_is)
 
 pub returns-clause-burdens : goal.returns-clause-burdens
 returns-clause-burdens g c =
+    let waits : IsWaitingClass g.K.MachInstLabelUse.kinds c.index_mut.result.now c.args.class = subst (λ u. IsWaitingClass g.K.MachInstLabelUse.kinds u c.args.class) (sym c.index_mut.ensures.value) (c.requires.class c.index_mut.result.now) in
     let v : Use g.row.K.Denot = record c.index_mut.result.now { stop = Some c.args.place } in
-    stopped_burdens g.K.MachInstLabelUse.kinds c.args.self.now.uses.items c.args.index c.index.result.now v c.waiting_class-class.result c.args.self.now.burdens c.lose.new.self c.requires.index c.index.ensures c.waiting_class-class.ensures (stopped_closed g.K.MachInstLabelUse.kinds v refl) c.requires.burdens c.lose.ensures.first c.lose.ensures.second c.lose.ensures.third
+    stopped_burdens g.K.MachInstLabelUse.kinds c.args.self.now.uses.items c.args.index c.index_mut.result.now v c.args.class c.args.self.now.burdens c.lose.new.self c.requires.index c.index_mut.ensures.value waits (stopped_closed g.K.MachInstLabelUse.kinds v refl) c.requires.burdens c.lose.ensures.first c.lose.ensures.second c.lose.ensures.third
