@@ -5,7 +5,7 @@
 # its code. The other tests have no second tries, and fail where they are refused.
 set -eu
 cd "$(dirname "$0")/../crates/a64_buffer"
-calls=${1:-17}
+calls=${1:-18}
 record_calls=5
 for call in $(seq "$calls"); do
     said=$(rt try --test --fail-alloc "$call" 2>&1) || true

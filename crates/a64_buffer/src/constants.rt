@@ -6,6 +6,7 @@ ghost use Rattle.a64_buffer.specs.Constants as constants;
 ghost use Rattle.a64_buffer.specs.Constants.{IsConstant, inserted};
 
 use a64_base::VCodeConstant;
+use a64_label_map::LabelMap;
 use a64_list::ListVec;
 use std::alloc::{AllocError, Global};
 use std::collections::BTreeMap;
@@ -14,7 +15,10 @@ use std::marker::Model;
 /// The constants that code may load, by their numbers.
 #[derive(Drop)]
 pub struct Constants {
+    /// The bytes of each.
     bytes: BTreeMap<u32, ListVec<u8>>,
+    /// How many bytes each has, so that a load of one costs a step of a table.
+    sizes: LabelMap<u32>,
     /// Where memory comes from.
     alloc: Global,
 }
@@ -24,7 +28,7 @@ impl Model for Constants {
     ghost use Rattle.std.specs.Ordering.{nat_cmp};
     ghost use Rattle.std.specs.FinMap.{FinMap, from_entries, code};
     ghost use Rattle.std.specs.Coded.{coded_ℕ, coded_list};
-    ghost use Rattle.a64_buffer.specs.Constants.{AreConstants};
+    ghost use Rattle.a64_buffer.specs.Constants.{HaveSizes};
 
     ghost Value = { FinMap nat_cmp (List ℕ) };
 
@@ -32,7 +36,7 @@ impl Model for Constants {
 
     ghost view = { λ c. from_entries c.bytes.entries };
 
-    ghost invariant = { λ c. AreConstants (from_entries c.bytes.entries) };
+    ghost invariant = { λ c. HaveSizes (from_entries c.bytes.entries) c.sizes };
 }
 
 impl Constants {
@@ -42,6 +46,7 @@ impl Constants {
     {
         Constants {
             bytes: BTreeMap::new(alloc),
+            sizes: LabelMap::new(alloc),
             alloc,
         }
     }
@@ -58,13 +63,19 @@ impl Constants {
         ensures ok { OnOk result (self.new ≡ inserted self.old constant.0 bytes.now) }
         ensures err { OnErr result (self.new ≡ self.old) }
     {
-        if self.bytes.contains_key(&constant.0) {
+        if self.sizes.contains(constant.0) {
             return Ok(false);
         }
         let mut items = Vec::new(self.alloc);
         items.extend_from_slice(bytes)?;
         self.bytes.insert(constant.0, ListVec::from_vec(items))?;
-        Ok(true)
+        match self.sizes.insert(constant.0, bytes.len() as u32) {
+            Ok(_) => Ok(true),
+            Err(error) => {
+                self.bytes.remove(&constant.0);
+                Err(error)
+            }
+        }
     }
 
     /// The bytes of a constant; `None` where its number has none.
@@ -87,12 +98,10 @@ impl Constants {
     }
 
     /// How many bytes a constant has; `None` where its number has none.
+    #[inline(always)]
     pub fn size_of(&self, constant: VCodeConstant) -> Option<u32>
         ensures { result ≡ option_map length (map.get self.now constant.0) }
     {
-        match self.bytes_of(constant) {
-            Some(bytes) => Some(bytes.len() as u32),
-            None => None,
-        }
+        self.sizes.get(constant.0)
     }
 }

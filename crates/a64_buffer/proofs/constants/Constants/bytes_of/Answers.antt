@@ -11,7 +11,7 @@ returns-in-Some-clause-is c =
 
 pub returns-in-Some-clause-sized : goal.returns-in-Some-clause-sized
 returns-in-Some-clause-sized c =
-    subst (λ o. IfSome o IsConstant) (at_others [] c.self.inside.bytes c.args.constant.0 (omega arith) ∙ (sym c.in-Some.ensures.value ∙ ap (λ b. Some b) (sym c.as_slice.ensures))) (c.self.invariant c.args.constant.0)
+    subst (λ o. IfSome o IsConstant) (at_others [] c.self.inside.bytes c.args.constant.0 (omega arith) ∙ (sym c.in-Some.ensures.value ∙ ap (λ b. Some b) (sym c.as_slice.ensures))) (c.self.invariant.are c.args.constant.0)
 
 pub returns-in-None-clause-is : goal.returns-in-None-clause-is
 returns-in-None-clause-is c = c.in-None.ensures.value ∙ (sym (at_others [] c.self.inside.bytes c.args.constant.0 (omega arith)) ∙ ap (λ m. get m c.args.constant.0) c.self.view_is)
