@@ -1,6 +1,6 @@
 //! The open uses of all ranks, each in the queue of its rank.
 
-ghost use Rattle.std.specs.Prelude.{◌≡◌, ◌≢◌, ◌⊎◌, ◌-◌, ◌^◌, ◌<◌, ◌≤◌, ◌↔◌, ◌++◌, ◌∷◌, [], ℕ, true, IsTrue, OnOk, None, length, take, slice_index_or};
+ghost use Rattle.std.specs.Prelude.{◌≡◌, ◌≢◌, ◌⊎◌, ◌-◌, ◌^◌, ◌<◌, ◌≤◌, ◌↔◌, ◌++◌, ◌∷◌, [], ℕ, true, IsTrue, OnOk, None, length, slice_index_or};
 ghost use Rattle.std.specs.BinaryHeap.{IsHeap};
 ghost use Rattle.a64_buffer.specs.Classes.{wants, rank_of};
 ghost use Rattle.a64_buffer.specs.Queues.{entry_cmp, entries, IsSameQueue, HaveRoomFor, LoseRoom, HaveRoomForOne, ReachLimits, IsFoundBelow, NoneWaits, IsWaitingClass, limit_of, IsLimit, AllHold, AllLimits};
@@ -71,23 +71,6 @@ pub fn queue_use<K: MachInstLabelUse>(
 {
     if class.wants() {
         queues[class.rank() as usize].add(limit, index);
-    }
-}
-
-/// Puts the open uses from an index on into their queues.
-#[inline(always)]
-pub fn queue_from<K: MachInstLabelUse>(queues: &mut [Queue; 5], uses: &[Use<K>], from: usize)
-    requires from { from ≤ length uses.now }
-    requires hold { AllHold K.kinds (take from uses.now) queues.old }
-    requires limits { AllLimits K.kinds (take from uses.now) queues.old }
-    requires room { HaveRoomFor (length uses.now - from) queues.old }
-    ensures hold { AllHold K.kinds uses.now queues.new }
-    ensures limits { AllLimits K.kinds uses.now queues.new }
-    ensures room { LoseRoom (length uses.now - from) queues.old queues.new }
-{
-    for index in from..uses.len() {
-        let site = &uses[index];
-        queue_use(queues, site, site.waiting_class(), site.limit(), index);
     }
 }
 
