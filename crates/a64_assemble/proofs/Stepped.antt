@@ -30,12 +30,18 @@ use Rattle.a64_emit.specs.Bounds.{asked_of}
 use Rattle.a64_emit.specs.Emission.{uses_from, appended, HasRoom, CellsFit, IsReady, Puts, Emits}
 use Rattle.a64_assemble.specs.Elements.{Element, Words, Asking, element_of, next_room, room_of}
 use Rattle.a64_assemble.specs.Asks.{AsksNext, PutsWords, MayMove, Moves, HasNextRoom, NeedsNone}
+use Rattle.a64_assemble.proofs.Later.{longer}
 use Rattle.a64_assemble.proofs.Moving.{appended_none, words_fit, put_owed}
 
 -- what a success says, said otherwise
 pub on_ok : {T E A B : Type 0} → (r : Result T E) → (A → B) → OnOk r A → OnOk r B
 on_ok (Ok x) f h = f h
 on_ok (Err e) f h = tt
+
+-- the same of two things that it says
+pub both_ok : {T E A B C : Type 0} → (r : Result T E) → (A → B → C) → OnOk r A → OnOk r B → OnOk r C
+both_ok (Ok x) f h k = f h k
+both_ok (Err e) f h k = tt
 
 -- ---- words
 
@@ -57,9 +63,14 @@ module _ (force : ForceVeneers) (rest : List Element) (b : Buffer LabelUse) wher
   island_short [] m may e ne = absurd (ne (ap (λ (v : Buffer LabelUse). end_of v) (e ∙ appended_none b)))
   island_short (c ∷ cs) m may e ne = subst (λ (v : Buffer LabelUse). end_of v + owed label_kinds v + 4 < 2 ^ 31) (sym e) (let z = put_owed b (c ∷ cs) in omega (arith, z, may.short))
 
-  pub words_put : (cells : List Cell) (m b' : Buffer LabelUse) (o : Option ℕ) → m ≡ appended b cells → end_of m ≢ end_of b → o ≡ next_room rest → AsksNext force o m b' → PutsWords force cells rest b b'
-  words_put [] m b' o e ne room a = absurd (ne (ap (λ (v : Buffer LabelUse). end_of v) (e ∙ appended_none b)))
-  words_put (c ∷ cs) m b' o e ne room a = subst (λ o. AsksNext force o (appended b (c ∷ cs)) b') room (subst (λ (v : Buffer LabelUse). AsksNext force o v b') e a)
+  -- where the end moved, there are words, and the room was asked for that is needed next; else nothing came
+  pub words_put : (cells : List Cell) (m b' : Buffer LabelUse) (start : ℕ) → m ≡ appended b cells → start ≡ end_of b → (start ≡ end_of m → b' ≡ m) → (start ≢ end_of m → AsksNext force (next_room rest) m b') → PutsWords force cells rest b b'
+  words_put [] m b' start e at without behind =
+      let same : m ≡ b = e ∙ appended_none b in
+      without (at ∙ sym (ap (λ (v : Buffer LabelUse). end_of v) same)) ∙ same
+  words_put (c ∷ cs) m b' start e at without behind =
+      subst (λ (v : Buffer LabelUse). AsksNext force (next_room rest) v b') e
+      (behind (λ same. omega (arith, at, same, ap (λ (v : Buffer LabelUse). end_of v) e, longer b (c ∷ cs))))
 
   -- words behind which there is room for what follows ask for no island
   pub quiet_put : (cells : List Cell) (m : Buffer LabelUse) → m ≡ appended b cells → IsWhole label_kinds m → HasNextRoom cells rest b → PutsWords force cells rest b m

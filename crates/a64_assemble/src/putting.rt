@@ -1,16 +1,19 @@
 //! Items in a buffer that writes islands.
 
-ghost use Rattle.std.specs.Prelude.{◌≡◌, ◌^◌, ◌<◌, ◌≤◌, true, false, None, [], IfOk, OnOk};
+ghost use Rattle.std.specs.Prelude.{◌≡◌, ◌≢◌, ◌+◌, ◌^◌, ◌<◌, ◌≤◌, true, false, None, [], IfOk, OnOk};
 ghost use Rattle.std.specs.FinMap.{empty};
 ghost use Rattle.a64_inst.specs.declared.item.Item.TheVariants.{Emit};
 ghost use Rattle.a64_inst.specs.declared.virtuals.VirtualRegisters.TheVariants.{Refused};
 ghost use Rattle.a64_inst.specs.Faults.{inst_fault};
-ghost use Rattle.a64_buffer.specs.Buffer.{no_records};
+ghost use Rattle.a64_buffer.specs.Buffer.{end_of, no_records};
+ghost use Rattle.a64_buffer.specs.Classes.{owed};
 ghost use Rattle.a64_emit.specs.Bounds as bounds;
 ghost use Rattle.a64_emit.specs.Bounds.{whole};
 ghost use Rattle.a64_emit.specs.Faults.{item_fault, own_fault, second_binding};
-ghost use Rattle.a64_assemble.specs.Asks.{MayMove, Moves, NeedsNone};
-ghost use Rattle.a64_assemble.specs.Elements.{BoundsRooms, element_of, elements_of, room_of};
+ghost use Rattle.a64_emit.specs.LabelUses.{label_kinds};
+ghost use Rattle.a64_assemble.specs.Asks.{AsksNext, MayMove, Moves, NeedsNone};
+ghost use Rattle.a64_assemble.specs.Elements as elements;
+ghost use Rattle.a64_assemble.specs.Elements.{BoundsRooms, element_of, elements_of, room_of, whole_in};
 ghost use Rattle.a64_assemble.specs.Made.{HasPutAll};
 ghost use Rattle.a64_assemble.specs.Progress.{AreQuiet};
 
@@ -18,7 +21,7 @@ use crate::ahead::next_room;
 use crate::asking::ask;
 use a64_buffer::{ForceVeneers, MachBuffer};
 use a64_emit::{LabelUse, MachInstEmit, asked_space};
-use a64_inst::{EmitInfo, EmitState, Inst, Item};
+use a64_inst::{EmitInfo, EmitState, FrameLayout, Inst, Item};
 use std::alloc::{AllocError, Global};
 
 /// Emits an instruction at the end of a buffer; where it has words, an island comes behind them where the
@@ -50,17 +53,39 @@ fn put_inst(
 {
     let start = buffer.cur_offset();
     inst.emit(buffer, info, state)?;
-    let end = buffer.cur_offset();
-    if quiet {
+    let _end = buffer.cur_offset();
+    if quiet || !buffer.island_needed(widest) {
         return Ok(());
     }
-    if end == start {
+    ask_behind(start, rest, buffer, info, state.frame_layout(), force)
+}
+
+/// Writes an island behind the words that begin at `start`, a place in bytes from the start of the code,
+/// where the next words need one. An island that comes gives veneers to all far uses where `force` says
+/// so, else by need. None comes where no word was put behind `start`, nor where no words follow. Stands out
+/// of line, since few instructions come so near to what an open use reaches.
+///
+/// # Errors
+///
+/// Want of memory.
+#[inline(never)]
+fn ask_behind(
+    start: u32,
+    rest: &[Item],
+    buffer: &mut MachBuffer<'_, LabelUse>,
+    info: &EmitInfo,
+    frame: &FrameLayout,
+    force: ForceVeneers,
+) -> Result<(), AllocError>
+    requires whole { whole_in (elements_of frame.now info.now rest.now) < 2 ^ 31 }
+    requires short { start ≢ end_of buffer.old → end_of buffer.old + owed label_kinds buffer.old + 4 < 2 ^ 31 }
+    ensures without { OnOk result (start ≡ end_of buffer.old → buffer.new ≡ buffer.old) }
+    ensures behind { OnOk result (start ≢ end_of buffer.old → AsksNext force (elements.next_room (elements_of frame.now info.now rest.now)) buffer.old buffer.new) }
+{
+    if buffer.cur_offset() == start {
         return Ok(());
     }
-    if !buffer.island_needed(widest) {
-        return Ok(());
-    }
-    match next_room(rest, state.frame_layout(), info) {
+    match next_room(rest, frame, info) {
         Some(distance) => ask(buffer, distance, ForceVeneers::No, force),
         None => Ok(()),
     }
