@@ -12,3 +12,4 @@ pub mod HexPairs
 pub mod SectionLists
 pub mod Overlaps
 pub mod KeptLines
+pub mod LineRuns

@@ -2,6 +2,7 @@
 use Rattle.std.specs.Prelude.{ℕ, ◌≡◌, ◌+◌, ◌/◌, ◌%◌, ◌^◌, ◌<◌, ◌≤◌, List, [], ◌∷◌, ◌++◌, drop, length, codes}
 use Rattle.std.specs.Fmt.{decimal}
 use Rattle.std.specs.List.{flat_map, enumerate_from}
+use Rattle.a64_cli.specs.declared.hundred.Hundred.{Hundred}
 use Rattle.a64_cli.specs.Report.{hex_word, item_line, word_line, words_in}
 
 -- the two digits of a number below 100
@@ -25,6 +26,11 @@ pub record KeepsItem (buffer : List ℕ) (start index_end index place : ℕ) : T
   pub index_fits : index < 2 ^ 64
   pub place_fits : place < 2 ^ 64
 
+-- the line of some item of two hundreds stands there
+abbrev pub KeepsItemOf : List ℕ → ℕ → ℕ → Hundred → Hundred → Type 0
+KeepsItemOf buffer start index_end like hundred =
+    (index : ℕ) × (place : ℕ) × KeepsItem buffer start index_end index place × Shares like.first like.span index × Shares hundred.first hundred.span place
+
 -- the line of a word of code with its place
 abbrev pub placed_word : ℕ → ℕ → List ℕ
 placed_word place word = codes "word " ++ decimal place ++ codes " " ++ hex_word word ++ codes "\n"
@@ -38,6 +44,10 @@ pub record KeepsWord (buffer : List ℕ) (start place word : ℕ) : Type 0 where
   pub begins : 16 ≤ start
   pub low : start ≤ 54
   pub fits : place < 2 ^ 64
+
+-- the line of this word at some place of a hundred stands there
+abbrev pub KeepsWordOf : List ℕ → ℕ → Hundred → ℕ → Type 0
+KeepsWordOf buffer start like word = (place : ℕ) × KeepsWord buffer start place word × Shares like.first like.span place
 
 -- the lines of the items from the one with this index on
 abbrev pub item_lines : List ℕ → ℕ → List ℕ

@@ -31,6 +31,24 @@ impl Hundred {
         }
     }
 
+    /// The first of them.
+    #[inline(always)]
+    pub fn first(self) -> u64
+        ensures { result ≡ self.first }
+    {
+        self.first
+    }
+
+    /// How many of them there are from this number on: none, where it is not one of them.
+    #[inline(always)]
+    pub fn count_from(self, number: u64) -> u64
+        requires { self.first + self.span < 2 ^ 64 }
+        ensures some { 0 < result → (self.first ≤ number) × (number + result ≡ self.first + self.span) }
+        ensures all { self.first ≤ number → number ≤ self.first + self.span → number + result ≡ self.first + self.span }
+    {
+        self.span.saturating_sub(number.wrapping_sub(self.first))
+    }
+
     /// How far the number is behind the first of them, where it is one of them.
     #[inline(always)]
     pub fn offset_of(self, number: u64) -> Option<u64>

@@ -3,9 +3,11 @@
 //! A line stands in its buffer with its end at `END`, so that what is written anew stands mostly at the
 //! same place.
 
-ghost use Rattle.std.specs.Prelude.{◌≡◌, ◌+◌, ◌-◌, ◌≤◌, ◌++◌, ℕ, List, drop, take, length};
-ghost use Rattle.a64_cli.specs.Report.{item_line};
-ghost use Rattle.a64_cli.specs.Kept.{Shares, KeepsItem, KeepsWord, placed_word};
+ghost use Rattle.std.specs.Prelude.{◌≡◌, ◌+◌, ◌-◌, ◌*◌, ◌/◌, ◌%◌, ◌<◌, ◌≤◌, ◌++◌, ℕ, List, drop, take, length, map};
+ghost use Rattle.std.specs.Int.{w32, from_le_bytes};
+ghost use Rattle.std.specs.List.{flat_map, enumerate_from};
+ghost use Rattle.a64_cli.specs.Report.{item_line, word_line};
+ghost use Rattle.a64_cli.specs.Kept.{Shares, KeepsItem, KeepsWord, KeepsItemOf, KeepsWordOf, placed_word};
 
 use crate::hundred::{Hundred, write_last};
 use crate::line::{LineBuffer, SIZE, put_decimal, put_hex, put_text};
@@ -92,32 +94,120 @@ impl ItemLine {
         self.place = Hundred::of(u64::from(place));
     }
 
-    /// Makes it the line of this item.
+    /// Copies the lines of the items from the one with this index on into a text, behind what stands there up to
+    /// `at`: one at least, and as many more as there is room for, while they differ in the last two digits of
+    /// their numbers alone. Answers how many, and where they end. It is left the line of some item.
     #[inline(always)]
-    pub fn set(&mut self, index: u64, place: u32)
-        ensures { self.new ≡ item_line (index, place) }
-    {
-        let number = u64::from(place);
-        match (self.index.offset_of(index), self.place.offset_of(number)) {
-            (Some(index), Some(place)) => {
-                write_last(&mut self.buffer, self.index_end, index);
-                write_last(&mut self.buffer, END - 1, place);
-            }
-            _ => self.compose(index, place),
-        }
-    }
-
-    /// Copies it into a text, behind what stands there up to `at`, and answers where it ends, at most
-    /// 48 bytes on.
-    #[inline(always)]
-    pub fn copy_to(&self, text: &mut [u8], at: usize) -> usize
-        requires { at + 48 ≤ length text.old }
+    pub fn copy_from(
+        &mut self,
+        index: u64,
+        places: &[u32],
+        text: &mut [u8],
+        at: usize,
+    ) -> (usize, usize)
+        requires some { 0 < length places.now }
+        requires room { at + 48 ≤ length text.old }
         ensures long { length text.new ≡ length text.old }
-        ensures few { result ≤ at + 48 }
-        ensures copied { take result text.new ≡ take at text.old ++ self.now }
+        ensures few { result.1 ≤ length text.old }
+        ensures within { (1 ≤ result.0) × (result.0 ≤ length places.now) }
+        ensures copied { take result.1 text.new ≡ take at text.old ++ flat_map item_line (enumerate_from index (take result.0 places.now)) }
     {
-        copy_kept(&self.buffer, self.start, text, at)
+        let like = self.index.count_from(index) as usize;
+        let room = (text.len() - at) / SHORT;
+        let count = like.min(room).min(places.len());
+        if count > 0 {
+            let done = copy_items(
+                &mut self.buffer,
+                self.start,
+                self.index_end,
+                index,
+                self.index,
+                self.place,
+                &places[..count],
+                text,
+                at,
+            );
+            if done.0 > 0 {
+                return done;
+            }
+        }
+        self.compose(index, places[0]);
+        (1, copy_kept(&self.buffer, self.start, text, at))
     }
+}
+
+/// Copies the lines of the items from the one with this index on into a text, behind what stands there up to
+/// `at`, while their places are of a hundred; their indices are. The kept line is of an item of both hundreds, and
+/// is left of one. Answers how many lines, and where they end.
+#[inline(always)]
+fn copy_items(
+    line: &mut LineBuffer,
+    start: usize,
+    index_end: usize,
+    index: u64,
+    like: Hundred,
+    hundred: Hundred,
+    places: &[u32],
+    text: &mut [u8],
+    at: usize,
+) -> (usize, usize)
+    requires kept { KeepsItemOf line.old start index_end like hundred }
+    requires near { (like.first ≤ index) × (index + length places.now ≤ like.first + like.span) }
+    requires room { at + 48 * length places.now ≤ length text.old }
+    ensures kept { KeepsItemOf line.new start index_end like hundred }
+    ensures long { length text.new ≡ length text.old }
+    ensures few { (result.0 ≤ length places.now) × (result.1 ≤ length text.old) }
+    ensures copied { take result.1 text.new ≡ take at text.old ++ flat_map item_line (enumerate_from index (take result.0 places.now)) }
+{
+    let offset = index - like.first();
+    let mut at = at;
+    for (i, place) in places.iter().enumerate() {
+        let Some(place) = hundred.offset_of(u64::from(*place)) else {
+            return (i, at);
+        };
+        write_last(line, index_end, offset + i as u64);
+        write_last(line, END - 1, place);
+        at = copy_kept(line, start, text, at);
+    }
+    (places.len(), at)
+}
+
+/// Copies the lines of the words from the one at this place on into a text, behind what stands there up to `at`.
+/// Their places are of a hundred. The kept line is of a word whose place is one of it, and is left of one. Answers
+/// the word of that line, and where the lines end.
+#[inline(always)]
+fn copy_words(
+    line: &mut LineBuffer,
+    start: usize,
+    word: u32,
+    place: u64,
+    like: Hundred,
+    words: &[[u8; 4]],
+    text: &mut [u8],
+    at: usize,
+) -> (u32, usize)
+    requires kept { KeepsWordOf line.old start like word }
+    requires whole { place % 4 ≡ 0 }
+    requires near { (like.first ≤ place) × (place + 4 * length words.now < like.first + like.span + 4) }
+    requires room { at + 48 * length words.now ≤ length text.old }
+    ensures kept { KeepsWordOf line.new start like result.0 }
+    ensures long { length text.new ≡ length text.old }
+    ensures few { result.1 ≤ length text.old }
+    ensures copied { take result.1 text.new ≡ take at text.old ++ flat_map word_line (enumerate_from (place / 4) (map (from_le_bytes w32) words.now)) }
+{
+    let offset = place - like.first();
+    let mut at = at;
+    let mut word = word;
+    for (i, bytes) in words.iter().enumerate() {
+        write_last(line, PLACE_END, offset + 4 * i as u64);
+        let next = u32::from_le_bytes(*bytes);
+        if next != word {
+            put_hex(line, END - 1, next);
+            word = next;
+        }
+        at = copy_kept(line, start, text, at);
+    }
+    (word, at)
 }
 
 /// Composes the line of a word, and answers where it begins.
@@ -173,31 +263,43 @@ impl WordLine {
         self.word = word;
     }
 
-    /// Makes it the line of the word at this place.
+    /// Copies the lines of the words from the one at this place on into a text, behind what stands there up to
+    /// `at`: one at least, and as many more as there is room for, while their places differ in the last two
+    /// digits alone. Answers how many, and where they end. It is left the line of some word.
     #[inline(always)]
-    pub fn set(&mut self, place: u64, word: u32)
-        ensures { self.new ≡ placed_word place word }
-    {
-        let Some(offset) = self.place.offset_of(place) else {
-            self.compose(place, word);
-            return;
-        };
-        write_last(&mut self.buffer, PLACE_END, offset);
-        if word != self.word {
-            put_hex(&mut self.buffer, END - 1, word);
-            self.word = word;
-        }
-    }
-
-    /// Copies it into a text, behind what stands there up to `at`, and answers where it ends, at most
-    /// 48 bytes on.
-    #[inline(always)]
-    pub fn copy_to(&self, text: &mut [u8], at: usize) -> usize
-        requires { at + 48 ≤ length text.old }
+    pub fn copy_from(
+        &mut self,
+        place: u64,
+        words: &[[u8; 4]],
+        text: &mut [u8],
+        at: usize,
+    ) -> (usize, usize)
+        requires whole { place % 4 ≡ 0 }
+        requires some { 0 < length words.now }
+        requires room { at + 48 ≤ length text.old }
         ensures long { length text.new ≡ length text.old }
-        ensures few { result ≤ at + 48 }
-        ensures copied { take result text.new ≡ take at text.old ++ self.now }
+        ensures few { result.1 ≤ length text.old }
+        ensures within { (1 ≤ result.0) × (result.0 ≤ length words.now) }
+        ensures copied { take result.1 text.new ≡ take at text.old ++ flat_map word_line (enumerate_from (place / 4) (map (from_le_bytes w32) (take result.0 words.now))) }
     {
-        copy_kept(&self.buffer, self.start, text, at)
+        let like = self.place.count_from(place).div_ceil(4) as usize;
+        let room = (text.len() - at) / SHORT;
+        let count = like.min(room).min(words.len());
+        if count > 0 {
+            let (word, end) = copy_words(
+                &mut self.buffer,
+                self.start,
+                self.word,
+                place,
+                self.place,
+                &words[..count],
+                text,
+                at,
+            );
+            self.word = word;
+            return (count, end);
+        }
+        self.compose(place, u32::from_le_bytes(words[0]));
+        (1, copy_kept(&self.buffer, self.start, text, at))
     }
 }

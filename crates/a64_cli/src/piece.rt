@@ -179,12 +179,13 @@ fn fill_items(
     ensures next { len + 48 ≤ 65536 → from < length places.now → from < result.0 }
     ensures filled { take result.1 text.new ++ item_lines places.now result.0 ≡ take len text.old ++ item_lines places.now from }
 {
+    let text = &mut text[..SIZE];
     let mut at = len;
     let mut index = from;
     while index < places.len() && at <= SIZE - SHORT {
-        line.set(index as u64, places[index]);
-        at = line.copy_to(text, at);
-        index += 1;
+        let (count, end) = line.copy_from(index as u64, &places[index..], text, at);
+        index += count;
+        at = end;
     }
     (index, at)
 }
@@ -209,18 +210,14 @@ fn fill_words(
     ensures next { len + 48 ≤ 65536 → from + 4 ≤ length code.now → from < result.0 }
     ensures filled { take result.1 text.new ++ word_lines code.now result.0 ≡ take len text.old ++ word_lines code.now from }
 {
+    let text = &mut text[..SIZE];
     let mut at = len;
     let mut place = from;
     while place + 4 <= code.len() && at <= SIZE - SHORT {
-        let word = u32::from_le_bytes([
-            code[place],
-            code[place + 1],
-            code[place + 2],
-            code[place + 3],
-        ]);
-        line.set(place as u64, word);
-        at = line.copy_to(text, at);
-        place += 4;
+        let (words, _) = code[place..].as_chunks::<4>();
+        let (count, end) = line.copy_from(place as u64, words, text, at);
+        place += 4 * count;
+        at = end;
     }
     (place, at)
 }
