@@ -1,14 +1,12 @@
 -- Lines that are kept, and digits in them that are written anew.
-use Rattle.std.proofs.Common.{◌≡◌, ℕ, ◌+◌, ◌-◌, ◌*◌, ◌/◌, ◌%◌, ◌^◌, ◌<◌, ◌≤◌, List, [], ◌∷◌, ◌++◌, length, take, drop, get_or, refl, sym, ap, ◌∙◌, arith, codes, append_assoc, length-append, length-drop, take-append-drop}
-use Rattle.std.proofs.lemmas.List.{drop-drop, drop_more, length-take-le, drop-append-le, drop-take}
+use Rattle.std.proofs.Common.{◌≡◌, ℕ, ◌+◌, ◌-◌, ◌*◌, ◌/◌, ◌%◌, ◌^◌, ◌<◌, ◌≤◌, List, [], ◌∷◌, ◌++◌, length, take, drop, refl, sym, ap, ◌∙◌, arith, codes, append_assoc, length-append, length-drop, take-append-drop}
+use Rattle.std.proofs.lemmas.List.{drop-drop, length-take-le, drop-append-le, drop-take}
 use Rattle.std.proofs.lemmas.Fmt.{length-decimal-le}
 use lib.Seq.{drop_at, take_at}
 use Rattle.itoa.proofs.Decimal.{decimal_pair}
 use Rattle.std.specs.Fmt.{decimal}
-use Rattle.std.specs.Int.{w32, from_le_bytes}
 use Rattle.a64_cli.specs.Report.{item_line, word_line, words_in, hex_word}
-use Rattle.std.specs.List.{flat_map, enumerate_from}
-use Rattle.a64_cli.specs.Kept.{last_digits, Shares, KeepsItem, KeepsWord, placed_word, word_lines}
+use Rattle.a64_cli.specs.Kept.{last_digits, Shares, KeepsItem, KeepsWord, placed_word}
 
 -- a list keeps its text, and has another end
 pub ends_anew : (start m : ℕ) (xs was text ys : List ℕ) → start ≤ length xs → length xs ≡ m + length was → drop start xs ≡ text ++ was
@@ -231,19 +229,6 @@ word_line_of place word h =
     let four : place ≡ 4 * (place / 4) = omega (arith, h) in
     ap (λ n. placed_word n word) four
 
--- the words from a place on are the one there and those of the next place on
-pub words_step : (code : List ℕ) (place : ℕ) → place + 4 ≤ length code
-    → words_in (drop place code) ≡ from_le_bytes w32 (get_or code place 0 ∷ get_or code (place + 1) 0 ∷ get_or code (place + 2) 0 ∷ get_or code (place + 3) 0 ∷ []) ∷ words_in (drop (place + 4) code)
-words_step code place h =
-    let one : place + 1 + 1 ≡ place + 2 = omega arith in
-    let two : place + 2 + 1 ≡ place + 3 = omega arith in
-    let three : place + 3 + 1 ≡ place + 4 = omega arith in
-    let first = drop_more code place 0 (omega arith) in
-    let second = drop_more code (place + 1) 0 (omega arith) ∙ ap (λ k. get_or code (place + 1) 0 ∷ drop k code) one in
-    let third = drop_more code (place + 2) 0 (omega arith) ∙ ap (λ k. get_or code (place + 2) 0 ∷ drop k code) two in
-    let fourth = drop_more code (place + 3) 0 (omega arith) ∙ ap (λ k. get_or code (place + 3) 0 ∷ drop k code) three in
-    ap words_in (first ∙ ap (λ t. get_or code place 0 ∷ t) (second ∙ ap (λ t. get_or code (place + 1) 0 ∷ t) (third ∙ ap (λ t. get_or code (place + 2) 0 ∷ t) fourth)))
-
 -- fewer than four bytes hold no word
 pub no_words : (bytes : List ℕ) → length bytes < 4 → words_in bytes ≡ []
 no_words [] h = refl
@@ -251,15 +236,3 @@ no_words (a ∷ []) h = refl
 no_words (a ∷ b ∷ []) h = refl
 no_words (a ∷ b ∷ c ∷ []) h = refl
 no_words (a ∷ b ∷ c ∷ d ∷ bytes) h = absurd (omega arith)
-
--- the lines of the words from a place on are that of the word there and those of the next place on
-pub word_lines_step : (code : List ℕ) (place word : ℕ) → place + 4 ≤ length code → place % 4 ≡ 0
-    → word ≡ from_le_bytes w32 (get_or code place 0 ∷ get_or code (place + 1) 0 ∷ get_or code (place + 2) 0 ∷ get_or code (place + 3) 0 ∷ [])
-    → word_lines code place ≡ placed_word place word ++ word_lines code (place + 4)
-word_lines_step code place word h whole is =
-    let rest = words_in (drop (place + 4) code) in
-    let next : place / 4 + 1 ≡ (place + 4) / 4 = omega arith in
-    ap (λ ws. flat_map word_line (enumerate_from (place / 4) ws)) (words_step code place h)
-    ∙ ap (λ w. word_line (place / 4, w) ++ flat_map word_line (enumerate_from (place / 4 + 1) rest)) (sym is)
-    ∙ ap (λ t. t ++ flat_map word_line (enumerate_from (place / 4 + 1) rest)) (sym (word_line_of place word whole))
-    ∙ ap (λ n. placed_word place word ++ flat_map word_line (enumerate_from n rest)) next

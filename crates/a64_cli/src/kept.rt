@@ -7,7 +7,7 @@ ghost use Rattle.std.specs.Prelude.{◌≡◌, ◌+◌, ◌-◌, ◌*◌, ◌/�
 ghost use Rattle.std.specs.Int.{w32, from_le_bytes};
 ghost use Rattle.std.specs.List.{flat_map, enumerate_from};
 ghost use Rattle.a64_cli.specs.Report.{item_line, word_line};
-ghost use Rattle.a64_cli.specs.Kept.{Shares, KeepsItem, KeepsWord, KeepsItemOf, KeepsWordOf, placed_word};
+ghost use Rattle.a64_cli.specs.Kept.{KeepsItem, KeepsWord, KeepsItemOf, KeepsWordOf, placed_word};
 
 use crate::hundred::{Hundred, write_last};
 use crate::line::{LineBuffer, SIZE, put_decimal, put_hex, put_text};
@@ -48,7 +48,8 @@ fn compose_item(buffer: &mut LineBuffer, index: u64, place: u32) -> (usize, usiz
     (start, index_end)
 }
 
-/// The line of an item. Contracts see it as its text.
+/// The line of an item, of which those of the items behind it are made while the last two digits of their
+/// numbers alone differ. Contracts see it as its text.
 #[derive(Drop)]
 pub struct ItemLine {
     buffer: LineBuffer,
@@ -63,7 +64,7 @@ impl Model for ItemLine {
 
     ghost view = { λ line. take (64 - line.start) (drop line.start line.buffer) };
 
-    ghost invariant = { λ line. (index : ℕ) × (place : ℕ) × KeepsItem line.buffer line.start line.index_end index place × Shares line.index.first line.index.span index × Shares line.place.first line.place.span place };
+    ghost invariant = { λ line. KeepsItemOf line.buffer line.start line.index_end line.index line.place };
 }
 
 impl ItemLine {
@@ -221,7 +222,8 @@ fn compose_word(buffer: &mut LineBuffer, place: u64, word: u32) -> usize
     put_text(buffer, start, b"word ")
 }
 
-/// The line of a word. Contracts see it as its text.
+/// The line of a word, of which those of the words behind it are made while the last two digits of their places
+/// and the words alone differ. Contracts see it as its text.
 #[derive(Drop)]
 pub struct WordLine {
     buffer: LineBuffer,
@@ -235,7 +237,7 @@ impl Model for WordLine {
 
     ghost view = { λ line. take (64 - line.start) (drop line.start line.buffer) };
 
-    ghost invariant = { λ line. (place : ℕ) × KeepsWord line.buffer line.start place line.word × Shares line.place.first line.place.span place };
+    ghost invariant = { λ line. KeepsWordOf line.buffer line.start line.place line.word };
 }
 
 impl WordLine {

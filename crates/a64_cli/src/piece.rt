@@ -129,7 +129,7 @@ impl Piece {
     }
 
     /// Puts the lines of the items from the one at `from` on, as many as there is room for, and answers
-    /// which is the next: a later one, where there was room for a line. Its line, kept, is set anew for each.
+    /// which is the next: a later one, where there was room for a line. The lines are made of the kept one.
     #[inline(always)]
     pub fn fill_items(&mut self, line: &mut ItemLine, places: &[u32], from: usize) -> usize
         requires { from ≤ length places.now }
@@ -144,8 +144,8 @@ impl Piece {
     }
 
     /// Puts the lines of the words of code from the one at the place `from` on, as many as there is room
-    /// for, and answers the place of the next: a later one, where there was room for a line. Its line,
-    /// kept, is set anew for each.
+    /// for, and answers the place of the next: a later one, where there was room for a line. The lines are
+    /// made of the kept one.
     #[inline(always)]
     pub fn fill_words(&mut self, line: &mut WordLine, code: &[u8], from: usize) -> usize
         requires { (from ≤ length code.now) × (from % 4 ≡ 0) }

@@ -1,5 +1,4 @@
-use Rattle.std.proofs.Common.{◌≡◌, ◌+◌, ◌-◌, ◌<◌, ◌++◌, ◌∙◌, ap, length, take, arith}
-use Rattle.std.specs.List.{flat_map, enumerate_from}
+use Rattle.std.proofs.Common.{◌≡◌, ◌+◌, ◌-◌, ◌<◌, ◌++◌, ◌∙◌, ap, take, arith}
 use Rattle.a64_cli.specs.Report.{item_line}
 use Rattle.a64_cli.specs.Kept.{KeepsItem}
 use Rattle.a64_cli.proofs.KeptLines.{item_again, item_text, shares_again}
@@ -27,8 +26,8 @@ loop-i-preserved c =
       kept = (index, place, kept, shares_again _ _ _ _ _ was.3 sum near, shares_again _ _ _ _ _ was.4 p.0 p.1);
       few = omega (arith, c.copy_kept-at.ensures.few, c.loop-i.invariant.few);
       copied =
-        c.copy_kept-at.ensures.copied
-        ∙ ap (λ t. take c.loop-i.at c.loop-i.text ++ t) (item_text line' start index_end index place c.write_last-in-loop-i.array_long kept)
-        ∙ ap (λ t. t ++ item_line (index, place)) c.loop-i.invariant.copied
-        ∙ one_more item_line c.args.index c.loop-i.i c.args.places.now place 0 (take c.args.at c.args.text.now) c.loop-i-test.true c.from.ensures;
+          c.copy_kept-at.ensures.copied
+          ∙ ap (λ t. take c.loop-i.at c.loop-i.text ++ t) (item_text line' start index_end index place c.write_last-in-loop-i.array_long kept)
+          ∙ ap (λ t. t ++ item_line (index, place)) c.loop-i.invariant.copied
+          ∙ one_more item_line c.args.index c.loop-i.i c.args.places.now place 0 (take c.args.at c.args.text.now) c.loop-i-test.true c.from.ensures;
     }

@@ -1,4 +1,4 @@
-use Rattle.std.proofs.Common.{◌≡◌, ◌+◌, ◌-◌, ◌*◌, ◌/◌, ◌%◌, ◌<◌, ◌++◌, ◌∙◌, ap, sym, length, take, arith}
+use Rattle.std.proofs.Common.{◌≡◌, ◌+◌, ◌-◌, ◌*◌, ◌/◌, ◌%◌, ◌<◌, ◌++◌, ◌∙◌, ap, sym, take, arith}
 use Rattle.a64_cli.specs.Report.{word_line}
 use Rattle.a64_cli.specs.Kept.{KeepsWord, placed_word}
 use Rattle.a64_cli.proofs.KeptLines.{word_again, digits_again, word_text, word_line_of, shares_again}
@@ -22,16 +22,16 @@ loop-i-preserved c =
     word_again c.loop-i.line line start was.0 c.loop-i.word c.args.like.first c.args.like.span place offset c.loop-i.invariant.whole was.1 was.2 sum near c.write_last.ensures in
     let kept : KeepsWord line' start place c.if-next-word.word =
     elim c.if-next-word.branch [
-      then-next-word w ↦
-        let at55 : w.put_hex.result ≡ 55 = omega (arith, w.put_hex.ensures.start) in
-        rw (w.line-is, w.word-is)
-        (digits_again line w.put_hex.new.line start place c.loop-i.word next c.write_last.array_long w.put_hex.array_long placed
-        (rw at55 at w.put_hex.ensures.front) (rw at55 at w.put_hex.ensures.written))
+      | then-next-word w ↦
+          let at55 : w.put_hex.result ≡ 55 = omega (arith, w.put_hex.ensures.start) in
+          rw (w.line-is, w.word-is)
+          (digits_again line w.put_hex.new.line start place c.loop-i.word next c.write_last.array_long w.put_hex.array_long placed
+          (rw at55 at w.put_hex.ensures.front) (rw at55 at w.put_hex.ensures.written))
       | else-next-word w ↦ rw (w.line-is, w.word-is) placed
     ] in
     let same : c.if-next-word.word ≡ next =
     elim c.if-next-word.branch [
-      then-next-word w ↦ w.word-is
+      | then-next-word w ↦ w.word-is
       | else-next-word w ↦ w.word-is ∙ sym w.if-next-word.false
     ] in
     let whole : place % 4 ≡ 0 = omega (arith, c.requires.whole) in
@@ -42,12 +42,12 @@ loop-i-preserved c =
       kept = (place, kept, shares_again _ _ _ _ _ was.2 sum near);
       few = omega (arith, c.copy_kept-at.ensures.few, c.loop-i.invariant.few);
       copied =
-        c.copy_kept-at.ensures.copied
-        ∙ ap (λ t. before ++ t)
-        (word_text line' start place c.if-next-word.word c.if-next-word.array_long kept
-        ∙ ap (placed_word place) same
-        ∙ word_line_of place next whole
-        ∙ ap (λ n. word_line (n, next)) number)
-        ∙ ap (λ t. t ++ word_line (c.args.place / 4 + i, next)) c.loop-i.invariant.copied
-        ∙ one_word_more word_line (c.args.place / 4) i c.args.words.now next (take c.args.at c.args.text.now) c.loop-i-test.true c.from_le_bytes-next.ensures;
+          c.copy_kept-at.ensures.copied
+          ∙ ap (λ t. before ++ t)
+          (word_text line' start place c.if-next-word.word c.if-next-word.array_long kept
+          ∙ ap (placed_word place) same
+          ∙ word_line_of place next whole
+          ∙ ap (λ n. word_line (n, next)) number)
+          ∙ ap (λ t. t ++ word_line (c.args.place / 4 + i, next)) c.loop-i.invariant.copied
+          ∙ one_word_more word_line (c.args.place / 4) i c.args.words.now next (take c.args.at c.args.text.now) c.loop-i-test.true c.from_le_bytes-next.ensures;
     }

@@ -32,7 +32,7 @@ loop-index-preserved c =
       omega (arith, p.within.1, ap length is, c.loop-index-test.true),
       λ same. absurd (omega (arith, i.2, p.within)),
       items_moved places rest (take c.loop-index.at c.loop-index.text) (take c.copy_from-count.result.1 c.copy_from-count.new.text) index c.copy_from-count.result.0 is p.within.1 p.copied
-      ∙ i.5,
+          ∙ i.5,
     )
 
 pub returns-else-at-clause-filled : goal.returns-else-at-clause-filled

@@ -41,7 +41,7 @@ loop-place-preserved c =
       omega (arith, i.4),
       λ same. absurd (omega (arith, i.2, p.within)),
       words_moved code (take c.loop-place.at c.loop-place.text) (take c.copy_from-count.result.1 c.copy_from-count.new.text) words place count whole p.within.1 within p.copied
-      ∙ i.6,
+          ∙ i.6,
     )
 
 pub returns-else-at-clause-filled : goal.returns-else-at-clause-filled

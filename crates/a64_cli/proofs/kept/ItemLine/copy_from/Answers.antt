@@ -14,12 +14,12 @@ returns-clause-copied c =
     let line = item_line (index, get_or places 0 0) in
     let front : take at c.if-count-gt0.text ≡ take at text =
     elim c.if-count-gt0.branch [
-      then-count-gt0+else-done-gt0 w ↦
-        let done = w.copy_items-done in
-        let none : done.result.0 ≡ 0 = omega (arith, w.if-done-gt0.false) in
-        ap (take at) w.text-is
-        ∙ same_front at done.result.1 text done.new.text _ (omega (arith, c.requires.room)) (omega (arith, done.ensures.long, done.ensures.few)) done.ensures.copied
-        (ap (λ n. flat_map item_line (enumerate_from index (take n (take c.min-count.result places)))) none)
+      | then-count-gt0+else-done-gt0 w ↦
+          let done = w.copy_items-done in
+          let none : done.result.0 ≡ 0 = omega (arith, w.if-done-gt0.false) in
+          ap (take at) w.text-is
+          ∙ same_front at done.result.1 text done.new.text _ (omega (arith, c.requires.room)) (omega (arith, done.ensures.long, done.ensures.few)) done.ensures.copied
+          (ap (λ n. flat_map item_line (enumerate_from index (take n (take c.min-count.result places)))) none)
       | else-count-gt0 w ↦ ap (take at) w.text-is
     ] in
     c.copy_kept.ensures.copied
