@@ -58,7 +58,13 @@ pub fn read_line<'t>(text: &'t [u8], values: &mut Fields<'t>) -> Option<(Name, O
     ensures lines { IfSome result (λ r. of_text lines_of r.1 ≡ lines_behind text.now) }
 {
     let cut = cut_token(text);
-    read_schema::<Name, LineFields, 12>(cut.token, cut.more, cut.lines, values)
+    // A line without fields has code of its own, which knows that there are none.
+    match cut.more {
+        None => read_schema::<Name, LineFields, 12>(cut.token, None, cut.lines, values),
+        Some(more) => {
+            read_schema::<Name, LineFields, 12>(cut.token, Some(more), cut.lines, values)
+        }
+    }
 }
 
 /// Puts the register that the token is into `slot`.
