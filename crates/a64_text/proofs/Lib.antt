@@ -34,5 +34,6 @@ pub mod Sequences
 pub mod Givens
 pub mod Restores
 pub mod Adds
+pub mod NamedLines
 pub mod Lines
 pub mod Counts

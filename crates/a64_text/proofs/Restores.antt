@@ -5,7 +5,6 @@ use Rattle.std.specs.List.{join_with_byte, slice_split}
 use Rattle.std.proofs.lemmas.Bool.{false≢true}
 use Rattle.std.proofs.lemmas.List.Splits.{join_with_byte-slice_split}
 use Rattle.a64_inst.specs.declared.inst.Inst.{Inst}
-use Rattle.a64_inst.specs.declared.inst.Inst.TheVariants as insts
 use Rattle.a64_inst.specs.declared.item.Item.{Item}
 use Rattle.a64_inst.specs.declared.item.Item.TheVariants.{Emit}
 use Rattle.a64_text.specs.declared.entry.Entry.{Entry}
@@ -13,7 +12,7 @@ use Rattle.a64_text.specs.declared.entry.Entry.TheVariants as entries
 use Rattle.a64_text.specs.declared.name.Name.{Name}
 use Rattle.a64_text.specs.declared.state.ReaderState.{ReaderState}
 use Rattle.a64_text.specs.declared.value.Value.{Value}
-use Rattle.a64_text.specs.AddsLine.{Added, AddsEntry, AddsMade, AddsNothing, AddsRestored, Holds, IsBehindRestore, PopsInst}
+use Rattle.a64_text.specs.AddsLine.{Added, AddsEntry, AddsMade, AddsNamed, AddsNothing, AddsRestored, Holds, IsBehindRestore, PopsInst, RestoresLast}
 use Rattle.a64_text.specs.Makers.{fields_kinds, made_only, made_some, name_first, IsMade}
 use Rattle.a64_text.specs.Makes.{emitted, Makes}
 use Rattle.a64_text.specs.Names.{kinds_of, name_text, names_inst}
@@ -129,15 +128,7 @@ last_same {A} (a ∷ xs) (b ∷ ys) x y e =
     let both = last_same xs ys x y others in
     (ap (λ (c : A). c ∷ xs) first ∙ ap (λ (l : List A). b ∷ l) both.0, both.1)
 
-inst_named : (inst : Inst) → names_inst (name_of (emitted inst)) ≡ true
-inst_named insts.Nop4 = refl
-inst_named inst = refl
-
 module _ (name : Name) (values : List Value) (old : ReaderState) where
-  -- of an instruction, the name is one of an instruction
-  pub other_name : (new : ReaderState) → names_inst name ≡ false → AddsRestored name values old new false
-  other_name new is inst plain its_name its_fields state holds = false≢true (sym is ∙ ap names_inst (sym its_name) ∙ inst_named inst)
-
   module _ (mid new : ReaderState) (inst : Inst) (plain : IsPlain (emitted inst)) (its_name : name_of (emitted inst) ≡ name) (its_fields : fields_of (emitted inst) ≡ values) where
     its_entry : (r : Option Entry) → Makes name values r → r ≡ Some (emitted inst)
     its_entry r makes = made_only (emitted inst) values r (subst (λ (n : Name). Makes n values r) (sym its_name) makes) plain.fields plain.own its_fields
@@ -154,10 +145,10 @@ module _ (name : Name) (values : List Value) (old : ReaderState) where
         let same : entry ≡ emitted inst = cc in
         pops old.file.items.items inst (ap (λ (c : Contents). c.items) (adds.1 refl ∙ ap (λ (e : Entry). said e (contents_of old.file)) same))
 
-  pub not_made : (mid : ReaderState) (made : Bool) → made ≡ false → AddsMade name values old mid made → AddsRestored name values old mid false
+  not_made : (mid : ReaderState) (made : Bool) → made ≡ false → AddsMade name values old mid made → AddsRestored name values old mid false
   not_made mid made failed h inst plain its_name its_fields = refused_twice mid mid inst plain its_name its_fields h.0 made h.2 failed (its_entry mid mid inst plain its_name its_fields h.0 h.1)
 
-  pub not_popped : (mid new : ReaderState) → AddsMade name values old mid true → PopsInst mid.file.items.items new.file.items.items None → AddsRestored name values old new false
+  not_popped : (mid new : ReaderState) → AddsMade name values old mid true → PopsInst mid.file.items.items new.file.items.items None → AddsRestored name values old new false
   not_popped mid new h pops inst plain its_name its_fields state holds = none_popped mid new inst plain its_name its_fields h.0 h.2 (its_entry mid new inst plain its_name its_fields h.0 h.1) pops
 
   module _ (mid : ReaderState) (items : List Item) (inst : Inst) (named : names_inst name ≡ true) (are : map kind_of values ≡ kinds_of name) (pops : mid.file.items.items ≡ items ++ Emit inst None ∷ []) where
@@ -188,5 +179,21 @@ module _ (name : Name) (values : List Value) (old : ReaderState) where
           ap_makes : (entry : Entry) → Makes name values (Some entry) → entry ≡ emitted inst → Makes name values (Some (emitted inst))
           ap_makes entry makes is = subst (λ (e : Entry). Makes name values (Some e)) is makes
 
-      pub is_restored : AddsMade name values old mid true → AddsRestored name values old new true
+      is_restored : AddsMade name values old mid true → AddsRestored name values old new true
       is_restored h = popped h.0 h.1 h.2
+
+-- ---- what a name adds, restored or not
+
+module _ (name : Name) (values : List Value) (old mid : ReaderState) where
+  pub none_made : (restored made : Bool) → made ≡ false → AddsMade name values old mid made → AddsNamed restored name values old mid false
+  none_made false made failed h = subst (λ (b : Bool). AddsMade name values old mid b) failed h
+  none_made true made failed h = not_made name values old mid made failed h
+
+  module _ (named : names_inst name ≡ true) (are : map kind_of values ≡ kinds_of name) (h : AddsMade name values old mid true) (new : ReaderState) where
+    last_restored : (made : Bool) → RestoresLast mid new made → AddsRestored name values old new made
+    last_restored false none = not_popped name values old mid new h none
+    last_restored true last = is_restored name values old mid last.0 last.1 named are last.2 new last.3 last.4 h
+
+    pub named_restored : (restored made : Bool) → restored ≡ true → RestoresLast mid new made → AddsNamed restored name values old new made
+    named_restored false made is last = absurd (false≢true is)
+    named_restored true made is last = last_restored made last

@@ -62,11 +62,22 @@ abbrev pub PopsInst : List Item → List Item → Option Inst → Type 0
 PopsInst old new (Some inst) = old ≡ new ++ Emit inst None ∷ []
 PopsInst old new None = (items : List Item) (inst : Inst) → old ≡ items ++ Emit inst None ∷ [] → ⊥
 
+-- true: the last item was taken off the file, and its instruction is one more that is restored.
+-- False: the last item is no instruction without a map, or there is none
+abbrev pub RestoresLast : ReaderState → ReaderState → Bool → Type 0
+RestoresLast old new true = (items : List Item) × (inst : Inst) × (old.file.items.items ≡ items ++ Emit inst None ∷ []) × (new.given ≡ old.given) × (contents_of new.file ≡ said (entries.Restore inst) (record (contents_of old.file) { items = items }))
+RestoresLast old new false = PopsInst old.file.items.items new.file.items.items None
+
 -- true: the instruction of this name with these fields is taken into the state as one that is restored.
 -- False: there is none without a map
 abbrev pub AddsRestored : Name → List Value → ReaderState → ReaderState → Bool → Type 0
 AddsRestored name values old new true = (inst : Inst) × Makes name values (Some (entries.Item (Emit inst None))) × AddsEntry (Some (entries.Restore inst)) old new true
 AddsRestored name values old new false = (inst : Inst) → IsPlain (entries.Item (Emit inst None)) → name_of (entries.Item (Emit inst None)) ≡ name → fields_of (entries.Item (Emit inst None)) ≡ values → (state : State) → ¬ Holds old state
+
+-- what the name makes of the fields is taken into the state, as one that is restored where the flag says so
+abbrev pub AddsNamed : Bool → Name → List Value → ReaderState → ReaderState → Bool → Type 0
+AddsNamed false name values old new made = AddsMade name values old new made
+AddsNamed true name values old new made = AddsRestored name values old new made
 
 -- what stands behind the word of instructions that are restored, where the text begins with it
 abbrev pub IsBehindRestore : List ℕ → Option (Bor (List ℕ)) → Type 0

@@ -7,7 +7,7 @@ ghost use Rattle.a64_text.specs.declared.name.Name.TheVariants as names;
 ghost use Rattle.a64_text.specs.Names.{kinds_of, names_inst};
 ghost use Rattle.a64_text.specs.Splitting.{first_line};
 ghost use Rattle.a64_text.specs.Values.{kind_of};
-ghost use Rattle.a64_text.specs.AddsLine.{AddsName, AddsEntry, AddsMade, AddsRestored, AddsLine, IsBehindRestore, PopsInst};
+ghost use Rattle.a64_text.specs.AddsLine.{AddsName, AddsEntry, AddsMade, AddsNamed, AddsLine, IsBehindRestore, PopsInst, RestoresLast};
 ghost use Rattle.a64_text.specs.Reading.{Answers};
 
 use crate::emit_flag::set_emit_flag;
@@ -161,28 +161,43 @@ fn pop_inst(items: &mut Vec<Item>) -> Option<Inst>
     }
 }
 
-/// Takes the instruction of this name with these fields into the state, as one that is restored. False:
-/// there is none without a map. Then what the state says is not told.
-fn add_restored(
+/// Takes the last item off the file, and its instruction for one that is restored. False: it is no
+/// instruction without a map. Then what the state says is not told.
+#[inline(never)]
+fn restore_last(state: &mut ReaderState) -> Result<bool, AllocError>
+    ensures { IfOk result (RestoresLast state.old state.new) }
+{
+    let Some(inst) = pop_inst(&mut state.file.items) else {
+        return Ok(false);
+    };
+    add_entry(&mut state.file, Entry::Restore(inst))?;
+    Ok(true)
+}
+
+/// Takes the entry of this name with these fields into the state, or, where it is `restored`, the
+/// instruction as one that is restored. False: there is none, or none that may stand there. Then what the
+/// state says is not told. One call makes both, so that what makes entries stands in the code once.
+#[inline(always)]
+fn add_named(
     alloc: Global,
     state: &mut ReaderState,
     name: Name,
     values: &[Value],
+    restored: bool,
 ) -> Result<bool, AllocError>
     requires { map kind_of values.now ≡ kinds_of name }
-    ensures { IfOk result (AddsRestored name values.now state.old state.new) }
+    ensures { IfOk result (AddsNamed restored name values.now state.old state.new) }
 {
-    if !is_inst_name(name) {
+    if restored && !is_inst_name(name) {
         return Ok(false);
     }
     if !add_made(alloc, state, name, values)? {
         return Ok(false);
     }
-    // It was put where items stand.
-    let Some(inst) = pop_inst(&mut state.file.items) else {
-        return Ok(false);
-    };
-    add_entry(&mut state.file, Entry::Restore(inst))?;
+    if restored {
+        // It was put where items stand.
+        return restore_last(state);
+    }
     Ok(true)
 }
 
@@ -210,48 +225,6 @@ fn after_restore(text: &[u8]) -> Option<&[u8]>
     }
 }
 
-/// Takes what the first line says into the state, and answers the lines behind it, where it is no line of
-/// an instruction that is restored. None: it is no entry that may stand there. `values` is room for the
-/// fields.
-#[inline(always)]
-fn add_plain<'t>(
-    alloc: Global,
-    state: &mut ReaderState,
-    text: &'t [u8],
-    values: &mut Fields<'t>,
-) -> Result<Option<Option<&'t [u8]>>, AllocError>
-    requires { IsBehindRestore text.now None }
-    ensures { IfOk result (AddsLine state.old state.new text.now) }
-{
-    let Some((name, lines)) = read_line(text, values) else {
-        return Ok(None);
-    };
-    if add_made(alloc, state, name, values.as_slice())? {
-        Ok(Some(lines))
-    } else {
-        Ok(None)
-    }
-}
-
-/// The same where this text stands behind the word of instructions that are restored.
-fn add_behind_restore<'t>(
-    alloc: Global,
-    state: &mut ReaderState,
-    text: &'t [u8],
-    values: &mut Fields<'t>,
-) -> Result<Option<Option<&'t [u8]>>, AllocError>
-    ensures { IfOk result (AddsLine state.old state.new (codes "restore " ++ text.now)) }
-{
-    let Some((name, lines)) = read_line(text, values) else {
-        return Ok(None);
-    };
-    if add_restored(alloc, state, name, values.as_slice())? {
-        Ok(Some(lines))
-    } else {
-        Ok(None)
-    }
-}
-
 /// Takes what the first line says into the state, and answers the lines behind it. None: it is no
 /// entry that may stand there. `values` is room for the fields.
 #[inline(always)]
@@ -263,9 +236,14 @@ fn add_line<'t>(
 ) -> Result<Option<Option<&'t [u8]>>, AllocError>
     ensures { IfOk result (AddsLine state.old state.new text.now) }
 {
-    match after_restore(text) {
-        Some(rest) => add_behind_restore(alloc, state, rest, values),
-        None => add_plain(alloc, state, text, values),
+    let behind = after_restore(text);
+    let Some((name, lines)) = read_line(behind.unwrap_or(text), values) else {
+        return Ok(None);
+    };
+    if add_named(alloc, state, name, values.as_slice(), behind.is_some())? {
+        Ok(Some(lines))
+    } else {
+        Ok(None)
     }
 }
 
