@@ -1,6 +1,6 @@
 //! Reads files.
 
-ghost use Rattle.std.specs.Prelude.{◌≡◌, ◌≤◌, ◌+◌, [], ◌∷◌, ◌++◌, codes, length, map, None, Some, IfOk, OnOk};
+ghost use Rattle.std.specs.Prelude.{◌≡◌, ◌≤◌, ◌+◌, length, map, Some, IfOk, OnOk};
 ghost use Rattle.a64_text.specs.States.{contents_of, said, IsSized};
 ghost use Rattle.a64_text.specs.FileText as FileText;
 ghost use Rattle.a64_text.specs.declared.name.Name.TheVariants as names;
