@@ -1,7 +1,8 @@
 //! How much an item adds to code.
 
-ghost use Rattle.std.specs.Prelude.{◌≡◌, ◌+◌, [], ◌∷◌, true, None, length, option_and_then, IfSome};
+ghost use Rattle.std.specs.Prelude.{◌≡◌, ◌+◌, [], ◌∷◌, true, None, Option, length, option_and_then, IfSome};
 ghost use Rattle.std.specs.List.{cons_option};
+ghost use Rattle.a64_base.specs.declared.entity.UserStackMap.{UserStackMap};
 ghost use Rattle.a64_inst.specs.declared.group.Group.TheVariants.{Control, Sequence};
 ghost use Rattle.a64_inst.specs.declared.item.Item.TheVariants.{Emit};
 ghost use Rattle.a64_inst.specs.Groups.{group_of};
@@ -380,6 +381,23 @@ fn memory_light(inst: &Inst, _frame: &FrameLayout, _info: &EmitInfo) -> Option<L
     }
 }
 
+/// What an instruction of this group adds, whatever map of the stack it has, where a look at it says that it is
+/// no place for an island and needs no label near. Code that names the group at the call has what that group
+/// needs alone.
+#[inline(always)]
+pub fn inst_light(inst: &Inst, group: Group, frame: &FrameLayout, info: &EmitInfo) -> Option<Light>
+    requires { group ≡ group_of inst.now }
+    ensures light { IfSome result (λ light. (map : Option UserStackMap) → IsLight (cells_of frame.now info.now (Emit inst.now map)) (growth_of frame.now info.now (Emit inst.now map)) light) }
+    ensures place { IfSome result (λ _. asked_of inst.now ≡ None) }
+{
+    match group {
+        Group::Immediate | Group::Register => Some(without_use(8)),
+        Group::Control => control_light(inst, frame, info),
+        Group::Sequence | Group::Call => None,
+        Group::Memory => memory_light(inst, frame, info),
+    }
+}
+
 /// What an item adds, where a look at it says that it is no place for an island and needs no label near.
 #[inline(always)]
 pub fn light_of(item: &Item, frame: &FrameLayout, info: &EmitInfo) -> Option<Light>
@@ -388,12 +406,7 @@ pub fn light_of(item: &Item, frame: &FrameLayout, info: &EmitInfo) -> Option<Lig
 {
     match item {
         Item::Bind(_) => Some(without_use(0)),
-        Item::Emit { inst, map: _ } => match inst.group() {
-            Group::Immediate | Group::Register => Some(without_use(8)),
-            Group::Control => control_light(inst, frame, info),
-            Group::Sequence | Group::Call => None,
-            Group::Memory => memory_light(inst, frame, info),
-        },
+        Item::Emit { inst, map: _ } => inst_light(inst, inst.group(), frame, info),
     }
 }
 

@@ -24,7 +24,7 @@ pub use crate::code::Code;
 pub use a64_inst::Item;
 pub use emit::MachInstEmit;
 pub use error::EmitError;
-pub use extent::{Burden, Extent, Light, asked_space, burden_of, lesser, light_of};
+pub use extent::{Burden, Extent, Light, asked_space, burden_of, inst_light, lesser, light_of};
 pub use halfword::{has_halfword, restores_halfwords};
 pub use label_use::LabelUse;
 pub use one_word::is_one_word;

@@ -4,6 +4,7 @@ ghost use Rattle.std.specs.Prelude.{◌≡◌, [], ◌∷◌};
 ghost use Rattle.a64_inst.specs.declared.fault.OwnFault.TheVariants as own;
 ghost use Rattle.a64_inst.specs.Faults as faults;
 ghost use Rattle.a64_inst.specs.Faults.{fault_with, first_of};
+ghost use Rattle.a64_inst.specs.Groups.{group_of};
 
 use crate::emission::EmitInfo;
 use crate::fault::OwnFault;
@@ -71,7 +72,6 @@ impl Inst {
     /// `constant` is the size in bytes of the constant that the instruction loads, where it loads
     /// one and that is there, and `virtuals` says whether its registers may be virtual. `restorable`
     /// says what [`FrameLayout::is_restorable`] does, and counts at returns that call.
-    #[tactic(auto, using(crate::proofs::Groups::one_test))]
     pub fn own_fault(
         &self,
         frame: &FrameLayout,
@@ -83,7 +83,27 @@ impl Inst {
         requires { restorable ≡ faults.is_restorable frame.now info.now virtuals }
         ensures { result ≡ fault_with frame.now info.now constant virtuals self.now }
     {
-        match self.group() {
+        self.fault_of(self.group(), frame, info, constant, virtuals, restorable)
+    }
+
+    /// The same, where the group of the instruction was looked up. Code that names the group at the call has
+    /// the tests of that group alone.
+    #[tactic(auto, using(crate::proofs::Groups::one_test))]
+    #[inline(always)]
+    pub fn fault_of(
+        &self,
+        group: Group,
+        frame: &FrameLayout,
+        info: &EmitInfo,
+        constant: Option<u32>,
+        virtuals: VirtualRegisters,
+        restorable: bool,
+    ) -> Option<OwnFault>
+        requires group { group ≡ group_of self.now }
+        requires restorable { restorable ≡ faults.is_restorable frame.now info.now virtuals }
+        ensures { result ≡ fault_with frame.now info.now constant virtuals self.now }
+    {
+        match group {
             Group::Immediate => {
                 operand_fault(has_immediate_operands(self, frame, info, virtuals))
             }
