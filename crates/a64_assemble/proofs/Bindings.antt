@@ -15,8 +15,9 @@ use Rattle.a64_inst.specs.declared.frame.FrameLayout.{FrameLayout}
 use Rattle.a64_inst.specs.declared.item.Item.{Item}
 use Rattle.a64_inst.specs.declared.item.Item.TheVariants.{Bind}
 use Rattle.a64_emit.specs.declared.error.EmitError.TheVariants.{LabelBoundTwice}
-use Rattle.a64_emit.specs.Cells.{Cell, sites_of, cells_of, all_cells}
+use Rattle.a64_emit.specs.Cells.{Cell, sites_of, cells_of, all_cells, two_uses, uses_of}
 use Rattle.a64_emit.specs.Faults.{binding_of, bindings, used_label, is_among, first_repeat, HasLabels, first_missing, second_binding, used_labels}
+use Rattle.a64_assemble.proofs.MissingLabels.{missing_pair, or_none}
 
 -- ---- lists of items, by one more
 
@@ -117,6 +118,10 @@ labels_in cells = filter_map used_label (sites_of cells)
 labels_in-append : (xs ys : List Cell) → labels_in (xs ++ ys) ≡ labels_in xs ++ labels_in ys
 labels_in-append xs ys = ap (filter_map used_label) (filter_map-append (λ cell. cell.site) xs ys) ∙ filter_map-append used_label (sites_of xs) (sites_of ys)
 
+or_or : {X : Type 0} (a b c : Option X) → option_or (option_or a b) c ≡ option_or a (option_or b c)
+or_or None b c = refl
+or_or (Some x) b c = refl
+
 module _ (frame : FrameLayout) (flags : EmitFlags) (bound : List MachLabel) where
   -- the first label that the cells of these items use and that is not bound
   abbrev pub missing_of : List Item → Option MachLabel
@@ -127,13 +132,19 @@ module _ (frame : FrameLayout) (flags : EmitFlags) (bound : List MachLabel) wher
       ap (first_missing bound) (labels_in-append (cells_of frame flags x) (all_cells frame flags items))
       ∙ find-append (λ label. not (is_among bound label)) (labels_in (cells_of frame flags x)) (used_labels frame flags items)
 
-  -- an item that uses no label that is not bound
-  pub missing_skip : (items : List Item) (i : ℕ) (d x : Item) → i < length items → get_or items i d ≡ x → first_missing bound (labels_in (cells_of frame flags x)) ≡ None → missing_of (drop (i + 1) items) ≡ missing_of (drop i items)
-  missing_skip items i d x within is none = sym (ap missing_of (drop_item items i d x within is) ∙ missing_cons x (drop (i + 1) items) ∙ ap (λ o. option_or o (missing_of (drop (i + 1) items))) none)
+  -- the first of the items so far, or else of those that are left, with one item more
+  pub missing_more : (items : List Item) (i : ℕ) (d x : Item) (before now : Option MachLabel) → i < length items → get_or items i d ≡ x → now ≡ option_or before (first_missing bound (labels_in (cells_of frame flags x)))
+      → option_or now (missing_of (drop (i + 1) items)) ≡ option_or before (missing_of (drop i items))
+  missing_more items i d x before now within is e =
+      ap (λ o. option_or o (missing_of (drop (i + 1) items))) e
+      ∙ or_or before (first_missing bound (labels_in (cells_of frame flags x))) (missing_of (drop (i + 1) items))
+      ∙ ap (option_or before) (sym (ap missing_of (drop_item items i d x within is) ∙ missing_cons x (drop (i + 1) items)))
 
-  -- an item that uses one
-  pub missing_found : (items : List Item) (i : ℕ) (d x : Item) (label : MachLabel) → i < length items → get_or items i d ≡ x → first_missing bound (labels_in (cells_of frame flags x)) ≡ Some label → missing_of (drop i items) ≡ Some label
-  missing_found items i d x label within is some = ap missing_of (drop_item items i d x within is) ∙ missing_cons x (drop (i + 1) items) ∙ ap (λ o. option_or o (missing_of (drop (i + 1) items))) some
+  -- an item without a use
+  pub missing_same : (items : List Item) (i : ℕ) (d x : Item) (before : Option MachLabel) → i < length items → get_or items i d ≡ x → uses_of 0 (cells_of frame flags x) ≡ two_uses None None
+      → option_or before (missing_of (drop (i + 1) items)) ≡ option_or before (missing_of (drop i items))
+  missing_same items i d x before within is none =
+      missing_more items i d x before before within is (sym (ap (option_or before) (sym (missing_pair bound (cells_of frame flags x) None None None None none refl refl)) ∙ or_none before))
 
-  pub missing_end : (items : List Item) (i : ℕ) → length items ≤ i → missing_of (drop i items) ≡ None
-  missing_end items i all = ap missing_of (drop_all items i all)
+  pub missing_end : (items : List Item) (i : ℕ) (before : Option MachLabel) → length items ≤ i → option_or before (missing_of (drop i items)) ≡ before
+  missing_end items i before all = ap (λ xs. option_or before (missing_of xs)) (drop_all items i all) ∙ or_none before

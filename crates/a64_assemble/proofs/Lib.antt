@@ -2,6 +2,7 @@ pub mod Sizes
 pub mod Bindings
 pub mod Constants
 pub mod MissingLabels
+pub mod Looked
 pub mod Nears
 pub mod Checked
 pub mod Spans

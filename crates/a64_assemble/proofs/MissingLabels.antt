@@ -10,7 +10,7 @@ use Rattle.a64_emit.specs.Cells.{Cell, listed_uses, sites_of, table_labels, two_
 use Rattle.a64_emit.specs.Faults.{first_missing, is_among, used_label}
 use Rattle.a64_emit.proofs.UseLists.{listed_labels, listed_two, missing_listed}
 
-or_none : {X : Type 0} (o : Option X) → option_or o None ≡ o
+pub or_none : {X : Type 0} (o : Option X) → option_or o None ≡ o
 or_none None = refl
 or_none (Some x) = refl
 

@@ -11,6 +11,7 @@ pub mod CellRecords
 pub mod Fillings
 pub mod Tally
 pub mod Found
+pub mod Looks
 pub mod Made
 pub mod ReadBack
 pub mod Assembled

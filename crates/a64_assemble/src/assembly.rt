@@ -8,7 +8,7 @@ ghost use Rattle.a64_assemble.specs.Assembled.{IsAssembled, IsRefusal};
 ghost use Rattle.a64_assemble.specs.Found.{IsFound};
 ghost use Rattle.a64_assemble.specs.Made.{IsMadeOf};
 
-use crate::checks::{Found, bound_labels, check_code, check_items};
+use crate::checks::{Found, bound_labels, check_items};
 use crate::putting::put_items;
 use crate::reach::{check_reach, is_quiet};
 use a64_buffer::{Constants, Finished, ForceVeneers, MachBuffer};
@@ -16,7 +16,8 @@ use a64_emit::{Code, EmitError, LabelUse, restores_halfwords};
 use a64_inst::{EmitInfo, EmitState, FrameLayout, Item};
 use std::alloc::{AllocError, Global};
 
-/// A buffer without code, with memory for so many words and uses.
+/// A buffer without code, with memory for so many words and uses, and for the two words more for which a
+/// buffer takes memory where its code is finished.
 fn buffer_for(
     alloc: Global,
     constants: &Constants,
@@ -26,7 +27,7 @@ fn buffer_for(
     ensures { IfOk result (λ buffer. buffer ≡ new_buffer constants.now) }
 {
     let mut buffer = MachBuffer::new(alloc, constants);
-    buffer.reserve(words, uses)?;
+    buffer.reserve(words.saturating_add(2), uses)?;
     Ok(buffer)
 }
 
@@ -98,10 +99,12 @@ pub fn assemble(
     ensures ok { IfOk result (IsAssembled frame.now info.now constants.now force items.now) }
     ensures err { IfErr result (IsRefusal frame.now info.now constants.now force items.now) }
 {
-    check_items(items, constants, info, frame)?;
     restores_halfwords(frame);
-    let bound = bound_labels(alloc, items)?;
-    let found = check_code(items, &bound, info, frame)?;
+    // What is wrong with an item by itself is told first.
+    let bound = bound_labels(alloc, items);
+    let found = check_items(items, bound.as_ref().ok(), constants, info, frame)?;
+    bound?;
+    let found = found?;
     check_reach(alloc, items, found, force, info, frame)?;
     let code = placed(alloc, items, found, constants, info, frame, force)?;
     Ok(code)

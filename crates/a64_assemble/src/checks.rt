@@ -1,60 +1,28 @@
 //! The checks of items before they are emitted.
 
-ghost use Rattle.std.specs.Prelude.{◌≡◌, ◌≢◌, ◌⊎◌, ◌+◌, ◌-◌, ◌^◌, ◌≤◌, max, None, Some, All, length, OnOk, IfOk, IfErr, MatchResult, [], ℕ};
+ghost use Rattle.std.specs.Prelude.{◌≡◌, ◌≢◌, ◌⊎◌, ◌+◌, ◌-◌, ◌^◌, ◌<◌, ◌≤◌, ◌||◌, false, max, min, None, Some, option_map, All, length, OnOk, IfOk, IfErr, IfSome, MatchResult, [], ℕ};
 ghost use Rattle.std.specs.List.{cons_option, filter_map, list_any};
-ghost use Rattle.a64_emit.specs.declared.error.EmitError.TheVariants.{OutOfMemory};
+ghost use Rattle.std.specs.Option.{option_or};
+ghost use Rattle.a64_emit.specs.declared.error.EmitError.TheVariants.{OutOfMemory, TooLarge, UnboundLabel};
+ghost use Rattle.a64_emit.specs.Bounds as bounds;
 ghost use Rattle.a64_emit.specs.Bounds.{saturated};
 ghost use Rattle.a64_emit.specs.Cells.{sites_of, table_labels, listed_uses, two_uses, uses_of};
 ghost use Rattle.a64_emit.specs.FormCells.{HoldsHalfword};
-ghost use Rattle.a64_inst.specs.declared.virtuals.VirtualRegisters.TheVariants.{Refused};
-ghost use Rattle.a64_inst.specs.Faults as inst_faults;
 ghost use Rattle.a64_emit.specs.Faults as Faults;
 ghost use Rattle.a64_emit.specs.Faults.{own_fault, HasLabels, bindings, second_binding, first_missing, used_label, unbound_use, or_else, too_large};
 ghost use Rattle.a64_emit.specs.Reach.{is_near};
-ghost use Rattle.a64_assemble.specs.Found.{IsFound};
+ghost use Rattle.a64_assemble.specs.Found.{IsFound, IsWidth};
 
+use crate::look::{Look, look_at};
 use a64_base::MachLabel;
 use a64_buffer::{Constants, Target};
 use a64_emit::{
-    Burden, EmitError, Extent, Site, Table, Uses, burden_of, has_halfword, lesser, light_of,
+    Burden, EmitError, Extent, Light, Site, Table, Uses, burden_of, has_halfword, lesser,
     near_label,
 };
-use a64_inst::{EmitInfo, FrameLayout, Group, Inst, Item, OwnFault, VirtualRegisters};
+use a64_inst::{EmitInfo, FrameLayout, Item, OwnFault, VirtualRegisters};
 use a64_label_map::LabelMap;
 use std::alloc::Global;
-
-/// How many bytes the constant has that an instruction loads; `None` where it loads none, or that is not
-/// there.
-#[inline(always)]
-#[tactic(auto, using(crate::proofs::Constants::no_constant))]
-fn constant_size(inst: &Inst, constants: &Constants) -> Option<u32>
-    ensures { result ≡ inst_faults.constant_size constants.now inst.now }
-{
-    match inst.group() {
-        Group::Memory => constants.size_of(inst.constant()?),
-        Group::Immediate | Group::Register | Group::Control | Group::Sequence | Group::Call => None,
-    }
-}
-
-/// What is wrong with an item by itself. What the frame restores is judged already.
-fn item_fault(
-    item: &Item,
-    constants: &Constants,
-    info: &EmitInfo,
-    frame: &FrameLayout,
-    restorable: bool,
-) -> Option<OwnFault>
-    requires { restorable ≡ inst_faults.is_restorable frame.now info.now Refused }
-    ensures { result ≡ Faults.item_fault frame.now info.now constants.now item.now }
-{
-    match item {
-        Item::Bind(_) => None,
-        Item::Emit { inst, map: _ } => {
-            let size = constant_size(inst, constants);
-            inst.own_fault(frame, info, size, VirtualRegisters::Refused, restorable)
-        }
-    }
-}
 
 /// The refusal because of a fault of the item with this index.
 fn own_error(index: usize, fault: OwnFault) -> EmitError
@@ -77,32 +45,6 @@ fn holds_halfword(item: &Item)
         Item::Bind(_) => {}
         Item::Emit { inst, map: _ } => has_halfword(inst),
     }
-}
-
-/// Whether each item is right by itself. It takes no memory.
-///
-/// # Errors
-///
-/// The fault of the first item that is not.
-pub fn check_items(
-    items: &[Item],
-    constants: &Constants,
-    info: &EmitInfo,
-    frame: &FrameLayout,
-) -> Result<(), EmitError>
-    ensures fault { MatchResult result
-        (λ _. own_fault frame.now info.now constants.now items.now ≡ None)
-        (λ error. own_fault frame.now info.now constants.now items.now ≡ Some error) }
-    ensures halfwords { OnOk result (All HoldsHalfword items.now) }
-{
-    let restorable = frame.is_restorable(info, VirtualRegisters::Refused);
-    for (i, item) in items.iter().enumerate() {
-        holds_halfword(item);
-        if let Some(fault) = item_fault(item, constants, info, frame, restorable) {
-            return Err(own_error(i, fault));
-        }
-    }
-    Ok(())
 }
 
 /// The numbers of the labels that items bind.
@@ -263,8 +205,7 @@ fn wider(widest: u64, width: u64) -> u64
 /// over an island more: its size and its charge, or the greatest number of 64 bits where that is less. Of a
 /// place for an island, which adds to what the words behind it need, it is the greatest number of 32 bits.
 fn width_of(extent: Extent) -> u64
-    ensures place { extent.size ≡ 0 → extent.charge ≢ 0 → result ≡ 2 ^ 32 - 1 }
-    ensures words { (extent.size ≡ 0 → extent.charge ≡ 0) → result ≡ saturated (extent.size + extent.charge) }
+    ensures { IsWidth extent result }
 {
     if extent.size == 0 && extent.charge != 0 {
         u64::from(u32::MAX)
@@ -273,60 +214,177 @@ fn width_of(extent: Extent) -> u64
     }
 }
 
-/// How many bytes code of the items may have, the shortest range of its uses that may want veneers,
-/// whether some use of it needs its label near, and a bound on what the next words need behind any item,
-/// where each label that they use is bound, and the code can be addressed.
+/// What the uses of items come to, one item after another.
+#[derive(Clone, Copy)]
+pub struct Totals {
+    /// The shortest forward range, in bytes, of the uses that may want veneers.
+    pub shortest: Option<u32>,
+    /// Whether some use needs its label near.
+    pub near: bool,
+    /// How many uses there may be, each entry of a table counted.
+    pub users: usize,
+    /// How many bytes the next words need behind any item at most, or more than that: at least the usual width.
+    pub widest: u64,
+    /// The first label that a use leads to and that is not bound, where it is known which are.
+    pub missing: Option<MachLabel>,
+}
+
+/// What no uses come to.
+#[inline(always)]
+fn no_totals() -> Totals
+    ensures { result ≡ record { shortest = None; near = false; users = 0; widest = 68; missing = None } }
+{
+    Totals {
+        shortest: None,
+        near: false,
+        users: 0,
+        widest: USUAL_WIDTH,
+        missing: None,
+    }
+}
+
+/// The label that was missing before, or else the first that one of two uses leads to and that is not bound.
+#[inline(always)]
+fn missing_behind(
+    before: Option<MachLabel>,
+    light: Light,
+    bound: Option<&LabelMap<()>>,
+) -> Option<MachLabel>
+    ensures { IfSome bound.entry (λ map. (labels : _) → HasLabels map.now labels
+        → (cells : _) → uses_of 0 cells ≡ two_uses light.first light.second → result ≡ option_or before (first_missing labels (filter_map used_label (sites_of cells)))) }
+{
+    match (before, bound) {
+        (None, Some(bound)) => missing_in_two(light.first, light.second, bound),
+        _ => before,
+    }
+}
+
+/// The label that was missing before, or else the first that one of these uses leads to and that is not bound.
+#[inline(always)]
+fn missing_behind_all(
+    before: Option<MachLabel>,
+    uses: Uses,
+    bound: Option<&LabelMap<()>>,
+) -> Option<MachLabel>
+    ensures { IfSome bound.entry (λ map. (labels : _) → HasLabels map.now labels
+        → (cells : _) → uses_of 0 cells ≡ listed_uses uses.entry → result ≡ option_or before (first_missing labels (filter_map used_label (sites_of cells)))) }
+{
+    match (before, bound) {
+        (None, Some(bound)) => missing_in(uses, bound),
+        _ => before,
+    }
+}
+
+/// Adds an item that is light.
+#[inline(always)]
+fn add_light(totals: &mut Totals, light: Light, bound: Option<&LabelMap<()>>)
+    requires { 68 ≤ totals.old.widest }
+    ensures shortest { totals.new.shortest ≡ bounds.lesser totals.old.shortest light.range }
+    ensures near { totals.new.near ≡ totals.old.near }
+    ensures widest { totals.new.widest ≡ max totals.old.widest light.growth }
+    ensures missing { IfSome bound.entry (λ map. (labels : _) → HasLabels map.now labels
+        → (cells : _) → uses_of 0 cells ≡ two_uses light.first light.second → totals.new.missing ≡ option_or totals.old.missing (first_missing labels (filter_map used_label (sites_of cells)))) }
+{
+    totals.shortest = lesser(totals.shortest, light.range);
+    totals.users = totals
+        .users
+        .wrapping_add(count_of(light.first, light.second));
+    totals.widest = wider(totals.widest, light.growth);
+    totals.missing = missing_behind(totals.missing, light, bound);
+}
+
+/// Adds any item.
+#[inline(always)]
+fn add_burden(totals: &mut Totals, burden: Burden, bound: Option<&LabelMap<()>>)
+    requires { 68 ≤ totals.old.widest }
+    ensures shortest { totals.new.shortest ≡ bounds.lesser totals.old.shortest burden.entry.extent.range }
+    ensures near { (cells : _) → uses_of 0 cells ≡ listed_uses burden.entry.uses → totals.new.near ≡ (totals.old.near || list_any is_near (sites_of cells)) }
+    ensures widest { (width : ℕ) × IsWidth burden.entry.extent width × (totals.new.widest ≡ max totals.old.widest width) }
+    ensures missing { IfSome bound.entry (λ map. (labels : _) → HasLabels map.now labels
+        → (cells : _) → uses_of 0 cells ≡ listed_uses burden.entry.uses → totals.new.missing ≡ option_or totals.old.missing (first_missing labels (filter_map used_label (sites_of cells)))) }
+{
+    let Burden { extent, uses } = burden;
+    totals.shortest = lesser(totals.shortest, extent.range);
+    totals.near |= near_in(uses);
+    totals.users = totals.users.wrapping_add(use_count(uses));
+    totals.widest = wider(totals.widest, width_of(extent));
+    totals.missing = missing_behind_all(totals.missing, uses, bound);
+}
+
+/// What is found of code that may have so many bytes, whose uses come to these totals.
 ///
 /// # Errors
 ///
-/// The first label that is not bound, or else that the code may be too large.
-pub fn check_code(
-    items: &[Item],
-    bound: &LabelMap<()>,
-    info: &EmitInfo,
-    frame: &FrameLayout,
-) -> Result<Found, EmitError>
-    requires { HasLabels bound.now (bindings items.now) }
-    ensures { MatchResult result
-        (IsFound frame.now info.now items.now)
-        (λ error. or_else (unbound_use frame.now info.now items.now) (too_large frame.now info.now items.now) ≡ Some error) }
+/// The label that is missing, or else that the code may be too large.
+fn found_of(size: u64, totals: Totals) -> Result<Found, EmitError>
+    ensures ok { IfOk result (λ found. (totals.missing ≡ None) × (size < 2 ^ 31) × (found.size ≡ size) × (found.shortest ≡ totals.shortest)
+        × (found.near ≡ totals.near) × (found.widest ≡ min totals.widest (2 ^ 32 - 1))) }
+    ensures err { IfErr result (λ error. (option_map UnboundLabel totals.missing ≡ Some error)
+        ⊎ ((totals.missing ≡ None) × (2 ^ 31 ≤ size) × (error ≡ TooLarge))) }
 {
-    let mut near = false;
-    let mut whole: u64 = 0;
-    let mut shortest = None;
-    let mut users: usize = 0;
-    let mut widest: u64 = USUAL_WIDTH;
-    for item in items {
-        if let Some(light) = light_of(item, frame, info) {
-            if let Some(label) = missing_in_two(light.first, light.second, bound) {
-                return Err(EmitError::UnboundLabel(label));
-            }
-            whole = whole.saturating_add(light.growth);
-            widest = wider(widest, light.growth);
-            shortest = lesser(shortest, light.range);
-            users = users.wrapping_add(count_of(light.first, light.second));
-            continue;
-        }
-        let Burden { extent, uses } = burden_of(item, frame, info);
-        if let Some(label) = missing_in(uses, bound) {
-            return Err(EmitError::UnboundLabel(label));
-        }
-        near |= near_in(uses);
-        users = users.wrapping_add(use_count(uses));
-        widest = wider(widest, width_of(extent));
-        whole = whole
-            .saturating_add(extent.size)
-            .saturating_add(extent.charge);
-        shortest = lesser(shortest, extent.range);
+    if let Some(label) = totals.missing {
+        return Err(EmitError::UnboundLabel(label));
     }
-    if whole >= 1 << 31 {
+    if size >= 1 << 31 {
         return Err(EmitError::TooLarge);
     }
     Ok(Found {
-        size: whole as u32,
-        shortest,
-        near,
-        users,
-        widest: widest.min(u64::from(u32::MAX)) as u32,
+        size: size as u32,
+        shortest: totals.shortest,
+        near: totals.near,
+        users: totals.users,
+        widest: totals.widest.min(u64::from(u32::MAX)) as u32,
     })
+}
+
+/// Whether each item is right by itself, and what is found of their code where that is so: how many bytes it may
+/// have, the shortest range of its uses that may want veneers, whether some use of it needs its label near, and a
+/// bound on what the next words need behind any item, where each label that they use is `bound`, and the code can
+/// be addressed. Where it is not known which are bound, nothing is told of what is found. It takes no memory.
+///
+/// # Errors
+///
+/// The fault of the first item that is not right by itself. Inside: the first label that is not bound, or else
+/// that the code may be too large.
+pub fn check_items(
+    items: &[Item],
+    bound: Option<&LabelMap<()>>,
+    constants: &Constants,
+    info: &EmitInfo,
+    frame: &FrameLayout,
+) -> Result<Result<Found, EmitError>, EmitError>
+    requires { IfSome bound (λ map. HasLabels map.now (bindings items.now)) }
+    ensures fault { MatchResult result
+        (λ _. own_fault frame.now info.now constants.now items.now ≡ None)
+        (λ error. own_fault frame.now info.now constants.now items.now ≡ Some error) }
+    ensures halfwords { OnOk result (All HoldsHalfword items.now) }
+    ensures found { IfOk result (λ found. IfSome bound.entry (λ _. MatchResult found
+        (IsFound frame.now info.now items.now)
+        (λ error. or_else (unbound_use frame.now info.now items.now) (too_large frame.now info.now items.now) ≡ Some error))) }
+{
+    let restorable = frame.is_restorable(info, VirtualRegisters::Refused);
+    let mut size: u64 = 0;
+    let mut totals = no_totals();
+    for (i, item) in items.iter().enumerate() {
+        holds_halfword(item);
+        match look_at(item, constants, info, frame, restorable) {
+            Look::Fault(fault) => return Err(own_error(i, fault)),
+            Look::Bare(growth) => {
+                size = size.saturating_add(growth);
+                totals.widest = wider(totals.widest, growth);
+            }
+            Look::Light(light) => {
+                size = size.saturating_add(light.growth);
+                add_light(&mut totals, light, bound);
+            }
+            Look::Right => {
+                let burden = burden_of(item, frame, info);
+                size = size
+                    .saturating_add(burden.extent.size)
+                    .saturating_add(burden.extent.charge);
+                add_burden(&mut totals, burden, bound);
+            }
+        }
+    }
+    Ok(found_of(size, totals))
 }

@@ -7,6 +7,7 @@ mod assembly;
 #[cfg(test)]
 mod call_tests;
 mod checks;
+mod look;
 mod loose;
 mod marks;
 #[cfg(test)]

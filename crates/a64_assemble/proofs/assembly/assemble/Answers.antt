@@ -1,32 +1,25 @@
-use Rattle.std.proofs.Common.{◌≡◌, ◌∙◌, sym, subst, inl, inr, Result, Ok, Err}
-use Rattle.std.specs.Prelude.{IfErr, IsErrAnd}
-use Rattle.a64_emit.specs.declared.error.EmitError.{EmitError}
-use Rattle.a64_assemble.specs.Assembled.{IsRefusal}
-use Rattle.a64_assemble.proofs.Checked.{fault_at_code, fault_at_reach}
+use Rattle.std.proofs.Common.{◌≡◌, ◌∙◌, true, Option, None, Some, Result, Ok, Err, ap, subst}
+use Rattle.std.specs.Prelude.{IfSome, MatchResult}
+use Rattle.std.specs.Result.{is_ok, result_ok}
+use Rattle.a64_emit.specs.Faults.{or_else, second_binding, too_large, unbound_use}
+use Rattle.a64_assemble.specs.Found.{IsFound}
+use Rattle.a64_assemble.proofs.Checked.{fault_at_reach}
 use Rattle.a64_assemble.proofs.Made.{assembled}
 use Rattle.a64_assemble.proofs.assembly.assemble.Goals as goal
 
--- an error that is passed on
-passed_on : {T : Type 0} (P : EmitError → Type 0) (error : EmitError) (r : Result T EmitError) → IsErrAnd r (λ e. e ≡ error) → P error → IfErr r P
-passed_on P error (Ok x) h p = absurd h
-passed_on P error (Err e) h p = subst P (sym h) p
-
-pub returns-in_err-found-clause-err : goal.returns-in_err-found-clause-err
-returns-in_err-found-clause-err c =
-    passed_on (IsRefusal c.args.frame.now c.args.info.now c.args.constants.now c.args.force c.args.items.now) c.in_err-found.field-0.0 c.from_residual-in_err-found.result c.from_residual-in_err-found.ensures.1
-    (inl (fault_at_code c.args.frame.now c.args.info.now c.args.constants.now c.args.force c.args.items.now c.in_err-found.field-0.0 c.in_ok-check_items.ensures.fault c.in_ok-bound.ensures.ok.0 c.in_err-found.ensures))
-
-pub returns-in_err-check_reach-clause-err : goal.returns-in_err-check_reach-clause-err
-returns-in_err-check_reach-clause-err c =
-    let found = c.in_ok-found.ensures in
-    passed_on (IsRefusal c.args.frame.now c.args.info.now c.args.constants.now c.args.force c.args.items.now) c.in_err-check_reach.field-0.0 c.from_residual-in_err-check_reach.result c.from_residual-in_err-check_reach.ensures.1
-    (elim c.in_err-check_reach.ensures.err [
-      | inl memory ↦ inr (memory, c.in_ok-check_items.ensures.fault)
-      | inr far ↦ inl (fault_at_reach c.args.frame.now c.args.info.now c.args.constants.now c.args.force c.args.items.now c.in_ok-check_items.ensures.fault c.in_ok-bound.ensures.ok.0 found.all_bound found.addressed ∙ far)
-    ])
+-- what holds where there is something, where there is
+where_there : {T E P : Type 0} (r : Result T E) (o : Option T) → o ≡ result_ok r → is_ok r ≡ true → IfSome o (λ _. P) → P
+where_there {T} {E} {P} (Ok x) o e ok h = subst (λ (q : Option T). IfSome q (λ _. P)) e h
+where_there (Err x) o e ok h = absurd cc
 
 pub returns-clause-ok : goal.returns-clause-ok
 returns-clause-ok c =
-    let found = c.in_ok-found.ensures in
-    assembled c.args.frame.now c.args.info.now c.args.force c.args.items.now c.in_ok-bound.ensures.ok.0 found.all_bound found.short c.in_ok-check_reach.ensures.ok c.args.constants.now c.in_ok-code.code c.in_ok-code.ensures c.restores_halfwords.ensures c.in_ok-check_items.ensures.halfwords
-    (fault_at_reach c.args.frame.now c.args.info.now c.args.constants.now c.args.force c.args.items.now c.in_ok-check_items.ensures.fault c.in_ok-bound.ensures.ok.0 found.all_bound found.addressed ∙ c.in_ok-check_reach.ensures.ok)
+    let frame = c.args.frame.now in
+    let flags = c.args.info.now in
+    let items = c.args.items.now in
+    let once : second_binding items ≡ None = (rw c.in_ok-bound.was at c.bound_labels-bound.ensures.ok).0 in
+    let told : MatchResult c.in_ok-found.found (IsFound frame flags items) (λ error. or_else (unbound_use frame flags items) (too_large frame flags items) ≡ Some error) =
+    where_there c.as_ref.result c.ok.result c.ok.ensures.value (c.as_ref.ensures.variant ∙ ap is_ok c.in_ok-bound.was) c.in_ok-found.ensures.found in
+    let found : IsFound frame flags items c.in_ok-found-2.found = rw c.in_ok-found-2.was at told in
+    assembled frame flags c.args.force items once found.all_bound found.short c.in_ok-check_reach.ensures.ok c.args.constants.now c.in_ok-code.code c.in_ok-code.ensures c.restores_halfwords.ensures c.in_ok-found.ensures.halfwords
+    (fault_at_reach frame flags c.args.constants.now c.args.force items c.in_ok-found.ensures.fault once found.all_bound found.addressed ∙ c.in_ok-check_reach.ensures.ok)
