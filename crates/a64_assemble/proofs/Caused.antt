@@ -1,7 +1,7 @@
 -- Islands stand in finished code only where they may, and wherever they are forced.
-use Rattle.std.proofs.Common.{ℕ, ◌≡◌, ◌+◌, ◌<◌, ◌≤◌, true, List, [], ◌∷◌, ◌++◌, All, length, get_or, map, sym, ap, ◌∙◌, subst, arith, inl, inr}
+use Rattle.std.proofs.Common.{ℕ, ◌≡◌, ◌+◌, ◌<◌, ◌≤◌, true, List, [], ◌∷◌, ◌++◌, All, length, get_or, sym, ap, ◌∙◌, subst, arith, inl, inr}
 use Rattle.std.specs.Prelude.{Contains}
-use Rattle.std.proofs.lemmas.List.{length-map, get_or-map, get_or_append_left, get_or_default}
+use Rattle.std.proofs.lemmas.List.{length-map, get_or_append_left, get_or_default}
 use Rattle.std.proofs.lemmas.List.Elements.{All-same}
 use Rattle.std.proofs.lemmas.Option.{slice_get-get_or, slice_get_within}
 use Rattle.a64_inst.specs.declared.emission.EmitFlags.{EmitFlags}
@@ -16,20 +16,18 @@ use Rattle.a64_buffer.specs.Finished.{IsFinished}
 use Rattle.a64_emit.specs.declared.code.Code.{Code}
 use Rattle.a64_emit.specs.declared.label_use.LabelUse.{LabelUse}
 use Rattle.a64_emit.specs.LabelUses.{label_kinds}
-use Rattle.a64_emit.specs.Cells.{cells_of}
-use Rattle.a64_emit.specs.Layout.{end_of_item}
 use Rattle.a64_emit.specs.Emission.{site_of}
-use Rattle.a64_assemble.specs.Elements.{Element, Asking, cells_in, element_of, elements_of, element_at}
-use Rattle.a64_assemble.specs.Stations.{end_of_element}
+use Rattle.a64_assemble.specs.Elements.{Element, element_of, elements_of}
+use Rattle.a64_assemble.specs.Stations.{IsIslandBehind}
 use Rattle.a64_assemble.specs.OpenUses.{is_open_at, SomeOpenAt, IsCaused}
 use Rattle.a64_assemble.specs.Progress.{AreGood, HasPut}
 use Rattle.a64_assemble.specs.Owners.{AreOwned}
 use Rattle.a64_assemble.specs.Placement as placement
 use Rattle.a64_assemble.proofs.Arrivals.{no_use, IsOutput, pool_is}
 use Rattle.a64_assemble.proofs.Finishing.{code_laid, code_caused, code_forced, code_short}
+use Rattle.a64_assemble.proofs.Islanded.{island_after}
 use Rattle.a64_assemble.proofs.Itemized.{whole_same}
 use Rattle.a64_assemble.proofs.Needing.{some_same, need_here, need_far, takes_near, takes_far, leaves_far, open_known, open_stands}
-use Rattle.a64_assemble.proofs.Placing.{cell_lists}
 
 module _ (frame : FrameLayout) (flags : EmitFlags) (items : List Item) (force : ForceVeneers) (b : Buffer LabelUse) (code : Finished) (f : IsFinished label_kinds b code) (out : Code) (o : IsOutput code out) (good : AreGood (elements_of frame flags items)) (h : HasPut force (elements_of frame flags items) (length (elements_of frame flags items)) out.places.items b) (owned : AreOwned (elements_of frame flags items) (length (elements_of frame flags items)) out.places.items b) where
   abbrev xs : List Element
@@ -41,21 +39,14 @@ module _ (frame : FrameLayout) (flags : EmitFlags) (items : List Item) (force : 
   count_is : length xs ≡ length items
   count_is = length-map items (element_of frame flags)
 
-  -- an item's end is its element's
-  end_is : (k : ℕ) → k < length xs → end_of_element xs (out.places.items ++ code.pool ∷ []) k ≡ end_of_item frame flags items out k
-  end_is k within =
-      let cells : get_or (map (cells_of frame flags) items) k [] ≡ cells_in (element_at xs k) = ap (λ css. get_or css k []) (sym (cell_lists frame flags items)) ∙ get_or-map cells_in xs k (Asking 0) [] within in
-      let station : get_or (out.places.items ++ code.pool ∷ []) k 0 ≡ get_or (out.places.items ++ out.pool ∷ []) k 0 = ap (λ n. get_or (out.places.items ++ n ∷ []) k 0) (sym o.pool) in
-      omega (arith, station, ap length cells)
-
-  by_need : (island : ℕ × ℕ) → IsCaused xs f.final force (out.places.items ++ code.pool ∷ []) island → island.1 ≤ out.pool → placement.IsIslandByNeed frame flags items out force island
-  by_need island c low =
+  by_need : (island : ℕ × ℕ) → Contains b.islands island → IsCaused xs f.final force (out.places.items ++ code.pool ∷ []) island → island.1 ≤ out.pool → placement.IsIslandByNeed frame flags items out force island
+  by_need island listed c low =
       let within = c.within in
       let long : island.0 ≤ island.1 = (let x = c.stands.long in omega (arith, x)) in
       record {
         after = c.after;
         within = omega (arith, within, count_is);
-        begins = c.stands.begins ∙ end_is c.after c.within;
+        stands = island_after frame flags items force b code f out o h c.after island c.within listed (subst (λ end. IsIslandBehind xs (out.places.items ++ end ∷ []) c.after island) f.pool c.stands);
         space = c.space;
         space_is = c.space_is;
         cause = elim c.cause [
@@ -78,9 +69,9 @@ module _ (frame : FrameLayout) (flags : EmitFlags) (items : List Item) (force : 
   -- each island stands where it is needed or forced, and takes what it must
   pub islands_by_need : All (placement.IsIslandByNeed frame flags items out force) out.islands.items
   islands_by_need = All-same (placement.IsIslandByNeed frame flags items out force) out.islands.items code.islands.items o.islands
-      (λ i d w. by_need (get_or code.islands.items i d) (code_caused force xs good out.places.items b h code f i d w) (let x = (code_laid force xs good out.places.items b h code f).below i d w in omega (arith, x, o.pool)))
+      (λ i d w. by_need (get_or code.islands.items i d) (subst (λ is. Contains is (get_or code.islands.items i d)) f.islands (i, w, get_or_default code.islands.items i (get_or code.islands.items i d) d w)) (code_caused force xs good out.places.items b h code f i d w) (let x = (code_laid force xs good out.places.items b h code f).below i d w in omega (arith, x, o.pool)))
 
-  -- and where islands are forced, one stands wherever one is asked for and a use is open
+  -- and where islands are forced, one stands behind each item that asks for one and at which a use is open
   pub islands_forced : force ≡ Yes → placement.AreForced frame flags items out
   islands_forced now k place within asks at some =
       let inside : k < length xs = omega (arith, within, count_is) in
@@ -90,9 +81,10 @@ module _ (frame : FrameLayout) (flags : EmitFlags) (items : List Item) (force : 
       let low : place ≤ out.pool = (let x = h.laid.rising k (omega (arith, inside)) in omega (arith, x, station, here, pool_is b code f out o)) in
       let u = open_known frame flags items force b code f out o h owned k place place some.0 inside low some.1 in
       let island = code_forced force xs good out.places.items b h code f now k inside asks
-      (subst (λ n. SomeOpenAt xs f.final k n) (sym here) (record { index = u.index; within = u.within; open' = λ d. subst (λ v. is_open_at xs f.final k place v ≡ true) (get_or_default f.final.uses u.index no_use d u.within) u.open' })) in (
-        get_or (out.places.items ++ code.pool ∷ []) (k + 1) 0,
-        subst (λ is. Contains is (place, get_or (out.places.items ++ code.pool ∷ []) (k + 1) 0)) (sym o.islands) (subst (λ n. Contains code.islands.items (n, get_or (out.places.items ++ code.pool ∷ []) (k + 1) 0)) here island),
+      (subst (λ n. SomeOpenAt xs f.final k n) (sym here) (record { index = u.index; within = u.within; open' = λ d. subst (λ v. is_open_at xs f.final k place v ≡ true) (get_or_default f.final.uses u.index no_use d u.within) u.open' })) in
+      let end : ℕ = get_or (out.places.items ++ end_of b ∷ []) (k + 1) 0 in (
+        end,
+        island_after frame flags items force b code f out o h k (place, end) inside (subst (λ n. Contains b.islands (n, end)) here island.0) (subst (λ n. IsIslandBehind xs (out.places.items ++ end_of b ∷ []) k (n, end)) here island.1),
       )
 
   -- the code is at most the sizes, the charges and the asked spaces long

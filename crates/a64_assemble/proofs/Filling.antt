@@ -49,12 +49,12 @@ use Rattle.a64_assemble.specs.Fillings.{IsLateOrFar, HoldsPieces, IsFilledIsland
 use Rattle.a64_assemble.proofs.Areas.{stops_from, IsWritten, FinalServed, final_served, old_wanting, holds_pieces}
 use Rattle.a64_assemble.proofs.BoundLabels.{bound_at}
 use Rattle.a64_assemble.proofs.Itemized.{binding_item}
-use Rattle.a64_assemble.proofs.Islanded.{end_same}
+use Rattle.a64_assemble.proofs.Islanded.{island_after}
 use Rattle.a64_assemble.proofs.Needing.{some_same}
 use Rattle.a64_assemble.proofs.Owners.{IsPieceJump, piece_jump, short_kind}
 use Rattle.a64_assemble.proofs.Placing.{all_cells_are, says_stop, not_inside}
 
-no_constant : (t : Target) → IsSome (label_of t) → IsSome (pieces.constant_of t) → ⊥
+pub no_constant : (t : Target) → IsSome (label_of t) → IsSome (pieces.constant_of t) → ⊥
 no_constant (Label l) s c = false≢true c
 no_constant (Constant n) s c = false≢true s
 no_constant (Trap x) s c = false≢true s
@@ -91,7 +91,7 @@ module _ (frame : FrameLayout) (flags : EmitFlags) (items : List Item) (force : 
 
   -- ---- the pool
 
-  pool_written : IsWritten b.constants b b f.final f.final f.served
+  pub pool_written : IsWritten b.constants b b f.final f.final f.served
   pool_written = record {
     serves = f.serves;
     known = f.later;
@@ -250,7 +250,7 @@ module _ (frame : FrameLayout) (flags : EmitFlags) (items : List Item) (force : 
     begun_end : end_of begun_m ≡ end_of m + 4
     begun_end = omega (arith, length-append m.words (0x14000000 ∷ []))
 
-    island_written : IsWritten b.constants m begun_m z.written f.final z.has.served
+    pub island_written : IsWritten b.constants m begun_m z.written f.final z.has.served
     island_written = record {
       serves = subst (λ cs. Serves label_kinds m.labels cs z.has.served begun_m z.written) (sym since_moment.constants) z.has.serves;
       known = later_trans m b f.final since_moment f.later;
@@ -370,7 +370,7 @@ module _ (frame : FrameLayout) (flags : EmitFlags) (items : List Item) (force : 
         record {
           after = z.after;
           within = omega (arith, inside, length-map items (element_of frame flags));
-          begins = z.stands.begins ∙ end_same frame flags items force b code f out o h z.after z.within;
+          stands = island_after frame flags items force b code f out o h z.after island z.within listed z.stands;
           holds =
               let begin : end_of m ≡ island.0 = z.at in
               let start : end_of begun_m ≡ island.0 + 4 = omega (arith, begun_end, begin) in

@@ -19,7 +19,7 @@ use Rattle.a64_emit.specs.LabelUses.{label_kinds}
 use Rattle.a64_emit.specs.Layout.{standing}
 use Rattle.a64_emit.specs.Emission.{IsPut}
 use Rattle.a64_assemble.specs.Elements.{Element, Binding, Words, Asking, cells_in, size_in, whole_in, is_asking, element_at}
-use Rattle.a64_assemble.specs.Stations.{IsLaid, end_of_element}
+use Rattle.a64_assemble.specs.Stations.{IsIslandBehind, IsLaid, end_of_element}
 use Rattle.a64_assemble.specs.OpenUses.{SomeOpenAt, IsCaused}
 use Rattle.a64_assemble.specs.Progress.{AreGood, AreQuiet, HasPut}
 use Rattle.a64_assemble.proofs.Later.{put_later}
@@ -67,8 +67,9 @@ module _ (force : ForceVeneers) (xs : List Element) (good : AreGood xs) (places 
   pub code_quiet : AreQuiet force xs → code.islands.items ≡ []
   code_quiet q = f.islands ∙ (h.quiet q).0
 
-  -- and where islands are forced, one stands wherever one is asked for and a use is open
-  pub code_forced : force ≡ Yes → (i : ℕ) → i < length xs → is_asking (element_at xs i) ≡ true → SomeOpenAt xs f.final i (get_or places i 0) → Contains code.islands.items (get_or places i 0, get_or (places ++ code.pool ∷ []) (i + 1) 0)
+  -- and where islands are forced, one stands behind each element that asks for one and at which a use is open
+  pub code_forced : force ≡ Yes → (i : ℕ) → i < length xs → is_asking (element_at xs i) ≡ true → SomeOpenAt xs f.final i (get_or places i 0)
+      → Contains b.islands (get_or places i 0, get_or (places ++ end_of b ∷ []) (i + 1) 0) × IsIslandBehind xs (places ++ end_of b ∷ []) i (get_or places i 0, get_or (places ++ end_of b ∷ []) (i + 1) 0)
   code_forced now i w is open' =
       let s : List ℕ = places ++ end_of b ∷ [] in
       let at : get_or s i 0 ≡ get_or places i 0 = get_or_append_left places (end_of b ∷ []) 0 i (omega (arith, w, h.laid.each_placed)) in
@@ -79,6 +80,6 @@ module _ (force : ForceVeneers) (xs : List Element) (good : AreGood xs) (places 
           | inl flat ↦ absurd (omega (arith, flat, island, size))
           | inr there ↦
               let p : (end_of_element xs s i, get_or s (i + 1) 0) ≡ (get_or places i 0, get_or s (i + 1) 0) = ap (λ e. (e, get_or s (i + 1) 0)) (let z : end_of_element xs s i ≡ get_or places i 0 = omega (arith, at, size) in z) in
-              subst (λ end. Contains code.islands.items (get_or places i 0, get_or (places ++ end ∷ []) (i + 1) 0)) (sym f.pool) (subst (λ is. Contains is (get_or places i 0, get_or s (i + 1) 0)) (sym f.islands) (subst (Contains b.islands) p there.0))
+              subst (λ island. Contains b.islands island × IsIslandBehind xs s i island) p there
         ]
       ]

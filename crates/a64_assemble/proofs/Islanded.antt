@@ -57,7 +57,7 @@ module _ (frame : FrameLayout) (flags : EmitFlags) (items : List Item) (force : 
   station_is : (i : ℕ) → get_or (out.places.items ++ out.pool ∷ []) i 0 ≡ get_or (out.places.items ++ end_of b ∷ []) i 0
   station_is i = ap (λ s. get_or s i 0) stations_are
 
-  pub end_same : (i : ℕ) → i < length xs → end_of_element xs (out.places.items ++ end_of b ∷ []) i ≡ end_of_item frame flags items out i
+  end_same : (i : ℕ) → i < length xs → end_of_element xs (out.places.items ++ end_of b ∷ []) i ≡ end_of_item frame flags items out i
   end_same i within =
       let cells : get_or (map (cells_of frame flags) items) i [] ≡ cells_in (element_at xs i) = ap (λ css. get_or css i []) (sym (cell_lists frame flags items)) ∙ get_or-map cells_in xs i (Asking 0) [] within in
       omega (arith, station_is i, ap length cells)
@@ -74,7 +74,8 @@ module _ (frame : FrameLayout) (flags : EmitFlags) (items : List Item) (force : 
   islands_are : out.islands.items ≡ b.islands
   islands_are = o.islands ∙ f.islands
 
-  island_after : (i : ℕ) (island : ℕ × ℕ) → i < length xs → Contains b.islands island → IsIslandBehind xs (out.places.items ++ end_of b ∷ []) i island → IsIslandAfter frame flags items out i island
+  -- an island behind an element is one behind its item
+  pub island_after : (i : ℕ) (island : ℕ × ℕ) → i < length xs → Contains b.islands island → IsIslandBehind xs (out.places.items ++ end_of b ∷ []) i island → IsIslandAfter frame flags items out i island
   island_after i island within c s =
       let d : Item = Bind (record { 0 = 0 }) in
       let inside : i < length items = omega (arith, within, count_is) in

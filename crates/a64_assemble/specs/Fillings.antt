@@ -13,7 +13,7 @@ use Rattle.a64_buffer.specs.Pieces.{constant_of}
 use Rattle.a64_emit.specs.declared.code.Code.{Code}
 use Rattle.a64_emit.specs.declared.site.Site.{Site}
 use Rattle.a64_emit.specs.LabelUses.{label_kinds}
-use Rattle.a64_emit.specs.Layout.{end_of_item}
+use Rattle.a64_emit.specs.Layout.{IsIslandAfter}
 use Rattle.a64_emit.specs.Contents.{ComesBefore, IsCellUse, Fills, IsFarOff}
 use Rattle.a64_assemble.specs.Placement.{standing_cells, UseStopsAt, IsWanting, IsOpenIn}
 
@@ -49,7 +49,7 @@ module _ (frame : FrameLayout) (flags : EmitFlags) (items : List Item) (constant
   pub record IsFilledIsland (island : ℕ × ℕ) : Type 0 where
     pub after : ℕ
     pub within : after < length items
-    pub begins : island.0 ≡ end_of_item frame flags items code after
+    pub stands : IsIslandAfter frame flags items code after island
     pub holds : HoldsPieces island.0 (island.0 + 4) island.1 (λ u. IsOpenIn frame flags items code after island.0 island.1 u × IsLateOrFar after u)
 
   -- the pool holds pieces, and a veneer only for a use that is out of reach of its label

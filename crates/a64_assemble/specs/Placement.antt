@@ -22,7 +22,7 @@ use Rattle.a64_emit.specs.declared.site.Site.{Site}
 use Rattle.a64_emit.specs.LabelUses.{mask_for, forward_range}
 use Rattle.a64_emit.specs.Cells.{Cell, cells_of}
 use Rattle.a64_emit.specs.Bounds.{whole}
-use Rattle.a64_emit.specs.Layout.{standing, end_of_item}
+use Rattle.a64_emit.specs.Layout.{standing, IsIslandAfter}
 use Rattle.a64_emit.specs.Contents.{site_class, IsCellUse}
 use Rattle.a64_emit.specs.Leads.{areas, StopsAt}
 use Rattle.a64_assemble.specs.Elements.{elements_of, is_asking, ahead, element_at}
@@ -96,7 +96,7 @@ module _ (frame : FrameLayout) (flags : EmitFlags) (items : List Item) (code : C
   pub record IsIslandByNeed (force : ForceVeneers) (island : ℕ × ℕ) : Type 0 where
     pub after : ℕ
     pub within : after < length items
-    pub begins : island.0 ≡ end_of_item frame flags items code after
+    pub stands : IsIslandAfter frame flags items code after island
     pub space : ℕ
     pub space_is : ahead (element_at (elements_of frame flags items) after) (drop (after + 1) (elements_of frame flags items)) ≡ Some space
     pub cause : Need after island.0 island.0 space (λ site. Unit {0})
@@ -105,11 +105,11 @@ module _ (frame : FrameLayout) (flags : EmitFlags) (items : List Item) (code : C
     pub far : (LeavesFar after island × (force ≡ No))
         ⊎ (TakesFar after island × (Need after island.0 island.1 space IsFar ⊎ (force ≡ Yes)))
 
-  -- where islands are forced, one stands wherever one is asked for and a use is open
+  -- where islands are forced, one stands behind each item that asks for one and at which a use is open
   abbrev pub AreForced : Type 0
   AreForced =
       (k place : ℕ) → k < length items → is_asking (element_at (elements_of frame flags items) k) ≡ true → slice_get code.places.items k ≡ Some place
-      → ((use' : ℕ × Site) × IsOpenIn k place place use') → (end : ℕ) × Contains code.islands.items (place, end)
+      → ((use' : ℕ × Site) × IsOpenIn k place place use') → (end : ℕ) × IsIslandAfter frame flags items code k (place, end)
 
   -- the code is at most the sizes, the charges and the asked spaces long
   abbrev pub IsShort : Type 0
