@@ -39,6 +39,7 @@ pub mod NextRooms
 pub mod Stepped
 pub mod Widths
 pub mod Owners
+pub mod StopsAhead
 pub mod Placing
 pub mod Needing
 pub mod Caused
@@ -49,6 +50,7 @@ pub mod Recording
 pub mod CodeRecords
 pub mod Areas
 pub mod Filling
+pub mod OwnVeneers
 pub mod Tallied
 pub mod Indices
 pub mod FarUses

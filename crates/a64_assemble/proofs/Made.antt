@@ -38,6 +38,7 @@ use Rattle.a64_assemble.proofs.ItemsRead.{all_free, items_read_back}
 use Rattle.a64_assemble.proofs.Itemized.{near_same, bound_all, quiet_same}
 use Rattle.a64_assemble.proofs.Leading.{code_leads, code_own_traps}
 use Rattle.a64_assemble.proofs.Owns.{earlier_none}
+use Rattle.a64_assemble.proofs.OwnVeneers.{code_ahead, own_veneers}
 use Rattle.a64_assemble.proofs.Progress.{short_all}
 use Rattle.a64_assemble.proofs.FirstPut.{are_good}
 
@@ -88,5 +89,7 @@ module _ (frame : FrameLayout) (flags : EmitFlags) (force : ForceVeneers) (items
         quiet = λ quiet. m.handed_out.islands ∙ code_quiet force (elements_of frame flags items) good code.places.items m.buffer m.put.put m.finished m.is_finished (quiet_elements quiet);
         filled = subst (λ (cs : FinMap nat_cmp (List ℕ)). All (IsFilledIsland frame flags items cs code) code.islands.items) m.constants_are (islands_filled frame flags items force m.buffer m.finished m.is_finished code output m.put.put m.put.owned m.sized m.bound);
         pool = subst (λ (cs : FinMap nat_cmp (List ℕ)). IsFilledPool frame flags items cs code) m.constants_are (pool_filled frame flags items force m.buffer m.finished m.is_finished code output m.put.put m.put.owned m.sized m.bound);
+        ahead = code_ahead frame flags items force m.buffer m.finished m.is_finished code output m.put.put m.put.owned m.sized m.bound m.put.ahead;
+        own_veneers = own_veneers frame flags items force m.buffer m.finished m.is_finished code output m.put.put m.put.owned m.sized m.bound m.put.ahead;
         short = bytes_short frame flags items force m.buffer m.finished m.is_finished code output good m.put.put m.put.owned;
       }

@@ -80,6 +80,10 @@ module _ (xs : List Element) (count : ℕ) (places : List ℕ) (islands : List (
   next_station : (i : ℕ) → i < count → station i ≤ station (i + 1)
   next_station i h = elim (laid.next i h) [ inl flat ↦ omega (arith, flat) | inr island ↦ (let long = island.1.long in omega (arith, long)) ]
 
+  -- what follows an element stands at its end or behind it
+  element_before : (i : ℕ) → i < count → end_of_element xs (places ++ end ∷ []) i ≤ station (i + 1)
+  element_before i h = elim (laid.next i h) [ inl flat ↦ omega (arith, flat) | inr island ↦ (let long = island.1.long in omega (arith, long)) ]
+
   stations_rise : (n i : ℕ) → i + n ≤ count → station i ≤ station (i + n)
   stations_rise zero i h = let e : i ≡ i + 0 = omega arith in subst (λ j. station i ≤ station j) e (omega arith)
   stations_rise (suc n) i h =
@@ -96,6 +100,18 @@ module _ (xs : List Element) (count : ℕ) (places : List ℕ) (islands : List (
       elim (cases_lt once.0 i) [
         | inl behind ↦ (let a = rises (once.0 + 1) i (omega (arith, behind)) (omega (arith, h)) in omega (arith, a, once.3, high))
         | inr before ↦ (let a = rises i once.0 (omega (arith, before)) (let w = once.1 in omega (arith, w)) in omega (arith, a, once.2, low))
+      ]
+
+  -- nor does a word of one
+  pub word_outside : (island : ℕ × ℕ) → Contains islands island → (i place : ℕ) → i < count → station i ≤ place → place < end_of_element xs (places ++ end ∷ []) i → (place < island.0) ⊎ (island.1 ≤ place)
+  word_outside island listed i place h low high =
+      let once = subst (λ (x : ℕ × ℕ). (after : ℕ) × (after < count) × (x.0 ≡ end_of_element xs (places ++ end ∷ []) after) × (x.1 ≡ station (after + 1))) listed.2 (let z = laid.once listed.0 island listed.1 in (z.after, z.within, z.stands.begins, z.stands.ends)) in
+      elim (cases_lt once.0 i) [
+        | inl behind ↦ inr (let a = rises (once.0 + 1) i (omega (arith, behind)) (omega (arith, h)) in omega (arith, a, once.3, low))
+        | inr before ↦ elim (cases_eq i once.0) [
+          | inl same ↦ inl (omega (arith, once.2, high, ap (end_of_element xs (places ++ end ∷ [])) same))
+          | inr ne ↦ inl (let a = rises (i + 1) once.0 (omega (arith, before, ne)) (let w = once.1 in omega (arith, w)) in let b = element_before i h in omega (arith, a, b, once.2, high))
+        ]
       ]
 
   -- an island does not begin inside of another

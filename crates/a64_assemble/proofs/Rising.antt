@@ -1,8 +1,9 @@
 -- The cells of items stand one behind another.
-use Rattle.std.proofs.Common.{ℕ, ◌≡◌, ◌+◌, ◌*◌, ◌<◌, ◌≤◌, suc, zero, List, [], ◌∷◌, ◌++◌, length, get_or, ap, ◌∙◌, arith}
+use Rattle.std.proofs.Common.{ℕ, ◌≡◌, ◌+◌, ◌-◌, ◌*◌, ◌<◌, ◌≤◌, suc, zero, List, [], ◌∷◌, ◌++◌, length, get_or, refl, ap, ◌∙◌, arith, inl, inr}
 use Rattle.std.specs.Prelude.{All, Contains}
 use Rattle.std.specs.List.{AllPairs}
-use Rattle.std.proofs.lemmas.List.{get_or_default}
+use Rattle.std.proofs.lemmas.Bool.{cases_lt}
+use Rattle.std.proofs.lemmas.List.{get_or_default, get_or_append_left, get_or-append_right, length-append}
 use Rattle.std.proofs.lemmas.List.Elements.{All-append, Contains-append_left, Contains-append_right}
 use Rattle.a64_buffer.proofs.Serving.{pairs_append}
 use Rattle.a64_emit.specs.Cells.{Cell}
@@ -60,3 +61,21 @@ standing_has [] places i k d count hi hk = absurd (omega arith)
 standing_has (cs ∷ css) [] i k d count hi hk = absurd (omega (arith, count))
 standing_has (cs ∷ css) (p ∷ ps) zero k d count hi hk = Contains-append_left (placed p cs) (standing css ps) (p + 4 * k, get_or cs k d) (placed_has p cs k d hk)
 standing_has (cs ∷ css) (p ∷ ps) (suc i) k d count hi hk = Contains-append_right (placed p cs) (standing css ps) (get_or ps i 0 + 4 * k, get_or (get_or css i []) k d) (standing_has css ps i k d (omega (arith, count)) (omega arith) hk)
+
+-- and each cell is one of an item, in which it stands
+pub standing_in : (css : List (List Cell)) (places : List ℕ) → length places ≡ length css → (k : ℕ) (d : ℕ × Cell) → k < length (standing css places)
+    → (i : ℕ) × (i < length css) × (get_or places i 0 ≤ (get_or (standing css places) k d).0) × ((get_or (standing css places) k d).0 < get_or places i 0 + 4 * length (get_or css i []))
+standing_in [] [] count k d h = absurd (omega (arith, h))
+standing_in [] (p ∷ ps) count k d h = absurd (omega (arith, count))
+standing_in (cs ∷ css) [] count k d h = absurd (omega (arith, count))
+standing_in (cs ∷ css) (p ∷ ps) count k d h = elim (cases_lt k (length (placed p cs))) [
+  | inl first ↦
+      let at = ap (λ (s : ℕ × Cell). s.0) (get_or_append_left (placed p cs) (standing css ps) d k first) in
+      let low = placed_from p cs k d first in
+      let high = placed_below p cs k d first in
+      (0, omega arith, omega (arith, at, low), omega (arith, at, high))
+  | inr behind ↦
+      let at = ap (λ (s : ℕ × Cell). s.0) (get_or-append_right (placed p cs) (standing css ps) (length (placed p cs)) k d refl behind) in
+      let rest = standing_in css ps (omega (arith, count)) (k - length (placed p cs)) d (omega (arith, h, behind, length-append (placed p cs) (standing css ps))) in
+      (suc rest.0, (let w = rest.1 in omega (arith, w)), (let l = rest.2 in omega (arith, at, l)), (let g = rest.3 in omega (arith, at, g)))
+]

@@ -18,6 +18,7 @@ use Rattle.a64_emit.specs.Records.{HasRecords}
 use Rattle.a64_emit.specs.Faults.{own_fault, fault_of}
 use Rattle.a64_assemble.specs.Placement.{IsIslandByNeed, AreForced, IsShort}
 use Rattle.a64_assemble.specs.Fillings.{IsFilledIsland, IsFilledPool}
+use Rattle.a64_assemble.specs.OwnStops.{StopAhead, HaveOwnVeneers}
 use Rattle.a64_assemble.specs.ReadBack.{IsReadBack}
 
 module _ (frame : FrameLayout) (flags : EmitFlags) (constants : FinMap nat_cmp (List ℕ)) (force : ForceVeneers) (items : List Item) where
@@ -39,6 +40,9 @@ module _ (frame : FrameLayout) (flags : EmitFlags) (constants : FinMap nat_cmp (
     -- islands and the pool hold what uses wait for there, and nothing else
     pub filled : All (IsFilledIsland frame flags items constants code) code.islands.items
     pub pool : IsFilledPool frame flags items constants code
+    -- each use leads ahead, or to its label; and each branch that passes veneers has a first one of its own
+    pub ahead : StopAhead frame flags items code
+    pub own_veneers : HaveOwnVeneers frame flags items code
     pub short : IsShort frame flags items code
 
   -- a refusal: the first fault, or want of memory, which comes only where each item is right by itself

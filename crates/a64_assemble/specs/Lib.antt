@@ -9,6 +9,7 @@ pub mod Owners
 pub mod TrapRecords
 pub mod CellRecords
 pub mod Fillings
+pub mod OwnStops
 pub mod Tally
 pub mod Found
 pub mod Looks
