@@ -84,10 +84,6 @@ front_cut {taken} {mid} {taken'} {faults} {f} {faults'} {waits} {w} {a} rest h k
     rw (← h.parts, e, ← append_assoc h.done a rest)
     (cut_more taken taken' faults faults' waits (h.done ++ a) rest (puts_cut taken mid taken' faults f faults' waits w h.done a h.puts k))
 
-pub front_end : {taken taken' : Option (List ℕ)} {faults faults' : ℕ} {waits waits' rest whole : List ℕ}
-    → PutsFront taken faults waits taken' faults' waits' rest whole → rest ≡ [] → Puts taken faults waits taken' faults' waits' whole
-front_end h e = rw (← h.parts, e, append-nil h.done) h.puts
-
 -- what is put behind nothing is taken, where what waits of it is
 pub puts_taken : (taken mid taken' : Option (List ℕ)) (faults f : ℕ) (waits whole : List ℕ)
     → Puts taken faults [] mid f waits whole → Takes mid taken' waits → Takes taken taken' whole

@@ -3,7 +3,7 @@ use Rattle.std.proofs.Common.{◌≡◌, ℕ, ◌+◌, ◌*◌, ◌/◌, ◌<◌
 use Rattle.std.specs.Int.{w32, from_le_bytes}
 use Rattle.std.specs.List.{flat_map, enumerate_from}
 use Rattle.std.specs.Simd.{first_chunks}
-use Rattle.std.proofs.lemmas.List.{take_more, length-take-le, take-map, get_or-map, length-map, drop-drop}
+use Rattle.std.proofs.lemmas.List.{take_more, length-take-le, take-append-le, take-map, get_or-map, length-map, drop-drop}
 use Rattle.a64_cli.specs.Report.{item_line, word_line, words_in}
 use Rattle.a64_cli.specs.Kept.{item_lines, word_lines}
 use Rattle.a64_cli.proofs.KeptLines.{no_words}
@@ -60,6 +60,10 @@ same_front at end text text' lines low few e none =
     let same : end ≡ at =
     omega (arith, ap length e, ap length none, length-append (take at text) lines, length-take-le at text low, length-take-le end text' few) in
     ap (λ k. take k text') (sym same) ∙ e ∙ ap (λ t. take at text ++ t) none ∙ append-nil (take at text)
+
+-- what stands in front in a text, whatever stands behind it there, and the lines that are to follow
+pub front_stays : (at : ℕ) (text behind lines : List ℕ) {whole : List ℕ} → at ≤ length text → take at text ++ lines ≡ whole → take at (text ++ behind) ++ lines ≡ whole
+front_stays at text behind lines low e = ap (λ t. t ++ lines) (take-append-le at text behind low) ∙ e
 
 -- the line of the first word alone
 pub only_one_word : (f : ℕ × ℕ → List ℕ) (n : ℕ) (words : List (List ℕ)) (word : ℕ) (before : List ℕ) → 0 < length words

@@ -1,7 +1,7 @@
 use Rattle.std.proofs.Common.{◌≡◌, ◌-◌, ◌++◌, ◌∙◌, ap, sym, refl, arith, length, take, drop, length-drop}
-use Rattle.std.proofs.lemmas.List.{length-take-le, take-append-le, take-take, take_all}
+use Rattle.std.proofs.lemmas.List.{length-take-le, take-take, take_all}
 use Rattle.a64_cli.specs.Kept.{item_lines}
-use Rattle.a64_cli.proofs.LineRuns.{items_moved}
+use Rattle.a64_cli.proofs.LineRuns.{items_moved, front_stays}
 use Rattle.a64_cli.proofs.piece.fill_items.Goals as goal
 
 pub slice_bounds-text-end-2 : goal.slice_bounds-text-end-2
@@ -39,12 +39,10 @@ pub returns-else-at-clause-filled : goal.returns-else-at-clause-filled
 returns-else-at-clause-filled c =
     let low = c.loop-index.invariant.1 in
     let long = c.loop-index.invariant.0 in
-    ap (λ t. t ++ item_lines c.args.places.now c.loop-index.index) (take-append-le c.loop-index.at c.loop-index.text _ (omega arith))
-    ∙ c.loop-index.invariant.5
+    front_stays c.loop-index.at c.loop-index.text _ _ (omega arith) c.loop-index.invariant.5
 
 pub returns-after-loop-index-clause-filled : goal.returns-after-loop-index-clause-filled
 returns-after-loop-index-clause-filled c =
     let low = c.loop-index.invariant.1 in
     let long = c.loop-index.invariant.0 in
-    ap (λ t. t ++ item_lines c.args.places.now c.loop-index.index) (take-append-le c.loop-index.at c.loop-index.text _ (omega arith))
-    ∙ c.loop-index.invariant.5
+    front_stays c.loop-index.at c.loop-index.text _ _ (omega arith) c.loop-index.invariant.5

@@ -1,9 +1,9 @@
 use Rattle.std.proofs.Common.{◌≡◌, ◌-◌, ◌+◌, ◌*◌, ◌/◌, ◌≤◌, ◌++◌, ◌∙◌, ap, sym, refl, arith, length, take, drop, map, length-drop}
 use Rattle.std.specs.Int.{w32, from_le_bytes}
-use Rattle.std.proofs.lemmas.List.{length-take-le, take-append-le, take-take, take_all}
+use Rattle.std.proofs.lemmas.List.{length-take-le, take-take, take_all}
 use Rattle.a64_cli.specs.Report.{words_in}
 use Rattle.a64_cli.specs.Kept.{word_lines}
-use Rattle.a64_cli.proofs.LineRuns.{words_of_chunks, words_moved}
+use Rattle.a64_cli.proofs.LineRuns.{words_of_chunks, words_moved, front_stays}
 use Rattle.a64_cli.proofs.piece.fill_words.Goals as goal
 
 pub slice_bounds-text-end-2 : goal.slice_bounds-text-end-2
@@ -48,12 +48,10 @@ pub returns-else-at-clause-filled : goal.returns-else-at-clause-filled
 returns-else-at-clause-filled c =
     let low = c.loop-place.invariant.1 in
     let long = c.loop-place.invariant.0 in
-    ap (λ t. t ++ word_lines c.args.code.now c.loop-place.place) (take-append-le c.loop-place.at c.loop-place.text _ (omega arith))
-    ∙ c.loop-place.invariant.6
+    front_stays c.loop-place.at c.loop-place.text _ _ (omega arith) c.loop-place.invariant.6
 
 pub returns-after-loop-place-clause-filled : goal.returns-after-loop-place-clause-filled
 returns-after-loop-place-clause-filled c =
     let low = c.loop-place.invariant.1 in
     let long = c.loop-place.invariant.0 in
-    ap (λ t. t ++ word_lines c.args.code.now c.loop-place.place) (take-append-le c.loop-place.at c.loop-place.text _ (omega arith))
-    ∙ c.loop-place.invariant.6
+    front_stays c.loop-place.at c.loop-place.text _ _ (omega arith) c.loop-place.invariant.6
