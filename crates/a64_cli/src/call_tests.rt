@@ -137,7 +137,7 @@ fn bad_calls_are_refused(rt: HostRuntime) -> Result<(), Fail> {
 }
 
 /// Files with a return that calls and is refused, and what is said of it.
-const REFUSED_RETURNS: [(&str, &str); 20] = [
+const REFUSED_RETURNS: [(&str, &str); 21] = [
     (
         "frame setup_area_size 12\nReturnCall 1 - 0 - false\n",
         "item 0: bad operand\n",
@@ -186,6 +186,10 @@ const REFUSED_RETURNS: [(&str, &str); 20] = [
     ),
     (
         "restore Word8 1\nReturnCall 1 - 0 - false\n",
+        "item 0: bad operand\n",
+    ),
+    (
+        "restore TrapIf Cond(Eq) 7\nReturnCall 1 - 0 - false\n",
         "item 0: bad operand\n",
     ),
     (

@@ -41,9 +41,32 @@ fn files_give_reports_with_islands(rt: HostRuntime) -> Result<(), Fail> {
             b"item 0 0\nitem 1 8\nitem 2 16\nitem 3 16\nlabel L1 16\nisland 8 16\npool 20\nword 0 36000061\nword 4 14000003\nword 8 14000002\nword 12 14000001\nword 16 d65f03c0\n".as_slice(),
         ),
         (
+            &asm,
+            b"EmitIsland 40000\nRet\n".as_slice(),
+            b"item 0 0\nitem 1 0\npool 4\nword 0 d65f03c0\n".as_slice(),
+        ),
+        (
             &force,
             b"EmitIsland 40000\nRet\n".as_slice(),
             b"item 0 0\nitem 1 0\npool 4\nword 0 d65f03c0\n".as_slice(),
+        ),
+        // Of two places for an island the first has it: what waited stops there.
+        (
+            &force,
+            b"Jump L1\nEmitIsland 0\nbind L1\nEmitIsland 0\nRet\n".as_slice(),
+            b"item 0 0\nitem 1 4\nitem 2 28\nitem 3 28\nitem 4 28\nlabel L1 28\nisland 4 28\npool 32\nword 0 14000002\nword 4 14000006\nword 8 98000090\nword 12 10000071\nword 16 8b110210\nword 20 d61f0200\nword 24 00000004\nword 28 d65f03c0\n".as_slice(),
+        ),
+        // Two jumps to one label have a far veneer each.
+        (
+            &force,
+            b"Jump L1\nJump L1\nEmitIsland 0\nbind L1\nRet\n".as_slice(),
+            b"item 0 0\nitem 1 4\nitem 2 8\nitem 3 52\nitem 4 52\nlabel L1 52\nisland 8 52\npool 56\nword 0 14000003\nword 4 14000007\nword 8 1400000b\nword 12 98000090\nword 16 10000071\nword 20 8b110210\nword 24 d61f0200\nword 28 00000018\nword 32 98000090\nword 36 10000071\nword 40 8b110210\nword 44 d61f0200\nword 48 00000004\nword 52 d65f03c0\n".as_slice(),
+        ),
+        // A constant that is loaded again behind its island is written again.
+        (
+            &force,
+            b"const 0 01020304\nULoad32 x1 Const(0) -\nEmitIsland 0\nULoad32 x2 Const(0) -\nRet\n".as_slice(),
+            b"item 0 0\nitem 1 4\nitem 2 12\nitem 3 16\nisland 4 12\npool 20\nword 0 18000041\nword 4 14000002\nword 8 04030201\nword 12 18000042\nword 16 d65f03c0\nword 20 04030201\n".as_slice(),
         ),
         (
             &force,

@@ -46,7 +46,7 @@ pub struct Ran {
     /// The status: 0 done, 1 refused input, 2 other words, 3 a failed read, 4 a failed write, 5 want
     /// of memory.
     pub status: u8,
-    /// The file that was read.
+    /// The file that was read, or, for `gen`, made.
     pub file: Option<File>,
     /// The code that was assembled.
     pub code: Option<Code>,

@@ -107,6 +107,8 @@ fn sure_streams_never_fail(rt: HostRuntime) -> Result<(), Fail> {
     let alloc = rt.alloc();
     let words = words_from(alloc, ["list"].as_slice())?;
     assert_eq!(rt; status_of_sure_run(alloc, &words, Vec::new(alloc)), 2);
+    let file = Vec::from_slice(alloc, b"Nop4\nRet\n")?;
+    assert_eq!(rt; status_of_sure_run(alloc, &[], file), 0);
     Ok(())
 }
 

@@ -181,6 +181,8 @@ ULoad64 x0 UnsignedOffset(x1,16,i32) -
 ULoad8 x0 Label(PCRel,6) -
 LoadP64 x28 sp SignedOffset(x13,-472) -
 LoadAddr xzr UnsignedOffset(x25,1434,i8)
+LoadAddr x0 UnsignedOffset(sp,4098,i16)
+ULoad64 x0 Label(PCRel,2) -
 AluRRR Add 64 sp x0 x1
 AluRRRR SMAddL 64 x10 x28 x1 x8
 AluRRImm12 Add 64 xzr x0 1
@@ -250,6 +252,18 @@ fn refused_files_give_their_lines(rt: HostRuntime) -> Result<(), Fail> {
             b"label L1: bound twice\n".as_slice(),
         ),
         (b"Nop4 x\n".as_slice(), b"line 1: not an entry\n".as_slice()),
+        (
+            b"frame clobber_size 4294967295\nframe setup_area_size 1\nULoad64 x0 IncomingArg(0) -\n".as_slice(),
+            b"item 0: bad operand\n".as_slice(),
+        ),
+        (
+            b"frame outgoing_args_size 1\nULoad64 x0 SlotOffset(9223372036854775807) -\n".as_slice(),
+            b"item 0: bad operand\n".as_slice(),
+        ),
+        (
+            b"LoadAddr x13 RegScaledExtended(x17,x20,SXTX)\n".as_slice(),
+            b"item 0: bad addressing mode\n".as_slice(),
+        ),
         (
             b"ULoad8 x0 Label(PCRel,8) -\n".as_slice(),
             b"item 0: bad addressing mode\n".as_slice(),
