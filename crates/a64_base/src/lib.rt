@@ -14,8 +14,6 @@ mod set;
 mod shift;
 mod size;
 mod target;
-#[cfg(test)]
-mod tests;
 mod text;
 
 pub use cond::{Cond, CondBrKind, TestBitAndBranchKind};

@@ -6,7 +6,7 @@ ghost use Rattle.a64_base.specs.Bits.{has_bit};
 use crate::reg::{PReg, RegClass};
 
 /// A set of registers of the machine (Cranelift's `PRegSet`).
-#[derive(Clone, Copy, Debug, PartialEq, Eq)]
+#[derive(Clone, Copy, Debug)]
 pub struct PRegSet {
     /// Bit N is set where the set has the integer register N, up to 31.
     integers: u32,

@@ -236,30 +236,6 @@ module _ {K : Type 0} (r : Kinds K) where
     only = All-tail (IsEntry r rank us) (get_or es 0 (0, 0)) es' (All-permutation (IsEntry r rank us) _ _ p h.only);
   }
 
-  skipped_follows : (rank : ℕ) (us : List (Use K)) (n : ℕ) (next : Option ℕ) (k : ℕ) (d : Use K) → IsNextWaiting r rank us n next → k < length us → is_open r (get_or us k d) ≡ true → rank_of (class r (get_or us k d)) ≡ rank → Follows r rank us (Some n) k (limit_of r (get_or us k d)) → Follows r rank us next k (limit_of r (get_or us k d))
-  skipped_follows rank us n None k d s w o e f = absurd (s k d f.0 w o e)
-  skipped_follows rank us n (Some i) k d s w o e f = elim (cases_lt k i) [
-    | inl lt ↦ absurd (s.4 k d f.0 lt o e)
-    | inr ge ↦ (omega arith, λ j c a b p z. f.1 j c (let x : n ≤ i = s.0 in omega arith) b p z)
-  ]
-
-  skipped_within : (rank : ℕ) (us : List (Use K)) (n : ℕ) (next : Option ℕ) → IsNextWaiting r rank us n next → IfSome next (λ i. i < length us)
-  skipped_within rank us n None s = record {}
-  skipped_within rank us n (Some i) s = s.1
-
-  -- the next open use follows the closed ones
-  pub skipped_holds : (rank : ℕ) (us : List (Use K)) (most n : ℕ) (next : Option ℕ) (es : List (ℕ × ℕ)) → IsNextWaiting r rank us n next → Holds r rank us most (Some n) es → Holds r rank us most next es
-  skipped_holds rank us most n next es s h = record {
-    order = h.order;
-    within = skipped_within rank us n next s;
-    farthest = h.farthest;
-    each = λ k d w o e. elim (h.each k d w o e) [
-      | inl f ↦ inl (skipped_follows rank us n next k d s w o e f)
-      | inr m ↦ inr m
-    ];
-    only = h.only;
-  }
-
   pub skipped_waits : (rank : ℕ) (us : List (Use K)) (n : ℕ) (next : Option ℕ) → IsNextWaiting r rank us n next → WaitsAt r rank us next
   skipped_waits rank us n None s = record {}
   skipped_waits rank us n (Some i) s = (s.1, s.2, s.3)
@@ -570,27 +546,6 @@ module _ {K : Type 0} (r : Kinds K) where
     };
   }
 
-  -- a label is bound: the uses that reach it are closed
-  pub bound_closes : (label place : ℕ) (us : List (Use K)) → Closes r us (map (closed_at r label place) us)
-  bound_closes label place us = record {
-    same_length = length-map us (closed_at r label place);
-    limit = λ k d w. ap (limit_of r) (get_or-map (closed_at r label place) us k d d w);
-    class_is = λ k d w. ap (class r) (get_or-map (closed_at r label place) us k d d w);
-    opens = λ k d w o. opened (get_or us k d) (ap (is_open r) (sym (get_or-map (closed_at r label place) us k d d w)) ∙ o);
-  }
-    where
-      opened : (u : Use K) → is_open r (closed_at r label place u) ≡ true → is_open r u ≡ true
-      opened u o = go (wants (class r u)) (leads_to label u.target) u.stop o
-        where
-          go : (w t : Bool) (s : Option ℕ) → (w && is_none (cond (t && is_none s) (reached r u.kind u.offset place) s)) ≡ true → (w && is_none s) ≡ true
-          go w t None o = both w (is_none (cond (t && true) (reached r u.kind u.offset place) None)) o
-            where
-              both : (a b : Bool) → (a && b) ≡ true → (a && true) ≡ true
-              both true b e = refl
-              both false b e = absurd (let z : false ≡ true = e in cc)
-          go w true (Some s) o = o
-          go w false (Some s) o = o
-
   -- some uses stop
   pub stopped_closes : (test : Use K → Bool) (place : ℕ) (us : List (Use K)) → Closes r us (map (stopped test place) us)
   stopped_closes test place us = record {
@@ -646,11 +601,3 @@ module _ {K : Type 0} (r : Kinds K) where
       (kept_limit r rank b.uses (take (length b.uses) b'.uses) limit index (later_closes b b' later)
       (λ d w e. get_or-take (length b.uses) b'.uses index d w ∙ spared index d w e)
       h)
-
-  -- the same, with other queues of the same entries
-  pub same_waits : (uses uses' : List (Use K)) (queues queues' : List Queue) (b b' : Burdens) → AreWaiting r uses queues b → uses' ≡ uses → ((rank : ℕ) (q : Queue) → IsSameQueue (get_or queues rank q) (get_or queues' rank q)) → b' ≡ b → AreWaiting r uses' queues' b'
-  same_waits uses uses' queues queues' b b' w e same z = record {
-    hold = subst (λ us. AllHold r us queues') (sym e) (same_hold uses queues queues' same w.hold);
-    limits = subst (λ us. AllLimits r us queues') (sym e) (same_limits uses queues queues' same w.limits);
-    burdens = subst (λ v. AreBurdens r uses' v) (sym z) (subst (λ us. AreBurdens r us b) (sym e) w.burdens);
-  }

@@ -393,9 +393,6 @@ module _ {K : Type 0} (r : Kinds K) (limit : ℕ) (five : limit ≤ 5) (start p 
   pub writing_next : (d : Use K) (p' : Parts K) → GivesAll r (class r (get_or p.uses.items index d)) (seen p) (seen p') → IsWriting r limit (seen start) (seen p')
   writing_next d p' g = writing_step r limit (seen start) (seen p) (seen p') (class r (get_or p.uses.items index d)) five w g (ranks d).0 (λ fars. fars index d next.0 (next.1 d).0)
 
-pub writes_all : {K : Type 0} (r : Kinds K) (limit : ℕ) (start p : Parts K) → IsWriting r limit (seen start) (seen p) → IsNextOpen r limit p.uses.items None → Writes r limit (seen start) (seen p)
-writes_all r limit start p w none = record { writing = w; done = none_ranks r (seen p) limit w.sound none }
-
 pub same_room_none : {K : Type 0} (p : Parts K) → SameRoom p p
 same_room_none p = record { words = refl; uses = refl; earlier = refl; traps = refl; islands = refl }
 

@@ -1,10 +1,11 @@
 //! Whether islands are forced.
 
-/// Whether each place where an island may stand gets one (Cranelift's `ForceVeneers`).
+/// Whether an island promotes its open branches of urgency 3 in any case (Cranelift's `ForceVeneers`).
+/// Whether an island stands at all is its caller's choice.
 #[derive(Clone, Copy, Debug)]
 pub enum ForceVeneers {
-    /// An island stands only where it is needed.
+    /// They get far veneers, all of them, only where some would else be out of reach.
     No,
-    /// An island stands wherever something waits for one.
+    /// They all get far veneers.
     Yes,
 }

@@ -255,7 +255,7 @@ impl<'c, K: MachInstLabelUse> Parts<'c, K> {
         }
     }
 
-    /// Writes an island at the end, or nothing.
+    /// Writes an island at the end: its jump at least.
     pub fn emit_island(&mut self, distance: u32, force: ForceVeneers) -> Result<(), AllocError>
         requires sound { AreSound K.kinds self.old }
         requires short { end_of (seen self.old) + owed K.kinds (seen self.old) + 4 < 2 ^ 31 }

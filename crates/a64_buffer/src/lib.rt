@@ -13,23 +13,13 @@ mod force;
 mod give;
 mod island;
 mod label_use;
-#[cfg(test)]
-mod load_tests;
 mod parts;
 mod queue;
 mod queues;
-#[cfg(test)]
-mod record_tests;
 mod records;
-#[cfg(test)]
-mod refusal_tests;
 mod room;
 mod settle;
 mod site;
-#[cfg(test)]
-mod test_use;
-#[cfg(test)]
-mod tests;
 mod waiting;
 
 pub use buffer::MachBuffer;

@@ -2,42 +2,7 @@
 //! to the standard output; `gen` makes a file of its own, and writes a summary of its code.
 #![tactic(auto)]
 
-mod adapter;
-mod assembling;
-#[cfg(test)]
-mod call_tests;
-mod command;
-#[cfg(test)]
-mod command_tests;
-mod fault_lines;
-mod hundred;
-mod input;
-#[cfg(test)]
-mod island_tests;
-mod kept;
-mod line;
-mod making;
-mod memory;
-mod output;
-mod piece;
-mod ran;
-mod report;
-mod report_lines;
-#[cfg(test)]
-mod report_tests;
-mod run;
-#[cfg(test)]
-mod sequence_tests;
-mod stream;
-mod summary;
-#[cfg(test)]
-mod tests;
-mod turns;
-#[cfg(test)]
-mod whole_run_tests;
-
-use adapter::{ReadSource, WriteSink};
-use run::run;
+use a64_run::{ReadSource, WriteSink, run};
 use std::alloc::AllocError;
 use std::env;
 use std::io::ErrorKind;

@@ -21,7 +21,7 @@ pub enum EmitError {
     LabelBoundTwice(MachLabel),
     /// The label is used and not bound.
     UnboundLabel(MachLabel),
-    /// The code is too large: 2^31 bytes could be reached, or a branch's range.
+    /// The code is too large: it could reach 2^31 bytes.
     TooLarge,
     /// A use that can have no veneer may be too far from the label.
     OutOfReach(MachLabel),

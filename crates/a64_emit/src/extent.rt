@@ -24,7 +24,7 @@ use a64_buffer::{MachInstLabelUse, Target};
 use a64_inst::{AMode, EmitInfo, FrameLayout, Group, Inst, Item};
 
 /// How much an item may add to code, in bytes. Numbers past those of 64 bits stand at the greatest.
-#[derive(Clone, Copy)]
+#[derive(Clone, Copy, Debug)]
 pub struct Extent {
     /// Its own words.
     pub size: u64,
@@ -246,7 +246,7 @@ fn inst_burden<'a>(inst: &'a Inst, frame: &FrameLayout, info: &EmitInfo) -> Burd
 }
 
 /// What an item adds to code that is no place for an island, and needs no label near.
-#[derive(Clone, Copy)]
+#[derive(Clone, Copy, Debug)]
 pub struct Light {
     /// How many bytes it may add to code: nothing where it has no words, else four more than its words and
     /// what their uses may want.

@@ -136,6 +136,12 @@ impl MachInstLabelUse for LabelUse {
         ensures far { self ≡ PCRel32 → from_le_bytes w32 buffer.old ≡ 0
             → LeadFar use_offset (from_le_bytes w32 buffer.new) label_offset }
     {
+        let reaches = if use_offset <= label_offset {
+            label_offset - use_offset <= self.max_pos_range()
+        } else {
+            use_offset - label_offset <= self.max_neg_range()
+        };
+        prove!(reaches);
         let distance = label_offset.wrapping_sub(use_offset);
         match self {
             LabelUse::Branch14 => patch_field(buffer, 5, 14, distance >> 2),

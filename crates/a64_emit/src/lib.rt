@@ -14,8 +14,6 @@ mod one_word;
 mod sequence;
 mod site;
 mod state;
-#[cfg(test)]
-mod tests;
 mod uses;
 mod word;
 

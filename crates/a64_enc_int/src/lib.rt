@@ -12,8 +12,6 @@ mod branch;
 mod memory;
 mod register;
 mod select;
-#[cfg(test)]
-mod tests;
 
 pub use address::{enc_adr, enc_adr_inst, enc_adrp};
 pub use arith::{enc_arith_rr_imm12, enc_arith_rr_imml, enc_arith_rrr, enc_arith_rrrr, enc_bit_rr};

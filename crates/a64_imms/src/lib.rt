@@ -14,8 +14,6 @@ mod imm_logic;
 mod move_wide;
 mod offset;
 mod run;
-#[cfg(test)]
-mod tests;
 mod text;
 mod unsigned;
 

@@ -338,27 +338,3 @@ impl Inst {
         })
     }
 }
-
-#[cfg(test)]
-mod tests {
-    use super::*;
-    use std::test::Fail;
-
-    #[test]
-    fn types_with_a_load_form(rt: HostRuntime) -> Result<(), Fail> {
-        for ty in [
-            IrType::I8,
-            IrType::I64,
-            IrType::F16,
-            IrType::F128,
-            IrType::I8X2,
-            IrType::F64X2,
-        ] {
-            assert!(rt; Inst::has_load_form(ty), "{ty:?}");
-        }
-        for ty in [IrType::I128, IrType::I8X32] {
-            assert!(rt; !Inst::has_load_form(ty), "{ty:?}");
-        }
-        Ok(())
-    }
-}

@@ -54,28 +54,3 @@ impl FrameLayout {
         })
     }
 }
-
-#[cfg(test)]
-mod tests {
-    use super::*;
-    use std::test::Fail;
-
-    #[test]
-    fn copies_are_made(rt: HostRuntime) -> Result<(), Fail> {
-        let alloc = rt.alloc();
-        let mut restore = ListVec::new(alloc);
-        restore.push(Inst::Ret)?;
-        let frame = FrameLayout {
-            setup_area_size: 16,
-            tail_args_size: 0,
-            clobber_size: 32,
-            fixed_frame_storage_size: 48,
-            outgoing_args_size: 8,
-            restore,
-        };
-        let copy = frame.try_clone(alloc)?;
-        assert_eq!(rt; copy.clobber_size, 32);
-        assert!(rt; matches!(copy.restore.as_slice(), [Inst::Ret]));
-        Ok(())
-    }
-}

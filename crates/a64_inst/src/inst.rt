@@ -15,6 +15,8 @@ use a64_base::{
 use a64_imms::{Imm12, ImmLogic, ImmShift, MoveWideConst, NZCV, UImm5, UImm6};
 use a64_list::ListVec;
 use a64_ops::{ALUOp, ALUOp3, BfmOp, BitOp, MoveWideOp};
+use std::alloc::Global;
+use std::default::MadeWith;
 
 /// An AArch64 instruction, or a short sequence of instructions (Cranelift's `Inst`).
 #[derive(Drop)]
@@ -672,14 +674,14 @@ pub enum Inst {
     },
 }
 
-/// `nop`. Vectors that keep their first elements in the value ask for it.
-impl Default for Inst {
+/// `nop`, which fills the free places of a vector that keeps its first instructions in the value.
+impl MadeWith<Global> for Inst {
     ghost use Rattle.std.specs.Prelude.{◌≡◌};
     ghost use Rattle.a64_inst.specs.declared.inst.Inst.TheVariants.{Nop4};
 
-    ghost is_default = { λ inst. inst ≡ Nop4 };
+    ghost is_made_with = { λ inst. inst ≡ Nop4 };
 
-    fn default() -> Inst {
+    fn made_with(_alloc: Global) -> Inst {
         Inst::Nop4
     }
 }

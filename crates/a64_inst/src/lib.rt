@@ -21,7 +21,7 @@ mod place;
 mod virtuals;
 
 pub use crate::item::Item;
-pub use a64_ops::{ALUOp, AccessOp, AtomicRMWOp, MoveWideOp};
+pub use a64_ops::{ALUOp, ALUOp3, AccessOp, AtomicRMWOp, BfmOp, BitOp, MoveWideOp};
 pub use a64_plan::{ConstStep, const_plan};
 pub use access::{Access, AccessRef};
 pub use boxed::Boxed;

@@ -3,7 +3,5 @@
 
 mod label_map;
 mod shared;
-#[cfg(test)]
-mod tests;
 
 pub use label_map::LabelMap;

@@ -89,18 +89,3 @@ impl<T: Copy> ListVec<T> {
         Ok(ListVec { items })
     }
 }
-
-#[cfg(test)]
-mod tests {
-    use super::*;
-    use std::test::Fail;
-
-    #[test]
-    fn items_are_kept(rt: HostRuntime) -> Result<(), Fail> {
-        let mut list = ListVec::from_vec(Vec::new(rt.alloc()));
-        assert!(rt; list.is_empty());
-        list.push(7)?;
-        assert_eq!(rt; list.try_clone(rt.alloc())?.as_slice(), [7].as_slice());
-        Ok(())
-    }
-}

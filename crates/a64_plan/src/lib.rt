@@ -3,8 +3,6 @@
 
 mod plan;
 mod step;
-#[cfg(test)]
-mod tests;
 
 pub use plan::const_plan;
 pub use step::ConstStep;

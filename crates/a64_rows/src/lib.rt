@@ -5,8 +5,6 @@
 mod decoder;
 mod limits;
 mod row_table;
-#[cfg(test)]
-mod tests;
 mod words;
 
 pub use decoder::decode_word;

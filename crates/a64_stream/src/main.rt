@@ -19,8 +19,6 @@ mod kinds;
 mod mixed;
 mod stream;
 mod summary;
-#[cfg(test)]
-mod tests;
 mod uses;
 
 use assembling::assembled;

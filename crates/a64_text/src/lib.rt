@@ -41,8 +41,6 @@ mod shift;
 mod size;
 mod split;
 mod state;
-#[cfg(test)]
-mod tests;
 mod type_name;
 mod value;
 mod wide;

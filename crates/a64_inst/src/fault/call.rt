@@ -1,7 +1,5 @@
 //! What is wrong with calls by themselves, and with returns that call.
 
-#[cfg(test)]
-mod tests;
 
 ghost use Rattle.std.specs.Prelude.{◌≡◌, None};
 ghost use Rattle.a64_inst.specs.declared.group.Group.TheVariants.{Call};

@@ -4,8 +4,6 @@ mod constant;
 mod mode;
 pub mod operand;
 pub mod scratch;
-#[cfg(test)]
-mod tests;
 
 ghost use Rattle.std.specs.Prelude.{◌≡◌, ◌&&◌, ◌||◌, None, is_none, is_some, [], ◌∷◌};
 ghost use Rattle.a64_ops.specs.Accesses.{literal_of};

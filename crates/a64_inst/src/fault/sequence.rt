@@ -1,8 +1,6 @@
 //! Whether the operands of sequences around tables, symbols and the stack, and of what has no word, are
 //! in their sets.
 
-#[cfg(test)]
-mod tests;
 
 ghost use Rattle.std.specs.Prelude.{◌≡◌};
 ghost use Rattle.a64_inst.specs.declared.group.Group.TheVariants.{Sequence};

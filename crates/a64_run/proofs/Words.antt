@@ -1,0 +1,186 @@
+-- What words are read as.
+use Rattle.std.proofs.Common.{◌≡◌, ◌≢◌, ℕ, ◌-◌, ◌<◌, ◌≤◌, List, [], ◌∷◌, String, codes, map, length, get_or, take, drop, Option, None, Some, option_map, Result, Ok, Err, refl, sym, ap, ◌∙◌, subst, inl, inr, arith, length-drop}
+use Rattle.std.specs.Fmt.{decimal}
+use Rattle.std.specs.String.{string_bytes}
+use Rattle.std.specs.Str.Parse.{AllDigits, digits_value, ParsesUnsigned}
+use Rattle.std.proofs.lemmas.List.{take_all}
+use Rattle.std.proofs.lemmas.Fmt.{parse-decimal, decimal-digits_value, first_decimal}
+use Rattle.std.proofs.lemmas.Str.Parse.{IsNumeralModel, numerals_by_value, tells_digits, parse_plain}
+use Rattle.a64_buffer.specs.declared.force.ForceVeneers.{ForceVeneers}
+use Rattle.a64_buffer.specs.declared.force.ForceVeneers.TheVariants.{No, Yes}
+use Rattle.a64_text.specs.Reads.{Reads, Always}
+use Rattle.a64_run.specs.declared.command.Command.{Command}
+use Rattle.a64_run.specs.declared.command.Command.TheVariants.{Asm, Gen}
+use Rattle.a64_run.specs.Commands.{force_words, IsCount, IsCommand}
+use Rattle.a64_run.specs.Stages.{ReadsCommand}
+
+-- ---- the words behind a command
+
+pub no_force : (words : List (List ℕ)) → words ≡ [] → Reads Always force_words words (Some No)
+no_force words e = subst (λ ws. Reads Always force_words ws (Some No)) (sym e) (record { some = (tt, refl); only = only })
+  where
+    only : (force : ForceVeneers) → Always force → [] ≡ force_words force → Some No ≡ Some force
+    only No a is = refl
+    only Yes a is = absurd cc
+
+pub with_force : (words : List (List ℕ)) → words ≡ codes "force" ∷ [] → Reads Always force_words words (Some Yes)
+with_force words e = subst (λ ws. Reads Always force_words ws (Some Yes)) (sym e) (record { some = (tt, refl); only = only })
+  where
+    only : (force : ForceVeneers) → Always force → codes "force" ∷ [] ≡ force_words force → Some Yes ≡ Some force
+    only No a is = absurd cc
+    only Yes a is = refl
+
+pub other_words : (words : List (List ℕ)) → words ≢ [] → words ≢ codes "force" ∷ [] → Reads Always force_words words None
+other_words words some other = record { some = tt; only = only }
+  where
+    only : (force : ForceVeneers) → Always force → words ≡ force_words force → None ≡ Some force
+    only No a is = absurd (some is)
+    only Yes a is = absurd (other is)
+
+-- ---- a number of turns
+
+own : IsNumeralModel (AllDigits 10) (digits_value 10)
+own = numerals_by_value (AllDigits 10) tells_digits
+
+pub count_read : (token : List ℕ) (n : ℕ) → 48 < get_or token 0 0 → ParsesUnsigned {E = ℕ} 32 10 token (Ok n) → IsCount n → Reads IsCount decimal token (Some n)
+count_read token n first parses count =
+    let whole = parse_plain own {E = ℕ} 32 token (Ok n) parses (λ e. omega arith) in
+    record {
+      some = (count, sym (decimal-digits_value own token whole.0.0 whole.0.1 (λ e. absurd (omega arith)) (omega (arith, whole.0.2))) ∙ ap decimal (sym whole.1));
+      only = λ m is e. let same : ◌≡◌ {A = Result ℕ ℕ} (Ok n) (Ok m) = parse-decimal 32 m token (Ok n) (omega (arith, is.1)) (omega (arith, is.1)) e parses in cc;
+    }
+
+-- text that is no number of 32 bits, and a number that is too small or too large
+pub count_unread : (token : List ℕ) → ParsesUnsigned {E = ℕ} 32 10 token (Err 0) → Reads IsCount decimal token None
+count_unread token parses =
+    record {
+      some = tt;
+      only = λ m is e. absurd (let same : ◌≡◌ {A = Result ℕ ℕ} (Err 0) (Ok m) = parse-decimal 32 m token (Err 0) (omega (arith, is.1)) (omega (arith, is.1)) e parses in cc);
+    }
+
+pub count_outside : (token : List ℕ) (n : ℕ) → ParsesUnsigned {E = ℕ} 32 10 token (Ok n) → ¬ IsCount n → Reads IsCount decimal token None
+count_outside token n parses outside =
+    record {
+      some = tt;
+      only = λ m is e. absurd (
+          let same : ◌≡◌ {A = Result ℕ ℕ} (Ok n) (Ok m) = parse-decimal 32 m token (Ok n) (omega (arith, is.1)) (omega (arith, is.1)) e parses in
+          let equal : n ≡ m = cc in
+          outside (subst IsCount (sym equal) is)
+          );
+    }
+
+-- text that begins with no digit, or with a 0
+pub count_begins : (token : List ℕ) → get_or token 0 0 ≤ 48 → Reads IsCount decimal token None
+count_begins token h = record { some = tt; only = λ m is e. absurd (let f = first_decimal m is.0 (omega (arith, is.1)) in let g = ap (λ t. get_or t 0 0) e in omega arith) }
+
+pub count_empty : (token : List ℕ) → length token < 1 → Reads IsCount decimal token None
+count_empty [] h = count_begins [] (omega arith)
+count_empty (byte ∷ token) h = absurd (omega arith)
+
+-- ---- the command
+
+-- a command whose name is `asm`, by the words behind the name
+record IsAsm (rest : List (List ℕ)) (command : Command) : Type 0 where
+  force : ForceVeneers
+  is : command ≡ Asm force
+  rest_is : rest ≡ force_words force
+
+only_asm : (rest : List (List ℕ)) (command : Command) → IsCommand (codes "asm" ∷ rest) command → IsAsm rest command
+only_asm rest (Asm force) (inl h) = absurd (let empty = h.1 in cc)
+only_asm rest (Asm force) (inr h) = record { force = force; is = refl; rest_is = ap (drop 1) h }
+only_asm rest (Gen count force) h = absurd (let first = ap (λ ws. get_or (get_or ws 0 []) 0 0) h.1 in omega arith)
+
+pub asm_read : (rest : List (List ℕ)) (force : ForceVeneers) → Reads Always force_words rest (Some force) → ReadsCommand (codes "asm" ∷ rest) (Some (Asm force))
+asm_read rest force h =
+    record {
+      some = inr (ap (λ ws. codes "asm" ∷ ws) h.some.1);
+      only = λ command is. let a = only_asm rest command is in ap (option_map Asm) (h.only a.force tt a.rest_is) ∙ ap (λ c. Some c) (sym a.is);
+    }
+
+pub asm_unread : (rest : List (List ℕ)) → Reads Always force_words rest None → ReadsCommand (codes "asm" ∷ rest) None
+asm_unread rest h =
+    record { some = tt; only = λ command is. let a = only_asm rest command is in ap (option_map Asm) (h.only a.force tt a.rest_is) ∙ ap (λ c. Some c) (sym a.is) }
+
+-- a command whose name is `gen`, by the words behind the name
+record IsGen (rest : List (List ℕ)) (command : Command) : Type 0 where
+  count : ℕ
+  force : ForceVeneers
+  is : command ≡ Gen count force
+  fits : IsCount count
+  rest_is : rest ≡ decimal count ∷ force_words force
+
+only_gen : (rest : List (List ℕ)) (command : Command) → IsCommand (codes "gen" ∷ rest) command → IsGen rest command
+only_gen rest (Asm force) (inl h) = absurd (let empty = h.1 in cc)
+only_gen rest (Asm force) (inr h) = absurd (let first = ap (λ ws. get_or (get_or ws 0 []) 0 0) h in omega arith)
+only_gen rest (Gen count force) h = record { count = count; force = force; is = refl; fits = h.0; rest_is = ap (drop 1) h.1 }
+
+pub gen_read : (token : List ℕ) (rest : List (List ℕ)) (count : ℕ) (force : ForceVeneers) → Reads IsCount decimal token (Some count) → Reads Always force_words rest (Some force) → ReadsCommand (codes "gen" ∷ token ∷ rest) (Some (Gen count force))
+gen_read token rest count force h k =
+    record {
+      some = (h.some.0, ap (λ t. codes "gen" ∷ t ∷ rest) h.some.1 ∙ ap (λ ws. codes "gen" ∷ decimal count ∷ ws) k.some.1);
+      only = λ command is.
+          let g = only_gen (token ∷ rest) command is in
+          let count_is : ◌≡◌ {A = Option ℕ} (Some count) (Some g.count) = h.only g.count g.fits (ap (λ ws. get_or ws 0 []) g.rest_is) in
+          let force_is : ◌≡◌ {A = Option ForceVeneers} (Some force) (Some g.force) = k.only g.force tt (ap (drop 1) g.rest_is) in
+          let command_is = g.is in
+          cc;
+    }
+
+pub gen_uncounted : (token : List ℕ) (rest : List (List ℕ)) → Reads IsCount decimal token None → ReadsCommand (codes "gen" ∷ token ∷ rest) None
+gen_uncounted token rest h =
+    record {
+      some = tt;
+      only = λ command is. absurd (
+          let g = only_gen (token ∷ rest) command is in
+          let none : ◌≡◌ {A = Option ℕ} None (Some g.count) = h.only g.count g.fits (ap (λ ws. get_or ws 0 []) g.rest_is) in
+          cc
+          );
+    }
+
+pub gen_unread : (token : List ℕ) (rest : List (List ℕ)) → Reads Always force_words rest None → ReadsCommand (codes "gen" ∷ token ∷ rest) None
+gen_unread token rest h =
+    record {
+      some = tt;
+      only = λ command is. absurd (
+          let g = only_gen (token ∷ rest) command is in
+          let none : ◌≡◌ {A = Option ForceVeneers} None (Some g.force) = h.only g.force tt (ap (drop 1) g.rest_is) in
+          cc
+          );
+    }
+
+pub gen_alone : ReadsCommand (codes "gen" ∷ []) None
+gen_alone = record { some = tt; only = λ command is. absurd (let g = only_gen [] command is in let rest_is = g.rest_is in cc) }
+
+-- no words are `asm`
+empty_read : ReadsCommand [] (Some (Asm No))
+empty_read = record { some = inl (refl, refl); only = only }
+  where
+    only : (command : Command) → IsCommand [] command → Some (Asm No) ≡ Some command
+    only (Asm force) (inl h) = ap (λ f. Some (Asm f)) (sym h.0)
+    only (Asm force) (inr h) = absurd cc
+    only (Gen count force) h = absurd (let is = h.1 in cc)
+
+-- another name is no command's
+pub name_unread : (name : List ℕ) (rest : List (List ℕ)) → name ≢ codes "asm" → name ≢ codes "gen" → ReadsCommand (name ∷ rest) None
+name_unread name rest no_asm no_gen = record { some = tt; only = only }
+  where
+    only : (command : Command) → IsCommand (name ∷ rest) command → None ≡ Some command
+    only (Asm force) (inl h) = absurd (let empty = h.1 in cc)
+    only (Asm force) (inr h) = absurd (no_asm (ap (λ ws. get_or ws 0 []) h))
+    only (Gen count force) h = absurd (no_gen (ap (λ ws. get_or ws 0 []) h.1))
+
+-- ---- words as they are held
+
+module _ {A : Type 0} where
+  pub first_read : (words : List (String A)) (word : String A) (result : Option Command) → 1 ≤ length words → word ≡ get_or words 0 word
+      → ReadsCommand (string_bytes word ∷ map string_bytes (drop 1 words)) result → ReadsCommand (map string_bytes words) result
+  first_read [] word result some is h = absurd (omega arith)
+  first_read (first ∷ words) word result some is h = subst (λ w. ReadsCommand (string_bytes w ∷ map string_bytes words) result) is h
+
+  -- all behind the first word
+  pub rest_whole : (words : List (String A)) → take (length words - 1) (drop 1 words) ≡ drop 1 words
+  rest_whole words = take_all (length words - 1) (drop 1 words) (omega (arith, length-drop 1 words))
+
+  pub no_word_read : (words : List (String A)) → length words < 1 → ReadsCommand (map string_bytes words) (Some (Asm No))
+  no_word_read [] h = empty_read
+  no_word_read (word ∷ words) h = absurd (omega arith)

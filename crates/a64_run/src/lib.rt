@@ -1,0 +1,31 @@
+//! The whole program but its `main`: a command over any source of bytes and any sinks.
+//!
+//! [`run`] reads a file of items, assembles it, and writes the report of its code. Its clauses carry the
+//! promise of this workspace from the bytes that are read to the bytes that are written.
+#![tactic(auto)]
+
+mod adapter;
+mod assembling;
+mod command;
+mod fault_lines;
+mod hundred;
+mod input;
+mod kept;
+mod line;
+mod making;
+mod memory;
+mod output;
+mod piece;
+mod ran;
+mod report;
+mod report_lines;
+mod run;
+mod stream;
+mod summary;
+mod turns;
+
+pub use adapter::{ReadSource, WriteSink};
+pub use memory::{MemSink, MemSource, SureSink, SureSource};
+pub use ran::{Fault, Ran};
+pub use crate::run::run;
+pub use stream::{Failed, Sink, Source};

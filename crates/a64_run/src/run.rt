@@ -1,0 +1,164 @@
+//! The whole program, over any source and sinks.
+
+ghost use Rattle.std.specs.Prelude.{◌≡◌, ◌≢◌, ◌^◌, ◌<◌, ◌↔◌, length, map, false, None, Some, IfSome};
+ghost use Rattle.std.specs.String.{string_bytes};
+ghost use Rattle.a64_run.specs.declared.ran.Fault.TheVariants as faults;
+ghost use Rattle.a64_run.specs.Streams.{HasFailed, Takes};
+ghost use Rattle.a64_run.specs.Commands.{IsNoCommand, OfCommand, HasWords, reads_source};
+ghost use Rattle.a64_run.specs.Run.{status_of, fault_line, Keeps, Held, Untouched, TakesFew, IsDueAnswer};
+ghost use Rattle.a64_run.specs.Stages.{Ends, EndsWriting};
+
+use crate::command::{Command, command_of};
+use crate::fault_lines::line_of_fault;
+use crate::input::input_of;
+use crate::making::{Made, make};
+use crate::output::write_all;
+use crate::piece::Piece;
+use crate::ran::{Fault, Ran};
+use crate::stream::{Failed, Sink, Source};
+use a64_text::File;
+use std::alloc::Global;
+
+/// Writes what was made of a file. The memory for that is taken before the first write.
+fn write_made<K: Sink>(alloc: Global, sink: &mut K, file: File, made: Made) -> Ran
+    ensures status { result.status ≡ status_of result.fault }
+    ensures file { result.file ≡ Some file }
+    ensures ends { EndsWriting (K.taken sink.old) (K.taken sink.new) made result.fault result.code }
+    ensures write { result.fault ≡ Some faults.Write → HasFailed (K.faults sink.old) (K.faults sink.new) }
+{
+    let Ok(mut piece) = Piece::new(alloc) else {
+        return Ran::refused(Some(file), Fault::Memory);
+    };
+    let (status, fault) = match made.write(sink, &mut piece) {
+        Ok(()) => (0, None),
+        Err(Failed) => (4, Some(Fault::Write)),
+    };
+    Ran {
+        status,
+        file: Some(file),
+        code: made.into_code(),
+        fault,
+    }
+}
+
+/// Makes of a file what the command does, and writes it.
+fn run_file<K: Sink>(alloc: Global, command: Command, sink: &mut K, file: File) -> Ran
+    requires { length file.items.items < 2 ^ 32 }
+    ensures status { result.status ≡ status_of result.fault }
+    ensures file { result.file ≡ Some file }
+    ensures ends { Ends command (K.taken sink.old) (K.taken sink.new) file result.fault result.code }
+    ensures write { result.fault ≡ Some faults.Write → HasFailed (K.faults sink.old) (K.faults sink.new) }
+{
+    match make(alloc, command, &file) {
+        Ok(made) => write_made(alloc, sink, file, made),
+        Err(fault) => Ran::refused(Some(file), fault),
+    }
+}
+
+/// Runs a command: takes its file, and writes what it makes of it.
+fn run_command<S: Source, K: Sink>(
+    alloc: Global,
+    command: Command,
+    source: &mut S,
+    sink: &mut K,
+) -> Ran
+    requires { HasWords command }
+    ensures status { result.status ≡ status_of result.fault }
+    ensures keeps { Keeps command (S.left source.old) (S.left source.new) (K.taken sink.old) (K.taken sink.new)
+        result.fault result.file result.code }
+    ensures usage { result.fault ≢ Some faults.Usage }
+    ensures read { result.fault ≡ Some faults.Read → HasFailed (S.faults source.old) (S.faults source.new) }
+    ensures held { Held (S.left source.old) result.fault }
+    ensures write { result.fault ≡ Some faults.Write → HasFailed (K.faults sink.old) (K.faults sink.new) }
+    ensures due { IsDueAnswer command (S.left source.old) result.fault }
+    ensures few { TakesFew (S.left source.old) (S.left source.new) }
+    ensures unread { reads_source command ≡ false → source.new ≡ source.old }
+    ensures untouched { Untouched (K.taken sink.old) (K.taken sink.new) result.fault }
+{
+    match input_of(alloc, command, source) {
+        Ok(file) => run_file(alloc, command, sink, file),
+        Err(fault) => Ran::refused(None, fault),
+    }
+}
+
+/// Runs the command that the words are.
+fn run_words<S: Source, K: Sink>(
+    alloc: Global,
+    words: &[String],
+    source: &mut S,
+    sink: &mut K,
+) -> Ran
+    ensures status { result.status ≡ status_of result.fault }
+    ensures keeps { OfCommand (map string_bytes words.now) (λ command.
+        Keeps command (S.left source.old) (S.left source.new) (K.taken sink.old) (K.taken sink.new)
+        result.fault result.file result.code) }
+    ensures nothing { result.fault ≡ Some faults.Usage → (result.file ≡ None) × (result.code ≡ None) }
+    ensures usage { (result.fault ≡ Some faults.Usage) ↔ IsNoCommand (map string_bytes words.now) }
+    ensures read { result.fault ≡ Some faults.Read → HasFailed (S.faults source.old) (S.faults source.new) }
+    ensures held { Held (S.left source.old) result.fault }
+    ensures write { result.fault ≡ Some faults.Write → HasFailed (K.faults sink.old) (K.faults sink.new) }
+    ensures due { OfCommand (map string_bytes words.now) (λ command. IsDueAnswer command (S.left source.old) result.fault) }
+    ensures few { TakesFew (S.left source.old) (S.left source.new) }
+    ensures unread { OfCommand (map string_bytes words.now) (λ command. reads_source command ≡ false) → source.new ≡ source.old }
+    ensures untouched { Untouched (K.taken sink.old) (K.taken sink.new) result.fault }
+{
+    match command_of(words) {
+        Some(command) => run_command(alloc, command, source, sink),
+        None => Ran::refused(None, Fault::Usage),
+    }
+}
+
+/// Offers the line of a fault. Where that fails, nothing more is done.
+fn tell<E: Sink>(errs: &mut E, fault: Fault)
+    ensures { ¬ HasFailed (E.faults errs.old) (E.faults errs.new)
+        → Takes (E.taken errs.old) (E.taken errs.new) (fault_line fault) }
+{
+    let line = line_of_fault(fault);
+    let _ = write_all(errs, line.as_slice());
+}
+
+/// Runs the command that the words are; no word stands for `asm`. `asm` reads a file of items from the
+/// source and writes the report of its code to the sink. `gen` and a number of turns from 1 to 100,000
+/// makes a file of its own, and writes a summary of its code. `force` behind either forces islands.
+/// Where that is not done, one line is written to `errs` that says why.
+pub fn run<S: Source, K: Sink, E: Sink>(
+    alloc: Global,
+    words: &[String],
+    source: &mut S,
+    sink: &mut K,
+    errs: &mut E,
+) -> Ran
+    // Status and answer name one thing.
+    ensures status { result.status ≡ status_of result.fault }
+
+    // The headline, at status 0, and what is kept at the others; nothing where the words are no
+    // command.
+    ensures keeps { OfCommand (map string_bytes words.now) (λ command.
+        Keeps command (S.left source.old) (S.left source.new) (K.taken sink.old) (K.taken sink.new)
+        result.fault result.file result.code) }
+    ensures nothing { result.fault ≡ Some faults.Usage → (result.file ≡ None) × (result.code ≡ None) }
+
+    // The causes of the answers.
+    ensures usage { (result.fault ≡ Some faults.Usage) ↔ IsNoCommand (map string_bytes words.now) }
+    ensures read { result.fault ≡ Some faults.Read → HasFailed (S.faults source.old) (S.faults source.new) }
+    ensures held { Held (S.left source.old) result.fault }
+    ensures write { result.fault ≡ Some faults.Write → HasFailed (K.faults sink.old) (K.faults sink.new) }
+
+    // Each answer comes where it is due; want of memory alone is free.
+    ensures due { OfCommand (map string_bytes words.now) (λ command. IsDueAnswer command (S.left source.old) result.fault) }
+
+    // What the streams gave and took. A command that does not read the source leaves it as it was,
+    // and so do words that are no command.
+    ensures few { TakesFew (S.left source.old) (S.left source.new) }
+    ensures unread { OfCommand (map string_bytes words.now) (λ command. reads_source command ≡ false) → source.new ≡ source.old }
+    ensures untouched { Untouched (K.taken sink.old) (K.taken sink.new) result.fault }
+    ensures silent { result.fault ≡ None → errs.new ≡ errs.old }
+    ensures said { IfSome result.fault (λ fault. ¬ HasFailed (E.faults errs.old) (E.faults errs.new)
+        → Takes (E.taken errs.old) (E.taken errs.new) (fault_line fault)) }
+{
+    let ran = run_words(alloc, words, source, sink);
+    if let Some(fault) = ran.fault {
+        tell(errs, fault);
+    }
+    ran
+}
