@@ -16,16 +16,16 @@ mod making;
 mod memory;
 mod output;
 mod piece;
-mod program;
 mod ran;
 mod report;
 mod report_lines;
+mod running;
 mod stream;
 mod summary;
 mod turns;
 
 pub use adapter::{ReadSource, WriteSink};
 pub use memory::{MemSink, MemSource, SureSink, SureSource};
-pub use program::run;
 pub use ran::{Fault, Ran};
+pub use running::run;
 pub use stream::{Failed, Sink, Source};
