@@ -13,20 +13,12 @@ const PIECE: usize = 65_536;
 /// The most bytes that a sink is given room for without need.
 const MOST_ROOM: usize = 1 << 27;
 
-/// How the streams of a case behave, where these calls fail and the sink has so much room.
-fn streams_of<'a>(
-    case: &'a Case<'_>,
+/// What keeps a run from being done: reads and writes that fail, counted from 1, and the room of the sink.
+#[derive(Clone, Copy)]
+struct Limits<'a> {
     reads: &'a [u64],
     writes: &'a [u64],
     room: usize,
-) -> Streams<'a> {
-    Streams {
-        pieces: case.pieces.max(1),
-        failing_reads: reads,
-        failing_writes: writes,
-        failing_lines: &case.failing_lines,
-        room,
-    }
 }
 
 /// Room for any report of a file.
@@ -35,24 +27,49 @@ fn room_for(case: &Case<'_>) -> usize {
     case.room.unwrap_or(room.min(MOST_ROOM))
 }
 
-/// Runs a case over a front of its file, and holds that against what is wanted.
-fn judge_run(
+/// How the streams of a case behave.
+fn streams_of<'a>(case: &'a Case<'_>, limits: Limits<'a>) -> Streams<'a> {
+    Streams {
+        pieces: case.pieces.max(1),
+        failing_reads: limits.reads,
+        failing_writes: limits.writes,
+        failing_lines: &case.failing_lines,
+        room: limits.room,
+    }
+}
+
+/// How a run over a front of the file of a case went, which is to give what is wanted.
+fn run_front(
     alloc: Global,
     case: &Case<'_>,
     file: &[u8],
-    streams: &Streams<'_>,
+    limits: Limits<'_>,
     wanted: &Wanted<'_>,
 ) -> Result<Outcome, Problem> {
-    let outcome = try_run(alloc, &case.command, file, streams)?;
-    judge(alloc, &outcome, wanted, streams)?;
+    let streams = streams_of(case, limits);
+    let outcome = try_run(alloc, &case.command, file, &streams)?;
+    judge(alloc, &outcome, wanted, &streams)?;
     Ok(outcome)
 }
 
-/// One run.
+/// How a run over the file of a case went, which is to give what is wanted.
+fn run_whole(
+    alloc: Global,
+    case: &Case<'_>,
+    limits: Limits<'_>,
+    wanted: &Wanted<'_>,
+) -> Result<Outcome, Problem> {
+    run_front(alloc, case, &case.file, limits, wanted)
+}
+
+/// How the run of a case went that has one.
 fn run_once(alloc: Global, case: &Case<'_>) -> Result<Outcome, Problem> {
-    let (reads, writes) = (&case.failing_reads, &case.failing_writes);
-    let streams = streams_of(case, reads, writes, room_for(case));
-    judge_run(alloc, case, &case.file, &streams, &case.wanted())
+    let limits = Limits {
+        reads: &case.failing_reads,
+        writes: &case.failing_writes,
+        room: room_for(case),
+    };
+    run_whole(alloc, case, limits, &case.wanted())
 }
 
 /// Two runs, which write the same.
@@ -63,20 +80,30 @@ fn run_twice(alloc: Global, case: &Case<'_>) -> Result<(), Problem> {
     same_bytes(alloc, "the second report", wanted, came)
 }
 
+/// A run of which this read fails, if there is such a one.
+fn run_failing_read(
+    alloc: Global,
+    case: &Case<'_>,
+    call: u64,
+    wanted: &Wanted<'_>,
+) -> Result<(), Problem> {
+    let limits = Limits {
+        reads: &[call],
+        writes: &[],
+        room: room_for(case),
+    };
+    run_whole(alloc, case, limits, wanted)?;
+    Ok(())
+}
+
 /// Lets each read fail in turn: those that give bytes, and the one that finds the end.
 fn run_each_read(alloc: Global, case: &Case<'_>) -> Result<(), Problem> {
     let pieces = case.pieces.clamp(1, PIECE);
     let calls = (case.file.len().div_ceil(pieces) as u64).saturating_add(1);
     for call in 1..=calls {
-        let reads = [call];
-        let streams = streams_of(case, &reads, &[], room_for(case));
-        let wanted = Wanted::refused("read fault");
-        judge_run(alloc, case, &case.file, &streams, &wanted)?;
+        run_failing_read(alloc, case, call, &Wanted::refused("read fault"))?;
     }
-    let reads = [calls.saturating_add(1)];
-    let streams = streams_of(case, &reads, &[], room_for(case));
-    judge_run(alloc, case, &case.file, &streams, &case.wanted())?;
-    Ok(())
+    run_failing_read(alloc, case, calls.saturating_add(1), &case.wanted())
 }
 
 /// The report of a case, which has to be given and to be written in one piece.
@@ -87,20 +114,48 @@ fn report_of<'a>(case: &'a Case<'_>) -> Result<&'a [u8], Problem> {
     }
 }
 
+/// A run of which the write behind so many others fails, if there is such a one.
+fn run_failing_write(
+    alloc: Global,
+    case: &Case<'_>,
+    done: usize,
+    wanted: &Wanted<'_>,
+) -> Result<(), Problem> {
+    let limits = Limits {
+        reads: &[],
+        writes: &[(done as u64).saturating_add(1)],
+        room: room_for(case),
+    };
+    run_whole(alloc, case, limits, wanted)?;
+    Ok(())
+}
+
 /// Lets each write fail in turn.
 fn run_each_write(alloc: Global, case: &Case<'_>) -> Result<(), Problem> {
     let report = report_of(case)?;
     let pieces = case.pieces.max(1);
     let calls = report.len().div_ceil(pieces);
     for done in 0..calls {
-        let writes = [(done as u64).saturating_add(1)];
-        let streams = streams_of(case, &[], &writes, room_for(case));
-        let wanted = Wanted::cut_off(&report[..done.saturating_mul(pieces).min(report.len())]);
-        judge_run(alloc, case, &case.file, &streams, &wanted)?;
+        let taken = &report[..done.saturating_mul(pieces).min(report.len())];
+        run_failing_write(alloc, case, done, &Wanted::cut_off(taken))?;
     }
-    let writes = [(calls as u64).saturating_add(1)];
-    let streams = streams_of(case, &[], &writes, room_for(case));
-    judge_run(alloc, case, &case.file, &streams, &case.wanted())?;
+    run_failing_write(alloc, case, calls, &case.wanted())
+}
+
+/// A run over a front of the file, with so much room in the sink.
+fn run_in_room(
+    alloc: Global,
+    case: &Case<'_>,
+    file: &[u8],
+    room: usize,
+    wanted: &Wanted<'_>,
+) -> Result<(), Problem> {
+    let limits = Limits {
+        reads: &[],
+        writes: &[],
+        room,
+    };
+    run_front(alloc, case, file, limits, wanted)?;
     Ok(())
 }
 
@@ -108,13 +163,10 @@ fn run_each_write(alloc: Global, case: &Case<'_>) -> Result<(), Problem> {
 fn run_each_room(alloc: Global, case: &Case<'_>) -> Result<(), Problem> {
     let report = report_of(case)?;
     for room in 0..report.len() {
-        let streams = streams_of(case, &[], &[], room);
         let wanted = Wanted::cut_off(&report[..room]);
-        judge_run(alloc, case, &case.file, &streams, &wanted)?;
+        run_in_room(alloc, case, &case.file, room, &wanted)?;
     }
-    let streams = streams_of(case, &[], &[], report.len());
-    judge_run(alloc, case, &case.file, &streams, &case.wanted())?;
-    Ok(())
+    run_in_room(alloc, case, &case.file, report.len(), &case.wanted())
 }
 
 /// Runs a case over the fronts of its file that have a length from a range.
@@ -127,8 +179,7 @@ fn run_cut(alloc: Global, case: &Case<'_>, cut: &Cut<'_>) -> Result<(), Problem>
         let Some(front) = case.file.get(..length) else {
             return Err(Problem::Unreadable("a length that the file has not"));
         };
-        let streams = streams_of(case, &[], &[], room_for(case));
-        judge_run(alloc, case, front, &streams, &wanted)?;
+        run_in_room(alloc, case, front, room_for(case), &wanted)?;
     }
     Ok(())
 }
@@ -151,16 +202,21 @@ fn run_each_front(alloc: Global, case: &Case<'_>) -> Result<(), Problem> {
 
 /// A run in which a write fails: what was written then is a front of the whole report, with so many bytes.
 fn run_holding(alloc: Global, case: &Case<'_>, least: usize, most: usize) -> Result<(), Problem> {
-    let sure = streams_of(case, &[], &[], room_for(case));
-    let whole = try_run(alloc, &case.command, &case.file, &sure)?;
-    let report = whole.sink.bytes();
-    let streams = streams_of(
-        case,
-        &case.failing_reads,
-        &case.failing_writes,
-        room_for(case),
-    );
+    let room = room_for(case);
+    let sure = Limits {
+        reads: &[],
+        writes: &[],
+        room,
+    };
+    let limits = Limits {
+        reads: &case.failing_reads,
+        writes: &case.failing_writes,
+        room,
+    };
+    let whole = run_whole(alloc, case, sure, &Wanted::done())?;
+    let streams = streams_of(case, limits);
     let outcome = try_run(alloc, &case.command, &case.file, &streams)?;
+    let report = whole.sink.bytes();
     let taken = outcome.sink.bytes().len();
     let wanted = Wanted {
         report: Some(&report[..taken.min(report.len())]),

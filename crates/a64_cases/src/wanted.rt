@@ -88,15 +88,23 @@ fn is_refusal(fault: &str) -> bool {
 }
 
 impl<'a> Wanted<'a> {
-    /// A run that is to end with this line and nothing in its sink.
-    pub fn refused(fault: &'a str) -> Wanted<'a> {
+    /// A run that is to end with status 0.
+    pub fn done() -> Wanted<'a> {
         Wanted {
-            fault: Some(fault),
+            fault: None,
             report: None,
             words: None,
             lines: &[],
             absent: &[],
             counts: &[],
+        }
+    }
+
+    /// A run that is to end with this line and nothing in its sink.
+    pub fn refused(fault: &'a str) -> Wanted<'a> {
+        Wanted {
+            fault: Some(fault),
+            ..Wanted::done()
         }
     }
 
@@ -111,12 +119,8 @@ impl<'a> Wanted<'a> {
     /// A run that is to give these words.
     pub fn of_words(words: &'a Words) -> Wanted<'a> {
         Wanted {
-            fault: None,
-            report: None,
             words: Some(words),
-            lines: &[],
-            absent: &[],
-            counts: &[],
+            ..Wanted::done()
         }
     }
 
