@@ -1,5 +1,5 @@
 use Rattle.a64_run.proofs.Ending.{ends_due}
-use Rattle.a64_run.proofs.run.run_command.Goals as goal
+use Rattle.a64_run.proofs.running.run_command.Goals as goal
 
 pub returns-in-Ok-clause-due : goal.returns-in-Ok-clause-due
 returns-in-Ok-clause-due g c =
