@@ -25,7 +25,8 @@ fn write_made<K: Sink>(alloc: Global, sink: &mut K, file: File, made: Made) -> R
     ensures file { result.file ≡ Some file }
     ensures ends { EndsWriting (K.taken sink.old) (K.taken sink.new) made result.fault result.code }
     ensures write { result.fault ≡ Some faults.Write → HasFailed (K.faults sink.old) (K.faults sink.new) }
-    ensures writes { FailsOnlyAt faults.Write result.fault (K.faults sink.old) (K.faults sink.new) }
+    ensures writes { FailsOnlyAt faults.Write result.fault
+        (K.faults sink.old) (K.faults sink.new) }
 {
     let Ok(mut piece) = Piece::new(alloc) else {
         return Ran::refused(Some(file), Fault::Memory);
@@ -49,7 +50,8 @@ fn run_file<K: Sink>(alloc: Global, command: Command, sink: &mut K, file: File) 
     ensures file { result.file ≡ Some file }
     ensures ends { Ends command (K.taken sink.old) (K.taken sink.new) file result.fault result.code }
     ensures write { result.fault ≡ Some faults.Write → HasFailed (K.faults sink.old) (K.faults sink.new) }
-    ensures writes { FailsOnlyAt faults.Write result.fault (K.faults sink.old) (K.faults sink.new) }
+    ensures writes { FailsOnlyAt faults.Write result.fault
+        (K.faults sink.old) (K.faults sink.new) }
 {
     match make(alloc, command, &file) {
         Ok(made) => write_made(alloc, sink, file, made),
@@ -70,10 +72,12 @@ fn run_command<S: Source, K: Sink>(
         result.fault result.file result.code }
     ensures usage { result.fault ≢ Some faults.Usage }
     ensures read { result.fault ≡ Some faults.Read → HasFailed (S.faults source.old) (S.faults source.new) }
-    ensures reads { FailsOnlyAt faults.Read result.fault (S.faults source.old) (S.faults source.new) }
+    ensures reads { FailsOnlyAt faults.Read result.fault
+        (S.faults source.old) (S.faults source.new) }
     ensures held { Held (S.left source.old) result.fault }
     ensures write { result.fault ≡ Some faults.Write → HasFailed (K.faults sink.old) (K.faults sink.new) }
-    ensures writes { FailsOnlyAt faults.Write result.fault (K.faults sink.old) (K.faults sink.new) }
+    ensures writes { FailsOnlyAt faults.Write result.fault
+        (K.faults sink.old) (K.faults sink.new) }
     ensures due { IsDueAnswer command (S.left source.old) result.fault }
     ensures few { TakesFew (S.left source.old) (S.left source.new) }
     ensures unread { reads_source command ≡ false → source.new ≡ source.old }
@@ -99,10 +103,12 @@ fn run_words<S: Source, K: Sink>(
     ensures nothing { result.fault ≡ Some faults.Usage → (result.file ≡ None) × (result.code ≡ None) }
     ensures usage { (result.fault ≡ Some faults.Usage) ↔ IsNoCommand (map string_bytes words.now) }
     ensures read { result.fault ≡ Some faults.Read → HasFailed (S.faults source.old) (S.faults source.new) }
-    ensures reads { FailsOnlyAt faults.Read result.fault (S.faults source.old) (S.faults source.new) }
+    ensures reads { FailsOnlyAt faults.Read result.fault
+        (S.faults source.old) (S.faults source.new) }
     ensures held { Held (S.left source.old) result.fault }
     ensures write { result.fault ≡ Some faults.Write → HasFailed (K.faults sink.old) (K.faults sink.new) }
-    ensures writes { FailsOnlyAt faults.Write result.fault (K.faults sink.old) (K.faults sink.new) }
+    ensures writes { FailsOnlyAt faults.Write result.fault
+        (K.faults sink.old) (K.faults sink.new) }
     ensures due { OfCommand (map string_bytes words.now) (λ command. IsDueAnswer command (S.left source.old) result.fault) }
     ensures few { TakesFew (S.left source.old) (S.left source.new) }
     ensures unread { OfCommand (map string_bytes words.now) (λ command. reads_source command ≡ false) → source.new ≡ source.old }
@@ -165,10 +171,12 @@ pub fn run<S: Source, K: Sink, E: Sink>(
     // The causes of the answers. A failed read or write is the last call of its stream, and the answer.
     ensures usage { (result.fault ≡ Some faults.Usage) ↔ IsNoCommand (map string_bytes words.now) }
     ensures read { result.fault ≡ Some faults.Read → HasFailed (S.faults source.old) (S.faults source.new) }
-    ensures reads { FailsOnlyAt faults.Read result.fault (S.faults source.old) (S.faults source.new) }
+    ensures reads { FailsOnlyAt faults.Read result.fault
+        (S.faults source.old) (S.faults source.new) }
     ensures held { Held (S.left source.old) result.fault }
     ensures write { result.fault ≡ Some faults.Write → HasFailed (K.faults sink.old) (K.faults sink.new) }
-    ensures writes { FailsOnlyAt faults.Write result.fault (K.faults sink.old) (K.faults sink.new) }
+    ensures writes { FailsOnlyAt faults.Write result.fault
+        (K.faults sink.old) (K.faults sink.new) }
 
     // Each answer comes where it is due; want of memory alone is free.
     ensures due { OfCommand (map string_bytes words.now) (λ command. IsDueAnswer command (S.left source.old) result.fault) }
@@ -184,7 +192,8 @@ pub fn run<S: Source, K: Sink, E: Sink>(
         → Takes (E.taken errs.old) (E.taken errs.new) (fault_line fault)) }
     ensures cut { IfSome result.fault (λ fault. E.faults errs.old < E.faults errs.new
         → TakesPart (E.taken errs.old) (E.taken errs.new) (fault_line fault)) }
-    ensures begun { IfSome result.fault (λ fault. Takes (E.taken errs.old) (E.taken errs.new) (fault_line fault)
+    ensures begun { IfSome result.fault (λ fault.
+        Takes (E.taken errs.old) (E.taken errs.new) (fault_line fault)
         ⊎ TakesPart (E.taken errs.old) (E.taken errs.new) (fault_line fault)) }
 {
     let ran = run_words(alloc, words, source, sink);
