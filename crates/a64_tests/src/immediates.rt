@@ -56,66 +56,80 @@ fn float_moves_and_shifts(rt: HostRuntime) -> Result<(), Fail> {
 }
 
 /// Adds the text of an immediate, and a space.
-fn add<T: PrettyPrint + Drop>(
-    alloc: Global,
-    texts: &mut String,
-    imm: Option<T>,
-) -> Result<(), AllocError> {
-    let Some(imm) = imm else {
-        return Ok(());
-    };
+fn add<T: PrettyPrint>(alloc: Global, texts: &mut String, imm: &T) -> Result<(), AllocError>
+    requires { T.can_print imm.now 0 }
+{
     texts.push_str(imm.pretty_print_default(alloc)?.as_str())?;
     texts.push(' ')
 }
 
 #[test]
+fn texts_of_offsets(rt: HostRuntime) -> Result<(), Fail> {
+    let alloc = rt.alloc();
+    let unscaled = SImm9::maybe_from_i64(-256).expect(&rt, "nine bits");
+    let pair = SImm7Scaled::maybe_from_i64(-512, IrType::I64).expect(&rt, "seven bits");
+    let scaled = UImm12Scaled::maybe_from_i64(65520, IrType::I8X16).expect(&rt, "twelve bits");
+    let mut texts = String::new(alloc);
+    add(alloc, &mut texts, &unscaled)?;
+    add(alloc, &mut texts, &pair)?;
+    add(alloc, &mut texts, &scaled)?;
+    assert_eq!(rt; texts.as_str(), "#-256 #-512 #65520 ");
+    Ok(())
+}
+
+#[test]
 fn texts_of_numbers(rt: HostRuntime) -> Result<(), Fail> {
     let alloc = rt.alloc();
+    let five = UImm5::maybe_from_u8(31).expect(&rt, "five bits");
+    let six = UImm6::maybe_from_u8(63).expect(&rt, "six bits");
+    let shift = ImmShift::maybe_from_u64(7).expect(&rt, "six bits");
+    let twelve = Imm12::maybe_from_u64(4096).expect(&rt, "twelve bits, shifted");
     let mut texts = String::new(alloc);
-    add(alloc, &mut texts, Some(NZCV::new(true, false, true, false)))?;
-    add(alloc, &mut texts, UImm5::maybe_from_u8(31))?;
-    add(alloc, &mut texts, UImm6::maybe_from_u8(63))?;
-    add(alloc, &mut texts, ImmShift::maybe_from_u64(7))?;
-    add(alloc, &mut texts, SImm9::maybe_from_i64(-256))?;
-    let pair = SImm7Scaled::maybe_from_i64(-512, IrType::I64);
-    add(alloc, &mut texts, pair)?;
-    let scaled = UImm12Scaled::maybe_from_i64(65520, IrType::I8X16);
-    add(alloc, &mut texts, scaled)?;
-    add(alloc, &mut texts, Imm12::maybe_from_u64(4096))?;
-    let want = "#NzCv #31 #63 #7 #-256 #-512 #65520 #4096 ";
-    assert_eq!(rt; texts.as_str(), want);
+    add(alloc, &mut texts, &NZCV::new(true, false, true, false))?;
+    add(alloc, &mut texts, &five)?;
+    add(alloc, &mut texts, &six)?;
+    add(alloc, &mut texts, &shift)?;
+    add(alloc, &mut texts, &twelve)?;
+    assert_eq!(rt; texts.as_str(), "#NzCv #31 #63 #7 #4096 ");
+    Ok(())
+}
+
+#[test]
+fn texts_of_shifted_numbers(rt: HostRuntime) -> Result<(), Fail> {
+    let alloc = rt.alloc();
+    let left = FPULeftShiftImm::maybe_from_u8(31, 32).expect(&rt, "below 32");
+    let right = FPURightShiftImm::maybe_from_u8(64, 64).expect(&rt, "at most 64");
+    let wide = MoveWideConst::maybe_with_shift(21845, 17).expect(&rt, "a halfword");
+    let mut texts = String::new(alloc);
+    add(alloc, &mut texts, &left)?;
+    add(alloc, &mut texts, &right)?;
+    add(alloc, &mut texts, &wide)?;
+    assert_eq!(rt; texts.as_str(), "#31 #64 #21845, LSL #16 ");
     Ok(())
 }
 
 #[test]
 fn texts_of_patterns(rt: HostRuntime) -> Result<(), Fail> {
     let alloc = rt.alloc();
+    let logic = ImmLogic::maybe_from_u64(248, IrType::I64).expect(&rt, "a run of ones");
+    let bits = 0x3ff0_0000_0000_0000;
+    let float = ASIMDFPModImm::maybe_from_u64(bits, ScalarSize::Size64).expect(&rt, "one");
     let mut texts = String::new(alloc);
-    add(alloc, &mut texts, FPULeftShiftImm::maybe_from_u8(31, 32))?;
-    add(alloc, &mut texts, FPURightShiftImm::maybe_from_u8(64, 64))?;
-    add(
-        alloc,
-        &mut texts,
-        MoveWideConst::maybe_with_shift(21845, 17),
-    )?;
-    let logic = ImmLogic::maybe_from_u64(248, IrType::I64);
-    add(alloc, &mut texts, logic)?;
-    add(alloc, &mut texts, logic.map(|imm| imm.invert()))?;
+    add(alloc, &mut texts, &logic)?;
+    add(alloc, &mut texts, &logic.invert())?;
+    add(alloc, &mut texts, &float)?;
     for (value, size) in [
         (0x42_ffff, ScalarSize::Size32),
         (0x4200, ScalarSize::Size16),
         (0xff00, ScalarSize::Size64),
     ] {
-        add(
-            alloc,
-            &mut texts,
-            ASIMDMovModImm::maybe_from_u64(value, size),
-        )?;
+        let imm = ASIMDMovModImm::maybe_from_u64(value, size).expect(
+            &rt,
+            "a byte in zeros or ones",
+        );
+        add(alloc, &mut texts, &imm)?;
     }
-    let one = ASIMDFPModImm::maybe_from_u64(0x3ff0_0000_0000_0000, ScalarSize::Size64);
-    add(alloc, &mut texts, one)?;
-    let want = "#31 #64 #21845, LSL #16 #248 #18446744073709551367 #66, MSL #16 #66, LSL #8 #65280 \
-        #0x3ff0000000000000 ";
+    let want = "#248 #18446744073709551367 #0x3ff0000000000000 #66, MSL #16 #66, LSL #8 #65280 ";
     assert_eq!(rt; texts.as_str(), want);
     Ok(())
 }
