@@ -8,7 +8,6 @@ use a64_ops::AtomicRMWOp;
 
 #[test]
 fn atomic_accesses(rt: HostRuntime) {
-    let (x9, x27) = (xreg(9), writable_xreg(27));
     let clear = enc_acq_rel(
         IrType::I16,
         AtomicRMWOp::Clr,
@@ -16,7 +15,13 @@ fn atomic_accesses(rt: HostRuntime) {
         writable_xreg(1),
         stack_reg(),
     );
-    let swap = enc_acq_rel(IrType::I8, AtomicRMWOp::Swp, x9, x27, xreg(23));
+    let swap = enc_acq_rel(
+        IrType::I8,
+        AtomicRMWOp::Swp,
+        xreg(9),
+        writable_xreg(27),
+        xreg(23),
+    );
     let store = enc_stlxr(IrType::I64, writable_xreg(24), xreg(28), xreg(25));
     for (word, want) in [
         // ldclralh w8, w1, [sp]
@@ -24,11 +29,17 @@ fn atomic_accesses(rt: HostRuntime) {
         // swpalb w9, w27, [x23]
         (swap, 0x38e9_82fb),
         // ldar w27, [x21]
-        (enc_ldar(IrType::I32, x27, xreg(21)), 0x88df_febb),
+        (
+            enc_ldar(IrType::I32, writable_xreg(27), xreg(21)),
+            0x88df_febb,
+        ),
         // stlr w9, [x26]
-        (enc_stlr(IrType::I32, x9, xreg(26)), 0x889f_ff49),
+        (enc_stlr(IrType::I32, xreg(9), xreg(26)), 0x889f_ff49),
         // ldaxrh w27, [x25]
-        (enc_ldaxr(IrType::I16, x27, xreg(25)), 0x485f_ff3b),
+        (
+            enc_ldaxr(IrType::I16, writable_xreg(27), xreg(25)),
+            0x485f_ff3b,
+        ),
         // stlxr w24, x28, [x25]
         (store, 0xc818_ff3c),
         // casal x30, xzr, [x23]

@@ -33,6 +33,8 @@ fn vector_moves(rt: HostRuntime) -> Result<(), Fail> {
     ] {
         assert_eq!(rt; moved(value, size), want, "of {value:x}");
     }
+    let zero = ASIMDMovModImm::zero(ScalarSize::Size64);
+    assert_eq!(rt; zero.value(), (0, 0, false));
     Ok(())
 }
 

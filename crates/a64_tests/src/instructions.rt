@@ -1,15 +1,17 @@
 //! Calls on instructions that no file makes: constants as instructions, final modes, copies, and
 //! forms by their types.
 
-ghost use Rattle.std.specs.Prelude.{◌≡◌, ◌<◌, ◌^◌, length, IfOk};
+ghost use Rattle.std.specs.Prelude.{◌≡◌, ◌<◌, ◌^◌, true, length, IfOk};
+ghost use Rattle.a64_inst.specs.Accesses.{type_has_load_form};
 
 use a64_assemble::assemble;
-use a64_base::{IrType, MemFlagsData, VCodeConstant, writable_vreg, writable_xreg, xreg, zero_reg};
+use a64_base::{
+    IrType, MemFlagsData, VCodeConstant, vreg, writable_vreg, writable_xreg, xreg, zero_reg,
+};
 use a64_buffer::{Constants, ForceVeneers};
 use a64_emit::{Code, EmitError, Item};
 use a64_inst::{
-    ALUOp, AMode, AccessOp, EmitFlags, EmitInfo, EmitState, FrameLayout, Inst, MoveWideOp,
-    mem_finalize,
+    ALUOp, AMode, EmitFlags, EmitInfo, EmitState, FrameLayout, Inst, MoveWideOp, mem_finalize,
 };
 use a64_list::ListVec;
 use std::alloc::{AllocError, Global};
@@ -65,21 +67,37 @@ fn an_offset_in_units_of_its_access(rt: HostRuntime) -> Result<(), Fail> {
     Ok(())
 }
 
+/// A load of a type's value from a register's address.
+fn load_of(ty: IrType) -> Inst
+    requires { type_has_load_form ty ≡ true }
+{
+    let mem = AMode::reg(xreg(1));
+    Inst::gen_load(writable_vreg(0), mem, ty, MemFlagsData::trusted())
+}
+
+/// A store of a type's value to a register's address.
+fn store_of(ty: IrType) -> Inst
+    requires { type_has_load_form ty ≡ true }
+{
+    let mem = AMode::reg(xreg(1));
+    Inst::gen_store(mem, vreg(0), ty, MemFlagsData::trusted())
+}
+
 #[test]
-fn types_with_a_load_form(rt: HostRuntime) -> Result<(), Fail> {
-    for (ty, want) in [
-        (IrType::I8, AccessOp::ULoad8),
-        (IrType::I64, AccessOp::ULoad64),
-        (IrType::F16, AccessOp::FpuLoad16),
-        (IrType::F128, AccessOp::FpuLoad128),
-        (IrType::I8X2, AccessOp::FpuLoad16),
-        (IrType::F64X2, AccessOp::FpuLoad128),
+fn loads_and_stores_by_types(rt: HostRuntime) -> Result<(), Fail> {
+    for (ty, moved) in [
+        (IrType::I8, IrType::I8),
+        (IrType::I64, IrType::I64),
+        (IrType::F16, IrType::F16),
+        (IrType::F128, IrType::I8X16),
+        (IrType::I8X2, IrType::F16),
+        (IrType::F64X2, IrType::I8X16),
     ] {
         assert!(rt; Inst::has_load_form(ty), "{ty:?}");
-        let mem = AMode::reg(xreg(1));
-        let load = Inst::gen_load(writable_vreg(0), mem, ty, MemFlagsData::trusted());
-        let op = load.access().map(|access| access.op);
-        assert_eq!(rt; op, Some(want), "{ty:?}");
+        let load = load_of(ty);
+        assert_eq!(rt; load.mem_type(), Some(moved), "{ty:?}");
+        let store = store_of(ty);
+        assert_eq!(rt; store.mem_type(), Some(moved), "{ty:?}");
     }
     for ty in [IrType::I128, IrType::I8X32] {
         assert!(rt; !Inst::has_load_form(ty), "{ty:?}");

@@ -51,33 +51,45 @@ fn integer_registers(rt: HostRuntime) -> Result<(), AllocError> {
 #[test]
 fn vector_registers(rt: HostRuntime) -> Result<(), AllocError> {
     let alloc = rt.alloc();
-    let free = Reg::virtual_reg(7, RegClass::Float);
     let mut texts = String::new(alloc);
     add(
         &mut texts,
-        show_vreg_scalar(alloc, vreg(3), ScalarSize::Size64),
+        show_vreg_scalar(alloc, xreg(3), ScalarSize::Size8),
     )?;
     add(
         &mut texts,
-        pretty_print_vreg_scalar(alloc, xreg(3), ScalarSize::Size8),
+        show_vreg_scalar(
+            alloc,
+            Reg::virtual_reg(7, RegClass::Float),
+            ScalarSize::Size8,
+        ),
     )?;
     add(
         &mut texts,
-        show_vreg_vector(alloc, vreg(3), VectorSize::Size16x8),
+        pretty_print_vreg_scalar(alloc, vreg(3), ScalarSize::Size64),
     )?;
     add(
         &mut texts,
-        pretty_print_vreg_vector(alloc, vreg(31), VectorSize::Size8x16),
+        show_vreg_vector(alloc, vreg(31), VectorSize::Size8x16),
     )?;
     add(
         &mut texts,
-        show_vreg_element(alloc, free, 15, ScalarSize::Size8),
+        pretty_print_vreg_vector(alloc, vreg(3), VectorSize::Size16x8),
+    )?;
+    add(
+        &mut texts,
+        show_vreg_element(
+            alloc,
+            Reg::virtual_reg(7, RegClass::Float),
+            15,
+            ScalarSize::Size8,
+        ),
     )?;
     add(
         &mut texts,
         pretty_print_vreg_element(alloc, vreg(3), 1, ScalarSize::Size32),
     )?;
-    let want = "d3 x3 v3.8h v31.16b %f7.b[15] v3.s[1] ";
+    let want = "x3 %f7 d3 v31.16b v3.8h %f7.b[15] v3.s[1] ";
     assert_eq!(rt; texts.as_str(), want);
     Ok(())
 }
