@@ -1,4 +1,4 @@
-//! Which numbers are immediates of bitwise instructions, by the fields that the Arm manual gives them.
+//! Which numbers are immediates of bitwise instructions, by their fields in the Arm manual.
 
 ghost use Rattle.std.specs.Prelude.{◌<◌};
 
@@ -73,7 +73,8 @@ fn number(bits: u32, ones: u32, r: u32) -> u64
     number
 }
 
-/// Whether a value has the fields, and its complement has some, at 64 bits, and where N is 0 at 32 too.
+/// Whether a value has these fields, and its complement has some: at 64 bits, and where N is 0
+/// at 32 too.
 fn are_immediates(value: u64, n: u32, r: u32, s: u32) -> bool
     requires { (r < 64) × (s < 64) }
 {

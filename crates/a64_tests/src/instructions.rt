@@ -105,7 +105,7 @@ fn loads_and_stores_by_types(rt: HostRuntime) -> Result<(), Fail> {
     Ok(())
 }
 
-/// An instruction of a constant into x0, by its name, its width and what it has. Others have no text.
+/// An instruction of a constant into x0, by its name, its width and what it has.
 fn text_of(alloc: Global, inst: &Inst) -> Result<String, AllocError> {
     match inst {
         Inst::MovWide { op, rd, imm, size } if rd.to_reg() == xreg(0) => {

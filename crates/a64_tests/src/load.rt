@@ -97,8 +97,8 @@ fn add_words(bytes: &mut Vec<u8>, word: u32, count: usize) -> Result<(), AllocEr
     Ok(())
 }
 
-/// A word of sixty short branches with islands between them: twelve branches, a jump over the island
-/// behind them, and the island, in which each branch has a jump to the label.
+/// A word of sixty short branches with islands between them: twelve branches, a jump over the
+/// island behind them, and the island, in which each branch has a jump to the label.
 fn crowded_word(place: u32) -> u32
     requires { place < 800 }
 {

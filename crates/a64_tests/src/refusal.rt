@@ -29,7 +29,9 @@ fn add(constants: &mut Constants, constant: VCodeConstant, bytes: &[u8]) -> Resu
 fn put<K: MachInstLabelUse>(buffer: &mut MachBuffer<'_, K>, word: u32) -> Result<(), AllocError>
     requires short { end_of buffer.old + 4 < 2 ^ 31 }
     requires fits { Fits K.kinds buffer.old 4 }
-    ensures { OnOk result (buffer.new ≡ record buffer.old { words = buffer.old.words ++ word ∷ [] }) }
+    ensures { OnOk result (buffer.new ≡ record buffer.old {
+      words = buffer.old.words ++ word ∷ [];
+    }) }
 {
     if buffer.put4(word).is_ok() {
         return Ok(());
@@ -51,10 +53,12 @@ fn load<K: MachInstLabelUse>(
     requires urgency { K.kinds.urgency kind ≡ 2 }
     requires known { IsSomeAnd (finmap.get buffer.old.constants constant.0) IsConstant }
     requires fits { Fits K.kinds (record buffer.old {
-      uses = buffer.old.uses ++ made_use K.kinds buffer.old.labels offset (Constant constant) kind ∷ [];
+      uses = buffer.old.uses
+          ++ made_use K.kinds buffer.old.labels offset (Constant constant) kind ∷ [];
     }) 0 }
     ensures { OnOk result (buffer.new ≡ record buffer.old {
-      uses = buffer.old.uses ++ made_use K.kinds buffer.old.labels offset (Constant constant) kind ∷ [];
+      uses = buffer.old.uses
+          ++ made_use K.kinds buffer.old.labels offset (Constant constant) kind ∷ [];
     }) }
 {
     if buffer.use_constant(offset, constant, kind).is_ok() {
@@ -205,9 +209,10 @@ fn ends_as_with_enough_memory(rt: HostRuntime) -> Result<(), AllocError> {
     trap(&mut buffer, 4, TrapCode(3), ShortUse::Middle)?;
     branch(&mut buffer, 8, MachLabel(5), ShortUse::Near)?;
     island(&mut buffer)?;
-    // three words, the jump over the island, that of the branch, a zero word, the constant, a trap word,
-    // and the far veneer of the branch's jump
+    // three words, the jump over the island, that of the branch, a zero word, the constant, a trap
+    // word, and the far veneer of the branch's jump
     assert_eq!(rt; buffer.cur_offset(), 12 + 4 + 4 + 4 + 8 + 4 + 20);
+    assert_eq!(rt; buffer.first_unbound(), Some(MachLabel(5)));
     Ok(())
 }
 

@@ -1,4 +1,4 @@
-//! Texts of registers and operands as upstream prints them, and fields that tables of the Arm manual state.
+//! Texts of registers and operands as Cranelift prints them, and fields of the Arm manual's tables.
 
 use a64_base::{
     APIKey, BranchTarget, Cond, ExtendOp, MachLabel, OperandSize, PrettyPrint, Reg, RegClass,

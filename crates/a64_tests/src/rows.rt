@@ -54,8 +54,8 @@ fn decodes_and_encodes_words(rt: HostRuntime) {
 
 #[test]
 fn finds_no_form(rt: HostRuntime) {
-    // a permanently undefined instruction; sbfm whose sf and N differ; a shift of an add by ror; a logical immediate of
-    // all ones; a 32-bit one with N; a load pair with idx 0 (no-allocate)
+    // a permanently undefined instruction; sbfm whose sf and N differ; a shift of an add by ror;
+    // a logical immediate of all ones; a 32-bit one with N; a load pair with idx 0 (no-allocate)
     for word in [
         0x0000_c11f,
         0x9300_0000,

@@ -37,7 +37,8 @@ fn write_far(buffer: &mut [u8])
 fn scaled(count: u32, half: u32) -> i64
     requires count { count < 2 * half }
     requires half { half < 2 ^ 26 }
-    ensures { result ≡ (if nat_lt count half then pos count else negsuc (2 * half - suc count)) *ℤ pos 4 }
+    ensures { result ≡ (if nat_lt count half then pos count else negsuc (2 * half - suc count))
+        *ℤ pos 4 }
 {
     if count < half {
         i64::from(count) * 4
@@ -54,7 +55,12 @@ impl MachInstLabelUse for ShortUse {
     ghost use Rattle.a64_tests.specs.declared.short_use.ShortUse.TheVariants.{Near, Middle, Far, Add32};
 
     ghost kinds = { record {
-      mask = elim [ Near ↦ mask_of 5 14 | Middle ↦ mask_of 5 19 | Far ↦ mask_of 0 26 | Add32 ↦ 2 ^ 32 - 1 ];
+      mask = elim [
+        | Near ↦ mask_of 5 14
+        | Middle ↦ mask_of 5 19
+        | Far ↦ mask_of 0 26
+        | Add32 ↦ 2 ^ 32 - 1
+      ];
       field = λ kind word. elim kind [
         | Near ↦ signed 14 (field_bits 5 14 word) *ℤ pos 4
         | Middle ↦ signed 19 (field_bits 5 19 word) *ℤ pos 4
@@ -180,24 +186,59 @@ impl MachInstLabelUse for ShortUse {
     }
 
     ghost lawful = { record {
-      whole_mask = elim [ Near ↦ λ h. absurd (false≢true h) | Middle ↦ λ h. absurd (false≢true h) | Far ↦ λ h. absurd (false≢true h) | Add32 ↦ λ h. refl ];
-      whole_field = elim [ Near ↦ λ h. absurd (false≢true h) | Middle ↦ λ h. absurd (false≢true h) | Far ↦ λ h. absurd (false≢true h) | Add32 ↦ λ h word within. refl ];
-      urgency_most = elim [ Near ↦ omega arith | Middle ↦ omega arith | Far ↦ omega arith | Add32 ↦ omega arith ];
-      veneer_urgency = elim [ Near ↦ λ h. omega arith | Middle ↦ λ h. omega arith | Far ↦ λ h. omega arith | Add32 ↦ λ h. absurd (false≢true h) ];
-      urgent_replaces = elim [ Near ↦ λ u h. false≢true h | Middle ↦ λ u h. false≢true h | Far ↦ λ u h. false≢true h | Add32 ↦ λ u h. absurd (omega (arith, u)) ];
+      whole_mask = elim [
+        | Near ↦ λ h. absurd (false≢true h)
+        | Middle ↦ λ h. absurd (false≢true h)
+        | Far ↦ λ h. absurd (false≢true h)
+        | Add32 ↦ λ h. refl
+      ];
+      whole_field = elim [
+        | Near ↦ λ h. absurd (false≢true h)
+        | Middle ↦ λ h. absurd (false≢true h)
+        | Far ↦ λ h. absurd (false≢true h)
+        | Add32 ↦ λ h word within. refl
+      ];
+      urgency_most = elim [
+        | Near ↦ omega arith
+        | Middle ↦ omega arith
+        | Far ↦ omega arith
+        | Add32 ↦ omega arith
+      ];
+      veneer_urgency = elim [
+        | Near ↦ λ h. omega arith
+        | Middle ↦ λ h. omega arith
+        | Far ↦ λ h. omega arith
+        | Add32 ↦ λ h. absurd (false≢true h)
+      ];
+      urgent_replaces = elim [
+        | Near ↦ λ u h. false≢true h
+        | Middle ↦ λ u h. false≢true h
+        | Far ↦ λ u h. false≢true h
+        | Add32 ↦ λ u h. absurd (omega (arith, u))
+      ];
       jump_veneers = refl;
       jump_urgency = refl;
       far_adds = refl;
       far_urgency = refl;
       far_forward = refl;
-      one_range = elim [ Near ↦ λ u. refl | Middle ↦ λ u. refl | Far ↦ λ u. refl | Add32 ↦ λ u. absurd (omega (arith, u)) ];
+      one_range = elim [
+        | Near ↦ λ u. refl
+        | Middle ↦ λ u. refl
+        | Far ↦ λ u. refl
+        | Add32 ↦ λ u. absurd (omega (arith, u))
+      ];
       range_second = omega arith;
       range_third = omega arith;
       third_of_first = omega arith;
       third_of_second = omega arith;
       third_least = omega arith;
       third_short = omega arith;
-      backward_more = elim [ Near ↦ omega arith | Middle ↦ omega arith | Far ↦ omega arith | Add32 ↦ omega arith ];
+      backward_more = elim [
+        | Near ↦ omega arith
+        | Middle ↦ omega arith
+        | Far ↦ omega arith
+        | Add32 ↦ omega arith
+      ];
       far_length = omega arith;
     } };
 }
