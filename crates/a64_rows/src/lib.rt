@@ -9,5 +9,5 @@ mod words;
 
 pub use decoder::decode_word;
 pub use limits::meets;
-pub use row_table::{Row, Slot, fixed, slots};
-pub use words::{Form, word_of};
+pub use row_table::{FieldAt, Row, Slot};
+pub use words::{Form, pack, word_of};
