@@ -3,11 +3,14 @@
 #![tactic(auto)]
 
 mod decoder;
+mod field;
 mod limits;
+mod row;
 mod row_table;
 mod words;
 
 pub use decoder::decode_word;
+pub use field::{FieldAt, Slot};
 pub use limits::meets;
-pub use row_table::{FieldAt, Row, Slot};
+pub use row::Row;
 pub use words::{Form, pack, word_of};
