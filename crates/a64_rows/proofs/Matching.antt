@@ -4,8 +4,8 @@ use Rattle.std.proofs.Math.Nat.{mod-eq_of_lt}
 use Rattle.std.proofs.lemmas.Bool.{eqb-true, eq-eqb, leb-true, and_parts, or_cases, cases_order, both_ways, not-true}
 use Rattle.std.proofs.lemmas.Nat.{and_comm, and_assoc, and_mask, mod-pow-add, shr-shr}
 use Rattle.std.proofs.lemmas.Nat.Bits.{and_high}
-use Rattle.a64_rows.specs.declared.row.Row.{Row}
-use Rattle.a64_rows.specs.declared.row.Row.TheVariants.{VecShift, VecImm}
+use Rattle.a64_rows.specs.declared.row_table.Row.{Row}
+use Rattle.a64_rows.specs.declared.row_table.Row.TheVariants.{VecShift, VecImm}
 use Rattle.a64_rows.specs.Order.{placed}
 use Rattle.a64_rows.specs.Rows.{fixed_of, slots_of}
 use Rattle.a64_rows.specs.Limits.{limits_of, is_vector_shift}

@@ -1,6 +1,6 @@
 -- The named fields of each row stand at the places of their names, and each adds to the word what it says there.
 use Rattle.std.proofs.Common.{◌≡◌, ◌+◌, ◌*◌, List, [], ◌∷◌, refl, ap, ap₂, ◌∙◌, map}
-use Rattle.a64_rows.specs.declared.row.Row.{Row}
+use Rattle.a64_rows.specs.declared.row_table.Row.{Row}
 use Rattle.a64_rows.specs.Rows.{fixed_of}
 use Rattle.a64_rows.specs.Forms.{weight_of, sum_of, Form, form_word, NamedValue, IsPlaced, named_sum}
 use Rattle.a64_rows.specs.Places as place

@@ -1,7 +1,7 @@
 -- Control: the forms of "Branches, Exception Generating and System instructions"
 -- (Arm Architecture Reference Manual, DDI 0487, C4.1), by the names of their fields.
 use Rattle.std.specs.Prelude.{ℕ, [], ◌∷◌}
-use Rattle.a64_rows.specs.declared.row.Row.TheVariants.{Branch26, BranchCond, CompareBranch, TestBranch, BranchReg, RetAuth, Hint, Barrier, Brk, Nzcv}
+use Rattle.a64_rows.specs.declared.row_table.Row.TheVariants.{Branch26, BranchCond, CompareBranch, TestBranch, BranchReg, RetAuth, Hint, Barrier, Brk, Nzcv}
 use Rattle.a64_rows.specs.Forms.{Form, form}
 
 -- Branches, Exception Generating and System instructions, Unconditional branch (immediate)

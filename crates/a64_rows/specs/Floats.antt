@@ -1,7 +1,7 @@
 -- Floats: the forms of "Data Processing -- Scalar Floating-Point and Advanced SIMD" on one float
 -- (Arm Architecture Reference Manual, DDI 0487, C4.1), by the names of their fields.
 use Rattle.std.specs.Prelude.{ℕ, [], ◌∷◌}
-use Rattle.a64_rows.specs.declared.row.Row.TheVariants.{FpOne, FpTwo, FpThree, FpCompare, FpSelect, FpImm, FpInt}
+use Rattle.a64_rows.specs.declared.row_table.Row.TheVariants.{FpOne, FpTwo, FpThree, FpCompare, FpSelect, FpImm, FpInt}
 use Rattle.a64_rows.specs.Forms.{Form, form}
 
 -- Data Processing -- Scalar Floating-Point and Advanced SIMD, Floating-point data-processing (1 source)

@@ -1,7 +1,7 @@
 -- The limits of rows: what the values of a row's fields have to meet, besides their widths.
 use Rattle.std.specs.Prelude.{ℕ, ◌+◌, ◌-◌, ◌%◌, List, get_or, Bool, true, not, ◌&&◌, ◌||◌, ◌==◌, nat_lt, nat_le, if◌then◌else◌}
-use Rattle.a64_rows.specs.declared.row.Row.{Row}
-use Rattle.a64_rows.specs.declared.row.Row.TheVariants.{AddSubReg, LogicReg, DataProc2, LogicImm, Bitfield, Extract, DataProc1, MoveWide, BranchReg, LdStImm9, LdStUnsigned, LdStReg, LdLiteral, LdStPair, AtomicOp, Casp, FpOne, FpTwo, FpThree, FpCompare, FpSelect, FpImm, FpInt, VecPermute, VecShift, ScalarShift, VecCopy, VecTable}
+use Rattle.a64_rows.specs.declared.row_table.Row.{Row}
+use Rattle.a64_rows.specs.declared.row_table.Row.TheVariants.{AddSubReg, LogicReg, DataProc2, LogicImm, Bitfield, Extract, DataProc1, MoveWide, BranchReg, LdStImm9, LdStUnsigned, LdStReg, LdLiteral, LdStPair, AtomicOp, Casp, FpOne, FpTwo, FpThree, FpCompare, FpSelect, FpImm, FpInt, VecPermute, VecShift, ScalarShift, VecCopy, VecTable}
 
 -- the value of the field with this number, from 0
 abbrev pub field : ℕ → List ℕ → ℕ

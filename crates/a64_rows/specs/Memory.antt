@@ -1,7 +1,7 @@
 -- Memory: the forms of "Loads and Stores"
 -- (Arm Architecture Reference Manual, DDI 0487, C4.1), by the names of their fields.
 use Rattle.std.specs.Prelude.{ℕ, [], ◌∷◌}
-use Rattle.a64_rows.specs.declared.row.Row.TheVariants.{LdStImm9, LdStUnsigned, LdStReg, LdLiteral, LdStPair, LdReplicate, AtomicOp, LoadAcq, StoreRel, LoadEx, StoreEx, Cas, Casp}
+use Rattle.a64_rows.specs.declared.row_table.Row.TheVariants.{LdStImm9, LdStUnsigned, LdStReg, LdLiteral, LdStPair, LdReplicate, AtomicOp, LoadAcq, StoreRel, LoadEx, StoreEx, Cas, Casp}
 use Rattle.a64_rows.specs.Forms.{Form, form}
 
 -- Loads and Stores, Load/store register (unscaled immediate), (immediate post-indexed) and (immediate pre-indexed)

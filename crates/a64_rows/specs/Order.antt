@@ -1,7 +1,7 @@
 -- The order of the rows in the table.
 use Rattle.std.specs.Prelude.{ℕ, ◌≡◌, List, [], ◌∷◌, true, ltb, length, get_or, refl}
-use Rattle.a64_rows.specs.declared.row.Row.{Row}
-use Rattle.a64_rows.specs.declared.row.Row.TheVariants.{AddSubReg, LogicReg, AddSubExt, AddSubCarry, DataProc2, MulHigh, MulAdd, MulAddLong, AddSubImm, LogicImm, Bitfield, Extract, DataProc1, MoveWide, CondSelect, CondCompare, Adr, Branch26, BranchCond, CompareBranch, TestBranch, BranchReg, RetAuth, Hint, Barrier, Brk, Nzcv, LdStImm9, LdStUnsigned, LdStReg, LdLiteral, LdStPair, LdReplicate, AtomicOp, LoadAcq, StoreRel, LoadEx, StoreEx, Cas, Casp, FpOne, FpTwo, FpThree, FpCompare, FpSelect, FpImm, FpInt, VecThree, VecPermute, VecDot, VecElem, VecTwo, VecScalarPair, VecAcross, VecLong3, VecShift, VecImm, ScalarShift, VecCopy, ScalarCopy, VecInsElem, VecExt, VecTable}
+use Rattle.a64_rows.specs.declared.row_table.Row.{Row}
+use Rattle.a64_rows.specs.declared.row_table.Row.TheVariants.{AddSubReg, LogicReg, AddSubExt, AddSubCarry, DataProc2, MulHigh, MulAdd, MulAddLong, AddSubImm, LogicImm, Bitfield, Extract, DataProc1, MoveWide, CondSelect, CondCompare, Adr, Branch26, BranchCond, CompareBranch, TestBranch, BranchReg, RetAuth, Hint, Barrier, Brk, Nzcv, LdStImm9, LdStUnsigned, LdStReg, LdLiteral, LdStPair, LdReplicate, AtomicOp, LoadAcq, StoreRel, LoadEx, StoreEx, Cas, Casp, FpOne, FpTwo, FpThree, FpCompare, FpSelect, FpImm, FpInt, VecThree, VecPermute, VecDot, VecElem, VecTwo, VecScalarPair, VecAcross, VecLong3, VecShift, VecImm, ScalarShift, VecCopy, ScalarCopy, VecInsElem, VecExt, VecTable}
 
 -- all rows
 abbrev pub all_rows : List Row

@@ -1,11 +1,11 @@
 -- The table of instruction words: the name of each row, what it fixes, and its fields.
 use Rattle.std.specs.Prelude.{ℕ, List, [], ◌∷◌, codes, map}
-use Rattle.a64_rows.specs.declared.row.Row.{Row}
-use Rattle.a64_rows.specs.declared.row.Row.TheVariants.{AddSubReg, LogicReg, AddSubExt, AddSubCarry, DataProc2, MulHigh, MulAdd, MulAddLong, AddSubImm, LogicImm, Bitfield, Extract, DataProc1, MoveWide, CondSelect, CondCompare, Adr, Branch26, BranchCond, CompareBranch, TestBranch, BranchReg, RetAuth, Hint, Barrier, Brk, Nzcv, LdStImm9, LdStUnsigned, LdStReg, LdLiteral, LdStPair, LdReplicate, AtomicOp, LoadAcq, StoreRel, LoadEx, StoreEx, Cas, Casp, FpOne, FpTwo, FpThree, FpCompare, FpSelect, FpImm, FpInt, VecThree, VecPermute, VecDot, VecElem, VecTwo, VecScalarPair, VecAcross, VecLong3, VecShift, VecImm, ScalarShift, VecCopy, ScalarCopy, VecInsElem, VecExt, VecTable}
+use Rattle.a64_rows.specs.declared.row_table.Row.{Row}
+use Rattle.a64_rows.specs.declared.row_table.Row.TheVariants.{AddSubReg, LogicReg, AddSubExt, AddSubCarry, DataProc2, MulHigh, MulAdd, MulAddLong, AddSubImm, LogicImm, Bitfield, Extract, DataProc1, MoveWide, CondSelect, CondCompare, Adr, Branch26, BranchCond, CompareBranch, TestBranch, BranchReg, RetAuth, Hint, Barrier, Brk, Nzcv, LdStImm9, LdStUnsigned, LdStReg, LdLiteral, LdStPair, LdReplicate, AtomicOp, LoadAcq, StoreRel, LoadEx, StoreEx, Cas, Casp, FpOne, FpTwo, FpThree, FpCompare, FpSelect, FpImm, FpInt, VecThree, VecPermute, VecDot, VecElem, VecTwo, VecScalarPair, VecAcross, VecLong3, VecShift, VecImm, ScalarShift, VecCopy, ScalarCopy, VecInsElem, VecExt, VecTable}
 use Rattle.a64_rows.specs.declared.field.FieldName.{FieldName}
 use Rattle.a64_rows.specs.declared.field.FieldName.TheVariants as name
-use Rattle.a64_rows.specs.declared.field.Slot.{Slot}
-use Rattle.a64_rows.specs.declared.field.Slot.TheVariants.{Bits, Doubled}
+use Rattle.a64_rows.specs.declared.row_table.Slot.{Slot}
+use Rattle.a64_rows.specs.declared.row_table.Slot.TheVariants.{Bits, Doubled}
 
 -- a field: its name, and where it stands
 abbrev pub Field : Type 0

@@ -1,7 +1,7 @@
 -- Vectors: the forms of "Data Processing -- Scalar Floating-Point and Advanced SIMD" on vectors and their elements
 -- (Arm Architecture Reference Manual, DDI 0487, C4.1), by the names of their fields.
 use Rattle.std.specs.Prelude.{ℕ, [], ◌∷◌}
-use Rattle.a64_rows.specs.declared.row.Row.TheVariants.{VecThree, VecPermute, VecDot, VecElem, VecTwo, VecScalarPair, VecAcross, VecLong3, VecShift, VecImm, ScalarShift, VecCopy, ScalarCopy, VecInsElem, VecExt, VecTable}
+use Rattle.a64_rows.specs.declared.row_table.Row.TheVariants.{VecThree, VecPermute, VecDot, VecElem, VecTwo, VecScalarPair, VecAcross, VecLong3, VecShift, VecImm, ScalarShift, VecCopy, ScalarCopy, VecInsElem, VecExt, VecTable}
 use Rattle.a64_rows.specs.Forms.{Form, form}
 
 -- Data Processing -- Scalar Floating-Point and Advanced SIMD, Advanced SIMD three same

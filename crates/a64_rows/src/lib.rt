@@ -3,14 +3,13 @@
 #![tactic(auto)]
 
 mod decoder;
+mod entries;
 mod field;
 mod limits;
-mod row;
 mod row_table;
 mod words;
 
 pub use decoder::decode_word;
-pub use field::{FieldAt, Slot};
 pub use limits::meets;
-pub use row::Row;
+pub use row_table::{FieldAt, Row, Slot};
 pub use words::{Form, pack, word_of};

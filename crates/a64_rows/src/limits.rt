@@ -4,7 +4,7 @@ ghost use Rattle.std.specs.Prelude.{◌≡◌, ◌+◌, ◌^◌, ◌<◌, ◌≤
 ghost use Rattle.a64_rows.specs.Limits.{is_access, is_atomic, is_bit_number, is_bitmask, is_bitmask_of, is_copy, is_even, is_float_conversion, is_float_one, is_float_type, is_halfword, is_index_extend, is_one_source, is_pair, is_permute, is_run, is_scalar_shift, is_two_source, is_vector_shift, limits_of};
 ghost use Rattle.a64_rows.specs.Rows.{slots_of};
 
-use crate::row::Row;
+use crate::row_table::Row;
 
 /// Whether a bit's number or a shift lies within the register: below 32 where the size flag is 0.
 fn is_bit_number(sf: u32, number: u32) -> bool

@@ -1,9 +1,9 @@
 use Rattle.std.proofs.Common.{ℕ, ◌≡◌, ◌≤◌, List, [], ◌∷◌, length, map, take, take_all, refl, sym, ap, ◌∙◌, arith, true, false}
 use Rattle.std.proofs.lemmas.Bool.{both_ways}
 use Rattle.std.proofs.lemmas.List.{length-map, length-take-le}
-use Rattle.a64_rows.specs.declared.row.Row.{Row}
+use Rattle.a64_rows.specs.declared.row_table.Row.{Row}
 use Rattle.a64_rows.specs.declared.field.FieldName.TheVariants.{Sf}
-use Rattle.a64_rows.specs.declared.field.Slot.TheVariants.{Bits}
+use Rattle.a64_rows.specs.declared.row_table.Slot.TheVariants.{Bits}
 use Rattle.a64_rows.specs.Rows.{Field, fields_of, slots_of}
 use Rattle.a64_rows.specs.Limits.{limits_of}
 use Rattle.a64_rows.specs.Forms.{value_in, row_word, IsForm, IsWordOf}

@@ -1,6 +1,6 @@
 -- No row so far has the word.
 use Rattle.std.proofs.Common.{ℕ, ◌<◌, List, get_or}
-use Rattle.a64_rows.specs.declared.row.Row.TheVariants.{AddSubReg}
+use Rattle.a64_rows.specs.declared.row_table.Row.TheVariants.{AddSubReg}
 use Rattle.a64_rows.specs.Forms.{IsWordOf}
 use Rattle.a64_rows.proofs.decoder.decode_word.Given as goal
 
