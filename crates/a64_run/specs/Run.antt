@@ -59,8 +59,8 @@ Held left (Some faults.TooLong) = IfSome left (λ text. limit < length text)
 Held left (Some (faults.Line n)) = IfSome left (λ text. (length text ≤ limit) × IsFirstBad text n)
 Held left _ = ⊤
 
--- a stream's count of failures stays as it was, unless this is the answer: a failed call is told, and is
--- not made again
+-- a stream's count of failures stays as it was, unless this is the answer: no call that failed is
+-- passed over, as by one more try
 abbrev pub FailsOnlyAt : Fault → Option Fault → ℕ → ℕ → Type 0
 FailsOnlyAt answer fault old new = (new ≡ old) ⊎ (fault ≡ Some answer)
 

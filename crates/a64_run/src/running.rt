@@ -143,7 +143,7 @@ fn tell<E: Sink>(errs: &mut E, fault: Fault)
 /// - [`Fault::Usage`]: the words are no command. Nothing is read, and no memory is taken.
 /// - [`Fault::Read`]: a read failed. It is not tried again.
 /// - [`Fault::TooLong`]: the source holds more than 16,777,216 bytes, and no read failed before.
-/// - [`Fault::Line`]: the source was read to its end, and that line is the first that is no entry.
+/// - [`Fault::Line`]: that line is the first that is no entry.
 /// - [`Fault::Assembly`]: that is the first fault of the file's items. The file is kept.
 /// - [`Fault::Write`]: a write failed, and is not tried again. The sink has taken a proper prefix of what
 ///   is written of the code that is kept beside its file.
@@ -168,7 +168,7 @@ pub fn run<S: Source, K: Sink, E: Sink>(
         result.fault result.file result.code) }
     ensures nothing { result.fault ≡ Some faults.Usage → (result.file ≡ None) × (result.code ≡ None) }
 
-    // The causes of the answers. A failed read or write is the last call of its stream, and the answer.
+    // The causes of the answers. Where a count of failures rose, the answer is that failure.
     ensures usage { (result.fault ≡ Some faults.Usage) ↔ IsNoCommand (map string_bytes words.now) }
     ensures read { result.fault ≡ Some faults.Read → HasFailed (S.faults source.old) (S.faults source.new) }
     ensures reads { FailsOnlyAt faults.Read result.fault
