@@ -1,10 +1,11 @@
 #!/usr/bin/env bash
-# Runs the tests of a64_buffer with their first allocation refused, then their second, and so on. In the
+# Runs the tests of a64_tests with their first allocation refused, then their second, and so on. In the
 # test `ends_as_with_enough_memory` each call that finds no memory is made a second time, on the buffer
 # as it then is, so it must pass each time, and so must `records_as_with_enough_memory` up to the end of
-# its code. The other tests have no second tries, and fail where they are refused.
+# its code. The other tests have no second tries, and fail where they are refused. Each run takes about
+# a minute.
 set -eu
-cd "$(dirname "$0")/../crates/a64_buffer"
+cd "$(dirname "$0")/../crates/a64_tests"
 calls=${1:-18}
 record_calls=5
 for call in $(seq "$calls"); do

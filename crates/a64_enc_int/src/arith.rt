@@ -3,15 +3,52 @@
 ghost use Rattle.std.specs.Prelude.{◌≡◌, ◌<◌, ◌*◌, ◌^◌};
 ghost use Rattle.a64_rows.specs.Forms.{form_word, IsFormOf};
 ghost use Rattle.a64_rows.specs.DataProcessing.{data_proc1};
-ghost use Rattle.a64_enc_int.specs.Named.{rows_of_rrr, rows_of_rrrr, rrr_number, rrrr_number, NamedForm};
+ghost use Rattle.a64_enc_int.specs.Named.{AreParts, AreProductParts, rows_of_rrr, rows_of_rrrr, rrr_number, rrrr_number, NamedForm};
 ghost use Rattle.a64_enc_int.specs.RawBits.{add_sub_imm_of, logic_imm_of};
 ghost use Rattle.a64_enc_int.specs.Registers.{IsGeneral, register_field};
 
 use crate::register::general_field;
 use a64_base::{Reg, Writable};
+use a64_rows::{Row, pack};
+
+/// The word of the row that raw bits tell, with three registers.
+#[inline(always)]
+fn pack_rrr(top: u32, low: u32, rm: u32, rn: u32, rd: u32) -> u32
+    requires below { AreParts top low rd rn rm }
+    requires form { NamedForm rows_of_rrr (rrr_number top low rd rn rm) }
+    ensures { result ≡ rrr_number top low rd rn rm }
+{
+    let (sf, op, s) = (top >> 10, (top >> 9) % 2, (top >> 8) % 2);
+    match (top >> 3) % 32 {
+        0b01010 => {
+            let (opc, sh, n) = ((top >> 8) % 4, (top >> 1) % 4, top % 2);
+            pack(Row::LogicReg, &[sf, opc, sh, n, rm, low, rn, rd])
+        }
+        0b01011 => {
+            if top % 2 == 0 {
+                let sh = (top >> 1) % 4;
+                pack(Row::AddSubReg, &[sf, op, s, sh, rm, low, rn, rd])
+            } else {
+                pack(Row::AddSubExt, &[sf, op, s, rm, low >> 3, rn, rd])
+            }
+        }
+        0b10011 => pack(Row::Extract, &[sf, rm, low, rn, rd]),
+        0b11011 => match top % 4 {
+            0b00 => pack(Row::MulAdd, &[sf, rm, low >> 5, low % 32, rn, rd]),
+            0b01 => pack(Row::MulAddLong, &[(top >> 2) % 2, rm, low % 32, rn, rd]),
+            _ => pack(Row::MulHigh, &[(top >> 2) % 2, rm, rn, rd]),
+        },
+        _ => match top % 8 {
+            0b000 => pack(Row::AddSubCarry, &[sf, op, s, rm, rn, rd]),
+            0b100 => pack(Row::CondSelect, &[op, rm, low >> 2, low % 2, rn, rd]),
+            _ => pack(Row::DataProc2, &[sf, rm, low, rn, rd]),
+        },
+    }
+}
 
 /// Encodes an operation on two registers: `bits_31_21` and `bits_15_10` are the word's bits 31 to 21 and 15 to 10 (rows
-/// `AddSubReg`, `AddSubExt`, `AddSubCarry`, `LogicReg`, `DataProc2`, `MulHigh`, `Extract` and `CondSelect`).
+/// `AddSubReg`, `AddSubExt`, `AddSubCarry`, `LogicReg`, `DataProc2`, `MulHigh`, `Extract`, `CondSelect`, and `MulAdd` and
+/// `MulAddLong`, whose third operand is then raw bits).
 pub fn enc_arith_rrr(bits_31_21: u32, bits_15_10: u32, rd: Writable<Reg>, rn: Reg, rm: Reg) -> u32
     requires bits_31_21 { bits_31_21 < 2 ^ 11 }
     requires bits_15_10 { bits_15_10 < 2 ^ 6 }
@@ -21,11 +58,12 @@ pub fn enc_arith_rrr(bits_31_21: u32, bits_15_10: u32, rd: Writable<Reg>, rn: Re
     requires form { NamedForm rows_of_rrr (rrr_number bits_31_21 bits_15_10 (register_field rd) (register_field rn) (register_field rm)) }
     ensures { (named : NamedForm rows_of_rrr (rrr_number bits_31_21 bits_15_10 (register_field rd) (register_field rn) (register_field rm))) → result ≡ form_word named.form }
 {
-    (bits_31_21 << 21)
-        + (general_field(rm) << 16)
-        + (bits_15_10 << 10)
-        + (general_field(rn) << 5)
-        + general_field(rd.to_reg())
+    let (rm, rn, rd) = (
+        general_field(rm),
+        general_field(rn),
+        general_field(rd.to_reg()),
+    );
+    pack_rrr(bits_31_21, bits_15_10, rm, rn, rd)
 }
 
 /// Encodes an addition or subtraction of an immediate: `bits_31_24` is the word's bits 31 to 24, and `immshift` is 1
@@ -43,11 +81,13 @@ pub fn enc_arith_rr_imm12(
     requires form { IsFormOf (add_sub_imm_of bits_31_24 (record { sh = immshift; imm12 = imm12; rn = register_field rn; rd = register_field rd })) }
     ensures { result ≡ form_word (add_sub_imm_of bits_31_24 (record { sh = immshift; imm12 = imm12; rn = register_field rn; rd = register_field rd })) }
 {
-    (bits_31_24 << 24)
-        + (immshift << 22)
-        + (imm12 << 10)
-        + (general_field(rn) << 5)
-        + general_field(rd.to_reg())
+    let (sf, op, s) = (
+        bits_31_24 >> 7,
+        (bits_31_24 >> 6) % 2,
+        (bits_31_24 >> 5) % 2,
+    );
+    let (rn, rd) = (general_field(rn), general_field(rd.to_reg()));
+    pack(Row::AddSubImm, &[sf, op, s, immshift, imm12, rn, rd])
 }
 
 /// Encodes a logical operation with a bitmask immediate: `bits_31_23` is the word's bits 31 to 23, and `imm_bits` the
@@ -59,7 +99,24 @@ pub fn enc_arith_rr_imml(bits_31_23: u32, imm_bits: u32, rn: Reg, rd: Writable<R
     requires form { IsFormOf (logic_imm_of bits_31_23 (record { imm_bits = imm_bits; rn = register_field rn; rd = register_field rd })) }
     ensures { result ≡ form_word (logic_imm_of bits_31_23 (record { imm_bits = imm_bits; rn = register_field rn; rd = register_field rd })) }
 {
-    (bits_31_23 << 23) + (imm_bits << 10) + (general_field(rn) << 5) + general_field(rd.to_reg())
+    let (sf, opc) = (bits_31_23 >> 8, (bits_31_23 >> 6) % 4);
+    let (n, immr, imms) = (imm_bits >> 12, (imm_bits >> 6) % 64, imm_bits % 64);
+    let (rn, rd) = (general_field(rn), general_field(rd.to_reg()));
+    pack(Row::LogicImm, &[sf, opc, n, immr, imms, rn, rd])
+}
+
+/// The word of the multiplication that raw bits tell, with four registers.
+#[inline(always)]
+fn pack_rrrr(top: u32, bit15: u32, rm: u32, ra: u32, rn: u32, rd: u32) -> u32
+    requires below { AreProductParts top bit15 rd rn ra rm }
+    requires form { NamedForm rows_of_rrrr (rrrr_number top bit15 rd rn ra rm) }
+    ensures { result ≡ rrrr_number top bit15 rd rn ra rm }
+{
+    if top % 2 == 0 {
+        pack(Row::MulAdd, &[top >> 10, rm, bit15, ra, rn, rd])
+    } else {
+        pack(Row::MulAddLong, &[(top >> 2) % 2, rm, ra, rn, rd])
+    }
 }
 
 /// Encodes a multiplication with an addition or subtraction: `top11` is the word's bits 31 to 21, `bit15` its bit 15,
@@ -74,12 +131,9 @@ pub fn enc_arith_rrrr(top11: u32, rm: Reg, bit15: u32, ra: Reg, rn: Reg, rd: Wri
     requires form { NamedForm rows_of_rrrr (rrrr_number top11 bit15 (register_field rd) (register_field rn) (register_field ra) (register_field rm)) }
     ensures { (named : NamedForm rows_of_rrrr (rrrr_number top11 bit15 (register_field rd) (register_field rn) (register_field ra) (register_field rm))) → result ≡ form_word named.form }
 {
-    (top11 << 21)
-        + (general_field(rm) << 16)
-        + (bit15 << 15)
-        + (general_field(ra) << 10)
-        + (general_field(rn) << 5)
-        + general_field(rd.to_reg())
+    let (rm, ra) = (general_field(rm), general_field(ra));
+    let (rn, rd) = (general_field(rn), general_field(rd.to_reg()));
+    pack_rrrr(top11, bit15, rm, ra, rn, rd)
 }
 
 /// Encodes an operation on one register, as `rbit` or `clz`: `size` is the bit `sf`, `opcode2` is 0 in each that is
@@ -91,10 +145,9 @@ pub fn enc_bit_rr(size: u32, opcode2: u32, opcode1: u32, rn: Reg, rd: Writable<R
     requires form { IsFormOf (data_proc1 (record { sf = size; op6 = opcode1; rn = register_field rn; rd = register_field rd })) }
     ensures { result ≡ form_word (data_proc1 (record { sf = size; op6 = opcode1; rn = register_field rn; rd = register_field rd })) }
 {
-    0x5ac0_0000
-        + (size << 31)
-        + (opcode2 << 16)
-        + (opcode1 << 10)
-        + (general_field(rn) << 5)
-        + general_field(rd.to_reg())
+    prove!(opcode2 == 0);
+    pack(
+        Row::DataProc1,
+        &[size, opcode1, general_field(rn), general_field(rd.to_reg())],
+    )
 }

@@ -6,11 +6,12 @@ use Rattle.std.proofs.lemmas.Nat.{and_comm, and_assoc, and_mask, mod-pow-add, sh
 use Rattle.std.proofs.lemmas.Nat.Bits.{and_high}
 use Rattle.a64_rows.specs.declared.row_table.Row.{Row}
 use Rattle.a64_rows.specs.declared.row_table.Row.TheVariants.{VecShift, VecImm}
+use Rattle.a64_rows.specs.Order.{placed}
 use Rattle.a64_rows.specs.Rows.{fixed_of, slots_of}
 use Rattle.a64_rows.specs.Limits.{limits_of, is_vector_shift}
 use Rattle.a64_rows.specs.Forms.{row_word, sum_of, FitSlots, IsWordOf, IsOnlyFormOf, value_in, mask_of_all, fixed_mask, Matches}
 use Rattle.a64_rows.proofs.Masks.{Holds, sum_holds, values_held, twins_held, sum_clear, sum_below, add_apart, sum_of_values, values_fit, under_both, clear_of_all}
-use Rattle.a64_rows.proofs.Table.{IsSound, row_sound, placed, differ, share, two_differ, same_place}
+use Rattle.a64_rows.proofs.Table.{IsSound, row_sound, differ, share, two_differ, same_place}
 
 -- a word has 32 bits
 pub word_fits : (row : Row) (fields : List ℕ) → FitSlots (slots_of row) fields → row_word row fields < 2 ^ 32

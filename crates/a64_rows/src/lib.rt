@@ -3,11 +3,13 @@
 #![tactic(auto)]
 
 mod decoder;
+mod entries;
+mod field;
 mod limits;
 mod row_table;
 mod words;
 
 pub use decoder::decode_word;
 pub use limits::meets;
-pub use row_table::{Row, Slot, fixed, slots};
-pub use words::{Form, word_of};
+pub use row_table::{FieldAt, Row, Slot};
+pub use words::{Form, pack, word_of};

@@ -24,7 +24,7 @@ regrouped more waits' waits a b e = sym (append_assoc more waits' b) ∙ ap (λ 
 -- two texts, one behind the other
 puts_more : (taken mid taken' : Option (List ℕ)) (faults f faults' : ℕ) (waits w waits' a b : List ℕ)
     → Puts taken faults waits mid f w a → Puts mid f w taken' faults' waits' b → Puts taken faults waits taken' faults' waits' (a ++ b)
-puts_more None mid taken' faults f faults' waits w waits' a b h k = record { told = tt; rises = omega (arith, h.rises, k.rises) }
+puts_more None mid taken' faults f faults' waits w waits' a b h k = record { told = tt; steady = omega (arith, h.steady, k.steady) }
 puts_more (Some before) mid taken' faults f faults' waits w waits' a b h k =
     let p = h.told in
     let q = rw p.1 at k.told in
@@ -34,13 +34,13 @@ puts_more (Some before) mid taken' faults f faults' waits w waits' a b h k =
         q.1 ∙ ap Some (append_assoc before p.0 q.0),
         append_assoc p.0 q.0 waits' ∙ ap (λ t. p.0 ++ t) q.2 ∙ regrouped p.0 w waits a b p.2,
       );
-      rises = omega (arith, h.rises, k.rises);
+      steady = omega (arith, h.steady, k.steady);
     }
 
 -- a text, and one behind it that was cut off
 puts_cut : (taken mid taken' : Option (List ℕ)) (faults f faults' : ℕ) (waits w a b : List ℕ)
     → Puts taken faults waits mid f w a → IsCut mid f w taken' faults' b → IsCut taken faults waits taken' faults' (a ++ b)
-puts_cut None mid taken' faults f faults' waits w a b h k = record { part = tt; cause = failed_after faults f faults' h.rises k.cause }
+puts_cut None mid taken' faults f faults' waits w a b h k = record { part = tt; cause = failed_after faults f faults' (omega (arith, h.steady)) k.cause }
 puts_cut (Some before) mid taken' faults f faults' waits w a b h k =
     let p = h.told in
     let q = rw p.1 at k.part in
@@ -50,7 +50,7 @@ puts_cut (Some before) mid taken' faults f faults' waits w a b h k =
         omega (arith, length-append p.0 (w ++ b), q.1),
         q.2 ∙ ap Some (append_assoc before p.0 (take q.0 (w ++ b)) ∙ ap (λ t. before ++ t) (sym (take-append-add p.0 (w ++ b) q.0))),
       );
-      cause = failed_after faults f faults' h.rises k.cause;
+      cause = failed_after faults f faults' (omega (arith, h.steady)) k.cause;
     }
 
 -- a first part of a text is put, and the rest is still to come
@@ -60,8 +60,8 @@ pub record PutsFront (taken : Option (List ℕ)) (faults : ℕ) (waits : List �
   pub parts : done ++ rest ≡ whole
 
 puts_nothing : (taken : Option (List ℕ)) (faults : ℕ) (waits : List ℕ) → Puts taken faults waits taken faults waits []
-puts_nothing None faults waits = record { told = tt; rises = omega arith }
-puts_nothing (Some before) faults waits = record { told = ([], ap Some (sym (append-nil before)), sym (append-nil waits)); rises = omega arith }
+puts_nothing None faults waits = record { told = tt; steady = refl }
+puts_nothing (Some before) faults waits = record { told = ([], ap Some (sym (append-nil before)), sym (append-nil waits)); steady = refl }
 
 pub front_start : (taken : Option (List ℕ)) (faults : ℕ) (waits whole : List ℕ) → PutsFront taken faults waits taken faults waits whole whole
 front_start taken faults waits whole =
@@ -113,13 +113,13 @@ on_err (Err e) p = p
 
 -- nothing is put yet
 pub left_start : (taken : Option (List ℕ)) (faults : ℕ) (waits whole : List ℕ) → Puts taken faults waits taken faults (waits ++ whole) whole
-left_start None faults waits whole = record { told = tt; rises = omega arith }
-left_start (Some before) faults waits whole = record { told = ([], ap Some (sym (append-nil before)), refl); rises = omega arith }
+left_start None faults waits whole = record { told = tt; steady = refl }
+left_start (Some before) faults waits whole = record { told = ([], ap Some (sym (append-nil before)), refl); steady = refl }
 
 -- what waits may go on
 pub left_moved : (taken : Option (List ℕ)) (left : List ℕ) {mid taken' : Option (List ℕ)} {faults f faults' : ℕ} {waits w w' whole : List ℕ}
     → Puts taken faults waits mid f (w ++ left) whole → Puts mid f w taken' faults' w' [] → Puts taken faults waits taken' faults' (w' ++ left) whole
-left_moved None left {mid} {taken'} {faults} {f} {faults'} {waits} {w} {w'} {whole} h k = record { told = tt; rises = omega (arith, h.rises, k.rises) }
+left_moved None left {mid} {taken'} {faults} {f} {faults'} {waits} {w} {w'} {whole} h k = record { told = tt; steady = omega (arith, h.steady, k.steady) }
 left_moved (Some before) left {mid} {taken'} {faults} {f} {faults'} {waits} {w} {w'} {whole} h k =
     let p = h.told in
     let q = rw p.1 at k.told in
@@ -131,13 +131,13 @@ left_moved (Some before) left {mid} {taken'} {faults} {f} {faults'} {waits} {w} 
             ∙ ap (λ t. p.0 ++ t) (sym (append_assoc q.0 w' left) ∙ ap (λ t. t ++ left) (q.2 ∙ append-nil w))
             ∙ p.2,
       );
-      rises = omega (arith, h.rises, k.rises);
+      steady = omega (arith, h.steady, k.steady);
     }
 
 -- a write of what waits was cut off
 pub left_cut : (taken : Option (List ℕ)) (left : List ℕ) {mid taken' : Option (List ℕ)} {faults f faults' : ℕ} {waits w whole : List ℕ}
     → Puts taken faults waits mid f (w ++ left) whole → IsCut mid f w taken' faults' [] → IsCut taken faults waits taken' faults' whole
-left_cut None left {mid} {taken'} {faults} {f} {faults'} {waits} {w} {whole} h k = record { part = tt; cause = failed_after faults f faults' h.rises k.cause }
+left_cut None left {mid} {taken'} {faults} {f} {faults'} {waits} {w} {whole} h k = record { part = tt; cause = failed_after faults f faults' (omega (arith, h.steady)) k.cause }
 left_cut (Some before) left {mid} {taken'} {faults} {f} {faults'} {waits} {w} {whole} h k =
     let p = h.told in
     let q = rw p.1 at (cut_more mid taken' f faults' w [] left k).part in
@@ -147,7 +147,7 @@ left_cut (Some before) left {mid} {taken'} {faults} {f} {faults'} {waits} {w} {w
         omega (arith, length-append p.0 (w ++ left), q.1),
         q.2 ∙ ap Some (append_assoc before p.0 (take q.0 (w ++ left)) ∙ ap (λ t. before ++ t) (sym (take-append-add p.0 (w ++ left) q.0))),
       );
-      cause = failed_after faults f faults' h.rises k.cause;
+      cause = failed_after faults f faults' (omega (arith, h.steady)) k.cause;
     }
 
 -- nothing is left

@@ -7,7 +7,7 @@ use Rattle.a64_run.specs.declared.ran.Fault.TheVariants as faults
 use Rattle.a64_text.specs.FileText.{IsFile, IsFirstBad}
 use Rattle.a64_text.specs.Reading.{Answers}
 use Rattle.a64_run.specs.Commands.{limit, WasRead}
-use Rattle.a64_run.specs.Run.{Held}
+use Rattle.a64_run.specs.Run.{Held, FailsOnlyAt}
 use Rattle.a64_run.specs.Stages.{IsWhole, IsFileOf, IsTextDue, IsParsed, IsTextFault, IsInputFault}
 
 pub parsed_file : (bytes : List ℕ) (file : File) → length bytes ≤ limit → Answers bytes (Ok file) → length file.items.items ≤ length bytes + 1 → IsParsed bytes (Ok file)
@@ -72,15 +72,26 @@ module _ (left left' : Option (List ℕ)) (bytes : List ℕ) where
   input_due_err (Ok file) w p = tt
   input_due_err (Err fault) w p = told left bytes (λ text. IsTextDue text fault) w.same p.due_err
 
-pub input_cause : (old new : ℕ) (bytes : List ℕ) (r : Result File Fault) → IsParsed bytes r → IfErr r (IsInputFault old new)
-input_cause old new bytes (Ok file) p = tt
-input_cause old new bytes (Err (faults.Line n)) p = tt
-input_cause old new bytes (Err faults.Memory) p = tt
-input_cause old new bytes (Err faults.TooLong) p = absurd p.cause
-input_cause old new bytes (Err faults.Usage) p = absurd p.cause
-input_cause old new bytes (Err faults.Read) p = absurd p.cause
-input_cause old new bytes (Err (faults.Assembly e)) p = absurd p.cause
-input_cause old new bytes (Err faults.Write) p = absurd p.cause
+-- what the bytes are found to be is no failed read
+pub input_cause : (old new : ℕ) (bytes : List ℕ) (r : Result File Fault) → new ≡ old → IsParsed bytes r → IfErr r (IsInputFault old new)
+input_cause old new bytes (Ok file) e p = tt
+input_cause old new bytes (Err (faults.Line n)) e p = e
+input_cause old new bytes (Err faults.Memory) e p = e
+input_cause old new bytes (Err faults.TooLong) e p = absurd p.cause
+input_cause old new bytes (Err faults.Usage) e p = absurd p.cause
+input_cause old new bytes (Err faults.Read) e p = absurd p.cause
+input_cause old new bytes (Err (faults.Assembly error)) e p = absurd p.cause
+input_cause old new bytes (Err faults.Write) e p = absurd p.cause
+
+-- where no file was read, a read failed only if that is the answer
+pub input_fails : (old new : ℕ) (fault : Fault) → IsInputFault old new fault → FailsOnlyAt faults.Read (Some fault) old new
+input_fails old new faults.Read c = inr refl
+input_fails old new faults.Memory c = inl c
+input_fails old new faults.TooLong c = inl c
+input_fails old new (faults.Line n) c = inl c
+input_fails old new faults.Usage c = absurd c
+input_fails old new (faults.Assembly e) c = absurd c
+input_fails old new faults.Write c = absurd c
 
 -- a failed read and want of memory are free, and too long a text is told by itself
 pub text_due : (left : Option (List ℕ)) (old new : ℕ) (fault : Fault) → IsTextFault old new fault → Held left (Some fault) → IfSome left (λ text. IsTextDue text fault)

@@ -2,6 +2,7 @@ pub mod GenItems
 pub mod Words
 pub mod SummaryParts
 pub mod Faultless
+pub mod RightItems
 pub mod Ending
 pub mod Numbered
 pub mod Inputs

@@ -6,7 +6,7 @@ use Rattle.a64_buffer.specs.declared.force.ForceVeneers.TheVariants.{No, Yes}
 use Rattle.a64_emit.specs.declared.code.Code.{Code}
 use Rattle.a64_emit.specs.declared.error.EmitError.{EmitError}
 use Rattle.a64_assemble.specs.Assembled.{IsAssembled}
-use Rattle.a64_emit.specs.Faults.{fault_of}
+use Rattle.a64_emit.specs.Faults.{own_fault, fault_of}
 use Rattle.a64_run.specs.declared.command.Command.{Command}
 use Rattle.a64_run.specs.declared.command.Command.TheVariants.{Asm, Gen}
 use Rattle.a64_text.specs.declared.file.File.{File}
@@ -63,6 +63,10 @@ contents_fault (Gen count force) file = assembly_fault (Gen count force) file
 
 abbrev pub file_fault : Command → File → Option EmitError
 file_fault command file = contents_fault command (contents_of file)
+
+-- each item of a file is right by itself: none has a fault that stands in it alone
+abbrev pub HasRightItems : File → Type 0
+HasRightItems file = own_fault file.frame file.info file.constants file.items.items ≡ None
 
 -- the code is that of the file
 abbrev pub IsCodeOf : Command → File → Code → Type 0

@@ -10,7 +10,7 @@ use Rattle.a64_text.specs.declared.file.File.{File}
 use Rattle.a64_run.specs.declared.ran.Fault.{Fault}
 use Rattle.a64_run.specs.declared.ran.Fault.TheVariants as faults
 use Rattle.a64_text.specs.FileText.{IsFile, IsFirstBad}
-use Rattle.a64_run.specs.Commands.{limit, file_fault, IsInput, IsMade}
+use Rattle.a64_run.specs.Commands.{limit, HasRightItems, file_fault, IsInput, IsMade}
 use Rattle.a64_run.specs.Streams.{Takes, TakesPart}
 
 -- the status of each answer
@@ -59,6 +59,11 @@ Held left (Some faults.TooLong) = IfSome left (λ text. limit < length text)
 Held left (Some (faults.Line n)) = IfSome left (λ text. (length text ≤ limit) × IsFirstBad text n)
 Held left _ = ⊤
 
+-- a stream's count of failures stays as it was, unless this is the answer: no call that failed is
+-- passed over, as by one more try
+abbrev pub FailsOnlyAt : Fault → Option Fault → ℕ → ℕ → Type 0
+FailsOnlyAt answer fault old new = (new ≡ old) ⊎ (fault ≡ Some answer)
+
 -- no more than one byte past the limit was taken from the source
 abbrev pub TakesFew : Option (List ℕ) → Option (List ℕ) → Type 0
 TakesFew left left' = IfSome left (λ text. (n : ℕ) × (n ≤ 16777217) × (left' ≡ Some (drop n text)))
@@ -94,12 +99,17 @@ module _ (command : Command) (left left' : Option (List ℕ)) (taken taken' : Op
     -- want of memory is an answer of its own
     pub no_memory : error ≢ errors.OutOfMemory
 
+  -- the command's file, for which there was no memory, though each item of it is right by itself
+  pub record IsUndone (file : File) : Type 0 where
+    pub input : IsInput command left left' file
+    pub right : HasRightItems file
+
   -- the file and the code that are kept at each answer
   abbrev pub Keeps : Option Fault → Option File → Option Code → Type 0
   Keeps None file code = IsSomeAnd file (λ f. IsDone f code)
   Keeps (Some faults.Write) file code = IsSomeAnd file (λ f. IsCutOff f code)
   Keeps (Some (faults.Assembly error)) file code = IsSomeAnd file (IsRefused error) × (code ≡ None)
-  Keeps (Some faults.Memory) file code = IfSome file (IsInput command left left') × (code ≡ None)
+  Keeps (Some faults.Memory) file code = IfSome file IsUndone × (code ≡ None)
   Keeps (Some _) file code = (file ≡ None) × (code ≡ None)
 
 -- which answer is due for a source that tells this text, where the command reads it

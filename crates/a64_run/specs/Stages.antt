@@ -16,7 +16,7 @@ use Rattle.a64_run.specs.declared.making.Made.TheVariants.{Report, Summary}
 use Rattle.a64_run.specs.Report.{report_of}
 use Rattle.a64_run.specs.Gen.{gen_file, summary_of}
 use Rattle.a64_run.specs.Streams.{HasFailed, Takes, TakesPart}
-use Rattle.a64_run.specs.Commands.{limit, IsCommand, OfCommand, assembly_fault, file_fault, IsMade}
+use Rattle.a64_run.specs.Commands.{limit, IsCommand, OfCommand, HasRightItems, assembly_fault, file_fault, IsMade}
 use Rattle.a64_run.specs.Run.{Held, IsDueForText}
 
 -- what is answered for words: Some exactly for the command that they are
@@ -50,25 +50,25 @@ pub record IsWhole (left left' : Option (List ℕ)) (bytes : List ℕ) : Type 0 
   pub short : length bytes ≤ limit
   pub nothing_left : IfSome left (λ text. left' ≡ Some [])
 
--- why bytes were not read: a failed read, or want of memory
+-- why bytes were not read: a failed read, the last one; or want of memory, and no read failed
 abbrev pub IsReadFault : ℕ → ℕ → Fault → Type 0
 IsReadFault old new faults.Read = HasFailed old new
-IsReadFault old new faults.Memory = ⊤
+IsReadFault old new faults.Memory = new ≡ old
 IsReadFault old new _ = ⊥
 
--- why a source was not read to its end
+-- why a source was not read to its end; a failed read is the answer
 abbrev pub IsTextFault : ℕ → ℕ → Fault → Type 0
 IsTextFault old new faults.Read = HasFailed old new
-IsTextFault old new faults.Memory = ⊤
-IsTextFault old new faults.TooLong = ⊤
+IsTextFault old new faults.Memory = new ≡ old
+IsTextFault old new faults.TooLong = new ≡ old
 IsTextFault old new _ = ⊥
 
--- why no file was read
+-- why no file was read; a failed read is the answer
 abbrev pub IsInputFault : ℕ → ℕ → Fault → Type 0
 IsInputFault old new faults.Read = HasFailed old new
-IsInputFault old new faults.Memory = ⊤
-IsInputFault old new faults.TooLong = ⊤
-IsInputFault old new (faults.Line n) = ⊤
+IsInputFault old new faults.Memory = new ≡ old
+IsInputFault old new faults.TooLong = new ≡ old
+IsInputFault old new (faults.Line n) = new ≡ old
 IsInputFault old new _ = ⊥
 
 -- a text within the limit has no bad line, and is at most a file that says what this one says
@@ -101,10 +101,10 @@ abbrev pub IsDueInput : Command → Option (List ℕ) → File → Type 0
 IsDueInput (Asm force) left file = IfSome left (λ text. IsFileOf text file)
 IsDueInput (Gen count force) left file = contents_of file ≡ gen_file count
 
--- why a file has no report
+-- why a file has no report; want of memory is an answer only where each item is right by itself
 abbrev pub IsAssemblyFault : Command → File → Fault → Type 0
 IsAssemblyFault command file (faults.Assembly error) = (assembly_fault command (contents_of file) ≡ Some error) × (error ≢ errors.OutOfMemory)
-IsAssemblyFault command file faults.Memory = ⊤
+IsAssemblyFault command file faults.Memory = HasRightItems file
 IsAssemblyFault command file _ = ⊥
 
 -- what is kept of what a command made, and what is written of it
@@ -116,10 +116,10 @@ abbrev pub text_of : Made → List ℕ
 text_of (Report code) = report_of code
 text_of (Summary items code) = summary_of items code
 
--- why a command makes nothing of a file
+-- why a command makes nothing of a file; want of memory is an answer only where each item is right by itself
 abbrev pub IsFileFault : Command → File → Fault → Type 0
 IsFileFault command file (faults.Assembly error) = (file_fault command file ≡ Some error) × (error ≢ errors.OutOfMemory)
-IsFileFault command file faults.Memory = ⊤
+IsFileFault command file faults.Memory = HasRightItems file
 IsFileFault command file _ = ⊥
 
 -- how the writing of what was made ends: what the sink has taken, and the code that is kept
@@ -147,7 +147,7 @@ module _ (command : Command) (taken taken' : Option (List ℕ)) (file : File) wh
   Ends None code = IsWritten code
   Ends (Some faults.Write) code = IsPartWritten code
   Ends (Some (faults.Assembly error)) code = (file_fault command file ≡ Some error) × (error ≢ errors.OutOfMemory) × (code ≡ None) × (taken' ≡ taken)
-  Ends (Some faults.Memory) code = (code ≡ None) × (taken' ≡ taken)
+  Ends (Some faults.Memory) code = HasRightItems file × (code ≡ None) × (taken' ≡ taken)
   Ends (Some _) code = ⊥
 
 -- a text, a number, and a text

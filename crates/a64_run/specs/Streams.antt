@@ -20,10 +20,10 @@ abbrev pub TakesPart : Option (List ℕ) → Option (List ℕ) → List ℕ → 
 TakesPart old new bytes = IfSome old (λ before. (n : ℕ) × (n < length bytes) × (new ≡ Some (before ++ take n bytes)))
 
 -- where text waits for a sink: the sink has got some bytes more, and they and what waits now are what
--- waited and the bytes of a text
+-- waited and the bytes of a text; no write failed
 pub record Puts (taken : Option (List ℕ)) (faults : ℕ) (waits : List ℕ) (taken' : Option (List ℕ)) (faults' : ℕ) (waits' bytes : List ℕ) : Type 0 where
   pub told : IfSome taken (λ before. (more : List ℕ) × (taken' ≡ Some (before ++ more)) × (more ++ waits' ≡ waits ++ bytes))
-  pub rises : faults ≤ faults'
+  pub steady : faults' ≡ faults
 
 -- a write failed before the sink had got all of what waited and the bytes of a text
 pub record IsCut (taken : Option (List ℕ)) (faults : ℕ) (waits : List ℕ) (taken' : Option (List ℕ)) (faults' : ℕ) (bytes : List ℕ) : Type 0 where

@@ -1,6 +1,6 @@
 //! Sources and sinks over readers and writers of the standard library. They tell no bytes.
 
-ghost use Rattle.std.specs.Prelude.{◌≡◌, ◌<◌, ◌≤◌, None, take, length, IfOk, OnErr};
+ghost use Rattle.std.specs.Prelude.{◌≡◌, ◌<◌, ◌≤◌, None, take, length, IfOk, OnOk, OnErr};
 ghost use Rattle.std.specs.Io.KnownBytes.{Keeps, Appends, Consumes, IsAtEnd};
 ghost use Rattle.a64_run.specs.Streams.{HasFailed};
 
@@ -35,6 +35,7 @@ impl<R: Read> Source for ReadSource<R> {
         // As of each source.
         ensures few { IfOk result (λ n. n ≤ length buf.old) }
         ensures rises { self.old.faults ≤ self.new.faults }
+        ensures steady { OnOk result (self.new.faults ≡ self.old.faults) }
         ensures cause { OnErr result (HasFailed self.old.faults self.new.faults) }
 
         // What the reader gives is passed on.
@@ -80,6 +81,7 @@ impl<W: Write> Sink for WriteSink<W> {
         // As of each sink.
         ensures some { IfOk result (λ n. (0 < n) × (n ≤ length bytes.now)) }
         ensures rises { self.old.faults ≤ self.new.faults }
+        ensures steady { OnOk result (self.new.faults ≡ self.old.faults) }
         ensures cause { OnErr result (HasFailed self.old.faults self.new.faults) }
 
         // What the writer takes is all that was taken.

@@ -32,6 +32,7 @@ fn read_piece<S: Source>(
     ensures takes { IfOk result (λ n. IfSome (S.left source.old) (λ text. TakesBehind text n bytes.old.items bytes.new.items (S.left source.new))) }
     ensures taken { OnErr result (TakesAtMost (length piece.old) (S.left source.old) (S.left source.new)) }
     ensures rises { S.faults source.old ≤ S.faults source.new }
+    ensures steady { OnOk result (S.faults source.new ≡ S.faults source.old) }
     ensures cause { IfErr result (IsReadFault (S.faults source.old) (S.faults source.new)) }
 {
     let Ok(n) = source.read(piece) else {
@@ -53,6 +54,7 @@ fn read_pieces<S: Source>(
     requires empty { bytes.old.items ≡ [] }
     ensures ok { OnOk result (IfSome (S.left source.old) (λ text. HasRead text bytes.new.items (S.left source.new))) }
     ensures few { TakesFew (S.left source.old) (S.left source.new) }
+    ensures steady { OnOk result (S.faults source.new ≡ S.faults source.old) }
     ensures cause { IfErr result (IsReadFault (S.faults source.old) (S.faults source.new)) }
 {
     while bytes.len() <= LIMIT {
@@ -70,6 +72,7 @@ fn read_pieces<S: Source>(
 fn read_all<S: Source>(alloc: Global, source: &mut S) -> Result<Vec<u8>, Fault>
     ensures ok { IfOk result (λ bytes. IfSome (S.left source.old) (λ text. HasRead text bytes.items (S.left source.new))) }
     ensures few { TakesFew (S.left source.old) (S.left source.new) }
+    ensures steady { OnOk result (S.faults source.new ≡ S.faults source.old) }
     ensures cause { IfErr result (IsReadFault (S.faults source.old) (S.faults source.new)) }
 {
     let Ok(mut piece) = vec![in alloc; 0; PIECE] else {
@@ -87,6 +90,7 @@ fn read_text<S: Source>(alloc: Global, source: &mut S) -> Result<Vec<u8>, Fault>
     ensures ok { IfOk result (λ bytes. IsWhole (S.left source.old) (S.left source.new) bytes.items) }
     ensures few { TakesFew (S.left source.old) (S.left source.new) }
     ensures held { IfErr result (λ fault. Held (S.left source.old) (Some fault)) }
+    ensures steady { OnOk result (S.faults source.new ≡ S.faults source.old) }
     ensures cause { IfErr result (IsTextFault (S.faults source.old) (S.faults source.new)) }
 {
     match read_all(alloc, source) {
@@ -118,6 +122,7 @@ fn read_input<S: Source>(alloc: Global, source: &mut S) -> Result<File, Fault>
     ensures items { IfOk result (λ file. length file.items.items < 2 ^ 32) }
     ensures few { TakesFew (S.left source.old) (S.left source.new) }
     ensures held { IfErr result (λ fault. Held (S.left source.old) (Some fault)) }
+    ensures steady { OnOk result (S.faults source.new ≡ S.faults source.old) }
     ensures cause { IfErr result (IsInputFault (S.faults source.old) (S.faults source.new)) }
     ensures due_ok { IfOk result (λ file. IfSome (S.left source.old) (λ text. IsFileOf text file)) }
     ensures due_err { IfErr result (λ fault. IfSome (S.left source.old) (λ text. IsTextDue text fault)) }
@@ -140,6 +145,7 @@ pub fn input_of<S: Source>(alloc: Global, command: Command, source: &mut S) -> R
     ensures few { TakesFew (S.left source.old) (S.left source.new) }
     ensures unread { reads_source command ≡ false → source.new ≡ source.old }
     ensures held { IfErr result (λ fault. Held (S.left source.old) (Some fault)) }
+    ensures steady { OnOk result (S.faults source.new ≡ S.faults source.old) }
     ensures cause { IfErr result (IsInputFault (S.faults source.old) (S.faults source.new)) }
     ensures due_ok { IfOk result (IsDueInput command (S.left source.old)) }
     ensures due_err { IfErr result (λ fault. IsDueAnswer command (S.left source.old) (Some fault)) }

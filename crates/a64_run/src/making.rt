@@ -40,6 +40,7 @@ impl Made {
         requires { piece.old ≡ [] }
         ensures all { OnOk result (Takes (K.taken sink.old) (K.taken sink.new) (text_of self.now)) }
         ensures part { OnErr result (TakesPart (K.taken sink.old) (K.taken sink.new) (text_of self.now)) }
+        ensures steady { OnOk result (K.faults sink.new ≡ K.faults sink.old) }
         ensures cause { OnErr result (HasFailed (K.faults sink.old) (K.faults sink.new)) }
     {
         match self {

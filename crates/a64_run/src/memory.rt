@@ -1,6 +1,6 @@
 //! Sources and sinks in memory, for tests and for callers that have the bytes.
 
-ghost use Rattle.std.specs.Prelude.{◌≡◌, ℕ, ◌==◌, ◌+◌, ◌-◌, ◌^◌, ◌<◌, ◌≤◌, ◌||◌, min, if◌then◌else◌, List, [], ◌++◌, length, take, drop, Option, None, Some, Ok, IfOk, OnErr, is_err, is_ok};
+ghost use Rattle.std.specs.Prelude.{◌≡◌, ℕ, ◌==◌, ◌+◌, ◌-◌, ◌^◌, ◌<◌, ◌≤◌, ◌||◌, min, if◌then◌else◌, List, [], ◌++◌, length, take, drop, Option, None, Some, Ok, IfOk, OnOk, OnErr, is_err, is_ok};
 ghost use Rattle.std.specs.List.{list_any};
 ghost use Rattle.std.specs.Vec.{vec_capacity};
 ghost use Rattle.a64_run.specs.Streams.{HasFailed, TakesFront};
@@ -67,6 +67,7 @@ impl Source for MemSource {
         ensures takes { IfOk result (λ n. TakesFront (drop self.old.taken self.old.bytes.items) n buf.new (Some (drop self.new.taken self.new.bytes.items))) }
         ensures stays { OnErr result (drop self.new.taken self.new.bytes.items ≡ drop self.old.taken self.old.bytes.items) }
         ensures rises { self.old.faults ≤ self.new.faults }
+        ensures steady { OnOk result (self.new.faults ≡ self.old.faults) }
         ensures cause { OnErr result (HasFailed self.old.faults self.new.faults) }
 
         // Each call is counted, and exactly the given ones fail.
@@ -155,6 +156,7 @@ impl Sink for MemSink {
         ensures takes { IfOk result (λ n. self.new.bytes.items ≡ self.old.bytes.items ++ take n bytes.now) }
         ensures stays { OnErr result (self.new.bytes.items ≡ self.old.bytes.items) }
         ensures rises { self.old.faults ≤ self.new.faults }
+        ensures steady { OnOk result (self.new.faults ≡ self.old.faults) }
         ensures cause { OnErr result (HasFailed self.old.faults self.new.faults) }
 
         // Each call is counted, and exactly the given ones fail, and those without room.

@@ -70,6 +70,7 @@ impl Piece {
         ensures empty { OnOk result (self.new ≡ []) }
         ensures part { OnErr result (TakesPart (K.taken sink.old) (K.taken sink.new) self.old) }
         ensures rises { K.faults sink.old ≤ K.faults sink.new }
+        ensures steady { OnOk result (K.faults sink.new ≡ K.faults sink.old) }
         ensures cause { OnErr result (HasFailed (K.faults sink.old) (K.faults sink.new)) }
     {
         match write_all(sink, &self.bytes[..self.len]) {

@@ -11,15 +11,15 @@ use a64_text::File;
 pub enum Fault {
     /// The words are no command: status 2.
     Usage,
-    /// A read failed: status 3.
+    /// A read failed, and none came after it: status 3.
     Read,
-    /// The source holds more than 16,777,216 bytes: status 1.
+    /// The source holds more than 16,777,216 bytes, and no read failed: status 1.
     TooLong,
     /// The line of this number, counted from 1, is the first that is no entry: status 1.
     Line(u64),
-    /// The items are refused: status 1.
+    /// The items are refused, for this fault of theirs: status 1. It is never want of memory.
     Assembly(EmitError),
-    /// A write failed: status 4.
+    /// A write to the sink failed, and none came after it: status 4.
     Write,
     /// Want of memory: status 5.
     Memory,
@@ -46,9 +46,10 @@ pub struct Ran {
     /// The status: 0 done, 1 refused input, 2 other words, 3 a failed read, 4 a failed write, 5 want
     /// of memory.
     pub status: u8,
-    /// The file that was read, or, for `gen`, made.
+    /// The file that was read, or, for `gen`, made: where all was written, where a write failed, where
+    /// its items are refused, and perhaps at want of memory.
     pub file: Option<File>,
-    /// The code that was assembled.
+    /// The code that was assembled: where all was written, and where a write failed.
     pub code: Option<Code>,
     /// Why the status is not 0.
     pub fault: Option<Fault>,

@@ -169,6 +169,7 @@ pub fn write_report<K: Sink>(sink: &mut K, piece: &mut Piece, code: &Code) -> Re
     requires { piece.old ≡ [] }
     ensures all { OnOk result (Takes (K.taken sink.old) (K.taken sink.new) (report_of code.now)) }
     ensures part { OnErr result (TakesPart (K.taken sink.old) (K.taken sink.new) (report_of code.now)) }
+    ensures steady { OnOk result (K.faults sink.new ≡ K.faults sink.old) }
     ensures cause { OnErr result (HasFailed (K.faults sink.old) (K.faults sink.new)) }
 {
     put_sections(sink, piece, code, &SECTIONS)?;

@@ -1,11 +1,11 @@
 //! The whole program, over any source and sinks.
 
-ghost use Rattle.std.specs.Prelude.{◌≡◌, ◌≢◌, ◌^◌, ◌<◌, ◌↔◌, length, map, false, None, Some, IfSome};
+ghost use Rattle.std.specs.Prelude.{◌≡◌, ◌≢◌, ◌⊎◌, ◌^◌, ◌<◌, ◌↔◌, length, map, false, None, Some, IfSome};
 ghost use Rattle.std.specs.String.{string_bytes};
 ghost use Rattle.a64_run.specs.declared.ran.Fault.TheVariants as faults;
-ghost use Rattle.a64_run.specs.Streams.{HasFailed, Takes};
+ghost use Rattle.a64_run.specs.Streams.{HasFailed, Takes, TakesPart};
 ghost use Rattle.a64_run.specs.Commands.{IsNoCommand, OfCommand, HasWords, reads_source};
-ghost use Rattle.a64_run.specs.Run.{status_of, fault_line, Keeps, Held, Untouched, TakesFew, IsDueAnswer};
+ghost use Rattle.a64_run.specs.Run.{status_of, fault_line, Keeps, Held, FailsOnlyAt, Untouched, TakesFew, IsDueAnswer};
 ghost use Rattle.a64_run.specs.Stages.{Ends, EndsWriting};
 
 use crate::command::{Command, command_of};
@@ -25,6 +25,8 @@ fn write_made<K: Sink>(alloc: Global, sink: &mut K, file: File, made: Made) -> R
     ensures file { result.file ≡ Some file }
     ensures ends { EndsWriting (K.taken sink.old) (K.taken sink.new) made result.fault result.code }
     ensures write { result.fault ≡ Some faults.Write → HasFailed (K.faults sink.old) (K.faults sink.new) }
+    ensures writes { FailsOnlyAt faults.Write result.fault
+        (K.faults sink.old) (K.faults sink.new) }
 {
     let Ok(mut piece) = Piece::new(alloc) else {
         return Ran::refused(Some(file), Fault::Memory);
@@ -48,6 +50,8 @@ fn run_file<K: Sink>(alloc: Global, command: Command, sink: &mut K, file: File) 
     ensures file { result.file ≡ Some file }
     ensures ends { Ends command (K.taken sink.old) (K.taken sink.new) file result.fault result.code }
     ensures write { result.fault ≡ Some faults.Write → HasFailed (K.faults sink.old) (K.faults sink.new) }
+    ensures writes { FailsOnlyAt faults.Write result.fault
+        (K.faults sink.old) (K.faults sink.new) }
 {
     match make(alloc, command, &file) {
         Ok(made) => write_made(alloc, sink, file, made),
@@ -68,8 +72,12 @@ fn run_command<S: Source, K: Sink>(
         result.fault result.file result.code }
     ensures usage { result.fault ≢ Some faults.Usage }
     ensures read { result.fault ≡ Some faults.Read → HasFailed (S.faults source.old) (S.faults source.new) }
+    ensures reads { FailsOnlyAt faults.Read result.fault
+        (S.faults source.old) (S.faults source.new) }
     ensures held { Held (S.left source.old) result.fault }
     ensures write { result.fault ≡ Some faults.Write → HasFailed (K.faults sink.old) (K.faults sink.new) }
+    ensures writes { FailsOnlyAt faults.Write result.fault
+        (K.faults sink.old) (K.faults sink.new) }
     ensures due { IsDueAnswer command (S.left source.old) result.fault }
     ensures few { TakesFew (S.left source.old) (S.left source.new) }
     ensures unread { reads_source command ≡ false → source.new ≡ source.old }
@@ -95,8 +103,12 @@ fn run_words<S: Source, K: Sink>(
     ensures nothing { result.fault ≡ Some faults.Usage → (result.file ≡ None) × (result.code ≡ None) }
     ensures usage { (result.fault ≡ Some faults.Usage) ↔ IsNoCommand (map string_bytes words.now) }
     ensures read { result.fault ≡ Some faults.Read → HasFailed (S.faults source.old) (S.faults source.new) }
+    ensures reads { FailsOnlyAt faults.Read result.fault
+        (S.faults source.old) (S.faults source.new) }
     ensures held { Held (S.left source.old) result.fault }
     ensures write { result.fault ≡ Some faults.Write → HasFailed (K.faults sink.old) (K.faults sink.new) }
+    ensures writes { FailsOnlyAt faults.Write result.fault
+        (K.faults sink.old) (K.faults sink.new) }
     ensures due { OfCommand (map string_bytes words.now) (λ command. IsDueAnswer command (S.left source.old) result.fault) }
     ensures few { TakesFew (S.left source.old) (S.left source.new) }
     ensures unread { OfCommand (map string_bytes words.now) (λ command. reads_source command ≡ false) → source.new ≡ source.old }
@@ -110,8 +122,12 @@ fn run_words<S: Source, K: Sink>(
 
 /// Offers the line of a fault. Where that fails, nothing more is done.
 fn tell<E: Sink>(errs: &mut E, fault: Fault)
-    ensures { ¬ HasFailed (E.faults errs.old) (E.faults errs.new)
+    ensures said { ¬ HasFailed (E.faults errs.old) (E.faults errs.new)
         → Takes (E.taken errs.old) (E.taken errs.new) (fault_line fault) }
+    ensures cut { E.faults errs.old < E.faults errs.new
+        → TakesPart (E.taken errs.old) (E.taken errs.new) (fault_line fault) }
+    ensures begun { Takes (E.taken errs.old) (E.taken errs.new) (fault_line fault)
+        ⊎ TakesPart (E.taken errs.old) (E.taken errs.new) (fault_line fault) }
 {
     let line = line_of_fault(fault);
     let _ = write_all(errs, line.as_slice());
@@ -120,7 +136,21 @@ fn tell<E: Sink>(errs: &mut E, fault: Fault)
 /// Runs the command that the words are; no word stands for `asm`. `asm` reads a file of items from the
 /// source and writes the report of its code to the sink. `gen` and a number of turns from 1 to 100,000
 /// makes a file of its own, and writes a summary of its code. `force` behind either forces islands.
-/// Where that is not done, one line is written to `errs` that says why.
+///
+/// The answer tells how that ended, by its fault:
+///
+/// - None: all was written, and nothing is offered to `errs`. The file and its code are kept.
+/// - [`Fault::Usage`]: the words are no command. Nothing is read, and no memory is taken.
+/// - [`Fault::Read`]: a read failed. It is not tried again.
+/// - [`Fault::TooLong`]: the source holds more than 16,777,216 bytes, and no read failed before.
+/// - [`Fault::Line`]: that line is the first that is no entry.
+/// - [`Fault::Assembly`]: that is the first fault of the file's items. The file is kept.
+/// - [`Fault::Write`]: a write failed, and is not tried again. The sink has taken a proper prefix of what
+///   is written of the code that is kept beside its file.
+/// - [`Fault::Memory`]: want of memory. Where a file is kept, each item of it is right by itself.
+///
+/// But for the first, the line of the fault is offered to `errs`. A failed write there changes nothing,
+/// and is not tried again. But for the first and [`Fault::Write`], the sink has taken nothing.
 pub fn run<S: Source, K: Sink, E: Sink>(
     alloc: Global,
     words: &[String],
@@ -138,23 +168,33 @@ pub fn run<S: Source, K: Sink, E: Sink>(
         result.fault result.file result.code) }
     ensures nothing { result.fault ≡ Some faults.Usage → (result.file ≡ None) × (result.code ≡ None) }
 
-    // The causes of the answers.
+    // The causes of the answers. Where a count of failures rose, the answer is that failure.
     ensures usage { (result.fault ≡ Some faults.Usage) ↔ IsNoCommand (map string_bytes words.now) }
     ensures read { result.fault ≡ Some faults.Read → HasFailed (S.faults source.old) (S.faults source.new) }
+    ensures reads { FailsOnlyAt faults.Read result.fault
+        (S.faults source.old) (S.faults source.new) }
     ensures held { Held (S.left source.old) result.fault }
     ensures write { result.fault ≡ Some faults.Write → HasFailed (K.faults sink.old) (K.faults sink.new) }
+    ensures writes { FailsOnlyAt faults.Write result.fault
+        (K.faults sink.old) (K.faults sink.new) }
 
     // Each answer comes where it is due; want of memory alone is free.
     ensures due { OfCommand (map string_bytes words.now) (λ command. IsDueAnswer command (S.left source.old) result.fault) }
 
     // What the streams gave and took. A command that does not read the source leaves it as it was,
-    // and so do words that are no command.
+    // and so do words that are no command. `errs` gets the whole line, or where a write to it failed a
+    // proper prefix, and at status 0 nothing.
     ensures few { TakesFew (S.left source.old) (S.left source.new) }
     ensures unread { OfCommand (map string_bytes words.now) (λ command. reads_source command ≡ false) → source.new ≡ source.old }
     ensures untouched { Untouched (K.taken sink.old) (K.taken sink.new) result.fault }
     ensures silent { result.fault ≡ None → errs.new ≡ errs.old }
     ensures said { IfSome result.fault (λ fault. ¬ HasFailed (E.faults errs.old) (E.faults errs.new)
         → Takes (E.taken errs.old) (E.taken errs.new) (fault_line fault)) }
+    ensures cut { IfSome result.fault (λ fault. E.faults errs.old < E.faults errs.new
+        → TakesPart (E.taken errs.old) (E.taken errs.new) (fault_line fault)) }
+    ensures begun { IfSome result.fault (λ fault.
+        Takes (E.taken errs.old) (E.taken errs.new) (fault_line fault)
+        ⊎ TakesPart (E.taken errs.old) (E.taken errs.new) (fault_line fault)) }
 {
     let ran = run_words(alloc, words, source, sink);
     if let Some(fault) = ran.fault {

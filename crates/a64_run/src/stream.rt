@@ -1,6 +1,6 @@
 //! Sources of bytes and sinks for bytes.
 
-ghost use Rattle.std.specs.Prelude.{◌≡◌, ℕ, ◌<◌, ◌≤◌, List, Option, length, take, IfOk, OnErr, IfSome};
+ghost use Rattle.std.specs.Prelude.{◌≡◌, ℕ, ◌<◌, ◌≤◌, List, Option, length, take, IfOk, OnOk, OnErr, IfSome};
 ghost use Rattle.a64_run.specs.Streams.{HasFailed, TakesFront, Takes};
 
 /// A read or a write failed.
@@ -12,7 +12,7 @@ pub trait Source {
     /// The bytes that are left, where the source tells them.
     ghost left: { Self → Option (List ℕ) };
 
-    /// How many calls have failed. The count never falls.
+    /// How many calls have failed. The count never falls, and rises at a failed call alone.
     ghost faults: { Self → ℕ };
 
     /// Reads some bytes into the front of a buffer that is not empty, and answers how many; 0 is
@@ -27,6 +27,7 @@ pub trait Source {
         ensures takes { IfOk result (λ n. IfSome (left self.old) (λ text. TakesFront text n buf.new (left self.new))) }
         ensures stays { OnErr result (left self.new ≡ left self.old) }
         ensures rises { faults self.old ≤ faults self.new }
+        ensures steady { OnOk result (faults self.new ≡ faults self.old) }
         ensures cause { OnErr result (HasFailed (faults self.old) (faults self.new)) };
 }
 
@@ -35,7 +36,7 @@ pub trait Sink {
     /// The bytes that were taken, where the sink tells them.
     ghost taken: { Self → Option (List ℕ) };
 
-    /// How many calls have failed. The count never falls.
+    /// How many calls have failed. The count never falls, and rises at a failed call alone.
     ghost faults: { Self → ℕ };
 
     /// Takes some bytes from the front of a piece that is not empty, and answers how many: at
@@ -50,5 +51,6 @@ pub trait Sink {
         ensures takes { IfOk result (λ n. Takes (taken self.old) (taken self.new) (take n bytes.now)) }
         ensures stays { OnErr result (taken self.new ≡ taken self.old) }
         ensures rises { faults self.old ≤ faults self.new }
+        ensures steady { OnOk result (faults self.new ≡ faults self.old) }
         ensures cause { OnErr result (HasFailed (faults self.old) (faults self.new)) };
 }

@@ -23,7 +23,7 @@ returns-in-Ok-clause-due_err g c =
 
 pub returns-in-Ok-clause-cause : goal.returns-in-Ok-clause-cause
 returns-in-Ok-clause-cause g c =
-    input_cause (g.S.Source.faults c.args.source.now) (g.S.Source.faults c.read_text.new.source) c.deref.result.now c.parse.result c.parse.ensures
+    input_cause (g.S.Source.faults c.args.source.now) (g.S.Source.faults c.read_text.new.source) c.deref.result.now c.parse.result c.in-Ok.ensures.steady c.parse.ensures
 
 pub returns-in-Err-clause-due_err : goal.returns-in-Err-clause-due_err
 returns-in-Err-clause-due_err g c =

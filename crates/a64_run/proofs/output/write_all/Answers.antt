@@ -7,5 +7,5 @@ pub loop-done-preserved : goal.loop-done-preserved
 loop-done-preserved g c = (
   grind (arith, common_steps, c.in-Ok.ensures.some),
   takes_more (g.K.Sink.taken c.args.sink.now) (g.K.Sink.taken c.loop-done.sink) (g.K.Sink.taken c.write.new.self) c.loop-done.done c.in-Ok.n c.args.bytes.now (grind (arith, common_steps, c.in-Ok.ensures.some)) c.loop-done.invariant.1 c.in-Ok.ensures.takes,
-  omega (arith, c.loop-done.invariant.2, c.write.ensures.rises),
+  omega (arith, c.loop-done.invariant.2, c.in-Ok.ensures.steady),
 )

@@ -1,0 +1,16 @@
+//! Encoders of vector and float instructions: from operands to the word of a row.
+//!
+//! Each keeps the name and the parameters of its namesake in Cranelift. Its parameters name a form of a row, within the
+//! row's limits, and its answer is the word of that form.
+#![tactic(auto)]
+
+mod float;
+mod memory;
+mod register;
+mod vector;
+
+pub use float::{
+    enc_fcmp, enc_fcsel, enc_fpurr, enc_fpurrr, enc_fpurrrr, enc_fputoint, enc_fround, enc_inttofpu,
+};
+pub use memory::enc_ldst_vec_pair;
+pub use vector::{enc_asimd_mod_imm, enc_vec_rrr};

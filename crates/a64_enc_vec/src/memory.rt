@@ -1,0 +1,38 @@
+//! Loads and stores of vector registers.
+
+ghost use Rattle.std.specs.Prelude.{◌≡◌};
+ghost use Rattle.a64_imms.specs.Offsets.{IsPairOffset};
+ghost use Rattle.a64_rows.specs.Forms.{form_word, IsFormOf};
+ghost use Rattle.a64_rows.specs.Memory.{ld_st_pair};
+ghost use Rattle.a64_enc_int.specs.Operators.{bit_of, simm7_field};
+ghost use Rattle.a64_enc_int.specs.Registers.{register_field, IsGeneral};
+ghost use Rattle.a64_enc_vec.specs.Registers.{IsVector};
+
+use crate::register::vector_field;
+use a64_base::Reg;
+use a64_enc_int::register_field;
+use a64_imms::SImm7Scaled;
+use a64_rows::{Row, pack};
+
+/// Encodes a load or store of a pair of vector registers: `opc` is 1 for 64 and 2 for 128 bits, and `amode` says whether the
+/// address register changes and when (row `LdStPair`).
+pub fn enc_ldst_vec_pair(
+    opc: u32,
+    amode: u32,
+    is_load: bool,
+    simm7: SImm7Scaled,
+    rn: Reg,
+    rt: Reg,
+    rt2: Reg,
+) -> u32
+    requires simm7 { IsPairOffset simm7.scale_ty simm7.value }
+    requires rn { IsGeneral rn }
+    requires rt { IsVector rt }
+    requires rt2 { IsVector rt2 }
+    requires form { IsFormOf (ld_st_pair (record { opc = opc; v = 1; idx = amode; load = bit_of is_load; imm7 = simm7_field simm7; rt2 = register_field rt2; rn = register_field rn; rt = register_field rt })) }
+    ensures { result ≡ form_word (ld_st_pair (record { opc = opc; v = 1; idx = amode; load = bit_of is_load; imm7 = simm7_field simm7; rt2 = register_field rt2; rn = register_field rn; rt = register_field rt })) }
+{
+    let (load, imm7) = (u32::from(is_load), simm7.bits());
+    let (rt2, rn, rt) = (vector_field(rt2), register_field(rn), vector_field(rt));
+    pack(Row::LdStPair, &[opc, 1, amode, load, imm7, rt2, rn, rt])
+}

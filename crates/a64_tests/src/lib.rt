@@ -1,0 +1,30 @@
+//! Tests of what no clause says and no file of cases reaches: texts of small values, words that no
+//! instruction has yet, a second machine's uses of labels, adapters of streams, and refused memory.
+#![tactic(auto)]
+
+#[cfg(test)]
+mod bit_runs;
+#[cfg(test)]
+mod distances;
+#[cfg(test)]
+mod encoders;
+#[cfg(test)]
+mod errors;
+#[cfg(test)]
+mod immediates;
+#[cfg(test)]
+mod instructions;
+#[cfg(test)]
+mod label_map;
+#[cfg(test)]
+mod load;
+#[cfg(test)]
+mod refusal;
+#[cfg(test)]
+mod registers;
+#[cfg(test)]
+mod rows;
+#[cfg(test)]
+mod short_use;
+#[cfg(test)]
+mod streams;
