@@ -67,23 +67,24 @@ fn add_uses_and_item<K: MachInstLabelUse>(
     buffer.bind_label(MachLabel(0))
 }
 
-/// The finished code of uses of a label, of a long item, and of the label behind it.
+/// The finished code of uses of a label, of an item of so many bytes 7, and of the label behind it.
 fn code_of<K: MachInstLabelUse>(
     alloc: Global,
     word: u32,
     kind: K,
     uses: u32,
-    item: &[u8],
+    item_bytes: usize,
 ) -> Result<Finished, AllocError>
     requires ranges { 36 ≤ K.kinds.range 1 }
     requires veneers { K.kinds.veneers kind ≡ true }
     requires uses { uses ≤ 60 }
-    requires words { length item.now % 4 ≡ 0 }
-    requires item { length item.now ≤ 4096 }
+    requires words { item_bytes % 4 ≡ 0 }
+    requires item { item_bytes ≤ 4096 }
 {
     let constants = Constants::new(alloc);
     let mut buffer = MachBuffer::new(alloc, &constants);
-    add_uses_and_item(&mut buffer, word, kind, uses, item)?;
+    let item = vec![in alloc; 7_u8; item_bytes]?;
+    add_uses_and_item(&mut buffer, word, kind, uses, &item)?;
     // what is true of every buffer is told where its end is
     let _end = buffer.cur_offset();
     buffer.finish()
@@ -112,7 +113,7 @@ fn crowded_word(place: u32) -> u32
 #[test]
 fn sixty_short_branches_before_a_long_item(rt: HostRuntime) -> Result<(), AllocError> {
     let alloc = rt.alloc();
-    let code = code_of(alloc, 0x3600_0000, ShortUse::Near, 60, &[7; 300])?;
+    let code = code_of(alloc, 0x3600_0000, ShortUse::Near, 60, 300)?;
     let mut bytes = Vec::new(alloc);
     for i in 0..125 {
         add_words(&mut bytes, crowded_word(4 * i), 1)?;
@@ -129,7 +130,7 @@ fn sixty_short_branches_before_a_long_item(rt: HostRuntime) -> Result<(), AllocE
 #[test]
 fn a_long_item_behind_a_far_use(rt: HostRuntime) -> Result<(), AllocError> {
     let alloc = rt.alloc();
-    let code = code_of(alloc, 0x1400_0000, ShortUse::Far, 1, &[7; 4096])?;
+    let code = code_of(alloc, 0x1400_0000, ShortUse::Far, 1, 4096)?;
     let mut bytes = Vec::new(alloc);
     // the use leads to its far veneer, behind the jump over the island
     for word in [
