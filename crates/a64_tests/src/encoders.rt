@@ -2,9 +2,25 @@
 
 use a64_base::{IrType, stack_reg, writable_xreg, xreg, zero_reg};
 use a64_enc_int::{
-    enc_acq_rel, enc_cas, enc_casp, enc_dmb_ish, enc_ldar, enc_ldaxr, enc_stlr, enc_stlxr,
+    enc_acq_rel, enc_arith_rrr, enc_arith_rrrr, enc_cas, enc_casp, enc_dmb_ish, enc_ldar,
+    enc_ldaxr, enc_stlr, enc_stlxr,
 };
 use a64_ops::AtomicRMWOp;
+
+/// Raw bits that name a row with their registers.
+#[test]
+fn arithmetic(rt: HostRuntime) {
+    let add = enc_arith_rrr(0b100_0101_1000, 0, writable_xreg(1), xreg(2), xreg(3));
+    let product = enc_arith_rrrr(0x4d8, zero_reg(), 1, xreg(30), xreg(9), writable_xreg(27));
+    for (word, want) in [
+        // add x1, x2, x3
+        (add, 0x8b03_0041),
+        // msub x27, x9, xzr, x30
+        (product, 0x9b1f_f93b),
+    ] {
+        assert_eq!(rt; word, want, "{word:#x} for {want:#x}");
+    }
+}
 
 #[test]
 fn atomic_accesses(rt: HostRuntime) {

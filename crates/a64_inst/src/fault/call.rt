@@ -1,6 +1,5 @@
 //! What is wrong with calls by themselves, and with returns that call.
 
-
 ghost use Rattle.std.specs.Prelude.{◌≡◌, None};
 ghost use Rattle.a64_inst.specs.declared.group.Group.TheVariants.{Call};
 ghost use Rattle.a64_inst.specs.Groups.{group_of};

@@ -1,7 +1,6 @@
 //! Whether the operands of sequences around tables, symbols and the stack, and of what has no word, are
 //! in their sets.
 
-
 ghost use Rattle.std.specs.Prelude.{◌≡◌};
 ghost use Rattle.a64_inst.specs.declared.group.Group.TheVariants.{Sequence};
 ghost use Rattle.a64_inst.specs.Groups.{group_of};
