@@ -25,7 +25,6 @@ use a64_imms::Imm12;
 use a64_inst::{EmitInfo, FrameLayout, Inst};
 use std::alloc::AllocError;
 
-
 /// An entry of a table that stands so many bytes behind the first: the word, and its use of the label.
 #[inline(always)]
 fn put_entry(

@@ -37,7 +37,6 @@ use a64_inst::{FrameLayout, PairAMode, const_plan};
 use a64_ops::ALUOp;
 use arrayvec::ArrayVec;
 
-
 /// The word of a branch with link, whose offset is zero as long as its symbol has no place.
 #[tactic(auto, unfolding(crate::specs::ControlForms::branch_link_form))]
 fn branch_link_word() -> u32

@@ -29,7 +29,6 @@ use a64_inst::{AccessOp, EmitInfo, const_plan};
 use a64_ops::ALUOp;
 use arrayvec::ArrayVec;
 
-
 /// The word of a barrier against what was guessed before it.
 #[tactic(auto, unfolding(crate::specs::ControlForms::csdb_form))]
 fn csdb_word() -> u32
