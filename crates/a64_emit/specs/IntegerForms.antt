@@ -97,10 +97,6 @@ pub record TwoRegisters : Type 0 where
 abbrev pub two_registers : OperandSize → Reg → Reg → Reg → TwoRegisters
 two_registers size rd rn rm = record { sf = sf_of size; rm = register_field rm; rn = register_field rn; rd = register_field rd }
 
--- the size flag alone, with zeros for the registers
-abbrev pub no_registers : ℕ → TwoRegisters
-no_registers sf = record { sf = sf; rm = 0; rn = 0; rd = 0 }
-
 -- a register that is not shifted
 abbrev pub no_shift : Shift
 no_shift = record { op = LSL; amount = 0 }

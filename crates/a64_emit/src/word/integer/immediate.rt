@@ -10,12 +10,12 @@ ghost use Rattle.a64_imms.specs.Logic.{IsImmLogic};
 ghost use Rattle.a64_rows.specs.Forms.{form_word};
 ghost use Rattle.a64_emit.specs.IntegerForms as forms;
 
-use crate::word::integer::operator::{bfm_opc_bits, extract_bits, op_bit, opc_bits, s_bit};
+use crate::word::integer::operator::{bfm_opc_bits, extract_word, op_bit, opc_bits, s_bit};
 use crate::word::integer::register::mov_word;
 use a64_base::{OperandSize, Reg, Writable};
 use a64_enc_int::{
-    enc_adr, enc_adrp, enc_arith_rr_imm12, enc_arith_rr_imml, enc_arith_rrr, enc_bfm,
-    enc_move_wide, enc_movk,
+    enc_adr, enc_adrp, enc_arith_rr_imm12, enc_arith_rr_imml, enc_bfm, enc_move_wide, enc_movk,
+    register_field,
 };
 use a64_imms::{Imm12, ImmLogic, ImmShift, MoveWideConst, UImm6};
 use a64_ops::{ALUOp, BfmOp, MoveWideOp};
@@ -96,10 +96,8 @@ fn rotate_word(size: OperandSize, rd: Writable<Reg>, rn: Reg, amount: u8) -> u32
     requires rn { is_register_or_zero Refused rn ≡ true }
     ensures { result ≡ form_word (forms.extraction amount (forms.two_registers size rd rn rn)) }
 {
-    let (top, low) = extract_bits(size, amount);
-    // The prover does not cover a call that takes one variable twice.
-    let again = rn;
-    enc_arith_rrr(top, low, rd, rn, again)
+    let rn = register_field(rn);
+    extract_word(amount, size.sf_bit(), rn, rn, register_field(rd.to_reg()))
 }
 
 /// The word of an `AluRRImmShift`.

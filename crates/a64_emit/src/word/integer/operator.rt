@@ -1,12 +1,12 @@
-//! The fields of words that operators give.
+//! The fields of words that operators give, and the words of operators on two registers or more.
 
-ghost use Rattle.std.specs.Prelude.{◌≡◌, ◌+◌, ◌*◌, ◌^◌, ◌<◌};
-ghost use Rattle.a64_base.specs.OperandSizes.{sf_of};
-ghost use Rattle.a64_rows.specs.Forms.{form_word};
-ghost use Rattle.a64_emit.specs.IntegerForms.{op_of, s_of, opc_of, n_of, opcode_of, bit_opcode, bfm_opc, no_registers, alu_form, shifted_form, extended_form, product_form, extraction};
+ghost use Rattle.std.specs.Prelude.{◌≡◌, ◌^◌, ◌<◌};
+ghost use Rattle.a64_rows.specs.Forms.{form_word, IsFormOf};
+ghost use Rattle.a64_emit.specs.IntegerForms.{op_of, s_of, opc_of, n_of, opcode_of, bit_opcode, bfm_opc, alu_form, shifted_form, extended_form, product_form, extraction};
 
-use a64_base::{ExtendOp, OperandSize, ShiftOp, ShiftOpAndAmt};
+use a64_base::{ExtendOp, ShiftOp, ShiftOpAndAmt};
 use a64_ops::{ALUOp, ALUOp3, BfmOp, BitOp};
+use a64_rows::{Row, pack};
 
 /// The field op: 1 for the operators that subtract.
 pub fn op_bit(op: ALUOp) -> u32
@@ -97,86 +97,86 @@ pub fn bfm_opc_bits(op: BfmOp) -> u8
     }
 }
 
-/// The bits 31 to 21 of the word of an operation on two registers, and the bits 15 to 10. The
-/// operators that add or subtract and the logical ones shift the second register.
-pub fn alu_bits(op: ALUOp, size: OperandSize, shift: ShiftOp, amount: u8) -> (u32, u32)
-    requires { amount < 2 ^ 6 }
-    ensures top { result.0 < 2 ^ 11 }
-    ensures low { result.1 < 2 ^ 6 }
-    ensures value { result.0 * 2 ^ 21 + result.1 * 2 ^ 10 ≡ form_word (alu_form op (record { op = shift; amount = amount }) (no_registers (sf_of size))) }
+/// The word of an operation on two registers, whose row goes by the operator. The operators that add or subtract and
+/// the logical ones shift the second register.
+#[inline(always)]
+pub fn alu_word(op: ALUOp, shift: ShiftOp, amount: u8, sf: u32, rm: u32, rn: u32, rd: u32) -> u32
+    requires { IsFormOf (alu_form op (record { op = shift; amount = amount }) (record { sf = sf; rm = rm; rn = rn; rd = rd })) }
+    ensures { result ≡ form_word (alu_form op (record { op = shift; amount = amount }) (record { sf = sf; rm = rm; rn = rn; rd = rd })) }
 {
-    let sf = size.sf_bit() << 10;
-    let flags = (op_bit(op) << 9) + (s_bit(op) << 8);
-    let shifted = u32::from(shift.bits()) << 1;
+    let sh = u32::from(shift.bits());
+    let imm6 = u32::from(amount);
     match op {
-        ALUOp::Add | ALUOp::Sub | ALUOp::AddS | ALUOp::SubS => (
-            0b000_01011_000 + sf + flags + shifted,
-            u32::from(amount),
+        ALUOp::Add | ALUOp::Sub | ALUOp::AddS | ALUOp::SubS => pack(
+            Row::AddSubReg,
+            &[sf, op_bit(op), s_bit(op), sh, rm, imm6, rn, rd],
         ),
-        ALUOp::Adc | ALUOp::Sbc | ALUOp::AdcS | ALUOp::SbcS => (0b000_11010_000 + sf + flags, 0),
         ALUOp::And
         | ALUOp::Orr
         | ALUOp::Eor
         | ALUOp::AndS
         | ALUOp::AndNot
         | ALUOp::OrrNot
-        | ALUOp::EorNot => (
-            0b000_01010_000 + sf + (opc_bits(op) << 8) + shifted + n_bit(op),
-            u32::from(amount),
+        | ALUOp::EorNot => pack(
+            Row::LogicReg,
+            &[sf, opc_bits(op), sh, n_bit(op), rm, imm6, rn, rd],
         ),
-        ALUOp::UDiv | ALUOp::SDiv | ALUOp::Lsl | ALUOp::Lsr | ALUOp::Asr | ALUOp::Extr => {
-            (0b000_11010_110 + sf, opcode_bits(op))
+        ALUOp::Adc | ALUOp::Sbc | ALUOp::AdcS | ALUOp::SbcS => {
+            pack(Row::AddSubCarry, &[sf, op_bit(op), s_bit(op), rm, rn, rd])
         }
-        ALUOp::SMulH => (0b100_11011_010, 31),
-        ALUOp::UMulH => (0b100_11011_110, 31),
+        ALUOp::UDiv | ALUOp::SDiv | ALUOp::Lsl | ALUOp::Lsr | ALUOp::Asr | ALUOp::Extr => {
+            pack(Row::DataProc2, &[sf, rm, opcode_bits(op), rn, rd])
+        }
+        ALUOp::SMulH => pack(Row::MulHigh, &[0, rm, rn, rd]),
+        ALUOp::UMulH => pack(Row::MulHigh, &[1, rm, rn, rd]),
     }
 }
 
-/// The same bits of an extraction from two registers.
-pub fn extract_bits(size: OperandSize, lowest: u8) -> (u32, u32)
-    requires { lowest < 2 ^ 6 }
-    ensures top { result.0 < 2 ^ 11 }
-    ensures low { result.1 < 2 ^ 6 }
-    ensures value { result.0 * 2 ^ 21 + result.1 * 2 ^ 10 ≡ form_word (extraction lowest (no_registers (sf_of size))) }
+/// The word of an extraction from two registers.
+#[inline(always)]
+pub fn extract_word(lowest: u8, sf: u32, rm: u32, rn: u32, rd: u32) -> u32
+    requires { IsFormOf (extraction lowest (record { sf = sf; rm = rm; rn = rn; rd = rd })) }
+    ensures { result ≡ form_word (extraction lowest (record { sf = sf; rm = rm; rn = rn; rd = rd })) }
 {
-    let sf = size.sf_bit();
-    (0b000_100111_00 + (sf << 10) + (sf << 1), u32::from(lowest))
+    pack(Row::Extract, &[sf, rm, u32::from(lowest), rn, rd])
 }
 
-/// The same bits of an operation on two registers of which the second is shifted.
-pub fn shifted_bits(op: ALUOp, size: OperandSize, shiftop: ShiftOpAndAmt) -> (u32, u32)
-    ensures top { result.0 < 2 ^ 11 }
-    ensures low { result.1 < 2 ^ 6 }
-    ensures value { result.0 * 2 ^ 21 + result.1 * 2 ^ 10 ≡ form_word (shifted_form op shiftop (no_registers (sf_of size))) }
+/// The word of an operation on two registers of which the second is shifted, or of an extraction.
+#[inline(always)]
+pub fn shifted_word(op: ALUOp, shiftop: ShiftOpAndAmt, sf: u32, rm: u32, rn: u32, rd: u32) -> u32
+    requires { IsFormOf (shifted_form op shiftop (record { sf = sf; rm = rm; rn = rn; rd = rd })) }
+    ensures { result ≡ form_word (shifted_form op shiftop (record { sf = sf; rm = rm; rn = rn; rd = rd })) }
 {
     let amount = shiftop.amt().value();
     match op {
-        ALUOp::Extr => extract_bits(size, amount),
-        _ => alu_bits(op, size, shiftop.op(), amount),
+        ALUOp::Extr => extract_word(amount, sf, rm, rn, rd),
+        _ => alu_word(op, shiftop.op(), amount, sf, rm, rn, rd),
     }
 }
 
-/// The same bits of an addition or subtraction of a register that is extended.
-pub fn extended_bits(op: ALUOp, size: OperandSize, extendop: ExtendOp) -> (u32, u32)
-    ensures top { result.0 < 2 ^ 11 }
-    ensures low { result.1 < 2 ^ 6 }
-    ensures value { result.0 * 2 ^ 21 + result.1 * 2 ^ 10 ≡ form_word (extended_form op extendop (no_registers (sf_of size))) }
+/// The word of an addition or subtraction of a register that is extended.
+#[inline(always)]
+pub fn extended_word(op: ALUOp, extendop: ExtendOp, sf: u32, rm: u32, rn: u32, rd: u32) -> u32
+    requires { IsFormOf (extended_form op extendop (record { sf = sf; rm = rm; rn = rn; rd = rd })) }
+    ensures { result ≡ form_word (extended_form op extendop (record { sf = sf; rm = rm; rn = rn; rd = rd })) }
 {
-    let top = 0b000_01011_001 + (size.sf_bit() << 10) + (op_bit(op) << 9) + (s_bit(op) << 8);
-    (top, u32::from(extendop.bits()) << 3)
+    let ext = u32::from(extendop.bits());
+    pack(
+        Row::AddSubExt,
+        &[sf, op_bit(op), s_bit(op), rm, ext, rn, rd],
+    )
 }
 
-/// The bits 31 to 21 of the word of a product that is added or subtracted, and the bit 15.
-pub fn product_bits(op: ALUOp3, size: OperandSize) -> (u32, u32)
-    ensures top { result.0 < 2 ^ 11 }
-    ensures low { result.1 < 2 }
-    ensures value { result.0 * 2 ^ 21 + result.1 * 2 ^ 15 ≡ form_word (product_form op 0 (no_registers (sf_of size))) }
+/// The word of a product that is added or subtracted.
+#[inline(always)]
+pub fn product_word(op: ALUOp3, sf: u32, rm: u32, ra: u32, rn: u32, rd: u32) -> u32
+    requires { IsFormOf (product_form op ra (record { sf = sf; rm = rm; rn = rn; rd = rd })) }
+    ensures { result ≡ form_word (product_form op ra (record { sf = sf; rm = rm; rn = rn; rd = rd })) }
 {
-    let sf = size.sf_bit() << 10;
     match op {
-        ALUOp3::MAdd => (0b000_11011_000 + sf, 0),
-        ALUOp3::MSub => (0b000_11011_000 + sf, 1),
-        ALUOp3::SMAddL => (0b100_11011_001, 0),
-        ALUOp3::UMAddL => (0b100_11011_101, 0),
+        ALUOp3::MAdd => pack(Row::MulAdd, &[sf, rm, 0, ra, rn, rd]),
+        ALUOp3::MSub => pack(Row::MulAdd, &[sf, rm, 1, ra, rn, rd]),
+        ALUOp3::SMAddL => pack(Row::MulAddLong, &[0, rm, ra, rn, rd]),
+        ALUOp3::UMAddL => pack(Row::MulAddLong, &[1, rm, ra, rn, rd]),
     }
 }

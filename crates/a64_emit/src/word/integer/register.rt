@@ -12,27 +12,31 @@ ghost use Rattle.a64_emit.specs.IntegerForms as forms;
 
 use crate::word::integer::immediate::alu_rr_imm12_word;
 use crate::word::integer::operator::{
-    alu_bits, bit_opcode_bits, extended_bits, product_bits, shifted_bits,
+    alu_word, bit_opcode_bits, extended_word, product_word, shifted_word,
 };
 use a64_base::{
     Cond, ExtendOp, OperandSize, PReg, Reg, RegClass, ShiftOp, ShiftOpAndAmt, Writable, zero_reg,
 };
-use a64_enc_int::{enc_arith_rrr, enc_arith_rrrr, enc_bit_rr, enc_ccmp, enc_ccmp_imm, enc_csel};
+use a64_enc_int::{enc_bit_rr, enc_ccmp, enc_ccmp_imm, enc_csel, register_field};
 use a64_imms::{Imm12, NZCV, UImm5};
 use a64_ops::{ALUOp, ALUOp3, BitOp};
 
 /// The word of an `AluRRR`.
-#[tactic(auto, using(crate::proofs::Operands::general), unfolding(a64_inst::specs::IntegerOperands::are_alu_rrr_operands))]
+#[tactic(auto, using(crate::proofs::Operands::general), unfolding(crate::specs::IntegerForms::alu_rrr_form, a64_inst::specs::IntegerOperands::are_alu_rrr_operands))]
 pub fn alu_rrr_word(op: ALUOp, size: OperandSize, rd: Writable<Reg>, rn: Reg, rm: Reg) -> u32
     requires { sets.are_alu_rrr_operands Refused op size rd rn rm ≡ true }
     ensures { result ≡ form_word (forms.alu_rrr_form op size rd rn rm) }
 {
-    let (top, low) = alu_bits(op, size, ShiftOp::LSL, 0);
-    enc_arith_rrr(top, low, rd, rn, rm)
+    let (rm, rn, rd) = (
+        register_field(rm),
+        register_field(rn),
+        register_field(rd.to_reg()),
+    );
+    alu_word(op, ShiftOp::LSL, 0, size.sf_bit(), rm, rn, rd)
 }
 
 /// The word of an `AluRRRR`.
-#[tactic(auto, using(crate::proofs::Operands::general), unfolding(a64_inst::specs::IntegerOperands::are_alu_rrrr_operands))]
+#[tactic(auto, using(crate::proofs::Operands::general), unfolding(crate::specs::IntegerForms::alu_rrrr_form, a64_inst::specs::IntegerOperands::are_alu_rrrr_operands))]
 pub fn alu_rrrr_word(
     op: ALUOp3,
     size: OperandSize,
@@ -44,12 +48,13 @@ pub fn alu_rrrr_word(
     requires { sets.are_alu_rrrr_operands Refused op size rd rn rm ra ≡ true }
     ensures { result ≡ form_word (forms.alu_rrrr_form op size rd rn rm ra) }
 {
-    let (top, bit15) = product_bits(op, size);
-    enc_arith_rrrr(top, rm, bit15, ra, rn, rd)
+    let (rm, ra) = (register_field(rm), register_field(ra));
+    let (rn, rd) = (register_field(rn), register_field(rd.to_reg()));
+    product_word(op, size.sf_bit(), rm, ra, rn, rd)
 }
 
 /// The word of an `AluRRRShift`.
-#[tactic(auto, using(crate::proofs::Operands::general), unfolding(a64_inst::specs::IntegerOperands::are_alu_rrr_shift_operands))]
+#[tactic(auto, using(crate::proofs::Operands::general), unfolding(crate::specs::IntegerForms::alu_rrr_shift_form, a64_inst::specs::IntegerOperands::are_alu_rrr_shift_operands))]
 pub fn alu_rrr_shift_word(
     op: ALUOp,
     size: OperandSize,
@@ -61,12 +66,16 @@ pub fn alu_rrr_shift_word(
     requires { sets.are_alu_rrr_shift_operands Refused op size rd rn rm shiftop ≡ true }
     ensures { result ≡ form_word (forms.alu_rrr_shift_form op size rd rn rm shiftop) }
 {
-    let (top, low) = shifted_bits(op, size, shiftop);
-    enc_arith_rrr(top, low, rd, rn, rm)
+    let (rm, rn, rd) = (
+        register_field(rm),
+        register_field(rn),
+        register_field(rd.to_reg()),
+    );
+    shifted_word(op, shiftop, size.sf_bit(), rm, rn, rd)
 }
 
 /// The word of an `AluRRRExtend`.
-#[tactic(auto, using(crate::proofs::Operands::general, crate::proofs::Operands::stack_general, crate::proofs::Operands::add_sub_general), unfolding(a64_inst::specs::IntegerOperands::are_alu_rrr_extend_operands))]
+#[tactic(auto, using(crate::proofs::Operands::general, crate::proofs::Operands::stack_general, crate::proofs::Operands::add_sub_general), unfolding(crate::specs::IntegerForms::alu_rrr_extend_form, a64_inst::specs::IntegerOperands::are_alu_rrr_extend_operands))]
 pub fn alu_rrr_extend_word(
     op: ALUOp,
     size: OperandSize,
@@ -78,8 +87,12 @@ pub fn alu_rrr_extend_word(
     requires { sets.are_alu_rrr_extend_operands Refused op rd rn rm ≡ true }
     ensures { result ≡ form_word (forms.alu_rrr_extend_form op size rd rn rm extendop) }
 {
-    let (top, low) = extended_bits(op, size, extendop);
-    enc_arith_rrr(top, low, rd, rn, rm)
+    let (rm, rn, rd) = (
+        register_field(rm),
+        register_field(rn),
+        register_field(rd.to_reg()),
+    );
+    extended_word(op, extendop, size.sf_bit(), rm, rn, rd)
 }
 
 /// The word of a `BitRR`.
