@@ -20,11 +20,13 @@ def without_comments(name):
 def read_rows():
     """The fixed word and the slots of each row; a slot is its lowest bit and width, or None where it stands twice."""
     text = without_comments("Rows.antt")
-    fixed = {row: int(word, 16) for row, word in re.findall(r"^fixed_of (\w+) = 0x([0-9a-f]+)$", text, re.M)}
-    slots = {
-        row: [(int(lowest), int(width)) if lowest else None for lowest, width in re.findall(r"Bits (\d+) (\d+)|Doubled", fields)]
-        for row, fields in re.findall(r"^slots_of (\w+) = (.*)$", text, re.M)
+    places = {
+        field: (int(lowest), int(width)) if lowest else None
+        for field, lowest, width in re.findall(r"^(\w+) = \(name\.\w+, (?:Bits (\d+) (\d+)|Doubled)\)$", text, re.M)
     }
+    entries = re.findall(r"^entry_of (\w+) = entry 0x([0-9a-f]+) \(?(.*?)\[\]\)?$", text, re.M)
+    fixed = {row: int(word, 16) for row, word, _ in entries}
+    slots = {row: [places[field] for field in re.findall(r"\w+", fields)] for row, _, fields in entries}
     assert fixed.keys() == slots.keys()
     return fixed, slots
 

@@ -1,65 +1,34 @@
--- The forms of encoders to which raw bits of the word give some fields, and operands the others.
+-- The forms of encoders to which raw bits of the word give some fields, and numbers of registers the others.
 use Rattle.std.specs.Prelude.{ℕ, ◌/◌, ◌%◌, ◌^◌, ◌||◌, ◌==◌, IsTrue}
 use Rattle.a64_rows.specs.Forms.{Form}
 use Rattle.a64_rows.specs.Floats.{fp_int, fp_one, fp_three, fp_two}
 
-pub record FpOneOperands : Type 0 where
-  pub rn : ℕ
-  pub rd : ℕ
+-- an operation on one float, Rd and Rn: the word's bits 31 to 10 give ftype and opcode
+abbrev pub fp_one_of : ℕ → ℕ → ℕ → Form
+fp_one_of top22 rd rn = fp_one (record { ftype = top22 / 2 ^ 12 % 2 ^ 2; op = top22 / 2 ^ 5 % 2 ^ 6; rn = rn; rd = rd })
 
--- an operation on one float: the word's bits 31 to 10 give ftype and opcode
-abbrev pub fp_one_of : ℕ → FpOneOperands → Form
-fp_one_of top22 f = fp_one (record { ftype = top22 / 2 ^ 12 % 2 ^ 2; op = top22 / 2 ^ 5 % 2 ^ 6; rn = f.rn; rd = f.rd })
+-- an operation on two floats, Rd, Rn and Rm: the word's bits 31 to 10 give ftype and opcode
+abbrev pub fp_two_of : ℕ → ℕ → ℕ → ℕ → Form
+fp_two_of top22 rd rn rm =
+    fp_two (record { ftype = top22 / 2 ^ 12 % 2 ^ 2; rm = rm; op = top22 / 2 ^ 2 % 2 ^ 4; rn = rn; rd = rd })
 
-pub record FpTwoOperands : Type 0 where
-  pub rm : ℕ
-  pub rn : ℕ
-  pub rd : ℕ
-
--- an operation on two floats: the word's bits 31 to 10 give ftype and opcode
-abbrev pub fp_two_of : ℕ → FpTwoOperands → Form
-fp_two_of top22 f =
-    fp_two (record {
-      ftype = top22 / 2 ^ 12 % 2 ^ 2;
-      rm = f.rm;
-      op = top22 / 2 ^ 2 % 2 ^ 4;
-      rn = f.rn;
-      rd = f.rd;
-    })
-
-pub record FpThreeOperands : Type 0 where
-  pub rm : ℕ
-  pub ra : ℕ
-  pub rn : ℕ
-  pub rd : ℕ
-
--- an operation on three floats: the word's bits 31 to 15 give ftype, o1 and o0
-abbrev pub fp_three_of : ℕ → FpThreeOperands → Form
-fp_three_of top17 f =
+-- an operation on three floats, Rd, Rn, Rm and Ra: the word's bits 31 to 15 give ftype, o1 and o0
+abbrev pub fp_three_of : ℕ → ℕ → ℕ → ℕ → ℕ → Form
+fp_three_of top17 rd rn rm ra =
     fp_three (record {
       ftype = top17 / 2 ^ 7 % 2 ^ 2;
       o1 = top17 / 2 ^ 6 % 2;
-      rm = f.rm;
+      rm = rm;
       o0 = top17 % 2;
-      ra = f.ra;
-      rn = f.rn;
-      rd = f.rd;
+      ra = ra;
+      rn = rn;
+      rd = rd;
     })
 
-pub record FpIntOperands : Type 0 where
-  pub rn : ℕ
-  pub rd : ℕ
-
--- a conversion between a float and an integer: the word's bits 31 to 16 give sf, ftype, and rmode and opcode
-abbrev pub fp_int_of : ℕ → FpIntOperands → Form
-fp_int_of top16 f =
-    fp_int (record {
-      sf = top16 / 2 ^ 15;
-      ftype = top16 / 2 ^ 6 % 2 ^ 2;
-      op = top16 % 2 ^ 5;
-      rn = f.rn;
-      rd = f.rd;
-    })
+-- a conversion between a float and an integer, Rd and Rn: the word's bits 31 to 16 give sf, ftype, and rmode and opcode
+abbrev pub fp_int_of : ℕ → ℕ → ℕ → Form
+fp_int_of top16 rd rn =
+    fp_int (record { sf = top16 / 2 ^ 15; ftype = top16 / 2 ^ 6 % 2 ^ 2; op = top16 % 2 ^ 5; rn = rn; rd = rd })
 
 -- rmode and opcode of FCVTZS and FCVTZU, whose result is a general register
 abbrev pub IsToInteger : ℕ → Type 0

@@ -1,11 +1,10 @@
 //! Scalar floats.
 
 ghost use Rattle.std.specs.Prelude.{◌≡◌, ◌*◌, ◌^◌};
-ghost use Rattle.a64_base.specs.Conditions.{condition_bits};
-ghost use Rattle.a64_base.specs.ScalarSizes.{ftype_of, HasFtype};
+ghost use Rattle.a64_base.specs.ScalarSizes.{HasFtype};
 ghost use Rattle.a64_rows.specs.Forms.{form_word, IsFormOf};
-ghost use Rattle.a64_rows.specs.Floats.{fp_compare, fp_select};
-ghost use Rattle.a64_enc_int.specs.Registers.{register_field, IsGeneral};
+ghost use Rattle.a64_enc_int.specs.Registers.{IsGeneral};
+ghost use Rattle.a64_enc_vec.specs.Operands.{fp_compare_form, fp_int_form, fp_one_form, fp_select_form, fp_three_form, fp_two_form};
 ghost use Rattle.a64_enc_vec.specs.RawBits.{fp_int_of, fp_one_of, fp_three_of, fp_two_of, IsFromInteger, IsToInteger};
 ghost use Rattle.a64_enc_vec.specs.Registers.{IsVector};
 
@@ -16,11 +15,11 @@ use a64_rows::{Row, pack};
 
 /// Encodes an operation on one float: `top22` is the word's bits 31 to 10 (row `FpOne`).
 pub fn enc_fpurr(top22: u32, rd: Writable<Reg>, rn: Reg) -> u32
-    requires top22 { top22 * 2 ^ 10 ≡ form_word (fp_one_of top22 (record { rn = 0; rd = 0 })) }
+    requires top22 { top22 * 2 ^ 10 ≡ form_word (fp_one_of top22 0 0) }
     requires rd { IsVector rd }
     requires rn { IsVector rn }
-    requires form { IsFormOf (fp_one_of top22 (record { rn = register_field rn; rd = register_field rd })) }
-    ensures { result ≡ form_word (fp_one_of top22 (record { rn = register_field rn; rd = register_field rd })) }
+    requires form { IsFormOf (fp_one_form top22 rd rn) }
+    ensures { result ≡ form_word (fp_one_form top22 rd rn) }
 {
     let (ftype, op) = ((top22 >> 12) % 4, (top22 >> 5) % 64);
     let (rn, rd) = (vector_field(rn), vector_field(rd.to_reg()));
@@ -29,12 +28,12 @@ pub fn enc_fpurr(top22: u32, rd: Writable<Reg>, rn: Reg) -> u32
 
 /// Encodes an operation on two floats: `top22` is the word's bits 31 to 10, with 0 in `rm` (row `FpTwo`).
 pub fn enc_fpurrr(top22: u32, rd: Writable<Reg>, rn: Reg, rm: Reg) -> u32
-    requires top22 { top22 * 2 ^ 10 ≡ form_word (fp_two_of top22 (record { rm = 0; rn = 0; rd = 0 })) }
+    requires top22 { top22 * 2 ^ 10 ≡ form_word (fp_two_of top22 0 0 0) }
     requires rd { IsVector rd }
     requires rn { IsVector rn }
     requires rm { IsVector rm }
-    requires form { IsFormOf (fp_two_of top22 (record { rm = register_field rm; rn = register_field rn; rd = register_field rd })) }
-    ensures { result ≡ form_word (fp_two_of top22 (record { rm = register_field rm; rn = register_field rn; rd = register_field rd })) }
+    requires form { IsFormOf (fp_two_form top22 rd rn rm) }
+    ensures { result ≡ form_word (fp_two_form top22 rd rn rm) }
 {
     let (ftype, op) = ((top22 >> 12) % 4, (top22 >> 2) % 16);
     let (rm, rn) = (vector_field(rm), vector_field(rn));
@@ -44,13 +43,13 @@ pub fn enc_fpurrr(top22: u32, rd: Writable<Reg>, rn: Reg, rm: Reg) -> u32
 
 /// Encodes an operation on three floats: `top17` is the word's bits 31 to 15, with 0 in `rm` (row `FpThree`).
 pub fn enc_fpurrrr(top17: u32, rd: Writable<Reg>, rn: Reg, rm: Reg, ra: Reg) -> u32
-    requires top17 { top17 * 2 ^ 15 ≡ form_word (fp_three_of top17 (record { rm = 0; ra = 0; rn = 0; rd = 0 })) }
+    requires top17 { top17 * 2 ^ 15 ≡ form_word (fp_three_of top17 0 0 0 0) }
     requires rd { IsVector rd }
     requires rn { IsVector rn }
     requires rm { IsVector rm }
     requires ra { IsVector ra }
-    requires form { IsFormOf (fp_three_of top17 (record { rm = register_field rm; ra = register_field ra; rn = register_field rn; rd = register_field rd })) }
-    ensures { result ≡ form_word (fp_three_of top17 (record { rm = register_field rm; ra = register_field ra; rn = register_field rn; rd = register_field rd })) }
+    requires form { IsFormOf (fp_three_form top17 rd rn rm ra) }
+    ensures { result ≡ form_word (fp_three_form top17 rd rn rm ra) }
 {
     let (ftype, o1, o0) = ((top17 >> 7) % 4, (top17 >> 6) % 2, top17 % 2);
     let (rm, ra) = (vector_field(rm), vector_field(ra));
@@ -63,8 +62,8 @@ pub fn enc_fcmp(size: ScalarSize, rn: Reg, rm: Reg) -> u32
     requires size { HasFtype size }
     requires rn { IsVector rn }
     requires rm { IsVector rm }
-    ensures form { IsFormOf (fp_compare (record { ftype = ftype_of size; rm = register_field rm; rn = register_field rn })) }
-    ensures word { result ≡ form_word (fp_compare (record { ftype = ftype_of size; rm = register_field rm; rn = register_field rn })) }
+    ensures form { IsFormOf (fp_compare_form size rn rm) }
+    ensures word { result ≡ form_word (fp_compare_form size rn rm) }
 {
     let (rm, rn) = (vector_field(rm), vector_field(rn));
     pack(Row::FpCompare, &[size.ftype(), rm, rn])
@@ -76,8 +75,8 @@ pub fn enc_fcsel(rd: Writable<Reg>, rn: Reg, rm: Reg, cond: Cond, size: ScalarSi
     requires rn { IsVector rn }
     requires rm { IsVector rm }
     requires size { HasFtype size }
-    ensures form { IsFormOf (fp_select (record { ftype = ftype_of size; rm = register_field rm; cond = condition_bits cond; rn = register_field rn; rd = register_field rd })) }
-    ensures word { result ≡ form_word (fp_select (record { ftype = ftype_of size; rm = register_field rm; cond = condition_bits cond; rn = register_field rn; rd = register_field rd })) }
+    ensures form { IsFormOf (fp_select_form rd rn rm cond size) }
+    ensures word { result ≡ form_word (fp_select_form rd rn rm cond size) }
 {
     let (rm, rn) = (vector_field(rm), vector_field(rn));
     let rd = vector_field(rd.to_reg());
@@ -86,12 +85,12 @@ pub fn enc_fcsel(rd: Writable<Reg>, rn: Reg, rm: Reg, cond: Cond, size: ScalarSi
 
 /// Encodes a conversion of a float to an integer: `top16` is the word's bits 31 to 16 (row `FpInt`).
 pub fn enc_fputoint(top16: u32, rd: Writable<Reg>, rn: Reg) -> u32
-    requires top16 { top16 * 2 ^ 16 ≡ form_word (fp_int_of top16 (record { rn = 0; rd = 0 })) }
+    requires top16 { top16 * 2 ^ 16 ≡ form_word (fp_int_of top16 0 0) }
     requires to_integer { IsToInteger top16 }
     requires rd { IsGeneral rd }
     requires rn { IsVector rn }
-    requires form { IsFormOf (fp_int_of top16 (record { rn = register_field rn; rd = register_field rd })) }
-    ensures { result ≡ form_word (fp_int_of top16 (record { rn = register_field rn; rd = register_field rd })) }
+    requires form { IsFormOf (fp_int_form top16 rd rn) }
+    ensures { result ≡ form_word (fp_int_form top16 rd rn) }
 {
     let (sf, ftype, op) = (top16 >> 15, (top16 >> 6) % 4, top16 % 32);
     let (rn, rd) = (vector_field(rn), register_field(rd.to_reg()));
@@ -100,12 +99,12 @@ pub fn enc_fputoint(top16: u32, rd: Writable<Reg>, rn: Reg) -> u32
 
 /// Encodes a conversion or move of an integer to a float: `top16` is the word's bits 31 to 16 (row `FpInt`).
 pub fn enc_inttofpu(top16: u32, rd: Writable<Reg>, rn: Reg) -> u32
-    requires top16 { top16 * 2 ^ 16 ≡ form_word (fp_int_of top16 (record { rn = 0; rd = 0 })) }
+    requires top16 { top16 * 2 ^ 16 ≡ form_word (fp_int_of top16 0 0) }
     requires from_integer { IsFromInteger top16 }
     requires rd { IsVector rd }
     requires rn { IsGeneral rn }
-    requires form { IsFormOf (fp_int_of top16 (record { rn = register_field rn; rd = register_field rd })) }
-    ensures { result ≡ form_word (fp_int_of top16 (record { rn = register_field rn; rd = register_field rd })) }
+    requires form { IsFormOf (fp_int_form top16 rd rn) }
+    ensures { result ≡ form_word (fp_int_form top16 rd rn) }
 {
     let (sf, ftype, op) = (top16 >> 15, (top16 >> 6) % 4, top16 % 32);
     let (rn, rd) = (register_field(rn), vector_field(rd.to_reg()));
@@ -114,11 +113,11 @@ pub fn enc_inttofpu(top16: u32, rd: Writable<Reg>, rn: Reg) -> u32
 
 /// Encodes a rounding of a float to an integral value: `top22` is the word's bits 31 to 10 (row `FpOne`).
 pub fn enc_fround(top22: u32, rd: Writable<Reg>, rn: Reg) -> u32
-    requires top22 { top22 * 2 ^ 10 ≡ form_word (fp_one_of top22 (record { rn = 0; rd = 0 })) }
+    requires top22 { top22 * 2 ^ 10 ≡ form_word (fp_one_of top22 0 0) }
     requires rd { IsVector rd }
     requires rn { IsVector rn }
-    requires form { IsFormOf (fp_one_of top22 (record { rn = register_field rn; rd = register_field rd })) }
-    ensures { result ≡ form_word (fp_one_of top22 (record { rn = register_field rn; rd = register_field rd })) }
+    requires form { IsFormOf (fp_one_form top22 rd rn) }
+    ensures { result ≡ form_word (fp_one_form top22 rd rn) }
 {
     enc_fpurr(top22, rd, rn)
 }

@@ -3,9 +3,8 @@
 ghost use Rattle.std.specs.Prelude.{◌≡◌};
 ghost use Rattle.a64_imms.specs.Offsets.{IsPairOffset};
 ghost use Rattle.a64_rows.specs.Forms.{form_word, IsFormOf};
-ghost use Rattle.a64_rows.specs.Memory.{ld_st_pair};
-ghost use Rattle.a64_enc_int.specs.Operators.{bit_of, simm7_field};
-ghost use Rattle.a64_enc_int.specs.Registers.{register_field, IsGeneral};
+ghost use Rattle.a64_enc_int.specs.Registers.{IsGeneral};
+ghost use Rattle.a64_enc_vec.specs.Operands.{vector_pair_form};
 ghost use Rattle.a64_enc_vec.specs.Registers.{IsVector};
 
 use crate::register::vector_field;
@@ -29,8 +28,8 @@ pub fn enc_ldst_vec_pair(
     requires rn { IsGeneral rn }
     requires rt { IsVector rt }
     requires rt2 { IsVector rt2 }
-    requires form { IsFormOf (ld_st_pair (record { opc = opc; v = 1; idx = amode; load = bit_of is_load; imm7 = simm7_field simm7; rt2 = register_field rt2; rn = register_field rn; rt = register_field rt })) }
-    ensures { result ≡ form_word (ld_st_pair (record { opc = opc; v = 1; idx = amode; load = bit_of is_load; imm7 = simm7_field simm7; rt2 = register_field rt2; rn = register_field rn; rt = register_field rt })) }
+    requires form { IsFormOf (vector_pair_form opc amode is_load simm7 rn rt rt2) }
+    ensures { result ≡ form_word (vector_pair_form opc amode is_load simm7 rn rt rt2) }
 {
     let (load, imm7) = (u32::from(is_load), simm7.bits());
     let (rt2, rn, rt) = (vector_field(rt2), register_field(rn), vector_field(rt));

@@ -1,11 +1,10 @@
 //! Vectors.
 
-ghost use Rattle.std.specs.Prelude.{◌≡◌, ◌<◌, ◌/◌, ◌%◌, ◌*◌, ◌^◌};
+ghost use Rattle.std.specs.Prelude.{◌≡◌, ◌<◌, ◌^◌};
 ghost use Rattle.a64_rows.specs.Forms.{form_word, IsFormOf};
-ghost use Rattle.a64_rows.specs.Vectors.{vec_imm};
 ghost use Rattle.a64_enc_int.specs.Named.{rrr_number, AreParts, NamedForm};
-ghost use Rattle.a64_enc_int.specs.Registers.{register_field};
 ghost use Rattle.a64_enc_vec.specs.Named.{rows_of_vec_rrr};
+ghost use Rattle.a64_enc_vec.specs.Operands.{mod_imm_form, vector_number};
 ghost use Rattle.a64_enc_vec.specs.Registers.{IsVector};
 
 use crate::register::vector_field;
@@ -39,8 +38,9 @@ pub fn enc_vec_rrr(top11: u32, rm: Reg, bit15_10: u32, rn: Reg, rd: Writable<Reg
     requires bit15_10 { bit15_10 < 2 ^ 6 }
     requires rn { IsVector rn }
     requires rd { IsVector rd }
-    requires form { NamedForm rows_of_vec_rrr (rrr_number top11 bit15_10 (register_field rd) (register_field rn) (register_field rm)) }
-    ensures { (named : NamedForm rows_of_vec_rrr (rrr_number top11 bit15_10 (register_field rd) (register_field rn) (register_field rm))) → result ≡ form_word named.form }
+    requires form { NamedForm rows_of_vec_rrr (vector_number top11 rm bit15_10 rn rd) }
+    ensures { (named : NamedForm rows_of_vec_rrr (vector_number top11 rm bit15_10 rn rd))
+        → result ≡ form_word named.form }
 {
     let (rm, rn, rd) = (
         vector_field(rm),
@@ -55,8 +55,8 @@ pub fn enc_asimd_mod_imm(rd: Writable<Reg>, q_op: u32, cmode: u32, imm: u8) -> u
     requires rd { IsVector rd }
     requires q_op { q_op < 4 }
     requires cmode { cmode < 16 }
-    ensures form { IsFormOf (vec_imm (record { q = q_op / 2; op = q_op % 2; abc = imm / 32; cmode = cmode; defgh = imm % 32; rd = register_field rd })) }
-    ensures word { result ≡ form_word (vec_imm (record { q = q_op / 2; op = q_op % 2; abc = imm / 32; cmode = cmode; defgh = imm % 32; rd = register_field rd })) }
+    ensures form { IsFormOf (mod_imm_form rd q_op cmode imm) }
+    ensures word { result ≡ form_word (mod_imm_form rd q_op cmode imm) }
 {
     let (abc, defgh) = (u32::from(imm / 32), u32::from(imm % 32));
     pack(

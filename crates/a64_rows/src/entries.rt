@@ -314,6 +314,7 @@ static ROWS: [Entry; 63] = [
 /// The table.
 #[inline(always)]
 pub(crate) fn rows() -> &'static [Entry]
+    ensures order { map (λ row. row.0) result.now ≡ all_rows }
     ensures fixed { map (λ row. row.1) result.now ≡ map fixed_of all_rows }
     ensures fields { map (λ row. row.2.now) result.now ≡ map fields_of all_rows }
 {

@@ -1,0 +1,74 @@
+-- The forms that the parameters of encoders name.
+use Rattle.std.specs.Prelude.{ℕ, ◌/◌, ◌%◌, Bool}
+use Rattle.a64_base.specs.declared.cond.Cond.{Cond}
+use Rattle.a64_base.specs.declared.reg.Reg.{Reg}
+use Rattle.a64_base.specs.declared.size.ScalarSize.{ScalarSize}
+use Rattle.a64_base.specs.Conditions.{condition_bits}
+use Rattle.a64_base.specs.ScalarSizes.{ftype_of}
+use Rattle.a64_imms.specs.declared.offset.SImm7Scaled.{SImm7Scaled}
+use Rattle.a64_rows.specs.Floats.{fp_compare, fp_select}
+use Rattle.a64_rows.specs.Forms.{Form}
+use Rattle.a64_rows.specs.Memory.{ld_st_pair}
+use Rattle.a64_rows.specs.Vectors.{vec_imm}
+use Rattle.a64_enc_int.specs.Named.{rrr_number}
+use Rattle.a64_enc_int.specs.Operators.{bit_of, simm7_field}
+use Rattle.a64_enc_int.specs.Registers.{register_field}
+use Rattle.a64_enc_vec.specs.RawBits.{fp_int_of, fp_one_of, fp_three_of, fp_two_of}
+
+abbrev pub fp_one_form : ℕ → Reg → Reg → Form
+fp_one_form top22 rd rn = fp_one_of top22 (register_field rd) (register_field rn)
+
+abbrev pub fp_two_form : ℕ → Reg → Reg → Reg → Form
+fp_two_form top22 rd rn rm = fp_two_of top22 (register_field rd) (register_field rn) (register_field rm)
+
+abbrev pub fp_three_form : ℕ → Reg → Reg → Reg → Reg → Form
+fp_three_form top17 rd rn rm ra =
+    fp_three_of top17 (register_field rd) (register_field rn) (register_field rm) (register_field ra)
+
+abbrev pub fp_int_form : ℕ → Reg → Reg → Form
+fp_int_form top16 rd rn = fp_int_of top16 (register_field rd) (register_field rn)
+
+abbrev pub fp_compare_form : ScalarSize → Reg → Reg → Form
+fp_compare_form size rn rm =
+    fp_compare (record { ftype = ftype_of size; rm = register_field rm; rn = register_field rn })
+
+abbrev pub fp_select_form : Reg → Reg → Reg → Cond → ScalarSize → Form
+fp_select_form rd rn rm cond size =
+    fp_select (record {
+      ftype = ftype_of size;
+      rm = register_field rm;
+      cond = condition_bits cond;
+      rn = register_field rn;
+      rd = register_field rd;
+    })
+
+-- a load or store of two vector registers
+abbrev pub vector_pair_form : ℕ → ℕ → Bool → SImm7Scaled → Reg → Reg → Reg → Form
+vector_pair_form opc amode is_load simm7 rn rt rt2 =
+    ld_st_pair (record {
+      opc = opc;
+      v = 1;
+      idx = amode;
+      load = bit_of is_load;
+      imm7 = simm7_field simm7;
+      rt2 = register_field rt2;
+      rn = register_field rn;
+      rt = register_field rt;
+    })
+
+-- a modified immediate
+abbrev pub mod_imm_form : Reg → ℕ → ℕ → ℕ → Form
+mod_imm_form rd q_op cmode imm =
+    vec_imm (record {
+      q = q_op / 2;
+      op = q_op % 2;
+      abc = imm / 32;
+      cmode = cmode;
+      defgh = imm % 32;
+      rd = register_field rd;
+    })
+
+-- the number of raw bits and three vector registers
+abbrev pub vector_number : ℕ → Reg → ℕ → Reg → Reg → ℕ
+vector_number top11 rm bit15_10 rn rd =
+    rrr_number top11 bit15_10 (register_field rd) (register_field rn) (register_field rm)
