@@ -15,11 +15,11 @@ use Rattle.a64_buffer.specs.Buffer.{Buffer, end_of, IsFree}
 use Rattle.a64_buffer.specs.Later.{IsSameUse}
 use Rattle.a64_buffer.specs.Leads as buffer
 use Rattle.a64_buffer.specs.Finished.{IsSettled, IsFinished}
-use Rattle.a64_emit.specs.declared.label_use.LabelUse.{LabelUse}
-use Rattle.a64_emit.specs.declared.label_use.LabelUse.TheVariants as uses
+use Rattle.a64_label_use.specs.declared.label_use.LabelUse.{LabelUse}
+use Rattle.a64_label_use.specs.declared.label_use.LabelUse.TheVariants as uses
 use Rattle.a64_emit.specs.declared.site.Site.{Site}
 use Rattle.a64_emit.specs.declared.code.Code.{Code}
-use Rattle.a64_emit.specs.LabelUses.{label_kinds, mask_for}
+use Rattle.a64_label_use.specs.LabelUses.{label_kinds, mask_for}
 use Rattle.a64_emit.specs.Cells.{Cell, cell_word}
 use Rattle.a64_emit.specs.Emission.{site_of, HasUse, IsPut}
 use Rattle.a64_emit.specs.Layout.{site_mask}

@@ -8,7 +8,7 @@ use Rattle.std.proofs.lemmas.List.{get_or_append_left, get_or_push, length-take-
 use Rattle.a64_buffer.specs.declared.force.ForceVeneers.{ForceVeneers}
 use Rattle.a64_buffer.specs.Buffer.{Buffer, end_of}
 use Rattle.a64_buffer.proofs.Labels.{get_here, get_other}
-use Rattle.a64_emit.specs.declared.label_use.LabelUse.{LabelUse}
+use Rattle.a64_label_use.specs.declared.label_use.LabelUse.{LabelUse}
 use Rattle.a64_assemble.specs.Elements.{Element, Binding, Words, Asking, element_at, is_bound_by, binds_number, AreBoundOnce}
 use Rattle.a64_assemble.specs.Asks.{Moves, IsFreeToBind}
 use Rattle.a64_assemble.specs.Stations.{HasLabels}

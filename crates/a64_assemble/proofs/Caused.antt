@@ -14,8 +14,8 @@ use Rattle.a64_buffer.specs.declared.force.ForceVeneers.TheVariants.{Yes}
 use Rattle.a64_buffer.specs.Buffer.{Buffer, end_of}
 use Rattle.a64_buffer.specs.Finished.{IsFinished}
 use Rattle.a64_emit.specs.declared.code.Code.{Code}
-use Rattle.a64_emit.specs.declared.label_use.LabelUse.{LabelUse}
-use Rattle.a64_emit.specs.LabelUses.{label_kinds}
+use Rattle.a64_label_use.specs.declared.label_use.LabelUse.{LabelUse}
+use Rattle.a64_label_use.specs.LabelUses.{label_kinds}
 use Rattle.a64_emit.specs.Emission.{site_of}
 use Rattle.a64_assemble.specs.Elements.{Element, element_of, elements_of}
 use Rattle.a64_assemble.specs.Stations.{IsIslandBehind}

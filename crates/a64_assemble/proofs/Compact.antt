@@ -25,9 +25,9 @@ use Rattle.a64_inst.specs.declared.mode.MemLabel.TheVariants.{PCRel, Mach, Pool}
 use Rattle.a64_inst.specs.Accesses.{access_of, access_type}
 use Rattle.a64_inst.specs.FinalModes.{final_mode, final_steps}
 use Rattle.a64_buffer.specs.Classes.{wants, level_of, range_of}
-use Rattle.a64_emit.specs.declared.label_use.LabelUse.TheVariants as uses
+use Rattle.a64_label_use.specs.declared.label_use.LabelUse.TheVariants as uses
 use Rattle.a64_emit.specs.declared.site.Site.{Site}
-use Rattle.a64_emit.specs.LabelUses.{label_kinds}
+use Rattle.a64_label_use.specs.LabelUses.{label_kinds}
 use Rattle.a64_emit.specs.ControlForms as control
 use Rattle.a64_emit.specs.MemoryForms.{step_forms, offset_register, access_form}
 use Rattle.a64_emit.specs.Cells.{Cell, FormOf, branch, branches, entry_site, table_labels, table_jump, mode_site, shape_cells, access_shape, other_shape, several, inst_cells, kept_by, keep, kept_cells, sites_of}

@@ -8,8 +8,8 @@ use Rattle.a64_buffer.specs.declared.force.ForceVeneers.{ForceVeneers}
 use Rattle.a64_buffer.specs.Buffer.{Buffer, end_of, label_of}
 use Rattle.a64_buffer.specs.Classes.{owed, owed_to}
 use Rattle.a64_buffer.specs.Sound.{IsWhole}
-use Rattle.a64_emit.specs.declared.label_use.LabelUse.{LabelUse}
-use Rattle.a64_emit.specs.LabelUses.{label_kinds}
+use Rattle.a64_label_use.specs.declared.label_use.LabelUse.{LabelUse}
+use Rattle.a64_label_use.specs.LabelUses.{label_kinds}
 use Rattle.a64_emit.specs.Emission.{site_of}
 use Rattle.a64_emit.specs.Reach.{is_near}
 use Rattle.a64_assemble.specs.Elements.{Element, Asking, growths_in, element_at}

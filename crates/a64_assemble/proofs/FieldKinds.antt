@@ -5,10 +5,10 @@ use Rattle.a64_buffer.specs.declared.site.Target.{Target}
 use Rattle.a64_buffer.specs.declared.site.Target.TheVariants.{Label, Constant, Trap, IslandEnd}
 use Rattle.a64_buffer.specs.Classes.{class_of, wants}
 use Rattle.a64_buffer.specs.Sound.{IsKinded}
-use Rattle.a64_emit.specs.declared.label_use.LabelUse.{LabelUse}
-use Rattle.a64_emit.specs.declared.label_use.LabelUse.TheVariants as uses
+use Rattle.a64_label_use.specs.declared.label_use.LabelUse.{LabelUse}
+use Rattle.a64_label_use.specs.declared.label_use.LabelUse.TheVariants as uses
 use Rattle.a64_emit.specs.declared.code.Code.{Code}
-use Rattle.a64_emit.specs.LabelUses.{label_kinds, adds_distance}
+use Rattle.a64_label_use.specs.LabelUses.{label_kinds, adds_distance}
 use Rattle.a64_emit.specs.Leads.{StopsAt}
 
 -- a use that replaces a field stops at one place

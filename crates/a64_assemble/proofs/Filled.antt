@@ -19,9 +19,9 @@ use Rattle.a64_buffer.specs.Classes.{class}
 use Rattle.a64_buffer.specs.Finished.{IsSettled}
 use Rattle.a64_buffer.specs.Pieces as pieces
 use Rattle.a64_emit.specs.declared.code.Code.{Code}
-use Rattle.a64_emit.specs.declared.label_use.LabelUse.{LabelUse}
-use Rattle.a64_emit.specs.declared.label_use.LabelUse.TheVariants as uses
-use Rattle.a64_emit.specs.LabelUses.{label_kinds, mask_for, distance_in}
+use Rattle.a64_label_use.specs.declared.label_use.LabelUse.{LabelUse}
+use Rattle.a64_label_use.specs.declared.label_use.LabelUse.TheVariants as uses
+use Rattle.a64_label_use.specs.LabelUses.{label_kinds, mask_for, distance_in}
 use Rattle.a64_emit.specs.Emission.{site_of}
 use Rattle.a64_emit.specs.Contents.{piece_size, piece_stop, StandsFor, Fills}
 

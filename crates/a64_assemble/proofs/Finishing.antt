@@ -14,8 +14,8 @@ use Rattle.a64_buffer.specs.Classes.{wants, class, class_of}
 use Rattle.a64_buffer.specs.Finished.{IsFinished}
 use Rattle.a64_buffer.specs.Leads.{TargetLeads}
 use Rattle.a64_buffer.proofs.Laters.{later_trans}
-use Rattle.a64_emit.specs.declared.label_use.LabelUse.{LabelUse}
-use Rattle.a64_emit.specs.LabelUses.{label_kinds}
+use Rattle.a64_label_use.specs.declared.label_use.LabelUse.{LabelUse}
+use Rattle.a64_label_use.specs.LabelUses.{label_kinds}
 use Rattle.a64_emit.specs.Layout.{standing}
 use Rattle.a64_emit.specs.Emission.{IsPut}
 use Rattle.a64_assemble.specs.Elements.{Element, Binding, Words, Asking, cells_in, size_in, whole_in, is_asking, element_at}

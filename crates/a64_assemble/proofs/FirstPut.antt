@@ -9,8 +9,8 @@ use Rattle.a64_buffer.specs.declared.force.ForceVeneers.{ForceVeneers}
 use Rattle.a64_buffer.specs.Buffer.{Buffer, end_of, no_records}
 use Rattle.a64_buffer.specs.Later.{IsLater}
 use Rattle.a64_buffer.specs.Sound.{IsWhole}
-use Rattle.a64_emit.specs.declared.label_use.LabelUse.{LabelUse}
-use Rattle.a64_emit.specs.LabelUses.{label_kinds}
+use Rattle.a64_label_use.specs.declared.label_use.LabelUse.{LabelUse}
+use Rattle.a64_label_use.specs.LabelUses.{label_kinds}
 use Rattle.a64_emit.specs.Bounds.{whole}
 use Rattle.a64_emit.specs.Faults.{second_binding}
 use Rattle.a64_assemble.specs.Elements.{Element, Asking, element_of, elements_of, element_at}

@@ -16,10 +16,10 @@ use Rattle.a64_buffer.specs.Sound.{IsPlaced, IsWhole}
 use Rattle.a64_buffer.proofs.Emitting.{stops_below}
 use Rattle.a64_buffer.proofs.Laters.{later_none, later_trans}
 use Rattle.a64_buffer.proofs.Rooms.{widest}
-use Rattle.a64_emit.specs.declared.label_use.LabelUse.{LabelUse}
-use Rattle.a64_emit.specs.declared.label_use.LabelUse.TheVariants as uses
-use Rattle.a64_emit.specs.LabelUses.{label_kinds}
-use Rattle.a64_emit.specs.LabelLaws.{label_kinds_lawful}
+use Rattle.a64_label_use.specs.declared.label_use.LabelUse.{LabelUse}
+use Rattle.a64_label_use.specs.declared.label_use.LabelUse.TheVariants as uses
+use Rattle.a64_label_use.specs.LabelUses.{label_kinds}
+use Rattle.a64_label_use.specs.LabelLaws.{label_kinds_lawful}
 use Rattle.a64_assemble.specs.Elements.{Element, Binding, Words, Asking, is_asking, is_bound_by, element_at}
 use Rattle.a64_assemble.specs.Asks.{Moves}
 use Rattle.a64_assemble.specs.Stations.{HasLabels}

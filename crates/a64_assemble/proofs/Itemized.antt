@@ -24,8 +24,8 @@ use Rattle.a64_emit.specs.Cells.{sites_of, cells_of, all_cells}
 use Rattle.a64_emit.specs.Bounds.{veneer_range, ranges_in, lesser, least, growth_of, item_size, item_charge, whole}
 use Rattle.a64_emit.specs.Faults.{used_label, second_binding, unbound_use}
 use Rattle.a64_emit.specs.Reach.{binds, span, is_unforced, needs_near, near_label, is_near, far_label, sizes, charges, is_quiet, is_loose, loose, reach, first_far_from}
-use Rattle.a64_emit.specs.LabelUses.{label_kinds, has_veneer, forward_range}
-use Rattle.a64_emit.specs.LabelLaws.{label_kinds_lawful}
+use Rattle.a64_label_use.specs.LabelUses.{label_kinds, has_veneer, forward_range}
+use Rattle.a64_label_use.specs.LabelLaws.{label_kinds_lawful}
 use Rattle.a64_assemble.specs.Progress.{AreQuiet}
 use Rattle.a64_emit.proofs.Burdens.{open_range}
 use Rattle.a64_buffer.specs.Classes.{wants}

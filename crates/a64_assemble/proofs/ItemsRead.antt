@@ -11,9 +11,9 @@ use Rattle.a64_buffer.specs.Word.{word_at}
 use Rattle.a64_buffer.specs.Buffer.{Buffer, IsFree}
 use Rattle.a64_buffer.specs.Finished.{IsFinished}
 use Rattle.a64_emit.specs.declared.code.Code.{Code}
-use Rattle.a64_emit.specs.declared.label_use.LabelUse.{LabelUse}
+use Rattle.a64_label_use.specs.declared.label_use.LabelUse.{LabelUse}
 use Rattle.a64_emit.specs.declared.site.Site.{Site}
-use Rattle.a64_emit.specs.LabelUses.{label_kinds}
+use Rattle.a64_label_use.specs.LabelUses.{label_kinds}
 use Rattle.a64_emit.specs.Cells.{Cell, cell_word, cells_of}
 use Rattle.a64_emit.specs.Emission.{HasUse}
 use Rattle.a64_emit.specs.FormCells.{IsFormCell, RestoresHalfwords, HoldsHalfword}

@@ -5,7 +5,7 @@ use Rattle.std.proofs.lemmas.Bool.{cases_eq}
 use Rattle.std.proofs.lemmas.List.{get_or_append_left, get_or_push, length_push, append-nil}
 use Rattle.std.proofs.lemmas.List.Elements.{All-push, All-same, Contains-push, Contains-append_left}
 use Rattle.a64_buffer.specs.Buffer.{Buffer, end_of}
-use Rattle.a64_emit.specs.declared.label_use.LabelUse.{LabelUse}
+use Rattle.a64_label_use.specs.declared.label_use.LabelUse.{LabelUse}
 use Rattle.a64_assemble.specs.Elements.{Element, size_in, hosts, element_at}
 use Rattle.a64_assemble.specs.Stations.{end_of_element, IsIslandBehind, IsFollowedIn, StandsOnceIn, IsLaid}
 use Rattle.a64_assemble.proofs.Moving.{Extends}

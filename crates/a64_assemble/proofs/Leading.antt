@@ -15,9 +15,9 @@ use Rattle.a64_buffer.specs.Buffer.{Buffer, end_of, IsFree}
 use Rattle.a64_buffer.specs.Sound.{IsTrap}
 use Rattle.a64_buffer.specs.Finished.{IsFinished}
 use Rattle.a64_emit.specs.declared.code.Code.{Code}
-use Rattle.a64_emit.specs.declared.label_use.LabelUse.{LabelUse}
+use Rattle.a64_label_use.specs.declared.label_use.LabelUse.{LabelUse}
 use Rattle.a64_emit.specs.declared.site.Site.{Site}
-use Rattle.a64_emit.specs.LabelUses.{label_kinds, adds_distance}
+use Rattle.a64_label_use.specs.LabelUses.{label_kinds, adds_distance}
 use Rattle.a64_emit.specs.Cells.{Cell, cell_word, inst_cells, kept_by, cells_of, sites_of}
 use Rattle.a64_emit.specs.Emission.{HasUse, IsPut}
 use Rattle.a64_emit.specs.Layout.{standing}

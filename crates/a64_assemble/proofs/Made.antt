@@ -11,8 +11,8 @@ use Rattle.a64_buffer.specs.Classes.{owed}
 use Rattle.a64_buffer.specs.Sound.{IsKinded}
 use Rattle.a64_emit.specs.declared.code.Code.{Code}
 use Rattle.a64_emit.specs.declared.error.EmitError.TheVariants.{OutOfReach}
-use Rattle.a64_emit.specs.declared.label_use.LabelUse.{LabelUse}
-use Rattle.a64_emit.specs.LabelUses.{label_kinds}
+use Rattle.a64_label_use.specs.declared.label_use.LabelUse.{LabelUse}
+use Rattle.a64_label_use.specs.LabelUses.{label_kinds}
 use Rattle.a64_emit.specs.Bounds.{whole}
 use Rattle.a64_emit.specs.Cells.{cells_of, sites_of, all_cells}
 use Rattle.a64_emit.specs.FormCells.{RestoresHalfwords, HoldsHalfword}

@@ -11,8 +11,8 @@ use Rattle.a64_buffer.specs.Sound.{IsWhole}
 use Rattle.a64_buffer.specs.Later.{IsLater}
 use Rattle.a64_buffer.specs.Islands.{HasIsland}
 use Rattle.a64_buffer.proofs.Laters.{later_none, later_trans}
-use Rattle.a64_emit.specs.declared.label_use.LabelUse.{LabelUse}
-use Rattle.a64_emit.specs.LabelUses.{label_kinds}
+use Rattle.a64_label_use.specs.declared.label_use.LabelUse.{LabelUse}
+use Rattle.a64_label_use.specs.LabelUses.{label_kinds}
 use Rattle.a64_emit.specs.Cells.{Cell}
 use Rattle.a64_emit.specs.Emission.{appended}
 use Rattle.a64_assemble.specs.Elements.{Element, Binding, Words, Asking, size_in, hosts, next_room, ahead, element_at}

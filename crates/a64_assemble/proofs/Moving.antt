@@ -19,10 +19,10 @@ use Rattle.a64_buffer.proofs.Laters.{same_use, later_none, later_trans}
 use Rattle.a64_buffer.proofs.Rooms.{open_wants, less_room, end_room}
 use Rattle.a64_buffer.proofs.Sounds.{bind_weight, bind_room}
 use Rattle.a64_buffer.proofs.Sounds as sounds
-use Rattle.a64_emit.specs.declared.label_use.LabelUse.{LabelUse}
+use Rattle.a64_label_use.specs.declared.label_use.LabelUse.{LabelUse}
 use Rattle.a64_emit.specs.declared.site.Site.{Site}
-use Rattle.a64_emit.specs.LabelUses.{label_kinds}
-use Rattle.a64_emit.specs.LabelLaws.{label_kinds_lawful}
+use Rattle.a64_label_use.specs.LabelUses.{label_kinds}
+use Rattle.a64_label_use.specs.LabelLaws.{label_kinds_lawful}
 use Rattle.a64_emit.specs.Cells.{Cell, Data, no_marks, cell_word, sites_of}
 use Rattle.a64_emit.specs.Bounds.{ranges_in, size_of, charge_of}
 use Rattle.a64_emit.specs.Layout.{placed, relocs_in, calls_in, patchable_in, maps_in, traps_in}

@@ -27,10 +27,10 @@ use Rattle.a64_inst.specs.declared.mode.MemLabel.TheVariants.{PCRel, Mach, Pool}
 use Rattle.a64_inst.specs.Accesses.{access_of, access_type}
 use Rattle.a64_inst.specs.FinalModes.{final_mode, final_steps}
 use Rattle.a64_rows.specs.Forms.{Form}
-use Rattle.a64_emit.specs.declared.label_use.LabelUse.{LabelUse}
-use Rattle.a64_emit.specs.declared.label_use.LabelUse.TheVariants as uses
+use Rattle.a64_label_use.specs.declared.label_use.LabelUse.{LabelUse}
+use Rattle.a64_label_use.specs.declared.label_use.LabelUse.TheVariants as uses
 use Rattle.a64_emit.specs.declared.site.Site.{Site}
-use Rattle.a64_emit.specs.LabelUses.{mask_for}
+use Rattle.a64_label_use.specs.LabelUses.{mask_for}
 use Rattle.a64_emit.specs.IntegerForms.{adr_form}
 use Rattle.a64_emit.specs.ControlForms.{jump_form, cond_br_form, trap_if_form, test_bit_and_branch_form, label_address_form}
 use Rattle.a64_emit.specs.MemoryForms.{step_forms, offset_register, literal_form, held_form, access_steps, access_form}

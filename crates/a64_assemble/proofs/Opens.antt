@@ -12,9 +12,9 @@ use Rattle.a64_buffer.specs.Classes.{Level, level_of, cost, wants, class, range_
 use Rattle.a64_buffer.specs.Later.{IsSameUse, IsLater}
 use Rattle.a64_buffer.specs.Sound.{IsRightlyOpen, IsStop, IsWhole}
 use Rattle.a64_buffer.proofs.Rooms.{open_wants, open_stop, wanting_range, few_bytes}
-use Rattle.a64_emit.specs.declared.label_use.LabelUse.{LabelUse}
-use Rattle.a64_emit.specs.LabelUses.{label_kinds}
-use Rattle.a64_emit.specs.LabelLaws.{label_kinds_lawful}
+use Rattle.a64_label_use.specs.declared.label_use.LabelUse.{LabelUse}
+use Rattle.a64_label_use.specs.LabelUses.{label_kinds}
+use Rattle.a64_label_use.specs.LabelLaws.{label_kinds_lawful}
 use Rattle.a64_assemble.specs.Elements.{Element, is_bound_by}
 use Rattle.a64_assemble.specs.OpenUses.{stops_from, is_place, stops_at_label, is_open_in, is_open_at, open_at, SomeOpenAt, Needs}
 

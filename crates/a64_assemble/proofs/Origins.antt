@@ -12,9 +12,9 @@ use Rattle.a64_buffer.specs.declared.force.ForceVeneers.TheVariants.{No}
 use Rattle.a64_buffer.specs.Buffer.{Buffer, end_of, label_of, closed_at}
 use Rattle.a64_buffer.specs.Later.{IsSameUse}
 use Rattle.a64_buffer.specs.Islands.{IsNewUse}
-use Rattle.a64_emit.specs.declared.label_use.LabelUse.{LabelUse}
-use Rattle.a64_emit.specs.declared.label_use.LabelUse.TheVariants as uses
-use Rattle.a64_emit.specs.LabelUses.{label_kinds}
+use Rattle.a64_label_use.specs.declared.label_use.LabelUse.{LabelUse}
+use Rattle.a64_label_use.specs.declared.label_use.LabelUse.TheVariants as uses
+use Rattle.a64_label_use.specs.LabelUses.{label_kinds}
 use Rattle.a64_emit.specs.Cells.{Cell, sites_of}
 use Rattle.a64_emit.specs.Emission.{uses_from, appended, site_of}
 use Rattle.a64_emit.specs.Reach.{is_near}

@@ -10,8 +10,8 @@ use Rattle.a64_buffer.specs.declared.site.Target.TheVariants.{Label, Constant, T
 use Rattle.a64_buffer.specs.Buffer.{Buffer}
 use Rattle.a64_buffer.specs.Classes.{class, class_of}
 use Rattle.a64_buffer.specs.Pieces as pieces
-use Rattle.a64_emit.specs.declared.label_use.LabelUse.{LabelUse}
-use Rattle.a64_emit.specs.LabelUses.{label_kinds}
+use Rattle.a64_label_use.specs.declared.label_use.LabelUse.{LabelUse}
+use Rattle.a64_label_use.specs.LabelUses.{label_kinds}
 use Rattle.a64_assemble.proofs.Marked.{AreBetween, one_more}
 
 module _ (b : Buffer LabelUse) where

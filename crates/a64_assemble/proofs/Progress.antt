@@ -9,8 +9,8 @@ use Rattle.a64_buffer.specs.Buffer.{Buffer, end_of}
 use Rattle.a64_buffer.specs.Classes.{third, burden, owed, Fits}
 use Rattle.a64_buffer.specs.Later.{IsLater}
 use Rattle.a64_buffer.specs.Sound.{IsWhole}
-use Rattle.a64_emit.specs.declared.label_use.LabelUse.{LabelUse}
-use Rattle.a64_emit.specs.LabelUses.{label_kinds}
+use Rattle.a64_label_use.specs.declared.label_use.LabelUse.{LabelUse}
+use Rattle.a64_label_use.specs.LabelUses.{label_kinds}
 use Rattle.a64_assemble.specs.Elements.{Element, Asking, growth_in, space_in, growths_in, whole_in, room_of, element_at}
 use Rattle.a64_assemble.specs.Asks.{Moves, MayMove, NeedsNone}
 use Rattle.a64_assemble.specs.OpenUses.{WasAsked, UseIsQuiet}

@@ -15,8 +15,8 @@ use Rattle.a64_buffer.specs.Sound.{IsWhole}
 use Rattle.a64_buffer.specs.Islands.{IsBeforePromotion, LeavesFar, HasIsland}
 use Rattle.a64_buffer.proofs.Laters.{later_trans, was_open}
 use Rattle.a64_buffer.proofs.Rooms.{open_wants, open_stop, few_bytes}
-use Rattle.a64_emit.specs.declared.label_use.LabelUse.{LabelUse}
-use Rattle.a64_emit.specs.LabelUses.{label_kinds}
+use Rattle.a64_label_use.specs.declared.label_use.LabelUse.{LabelUse}
+use Rattle.a64_label_use.specs.LabelUses.{label_kinds}
 use Rattle.a64_assemble.specs.Elements.{Element, is_bound_by}
 use Rattle.a64_assemble.specs.OpenUses.{stops_from, is_open_in, is_open_at, SomeOpenAt, Needs, NeedsFar, StopsIn, IsLate, Holds, IsCaused, WasAsked}
 use Rattle.a64_assemble.proofs.Opens.{OpenParts, open_parts, parts_open, from_stop, from_to, counts_le, burden_open, misfit, at_bound, at_label, stop_at, some_place, goal_is, still_open, needs_from, some_from}

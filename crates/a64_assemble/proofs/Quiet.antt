@@ -11,9 +11,9 @@ use Rattle.a64_buffer.specs.Buffer.{Buffer, end_of, closed_at}
 use Rattle.a64_buffer.specs.Classes.{level_of, class, owed, Fits}
 use Rattle.a64_buffer.proofs.Costs.{burden_third}
 use Rattle.a64_buffer.proofs.Rooms.{open_wants}
-use Rattle.a64_emit.specs.declared.label_use.LabelUse.{LabelUse}
-use Rattle.a64_emit.specs.declared.label_use.LabelUse.TheVariants as uses
-use Rattle.a64_emit.specs.LabelUses.{label_kinds}
+use Rattle.a64_label_use.specs.declared.label_use.LabelUse.{LabelUse}
+use Rattle.a64_label_use.specs.declared.label_use.LabelUse.TheVariants as uses
+use Rattle.a64_label_use.specs.LabelUses.{label_kinds}
 use Rattle.a64_emit.specs.Cells.{Cell, sites_of}
 use Rattle.a64_emit.specs.Bounds.{size_of, charge_of}
 use Rattle.a64_emit.specs.Emission.{uses_from, appended}

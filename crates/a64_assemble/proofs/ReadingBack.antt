@@ -18,9 +18,9 @@ use Rattle.a64_rows.proofs.Masks.{under_both}
 use Rattle.a64_rows.proofs.Table.{row_sound}
 use Rattle.a64_rows.proofs.Matching.{word_values, word_fixed, one_form, match_is_word}
 use Rattle.a64_buffer.specs.Word.{outside, word_at}
-use Rattle.a64_emit.specs.declared.label_use.LabelUse.TheVariants as uses
+use Rattle.a64_label_use.specs.declared.label_use.LabelUse.TheVariants as uses
 use Rattle.a64_emit.specs.declared.site.Site.{Site}
-use Rattle.a64_emit.specs.LabelUses.{mask_for}
+use Rattle.a64_label_use.specs.LabelUses.{mask_for}
 use Rattle.a64_emit.specs.Cells.{Body, FormOf, Data, Cell, body_word, cell_word}
 use Rattle.a64_emit.specs.Layout.{site_mask, Stands}
 use Rattle.a64_emit.specs.FormCells.{IsFormBody, IsFormCell}

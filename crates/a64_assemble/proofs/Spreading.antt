@@ -8,8 +8,8 @@ use Rattle.a64_buffer.specs.declared.site.Use.{Use}
 use Rattle.a64_buffer.specs.declared.force.ForceVeneers.{ForceVeneers}
 use Rattle.a64_buffer.specs.Buffer.{Buffer, end_of}
 use Rattle.a64_buffer.specs.Classes.{third, cost, weigh, owed, owed_to, Fits}
-use Rattle.a64_emit.specs.declared.label_use.LabelUse.{LabelUse}
-use Rattle.a64_emit.specs.LabelUses.{label_kinds}
+use Rattle.a64_label_use.specs.declared.label_use.LabelUse.{LabelUse}
+use Rattle.a64_label_use.specs.LabelUses.{label_kinds}
 use Rattle.a64_assemble.specs.Elements.{Element, Asking, size_in, growth_in, growths_in, element_at}
 use Rattle.a64_assemble.specs.Asks.{Moves}
 use Rattle.a64_assemble.specs.LooseUses.{alive, loads_in, loose_in, is_waiting, waiting_cost, waiting_from, IsBehind, AreSpread}

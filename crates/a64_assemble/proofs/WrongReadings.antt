@@ -6,8 +6,8 @@ use Rattle.a64_rows.specs.declared.row_table.Slot.{Slot}
 use Rattle.a64_rows.specs.declared.row_table.Slot.TheVariants.{Bits}
 use Rattle.a64_rows.specs.Rows.{slots_of}
 use Rattle.a64_rows.specs.Forms.{Form, form, IsWordOf, mask_of}
-use Rattle.a64_emit.specs.declared.label_use.LabelUse.TheVariants as uses
-use Rattle.a64_emit.specs.LabelUses.{mask_for}
+use Rattle.a64_label_use.specs.declared.label_use.LabelUse.TheVariants as uses
+use Rattle.a64_label_use.specs.LabelUses.{mask_for}
 use Rattle.a64_assemble.specs.ReadBack.{IsReadForm}
 
 -- a word of another row

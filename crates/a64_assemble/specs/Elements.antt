@@ -7,7 +7,7 @@ use Rattle.a64_inst.specs.declared.frame.FrameLayout.{FrameLayout}
 use Rattle.a64_inst.specs.declared.item.Item.{Item}
 use Rattle.a64_inst.specs.declared.item.Item.TheVariants.{Bind, Emit}
 use Rattle.a64_buffer.specs.Classes.{wants, level_of, range_of}
-use Rattle.a64_emit.specs.LabelUses.{label_kinds}
+use Rattle.a64_label_use.specs.LabelUses.{label_kinds}
 use Rattle.a64_emit.specs.Cells.{Cell, kept_cells, sites_of}
 use Rattle.a64_emit.specs.Bounds.{ranges_in, size_of, charge_of, asked}
 use Rattle.a64_emit.specs.Contents.{site_class}

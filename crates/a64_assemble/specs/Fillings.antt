@@ -12,7 +12,7 @@ use Rattle.a64_buffer.specs.Buffer.{is_within}
 use Rattle.a64_buffer.specs.Pieces.{constant_of}
 use Rattle.a64_emit.specs.declared.code.Code.{Code}
 use Rattle.a64_emit.specs.declared.site.Site.{Site}
-use Rattle.a64_emit.specs.LabelUses.{label_kinds}
+use Rattle.a64_label_use.specs.LabelUses.{label_kinds}
 use Rattle.a64_emit.specs.Layout.{IsIslandAfter}
 use Rattle.a64_emit.specs.Contents.{ComesBefore, IsCellUse, Fills, IsFarOff}
 use Rattle.a64_assemble.specs.Placement.{standing_cells, UseStopsAt, IsWanting, IsOpenIn}

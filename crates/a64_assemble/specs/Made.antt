@@ -12,8 +12,8 @@ use Rattle.a64_buffer.specs.Constants.{AreConstants}
 use Rattle.a64_buffer.specs.Finished.{IsFinished}
 use Rattle.a64_buffer.specs.Sound.{IsWhole}
 use Rattle.a64_emit.specs.declared.code.Code.{Code}
-use Rattle.a64_emit.specs.declared.label_use.LabelUse.{LabelUse}
-use Rattle.a64_emit.specs.LabelUses.{label_kinds}
+use Rattle.a64_label_use.specs.declared.label_use.LabelUse.{LabelUse}
+use Rattle.a64_label_use.specs.LabelUses.{label_kinds}
 use Rattle.a64_assemble.specs.Elements.{Element, elements_of}
 use Rattle.a64_assemble.specs.Progress.{HasPut, HasDistances}
 use Rattle.a64_assemble.specs.Owners.{AreOwned}

@@ -10,7 +10,7 @@ use Rattle.a64_inst.specs.declared.emission.EmitFlags.{EmitFlags}
 use Rattle.a64_inst.specs.declared.frame.FrameLayout.{FrameLayout}
 use Rattle.a64_inst.specs.declared.item.Item.{Item}
 use Rattle.a64_emit.specs.declared.site.Site.{Site}
-use Rattle.a64_emit.specs.LabelUses.{has_veneer}
+use Rattle.a64_label_use.specs.LabelUses.{has_veneer}
 use Rattle.a64_emit.specs.Cells.{cells_of, sites_of}
 use Rattle.a64_emit.specs.Bounds.{whole}
 use Rattle.a64_emit.specs.Reach.{binds, binding_index, sizes, charges}

@@ -4,7 +4,7 @@ ghost use Rattle.std.specs.Prelude.{◌≡◌, ◌⊎◌, ◌+◌, ◌-◌, ◌^
 ghost use Rattle.a64_buffer.specs.Buffer.{end_of};
 ghost use Rattle.a64_buffer.specs.Classes.{owed, Fits};
 ghost use Rattle.a64_buffer.specs.declared.force.ForceVeneers.TheVariants.{Yes};
-ghost use Rattle.a64_emit.specs.LabelUses.{label_kinds};
+ghost use Rattle.a64_label_use.specs.LabelUses.{label_kinds};
 ghost use Rattle.a64_assemble.specs.Asks.{Asks};
 
 use a64_buffer::{ForceVeneers, MachBuffer};

@@ -10,7 +10,7 @@ ghost use Rattle.a64_buffer.specs.Classes.{owed};
 ghost use Rattle.a64_emit.specs.Bounds as bounds;
 ghost use Rattle.a64_emit.specs.Bounds.{whole};
 ghost use Rattle.a64_emit.specs.Faults.{item_fault, own_fault, second_binding};
-ghost use Rattle.a64_emit.specs.LabelUses.{label_kinds};
+ghost use Rattle.a64_label_use.specs.LabelUses.{label_kinds};
 ghost use Rattle.a64_assemble.specs.Asks.{AsksNext, MayMove, Moves, NeedsNone};
 ghost use Rattle.a64_assemble.specs.Elements as elements;
 ghost use Rattle.a64_assemble.specs.Elements.{BoundsRooms, element_of, elements_of, room_of, whole_in};

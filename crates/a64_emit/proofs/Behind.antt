@@ -4,8 +4,8 @@ use Rattle.std.proofs.lemmas.List.{map-append}
 use Rattle.a64_buffer.specs.Buffer.{Buffer, end_of}
 use Rattle.a64_buffer.specs.Classes.{Fits}
 use Rattle.a64_rows.specs.Forms.{Form, form_word}
-use Rattle.a64_emit.specs.declared.label_use.LabelUse.{LabelUse}
-use Rattle.a64_emit.specs.LabelUses.{label_kinds}
+use Rattle.a64_label_use.specs.declared.label_use.LabelUse.{LabelUse}
+use Rattle.a64_label_use.specs.LabelUses.{label_kinds}
 use Rattle.a64_emit.specs.Cells.{Cell, plain}
 use Rattle.a64_emit.specs.Emission.{appended, PutsInPart, IsAppendedInPart, HasRoom, CellsFit}
 use Rattle.a64_emit.specs.Words.{as_put}

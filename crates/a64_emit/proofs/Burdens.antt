@@ -15,10 +15,10 @@ use Rattle.a64_buffer.specs.Buffer.{made_use}
 use Rattle.a64_buffer.specs.Sound.{IsKinded}
 use Rattle.a64_buffer.specs.Classes.{third, cost, wants, class_of, is_open, weigh, burden}
 use Rattle.a64_buffer.proofs.Costs.{weight-cons}
-use Rattle.a64_emit.specs.declared.label_use.LabelUse.{LabelUse}
-use Rattle.a64_emit.specs.declared.label_use.LabelUse.TheVariants as uses
+use Rattle.a64_label_use.specs.declared.label_use.LabelUse.{LabelUse}
+use Rattle.a64_label_use.specs.declared.label_use.LabelUse.TheVariants as uses
 use Rattle.a64_emit.specs.declared.site.Site.{Site}
-use Rattle.a64_emit.specs.LabelUses.{label_kinds, urgency_of, forward_range}
+use Rattle.a64_label_use.specs.LabelUses.{label_kinds, urgency_of, forward_range}
 use Rattle.a64_emit.specs.Cells.{Cell, inst_cells, kept_by, cells_of, all_cells, sites_of}
 use Rattle.a64_emit.specs.Bounds.{veneer_range, ranges_in, charge_of}
 use Rattle.a64_emit.proofs.Keeping.{keep_sites}

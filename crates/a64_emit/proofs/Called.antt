@@ -9,8 +9,8 @@ use Rattle.a64_buffer.specs.Classes.{Fits}
 use Rattle.a64_rows.specs.Forms.{form_word}
 use Rattle.a64_emit.specs.declared.call.Callee.{Callee}
 use Rattle.a64_emit.specs.declared.call.Callee.TheVariants.{Symbol, Address}
-use Rattle.a64_emit.specs.declared.label_use.LabelUse.{LabelUse}
-use Rattle.a64_emit.specs.LabelUses.{label_kinds}
+use Rattle.a64_label_use.specs.declared.label_use.LabelUse.{LabelUse}
+use Rattle.a64_label_use.specs.LabelUses.{label_kinds}
 use Rattle.a64_emit.specs.Cells.{Data, Cell, call_marks, cell_word, plain, pop_forms, call_form, call_cell, patchable_cells, return_form, return_cell, keep}
 use Rattle.a64_emit.specs.Layout.{placed, relocs_in, calls_in, patchable_in, maps_in, traps_in}
 use Rattle.a64_emit.specs.Emission.{uses_from, appended, linked, mapped, Parts, IsAppendedInPart, CellsFit}

@@ -19,7 +19,7 @@ use Rattle.a64_inst.specs.MemoryOperands.{is_addend}
 use Rattle.a64_inst.specs.Operands.{is_same_register}
 use Rattle.a64_rows.specs.Forms.{Form}
 use Rattle.a64_buffer.specs.Buffer.{Buffer}
-use Rattle.a64_emit.specs.declared.label_use.LabelUse.{LabelUse}
+use Rattle.a64_label_use.specs.declared.label_use.LabelUse.{LabelUse}
 use Rattle.a64_emit.specs.IntegerForms.{mov_form}
 use Rattle.a64_emit.specs.MemoryForms.{step_forms, addend_form, addend_register, sum_form, offset_register}
 use Rattle.a64_emit.specs.Bounds.{asked_of}

@@ -44,8 +44,8 @@ use Rattle.a64_rows.specs.Forms.{Form, IsFormOf}
 use Rattle.a64_enc_int.specs.Registers.{register_field}
 use Rattle.a64_emit.specs.declared.call.Callee.{Callee}
 use Rattle.a64_emit.specs.declared.call.Callee.TheVariants.{Symbol, Address}
-use Rattle.a64_emit.specs.declared.label_use.LabelUse.{LabelUse}
-use Rattle.a64_emit.specs.declared.label_use.LabelUse.TheVariants as uses
+use Rattle.a64_label_use.specs.declared.label_use.LabelUse.{LabelUse}
+use Rattle.a64_label_use.specs.declared.label_use.LabelUse.TheVariants as uses
 use Rattle.a64_emit.specs.Cells.{Cell, Shape, OneWord, Several, Words, FormOf, Data, plain, trap_site, last_cell, branch, branches, data_cell, quiet, sum_shape, address_shape, access_shape, plain_shape, other_shape, shape_of, shape_cells, inst_cells, cells_of, pop_forms, call_cell, call_cells, patchable_cells, result_cells, lone_cell, restored_cell, leave_forms, return_cell, return_cells, keep, kept_by}
 use Rattle.a64_emit.specs.FormCells.{IsFormBody, IsFormCell, HasHalfword, RestoresHalfwords, HoldsHalfword}
 use Rattle.a64_emit.specs.Faults.{item_fault}

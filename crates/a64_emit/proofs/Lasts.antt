@@ -10,9 +10,9 @@ use Rattle.a64_buffer.specs.declared.site.Use.{Use}
 use Rattle.a64_buffer.specs.Buffer.{Buffer, end_of, made_use, no_records}
 use Rattle.a64_buffer.specs.Classes as classes
 use Rattle.a64_buffer.specs.Classes.{Fits}
-use Rattle.a64_emit.specs.declared.label_use.LabelUse.{LabelUse}
+use Rattle.a64_label_use.specs.declared.label_use.LabelUse.{LabelUse}
 use Rattle.a64_emit.specs.declared.site.Site.{Site}
-use Rattle.a64_emit.specs.LabelUses.{label_kinds}
+use Rattle.a64_label_use.specs.LabelUses.{label_kinds}
 use Rattle.a64_emit.specs.Cells.{Data, Cell, cell_word, reloc_cell}
 use Rattle.a64_emit.specs.Layout.{placed, relocs_in, calls_in, patchable_in, maps_in, traps_in, records_in, more_records}
 use Rattle.a64_emit.specs.Emission.{uses_from, appended, trapped, PutsInPart, IsAppendedInPart, HasRoom, CellsFit}

@@ -40,6 +40,4 @@ pub mod SequenceForms
 pub mod InstForms
 pub mod Shapes
 pub mod WrongAnswers
-pub mod FarJumps
-pub mod TwoFields
 pub mod Lights

@@ -22,8 +22,8 @@ use Rattle.a64_inst.specs.FinalModes.{final_mode, final_steps}
 use Rattle.a64_inst.specs.Groups.{group_of}
 use Rattle.a64_buffer.specs.declared.site.Target.{Target}
 use Rattle.a64_buffer.specs.declared.site.Target.TheVariants.{Label, Constant, Trap, IslandEnd}
-use Rattle.a64_emit.specs.declared.label_use.LabelUse.{LabelUse}
-use Rattle.a64_emit.specs.declared.label_use.LabelUse.TheVariants as uses
+use Rattle.a64_label_use.specs.declared.label_use.LabelUse.{LabelUse}
+use Rattle.a64_label_use.specs.declared.label_use.LabelUse.TheVariants as uses
 use Rattle.a64_emit.specs.declared.site.Site.{Site}
 use Rattle.a64_emit.specs.MemoryForms.{step_forms, offset_register, access_steps, access_form}
 use Rattle.a64_emit.specs.Cells.{FormOf, table_labels, entry_site, table_jump, branch_site, trap_site, mode_site, shape_cells, access_shape, other_shape, inst_cells, sites_of}

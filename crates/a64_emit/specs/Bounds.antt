@@ -10,7 +10,7 @@ use Rattle.a64_inst.specs.declared.item.Item.{Item}
 use Rattle.a64_inst.specs.declared.item.Item.TheVariants.{Bind, Emit}
 use Rattle.a64_buffer.specs.declared.site.Target.TheVariants.{Label, Constant, Trap, IslandEnd}
 use Rattle.a64_emit.specs.declared.site.Site.{Site}
-use Rattle.a64_emit.specs.LabelUses.{forward_range, has_veneer}
+use Rattle.a64_label_use.specs.LabelUses.{forward_range, has_veneer}
 use Rattle.a64_emit.specs.Cells.{Cell, sites_of, cells_of, all_cells}
 
 -- the forward range of a use that may want something of an island: a use of a label, of a kind that

@@ -11,9 +11,9 @@ use Rattle.a64_buffer.specs.Classes.{class_of, rank_of}
 use Rattle.a64_buffer.specs.Pieces.{padding, constant_of, content_of, copy_words}
 use Rattle.a64_buffer.specs.Word.{outside, word_at, StandAt}
 use Rattle.a64_emit.specs.declared.code.Code.{Code}
-use Rattle.a64_emit.specs.declared.label_use.LabelUse.TheVariants as uses
+use Rattle.a64_label_use.specs.declared.label_use.LabelUse.TheVariants as uses
 use Rattle.a64_emit.specs.declared.site.Site.{Site}
-use Rattle.a64_emit.specs.LabelUses.{label_kinds, mask_for, distance_in}
+use Rattle.a64_label_use.specs.LabelUses.{label_kinds, mask_for, distance_in}
 use Rattle.a64_emit.specs.Cells.{Cell}
 
 -- what a use waits for

@@ -14,7 +14,7 @@ use Rattle.a64_buffer.specs.Word.{outside, word_at}
 use Rattle.a64_inst.specs.declared.item.Item.{Item}
 use Rattle.a64_inst.specs.declared.item.Item.TheVariants.{Bind}
 use Rattle.a64_emit.specs.declared.code.Code.{Code}
-use Rattle.a64_emit.specs.LabelUses.{mask_for}
+use Rattle.a64_label_use.specs.LabelUses.{mask_for}
 use Rattle.a64_emit.specs.declared.site.Site.{Site}
 use Rattle.a64_emit.specs.Cells.{Relocation, Cell, cell_word, cells_of}
 use Rattle.a64_emit.specs.Leads.{JumpsTo}

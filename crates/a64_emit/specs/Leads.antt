@@ -11,10 +11,10 @@ use Rattle.a64_buffer.specs.Kinds.{GoesTo}
 use Rattle.a64_buffer.specs.Sound.{IsTrap}
 use Rattle.a64_buffer.specs.Word.{outside, word_at, words_of, StandAt}
 use Rattle.a64_emit.specs.declared.code.Code.{Code}
-use Rattle.a64_emit.specs.declared.label_use.LabelUse.{LabelUse}
-use Rattle.a64_emit.specs.declared.label_use.LabelUse.TheVariants as uses
+use Rattle.a64_label_use.specs.declared.label_use.LabelUse.{LabelUse}
+use Rattle.a64_label_use.specs.declared.label_use.LabelUse.TheVariants as uses
 use Rattle.a64_emit.specs.declared.site.Site.{Site}
-use Rattle.a64_emit.specs.LabelUses.{label_kinds, mask_for, distance_in}
+use Rattle.a64_label_use.specs.LabelUses.{label_kinds, mask_for, distance_in}
 use Rattle.a64_emit.specs.Cells.{Cell, cell_word}
 
 -- a use is a deferred trap

@@ -1,6 +1,3 @@
-pub mod LabelUses
-pub mod FarJumps
-pub mod LabelLaws
 pub mod IntegerForms
 pub mod ControlForms
 pub mod MemoryForms

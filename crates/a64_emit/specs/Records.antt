@@ -10,7 +10,7 @@ use Rattle.a64_inst.specs.declared.frame.FrameLayout.{FrameLayout}
 use Rattle.a64_inst.specs.declared.item.Item.{Item}
 use Rattle.a64_buffer.specs.declared.site.Target.TheVariants.{Trap}
 use Rattle.a64_emit.specs.declared.code.Code.{Code}
-use Rattle.a64_emit.specs.declared.label_use.LabelUse.{LabelUse}
+use Rattle.a64_label_use.specs.declared.label_use.LabelUse.{LabelUse}
 use Rattle.a64_emit.specs.Cells.{Cell, cell_word, cells_of}
 use Rattle.a64_emit.specs.Leads.{StopsAt}
 use Rattle.a64_emit.specs.Layout.{placed, standing, relocs_in, calls_in, patchable_in, maps_in, traps_in}

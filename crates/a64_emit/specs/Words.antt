@@ -25,10 +25,10 @@ use Rattle.a64_inst.specs.Modes.{is_offset9}
 use Rattle.a64_inst.specs.Operands.{is_register_or_stack, is_register_or_zero}
 use Rattle.a64_rows.specs.Forms.{form_word}
 use Rattle.a64_buffer.specs.declared.site.Target.TheVariants.{Label, Constant, Trap, IslandEnd}
-use Rattle.a64_emit.specs.declared.label_use.LabelUse.{LabelUse}
-use Rattle.a64_emit.specs.declared.label_use.LabelUse.TheVariants.{Branch26}
+use Rattle.a64_label_use.specs.declared.label_use.LabelUse.{LabelUse}
+use Rattle.a64_label_use.specs.declared.label_use.LabelUse.TheVariants.{Branch26}
 use Rattle.a64_emit.specs.declared.site.Site.{Site}
-use Rattle.a64_emit.specs.LabelUses.{urgency_of}
+use Rattle.a64_label_use.specs.LabelUses.{urgency_of}
 use Rattle.a64_emit.specs.ControlForms.{jump_form}
 use Rattle.a64_emit.specs.declared.call.Callee.{Callee}
 use Rattle.a64_emit.specs.declared.call.Callee.TheVariants.{Symbol, Address}

@@ -16,7 +16,6 @@ ghost use Rattle.a64_emit.specs.Words.{IsCalled, as_put, put_kept};
 ghost use Rattle.a64_emit.specs.Emission.{appended, linked, mapped, IsAppendedInPart, HasRoom, CellsFit};
 
 use crate::emit::{emit_plain_inst, put_words};
-use crate::label_use::LabelUse;
 use crate::one_word::is_one_word;
 use crate::word::call::{call_word, leave_words, pop_words, return_word};
 use a64_base::{ExternalName, MemFlagsData, Reg, Reloc, UserStackMap};
@@ -24,6 +23,7 @@ use a64_buffer::MachBuffer;
 use a64_inst::{
     AMode, CallInfo, CallRetPair, EmitInfo, FrameLayout, Inst, RetLocation, ReturnCallInfo,
 };
+use a64_label_use::LabelUse;
 use std::alloc::AllocError;
 
 /// Where a call goes.

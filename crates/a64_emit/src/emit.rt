@@ -10,17 +10,16 @@ ghost use Rattle.a64_inst.specs.Groups.{group_of};
 ghost use Rattle.a64_inst.specs.State.{State};
 ghost use Rattle.a64_buffer.specs.Buffer.{Buffer, end_of};
 ghost use Rattle.a64_buffer.specs.Classes.{Fits};
-ghost use Rattle.a64_emit.specs.declared.label_use.LabelUse.{LabelUse};
+ghost use Rattle.a64_label_use.specs.declared.label_use.LabelUse.{LabelUse};
 ghost use Rattle.a64_emit.specs.Bounds.{asked_of};
 ghost use Rattle.a64_emit.specs.Cells as cells;
 ghost use Rattle.a64_emit.specs.Cells.{Data, data_cell, reloc_cell, shape_of, only_word, inst_cells, kept_cells};
 ghost use Rattle.a64_emit.specs.Words.{MayBePut, IsThere, as_put, put_cell, put_cells, put_branches, put_for};
-ghost use Rattle.a64_emit.specs.LabelUses.{label_kinds};
+ghost use Rattle.a64_label_use.specs.LabelUses.{label_kinds};
 ghost use Rattle.a64_emit.specs.Emission.{trapped, PutsInPart, appended, IslandsIfNeeded, Puts, Emits, EmitsInPart, IsAppendedInPart, HasRoom, CellsFit, HasIslandRoom, IsReady};
 
 use crate::call::emit_calling;
 use crate::extent::asked_space;
-use crate::label_use::LabelUse;
 use crate::sequence::emit_sequence;
 use crate::site::Site;
 use crate::uses::{branch_site, trap_site};
@@ -33,6 +32,7 @@ use crate::word::memory::{SeveralWords, held_memory_word, memory_words};
 use a64_base::{BranchTarget, ExternalName, Reloc, TrapCode, UserStackMap};
 use a64_buffer::{ForceVeneers, MachBuffer, Target};
 use a64_inst::{EmitInfo, EmitState, FrameLayout, Group, Inst};
+use a64_label_use::LabelUse;
 use std::alloc::AllocError;
 
 /// What can be emitted into a buffer of A64 code (Cranelift's `MachInstEmit`).

@@ -9,19 +9,19 @@ ghost use Rattle.a64_inst.specs.Groups.{group_of};
 ghost use Rattle.a64_emit.specs.Bounds as bounds;
 ghost use Rattle.a64_emit.specs.Bounds.{asked, IsExtent, AreExtent, ranges_in, least, saturated, charge_of, growth_of, size_of, asked_of};
 ghost use Rattle.a64_rows.specs.Forms.{Form};
-ghost use Rattle.a64_emit.specs.declared.label_use.LabelUse.TheVariants as uses;
+ghost use Rattle.a64_label_use.specs.declared.label_use.LabelUse.TheVariants as uses;
 ghost use Rattle.a64_emit.specs.Cells.{branch, branches, cells_of, inst_cells, inst_uses, listed_uses, two_uses, uses_of};
-ghost use Rattle.a64_emit.specs.LabelUses.{has_veneer};
+ghost use Rattle.a64_label_use.specs.LabelUses.{has_veneer};
 ghost use Rattle.a64_emit.specs.Lights.{IsLight, IsModeLight};
 
 use crate::call_extent::call_count;
-use crate::label_use::LabelUse;
 use crate::site::{Site, Uses};
 use crate::uses::{call_uses, control_uses, memory_uses, only_use, sequence_uses, table_start};
 use crate::word::memory::memory_count;
 use a64_base::BranchTarget;
 use a64_buffer::{MachInstLabelUse, Target};
 use a64_inst::{AMode, EmitInfo, FrameLayout, Group, Inst, Item};
+use a64_label_use::LabelUse;
 
 /// How much an item may add to code, in bytes. Numbers past those of 64 bits stand at the greatest.
 #[derive(Clone, Copy, Debug)]

@@ -14,7 +14,6 @@ ghost use Rattle.a64_emit.specs.Words.{put_cell, as_put, put_for};
 ghost use Rattle.a64_emit.specs.Emission.{appended, IsAppendedInPart, HasRoom, CellsFit};
 
 use crate::emit::{emit_last, put_reloc, put_using, put_words};
-use crate::label_use::LabelUse;
 use crate::site::Site;
 use crate::word::sequence::{
     far_words, offset_entry_word, page_word, place_word, probe_words, table_words,
@@ -23,6 +22,7 @@ use a64_base::{ExternalName, MachLabel, Reg, Reloc, Writable};
 use a64_buffer::{MachBuffer, Target};
 use a64_imms::Imm12;
 use a64_inst::{EmitInfo, FrameLayout, Inst};
+use a64_label_use::LabelUse;
 use std::alloc::AllocError;
 
 /// An entry of a table that stands so many bytes behind the first: the word, and its use of the label.

@@ -3,9 +3,9 @@
 ghost use Rattle.std.specs.Prelude.{◌≡◌};
 ghost use Rattle.a64_emit.specs.Reach as Reach;
 
-use crate::label_use::LabelUse;
 use a64_base::MachLabel;
 use a64_buffer::Target;
+use a64_label_use::LabelUse;
 
 /// A use that a word is.
 #[derive(Clone, Copy, Debug)]

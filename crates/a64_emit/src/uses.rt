@@ -8,12 +8,12 @@ ghost use Rattle.a64_rows.specs.Forms.{Form};
 ghost use Rattle.a64_emit.specs.Cells as cells;
 ghost use Rattle.a64_emit.specs.Cells.{branches, uses_of, listed_uses, inst_uses, table_forms};
 
-use crate::label_use::LabelUse;
 use crate::site::{Site, Table, Uses};
 use crate::word::sequence::has_barrier;
 use a64_base::{BranchTarget, TrapCode};
 use a64_buffer::Target;
 use a64_inst::{AMode, EmitInfo, FrameLayout, Group, Inst, MemLabel, const_plan};
+use a64_label_use::LabelUse;
 
 /// The use that a branch is: none where it has its offset already.
 #[inline(always)]

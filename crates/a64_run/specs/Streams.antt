@@ -1,5 +1,5 @@
 -- What sources give and sinks take.
-use Rattle.std.specs.Prelude.{ℕ, ◌≡◌, ◌↔◌, ◌⊎◌, ◌-◌, ◌^◌, ◌<◌, ◌≤◌, List, [], ◌++◌, take, drop, length, Option, Some, IfSome}
+use Rattle.std.specs.Prelude.{ℕ, ◌≡◌, ◌↔◌, ◌⊎◌, ◌-◌, ◌^◌, ◌<◌, List, [], ◌++◌, take, drop, length, Option, Some, IfSome}
 
 -- a count of failures rose in a call, or stands at its last value
 abbrev pub HasFailed : ℕ → ℕ → Type 0

@@ -2,8 +2,8 @@
 use Rattle.std.specs.Prelude.{ℕ, ◌+◌, ◌*◌}
 use Rattle.a64_buffer.specs.Buffer.{Buffer}
 use Rattle.a64_buffer.specs.Grown.{IsGrown}
-use Rattle.a64_emit.specs.declared.label_use.LabelUse.{LabelUse}
-use Rattle.a64_emit.specs.LabelUses.{label_kinds}
+use Rattle.a64_label_use.specs.declared.label_use.LabelUse.{LabelUse}
+use Rattle.a64_label_use.specs.LabelUses.{label_kinds}
 
 -- of so many uses in all, the first ones stand in a buffer, in a word each, and the labels below a number
 -- are bound: a use adds its word, the jump of an island before it, and what it may be given

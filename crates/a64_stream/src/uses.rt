@@ -4,7 +4,7 @@ ghost use Rattle.std.specs.Prelude.{◌≡◌, ◌<◌, ◌≤◌, ◌^◌, ◌+
 ghost use Rattle.a64_buffer.specs.Buffer.{end_of};
 ghost use Rattle.a64_buffer.specs.Classes.{owed};
 ghost use Rattle.a64_buffer.specs.Grown.{MakesRoom};
-ghost use Rattle.a64_emit.specs.LabelUses.{label_kinds};
+ghost use Rattle.a64_label_use.specs.LabelUses.{label_kinds};
 ghost use Rattle.a64_stream.specs.Uses.{HasUses};
 
 use a64_base::MachLabel;

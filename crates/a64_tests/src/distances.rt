@@ -2,7 +2,7 @@
 
 ghost use Rattle.std.specs.Prelude.{◌≡◌, ◌%◌, IsTrue};
 ghost use Rattle.a64_buffer.specs.Kinds.{IsWithin};
-ghost use Rattle.a64_emit.specs.LabelUses.{label_kinds};
+ghost use Rattle.a64_label_use.specs.LabelUses.{label_kinds};
 
 use a64_buffer::MachInstLabelUse;
 use a64_emit::LabelUse;

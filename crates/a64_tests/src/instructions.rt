@@ -10,10 +10,9 @@ use a64_base::{
 };
 use a64_buffer::{Constants, ForceVeneers};
 use a64_emit::{Code, EmitError, Item};
-use a64_inst::{
-    ALUOp, AMode, EmitFlags, EmitInfo, EmitState, FrameLayout, Inst, MoveWideOp, mem_finalize,
-};
+use a64_inst::{ALUOp, AMode, EmitFlags, EmitInfo, EmitState, FrameLayout, Inst, MoveWideOp};
 use a64_list::ListVec;
+use a64_mode::mem_finalize;
 use std::alloc::{AllocError, Global};
 use std::test::Fail;
 

@@ -14,7 +14,6 @@ ghost use Rattle.a64_inst.specs.Modes.{base_offset_of};
 ghost use Rattle.a64_emit.specs.Cells.{Words, shape_of, access_shape, inst_cells};
 ghost use Rattle.a64_emit.specs.Words.{AreSeveral};
 
-use crate::mode::{final_mode, final_steps};
 use crate::site::Site;
 use crate::uses::mode_site;
 use crate::word::memory::access::{held_word, in_code_word, pair_word};
@@ -22,6 +21,7 @@ use crate::word::memory::address::{address_count, address_words};
 use crate::word::memory::step::step_words;
 use a64_base::{TrapCode, writable_spilltmp_reg};
 use a64_inst::{AMode, AccessRef, EmitInfo, FrameLayout, Inst};
+use a64_mode::{final_mode, final_steps};
 use arrayvec::ArrayVec;
 
 /// Words of which only the last may be a use, and may trap.

@@ -3,7 +3,7 @@ use Rattle.std.specs.FinMap.{FinMap}
 use Rattle.a64_inst.specs.declared.frame.FrameLayout.{FrameLayout}
 use Rattle.a64_buffer.specs.Buffer.{Buffer}
 use Rattle.a64_buffer.specs.Constants.{AreConstants}
-use Rattle.a64_emit.specs.declared.label_use.LabelUse.{LabelUse}
+use Rattle.a64_label_use.specs.declared.label_use.LabelUse.{LabelUse}
 use Rattle.a64_emit.specs.Bounds.{whole}
 use Rattle.a64_emit.specs.Faults.{own_fault}
 use Rattle.a64_assemble.specs.Elements.{BoundsRooms, elements_of}

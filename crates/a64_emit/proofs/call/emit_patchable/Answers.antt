@@ -2,7 +2,7 @@ use Rattle.std.proofs.Common.{ℕ, ◌≡◌, ◌+◌, ◌*◌, ◌<◌, ◌^◌
 use Rattle.std.proofs.lemmas.Result.{on_ok_weaker, on_err_weaker}
 use Rattle.a64_buffer.specs.Buffer.{end_of}
 use Rattle.a64_buffer.specs.Classes.{Fits}
-use Rattle.a64_emit.specs.LabelUses.{label_kinds}
+use Rattle.a64_label_use.specs.LabelUses.{label_kinds}
 use Rattle.a64_emit.specs.Cells.{keep, patchable_cells}
 use Rattle.a64_emit.specs.Emission.{appended, PutsInPart, IsAppendedInPart, HasRoom, CellsFit}
 use Rattle.a64_emit.specs.Words.{as_put, put_kept}

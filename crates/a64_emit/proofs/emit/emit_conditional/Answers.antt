@@ -1,7 +1,7 @@
 use Rattle.std.proofs.Common.{[], ◌∷◌, None, sym, ap, subst, ◌∙◌}
 use Rattle.std.proofs.lemmas.Result.{on_ok_weaker, on_err_weaker}
 use Rattle.a64_rows.specs.Forms.{form_word}
-use Rattle.a64_emit.specs.declared.label_use.LabelUse.TheVariants.{Branch26}
+use Rattle.a64_label_use.specs.declared.label_use.LabelUse.TheVariants.{Branch26}
 use Rattle.a64_emit.specs.Cells.{branch_site}
 use Rattle.a64_emit.specs.ControlForms.{jump_form}
 use Rattle.a64_emit.specs.Emission.{appended, IsAppendedInPart, HasRoom, CellsFit}

@@ -1,7 +1,7 @@
 use Rattle.std.proofs.Common.{ℕ, List, [], ◌∷◌, ◌++◌, take, ap, sym, ◌∙◌, append_assoc, slice_index_or}
 use Rattle.std.proofs.lemmas.List.{take_more}
 use Rattle.a64_buffer.specs.Buffer.{Buffer}
-use Rattle.a64_emit.specs.declared.label_use.LabelUse.{LabelUse}
+use Rattle.a64_label_use.specs.declared.label_use.LabelUse.{LabelUse}
 use Rattle.a64_emit.proofs.emit.put_words.Goals as goal
 
 pub loop-word-preserved : goal.loop-word-preserved

@@ -13,7 +13,6 @@ ghost use Rattle.a64_emit.specs.Cells.{Words, quiet, sum_shape, address_shape, s
 ghost use Rattle.a64_emit.specs.MemoryForms as forms;
 ghost use Rattle.a64_emit.specs.Words.{AreSeveral};
 
-use crate::mode::{final_mode, final_steps};
 use crate::word::integer::immediate::alu_rr_imm12_word;
 use crate::word::integer::register::{alu_rrr_extend_word, alu_rrr_word, mov_word};
 use crate::word::memory::SeveralWords;
@@ -23,6 +22,7 @@ use a64_base::{
 };
 use a64_imms::Imm12;
 use a64_inst::{AMode, FrameLayout, const_plan};
+use a64_mode::{final_mode, final_steps};
 use a64_ops::ALUOp;
 use arrayvec::ArrayVec;
 

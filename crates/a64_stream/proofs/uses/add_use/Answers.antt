@@ -5,9 +5,9 @@ use Rattle.a64_buffer.specs.declared.site.Target.TheVariants.{Label}
 use Rattle.a64_buffer.specs.Buffer.{Buffer, end_of, made_use}
 use Rattle.a64_buffer.specs.Grown.{IsGrown}
 use Rattle.a64_buffer.proofs.Clients.{made_room, use_fits, grown_use, grown_room}
-use Rattle.a64_emit.specs.declared.label_use.LabelUse.{LabelUse}
-use Rattle.a64_emit.specs.LabelUses.{label_kinds}
-use Rattle.a64_emit.specs.LabelLaws.{label_kinds_lawful}
+use Rattle.a64_label_use.specs.declared.label_use.LabelUse.{LabelUse}
+use Rattle.a64_label_use.specs.LabelUses.{label_kinds}
+use Rattle.a64_label_use.specs.LabelLaws.{label_kinds_lawful}
 use Rattle.a64_stream.specs.Uses.{HasUses}
 use Rattle.a64_stream.proofs.uses.add_use.Goals as goal
 

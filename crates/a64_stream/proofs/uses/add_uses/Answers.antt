@@ -1,8 +1,8 @@
 use Rattle.std.proofs.Common.{ℕ, ◌≡◌, ◌+◌, ◌*◌, Result, Ok, Err, arith, subst, sym}
 use Rattle.std.specs.Prelude.{OnOk}
 use Rattle.a64_buffer.proofs.Clients.{grown_bind}
-use Rattle.a64_emit.specs.LabelUses.{label_kinds}
-use Rattle.a64_emit.specs.LabelLaws.{label_kinds_lawful}
+use Rattle.a64_label_use.specs.LabelUses.{label_kinds}
+use Rattle.a64_label_use.specs.LabelLaws.{label_kinds_lawful}
 use Rattle.a64_stream.specs.Uses.{HasUses}
 use Rattle.a64_stream.proofs.uses.add_uses.Goals as goal
 

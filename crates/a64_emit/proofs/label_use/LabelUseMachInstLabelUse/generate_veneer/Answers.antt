@@ -1,5 +1,0 @@
-use Rattle.a64_emit.proofs.FarJumps.{jump_far}
-use Rattle.a64_emit.proofs.label_use.LabelUseMachInstLabelUse.generate_veneer.Goals as goal
-
-pub returns-in-Branch26-clause-far : goal.returns-in-Branch26-clause-far
-returns-in-Branch26-clause-far c = λ urgent. jump_far c.write_far.new.buffer c.write_far.ensures.words

@@ -1,0 +1,2 @@
+pub mod FarJumps
+pub mod TwoFields

@@ -1,0 +1,3 @@
+pub mod LabelUses
+pub mod FarJumps
+pub mod LabelLaws
