@@ -46,7 +46,7 @@ use Rattle.a64_inst.specs.Modes.{BaseOffset, base_offset_of, IsAccessSize, is_of
 use Rattle.a64_inst.specs.Operands.{is_int, is_register_or_zero, is_register_or_stack, is_vector_register}
 use Rattle.a64_rows.specs.Forms.{IsFormOf}
 use Rattle.a64_rows.specs.Limits as limits
-use Rattle.a64_enc_int.specs.Registers.{register_field}
+use Rattle.a64_enc_int.specs.Registers.{register_field, IsReal}
 use Rattle.a64_enc_int.proofs.Immediates.{simm9_below, simm7_below, uimm12_below}
 use Rattle.a64_emit.specs.MemoryForms.{step_form, step_forms, imm9_form, unsigned_form, indexed_form, option_or_zero, literal_form, literal_words, held_form, access_steps, access_form, offset_register, pair_word_form, pair_form}
 use Rattle.a64_emit.specs.Words.{are_held_parts}
@@ -157,18 +157,26 @@ vector_below : (reg : Reg) → is_vector_register Refused reg ≡ true → regis
 vector_below (Real p) e = vector_number p.class p.number e
 vector_below (Virtual index class) e = absurd cc
 
-data_below : (op : AccessOp) (reg : Reg) → is_data_register Refused op reg ≡ true → register_field reg < 32
+pub data_real : (op : AccessOp) (reg : Reg) → is_data_register Refused op reg ≡ true → IsReal reg
+data_real op (Real p) e = tt
+data_real op (Virtual index class) e = go (moves_vector op) e
+  where
+    go : (vector : Bool) → (if vector then is_vector_register Refused (Virtual index class) else is_register_or_zero Refused (Virtual index class)) ≡ true → ⊥
+    go true f = absurd cc
+    go false f = absurd cc
+
+pub data_below : (op : AccessOp) (reg : Reg) → is_data_register Refused op reg ≡ true → register_field reg < 32
 data_below op reg e = go (moves_vector op) e
   where
     go : (vector : Bool) → (if vector then is_vector_register Refused reg else is_register_or_zero Refused reg) ≡ true → register_field reg < 32
     go true f = vector_below reg f
     go false f = zero_below reg f
 
-are_access_fields : (op : AccessOp) → limits.is_access (size_of op) (vector_of op) (opc_of op) ≡ true
+pub are_access_fields : (op : AccessOp) → limits.is_access (size_of op) (vector_of op) (opc_of op) ≡ true
 are_access_fields op = grind arith
 
 module _ (op : AccessOp) (rt rn : Reg) (t : register_field rt < 32) (n : register_field rn < 32) where
-  imm9_is_form : (mode : ℕ) (offset : ℤ) → mode < 4 → not (mode == 2) ≡ true → IsFormOf (imm9_form op rt mode rn offset)
+  pub imm9_is_form : (mode : ℕ) (offset : ℤ) → mode < 4 → not (mode == 2) ≡ true → IsFormOf (imm9_form op rt mode rn offset)
   unfolding imm9_form
   imm9_is_form mode offset m a =
       let f = fields_below op in ((f.0, (f.1, (f.2, (simm9_below offset, (m, (n, (t, tt))))))), rw (are_access_fields op, a) refl)
@@ -182,7 +190,7 @@ module _ (op : AccessOp) (rt rn : Reg) (t : register_field rt < 32) (n : registe
   indexed_is_form rm ext s m e is b =
       let f = fields_below op in ((f.0, (f.1, (f.2, (m, (e, (b, (n, (t, tt)))))))), rw (are_access_fields op, is) refl)
 
-literal_opc : (op : AccessOp) → nat_le (option_or_zero (literal_of op)) 2 ≡ true
+pub literal_opc : (op : AccessOp) → nat_le (option_or_zero (literal_of op)) 2 ≡ true
 literal_opc op = grind arith
 
 pub literal_is_form : (op : AccessOp) (rt : Reg) (words : ℕ) → register_field rt < 32 → words < 2 ^ 19 → IsFormOf (literal_form op rt words)

@@ -1,16 +1,15 @@
 -- The words of loads and stores, by the bits that encoders are given.
-use Rattle.std.proofs.Common.{ℕ, ℤ, ◌≡◌, ◌+◌, ◌*◌, ◌/◌, ◌%◌, ◌<◌, ◌^◌, ap, ◌∙◌, arith}
+use Rattle.std.proofs.Common.{ℕ, ◌≡◌, ◌+◌, ◌*◌, ◌/◌, ◌%◌, ◌<◌, ◌^◌, ap, ◌∙◌, arith}
 use Rattle.a64_base.specs.declared.reg.Reg.{Reg}
 use Rattle.a64_imms.specs.declared.offset.SImm7Scaled.{SImm7Scaled}
-use Rattle.a64_imms.specs.Offsets.{residue}
 use Rattle.a64_ops.specs.declared.access.AccessOp.{AccessOp}
 use Rattle.a64_ops.specs.Accesses.{size_of, vector_of, opc_of, literal_of}
 use Rattle.a64_rows.specs.Forms.{form_word}
-use Rattle.a64_rows.specs.Memory.{ld_st_imm9, ld_st_unsigned, ld_st_reg, ld_literal, ld_st_pair}
+use Rattle.a64_rows.specs.Memory.{ld_st_reg, ld_st_pair}
 use Rattle.a64_enc_int.specs.Operators.{simm7_field}
-use Rattle.a64_enc_int.specs.RawBits.{imm9_access_of, unsigned_access_of, indexed_access_of, pair_access_of, literal_vector_bit}
+use Rattle.a64_enc_int.specs.RawBits.{indexed_access_of, pair_access_of}
 use Rattle.a64_enc_int.specs.Registers.{register_field}
-use Rattle.a64_emit.specs.MemoryForms.{imm9_form, unsigned_form, indexed_form, literal_form, option_or_zero, pair_word_form}
+use Rattle.a64_emit.specs.MemoryForms.{indexed_form, option_or_zero, pair_word_form}
 
 pub fields_below : (op : AccessOp) → (size_of op < 4) × (vector_of op < 2) × (opc_of op < 4)
 fields_below op = grind arith
@@ -27,24 +26,6 @@ record Gives (op : AccessOp) (bits : ℕ) : Type 0 where
 gives : (op : AccessOp) (bits : ℕ) → bits ≡ size_of op * 2 ^ 8 + 224 + vector_of op * 2 ^ 4 + opc_of op → Gives op bits
 gives op bits e = let b = fields_below op in record { sz = omega (arith, e, b.0, b.1, b.2); v = omega (arith, e, b.0, b.1, b.2); opc = omega (arith, e, b.0, b.1, b.2) }
 
-pub imm9_is : (op : AccessOp) (rt : Reg) (mode : ℕ) (rn : Reg) (offset : ℤ) (bits : ℕ) → bits ≡ size_of op * 2 ^ 8 + 224 + vector_of op * 2 ^ 4 + opc_of op
-    → form_word (imm9_access_of bits (record { imm9 = residue 512 offset; mode = mode; rn = register_field rn; rt = register_field rt })) ≡ form_word (imm9_form op rt mode rn offset)
-unfolding imm9_form
-imm9_is op rt mode rn offset bits e =
-    let g = gives op bits e in
-    ap (λ n. form_word (ld_st_imm9 (record { sz = n; v = bits / 2 ^ 4 % 2; opc = bits % 2 ^ 2; imm9 = residue 512 offset; mode = mode; rn = register_field rn; rt = register_field rt }))) g.sz
-    ∙ ap (λ n. form_word (ld_st_imm9 (record { sz = size_of op; v = n; opc = bits % 2 ^ 2; imm9 = residue 512 offset; mode = mode; rn = register_field rn; rt = register_field rt }))) g.v
-    ∙ ap (λ n. form_word (ld_st_imm9 (record { sz = size_of op; v = vector_of op; opc = n; imm9 = residue 512 offset; mode = mode; rn = register_field rn; rt = register_field rt }))) g.opc
-
-pub unsigned_is : (op : AccessOp) (rt rn : Reg) (units bits : ℕ) → bits ≡ size_of op * 2 ^ 8 + 224 + vector_of op * 2 ^ 4 + opc_of op
-    → form_word (unsigned_access_of bits (record { imm12 = units; rn = register_field rn; rt = register_field rt })) ≡ form_word (unsigned_form op rt rn units)
-unfolding unsigned_form
-unsigned_is op rt rn units bits e =
-    let g = gives op bits e in
-    ap (λ n. form_word (ld_st_unsigned (record { sz = n; v = bits / 2 ^ 4 % 2; opc = bits % 2 ^ 2; imm12 = units; rn = register_field rn; rt = register_field rt }))) g.sz
-    ∙ ap (λ n. form_word (ld_st_unsigned (record { sz = size_of op; v = n; opc = bits % 2 ^ 2; imm12 = units; rn = register_field rn; rt = register_field rt }))) g.v
-    ∙ ap (λ n. form_word (ld_st_unsigned (record { sz = size_of op; v = vector_of op; opc = n; imm12 = units; rn = register_field rn; rt = register_field rt }))) g.opc
-
 pub indexed_is : (op : AccessOp) (rt rn rm : Reg) (ext s bits : ℕ) → bits ≡ size_of op * 2 ^ 8 + 224 + vector_of op * 2 ^ 4 + opc_of op
     → form_word (indexed_access_of bits (record { rm = register_field rm; ext = ext; s = s; rn = register_field rn; rt = register_field rt })) ≡ form_word (indexed_form op rt rn rm ext s)
 unfolding indexed_form
@@ -54,18 +35,7 @@ indexed_is op rt rn rm ext s bits e =
     ∙ ap (λ n. form_word (ld_st_reg (record { sz = size_of op; v = n; opc = bits % 2 ^ 2; rm = register_field rm; ext = ext; s = s; rn = register_field rn; rt = register_field rt }))) g.v
     ∙ ap (λ n. form_word (ld_st_reg (record { sz = size_of op; v = vector_of op; opc = n; rm = register_field rm; ext = ext; s = s; rn = register_field rn; rt = register_field rt }))) g.opc
 
-pub literal_is : (op : AccessOp) (rt : Reg) (words bits : ℕ) → bits ≡ option_or_zero (literal_of op) * 2 ^ 6 + 24 + vector_of op * 2 ^ 2
-    → form_word (ld_literal (record { opc = bits / 2 ^ 6; v = literal_vector_bit bits; imm19 = words; rt = register_field rt })) ≡ form_word (literal_form op rt words)
-unfolding literal_form
-literal_is op rt words bits e =
-    let b = fields_below op in
-    let l = literal_below op in
-    let opc : bits / 2 ^ 6 ≡ option_or_zero (literal_of op) = omega (arith, e, b.1, l) in
-    let v : bits / 2 ^ 2 % 2 ≡ vector_of op = omega (arith, e, b.1, l) in
-    ap (λ n. form_word (ld_literal (record { opc = n; v = bits / 2 ^ 2 % 2; imm19 = words; rt = register_field rt }))) opc
-    ∙ ap (λ n. form_word (ld_literal (record { opc = option_or_zero (literal_of op); v = n; imm19 = words; rt = register_field rt }))) v
-
--- and those of pairs opc, the index of the mode, and L
+-- the bits 31 to 22 of pairs give opc, the index of the mode, and L
 pub pair_is : (load index : ℕ) (rn : Reg) (simm7 : SImm7Scaled) (rt rt2 : Reg) (bits : ℕ) → bits ≡ 672 + index * 2 + load → load < 2 → index < 4
     → form_word (pair_access_of bits (record { imm7 = simm7_field simm7; rt2 = register_field rt2; rn = register_field rn; rt = register_field rt })) ≡ form_word (pair_word_form load index rn simm7 rt rt2)
 unfolding pair_word_form

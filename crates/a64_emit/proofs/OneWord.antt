@@ -22,7 +22,8 @@ use Rattle.a64_rows.specs.Limits.{is_bit_number}
 use Rattle.a64_rows.specs.DataProcessing.{add_sub_reg, logic_reg, add_sub_carry, mul_high}
 use Rattle.a64_enc_int.specs.Operators.{bit_of}
 use Rattle.a64_enc_int.specs.Registers.{register_field}
-use Rattle.a64_emit.specs.IntegerForms.{op_of, s_of, opc_of, n_of, TwoRegisters, two_registers, no_shift, add_sub, logic, with_carry, high_product, alu_form, extraction, shifted_form, extended_form, product_form}
+use Rattle.a64_emit.specs.declared.word.integer.operator.TwoRegisters.{TwoRegisters}
+use Rattle.a64_emit.specs.IntegerForms.{op_of, s_of, opc_of, n_of, two_registers, no_shift, add_sub, logic, with_carry, high_product, alu_form, extraction, shifted_form, extended_form, product_form}
 use Rattle.a64_emit.proofs.Operands.{zero_below, sf_below}
 
 -- ---- operations on two registers

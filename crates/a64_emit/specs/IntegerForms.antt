@@ -36,6 +36,7 @@ use Rattle.a64_inst.specs.Operands.{is_stack_pointer}
 use Rattle.a64_enc_int.specs.Branches.{distance_low, distance_high}
 use Rattle.a64_enc_int.specs.Operators.{bit_of, move_wide_opc}
 use Rattle.a64_enc_int.specs.Registers.{register_field}
+use Rattle.a64_emit.specs.declared.word.integer.operator.TwoRegisters.{TwoRegisters}
 use Rattle.a64_rows.specs.Forms.{Form}
 use Rattle.a64_rows.specs.Control.{hint, nzcv}
 use Rattle.a64_rows.specs.DataProcessing.{AddSubRegFields, add_sub_reg, LogicRegFields, logic_reg, add_sub_ext, AddSubCarryFields, add_sub_carry, DataProc2Fields, data_proc2, MulHighFields, mul_high, mul_add, mul_add_long, add_sub_imm, LogicImmFields, logic_imm, bitfield, extract, data_proc1, move_wide, cond_select, cond_compare, adr}
@@ -85,13 +86,6 @@ opcode_of Extr = 11
 opcode_of _ = 0
 
 -- ---- operations on two registers
-
--- the size flag and the registers of an operation on two registers
-pub record TwoRegisters : Type 0 where
-  pub sf : ℕ
-  pub rm : ℕ
-  pub rn : ℕ
-  pub rd : ℕ
 
 -- the size flag and the registers as a word has them
 abbrev pub two_registers : OperandSize → Reg → Reg → Reg → TwoRegisters

@@ -11,14 +11,14 @@ ghost use Rattle.a64_rows.specs.Forms.{form_word};
 ghost use Rattle.a64_emit.specs.IntegerForms as forms;
 
 use crate::word::integer::operator::{bfm_opc_bits, extract_word, op_bit, opc_bits, s_bit};
-use crate::word::integer::register::mov_word;
+use crate::word::integer::register::{mov_word, two_registers};
 use a64_base::{OperandSize, Reg, Writable};
 use a64_enc_int::{
-    enc_adr, enc_adrp, enc_arith_rr_imm12, enc_arith_rr_imml, enc_bfm, enc_move_wide, enc_movk,
-    register_field,
+    enc_adr, enc_adrp, enc_arith_rr_imml, enc_bfm, enc_move_wide, enc_movk, register_field,
 };
 use a64_imms::{Imm12, ImmLogic, ImmShift, MoveWideConst, UImm6};
 use a64_ops::{ALUOp, BfmOp, MoveWideOp};
+use a64_rows::{Row, pack};
 
 /// The word of an `AluRRImm12`.
 #[tactic(auto, using(crate::proofs::Operands::stack_general, crate::proofs::Operands::add_sub_general), unfolding(crate::specs::IntegerForms::alu_rr_imm12_form, a64_inst::specs::IntegerOperands::are_alu_rr_imm12_operands))]
@@ -32,8 +32,10 @@ pub fn alu_rr_imm12_word(
     requires { sets.are_alu_rr_imm12_operands Refused op rd rn imm12 ≡ true }
     ensures { result ≡ form_word (forms.alu_rr_imm12_form op size rd rn imm12) }
 {
-    let bits = 0b000_10001 + (size.sf_bit() << 7) + (op_bit(op) << 6) + (s_bit(op) << 5);
-    enc_arith_rr_imm12(bits, imm12.shift_bits(), imm12.imm_bits(), rn, rd)
+    let (op, s) = (op_bit(op), s_bit(op));
+    let (sh, imm12) = (imm12.shift_bits(), imm12.imm_bits());
+    let (rn, rd) = (register_field(rn), register_field(rd.to_reg()));
+    pack(Row::AddSubImm, &[size.sf_bit(), op, s, sh, imm12, rn, rd])
 }
 
 /// The immediate that the word of a logical operation has: of operators that invert the second
@@ -61,8 +63,13 @@ pub fn alu_rr_imm_logic_word(
     requires { sets.are_alu_rr_imm_logic_operands Refused op size rd rn imml ≡ true }
     ensures { result ≡ form_word (forms.alu_rr_imm_logic_form op size rd rn imml) }
 {
-    let bits = 0b000_100100 + (size.sf_bit() << 8) + (opc_bits(op) << 6);
-    enc_arith_rr_imml(bits, logic_imm(op, imml).enc_bits(), rn, rd)
+    let imml = logic_imm(op, imml);
+    let (n, immr, imms) = (u32::from(imml.n), u32::from(imml.r), u32::from(imml.s));
+    let (rn, rd) = (register_field(rn), register_field(rd.to_reg()));
+    pack(
+        Row::LogicImm,
+        &[size.sf_bit(), opc_bits(op), n, immr, imms, rn, rd],
+    )
 }
 
 /// The word of a `MovWide`.
@@ -96,8 +103,8 @@ fn rotate_word(size: OperandSize, rd: Writable<Reg>, rn: Reg, amount: u8) -> u32
     requires rn { is_register_or_zero Refused rn ≡ true }
     ensures { result ≡ form_word (forms.extraction amount (forms.two_registers size rd rn rn)) }
 {
-    let rn = register_field(rn);
-    extract_word(amount, size.sf_bit(), rn, rn, register_field(rd.to_reg()))
+    let rm = rn;
+    extract_word(amount, two_registers(size, rd, rn, rm))
 }
 
 /// The word of an `AluRRImmShift`.

@@ -97,13 +97,27 @@ pub fn bfm_opc_bits(op: BfmOp) -> u8
     }
 }
 
+/// The size flag of an operation, and the numbers of its registers, as words have them.
+#[derive(Clone, Copy, Debug)]
+pub struct TwoRegisters {
+    /// 1 where the operation has 64 bits, else 0.
+    pub sf: u32,
+    /// The second operand: below 32.
+    pub rm: u32,
+    /// The first operand: below 32.
+    pub rn: u32,
+    /// The result: below 32.
+    pub rd: u32,
+}
+
 /// The word of an operation on two registers, whose row goes by the operator. The operators that add or subtract and
 /// the logical ones shift the second register.
 #[inline(always)]
-pub fn alu_word(op: ALUOp, shift: ShiftOp, amount: u8, sf: u32, rm: u32, rn: u32, rd: u32) -> u32
-    requires { IsFormOf (alu_form op (record { op = shift; amount = amount }) (record { sf = sf; rm = rm; rn = rn; rd = rd })) }
-    ensures { result ≡ form_word (alu_form op (record { op = shift; amount = amount }) (record { sf = sf; rm = rm; rn = rn; rd = rd })) }
+pub fn alu_word(op: ALUOp, shift: ShiftOp, amount: u8, registers: TwoRegisters) -> u32
+    requires { IsFormOf (alu_form op (record { op = shift; amount = amount }) registers) }
+    ensures { result ≡ form_word (alu_form op (record { op = shift; amount = amount }) registers) }
 {
+    let TwoRegisters { sf, rm, rn, rd } = registers;
     let sh = u32::from(shift.bits());
     let imm6 = u32::from(amount);
     match op {
@@ -134,32 +148,34 @@ pub fn alu_word(op: ALUOp, shift: ShiftOp, amount: u8, sf: u32, rm: u32, rn: u32
 
 /// The word of an extraction from two registers.
 #[inline(always)]
-pub fn extract_word(lowest: u8, sf: u32, rm: u32, rn: u32, rd: u32) -> u32
-    requires { IsFormOf (extraction lowest (record { sf = sf; rm = rm; rn = rn; rd = rd })) }
-    ensures { result ≡ form_word (extraction lowest (record { sf = sf; rm = rm; rn = rn; rd = rd })) }
+pub fn extract_word(lowest: u8, registers: TwoRegisters) -> u32
+    requires { IsFormOf (extraction lowest registers) }
+    ensures { result ≡ form_word (extraction lowest registers) }
 {
+    let TwoRegisters { sf, rm, rn, rd } = registers;
     pack(Row::Extract, &[sf, rm, u32::from(lowest), rn, rd])
 }
 
 /// The word of an operation on two registers of which the second is shifted, or of an extraction.
 #[inline(always)]
-pub fn shifted_word(op: ALUOp, shiftop: ShiftOpAndAmt, sf: u32, rm: u32, rn: u32, rd: u32) -> u32
-    requires { IsFormOf (shifted_form op shiftop (record { sf = sf; rm = rm; rn = rn; rd = rd })) }
-    ensures { result ≡ form_word (shifted_form op shiftop (record { sf = sf; rm = rm; rn = rn; rd = rd })) }
+pub fn shifted_word(op: ALUOp, shiftop: ShiftOpAndAmt, registers: TwoRegisters) -> u32
+    requires { IsFormOf (shifted_form op shiftop registers) }
+    ensures { result ≡ form_word (shifted_form op shiftop registers) }
 {
     let amount = shiftop.amt().value();
     match op {
-        ALUOp::Extr => extract_word(amount, sf, rm, rn, rd),
-        _ => alu_word(op, shiftop.op(), amount, sf, rm, rn, rd),
+        ALUOp::Extr => extract_word(amount, registers),
+        _ => alu_word(op, shiftop.op(), amount, registers),
     }
 }
 
 /// The word of an addition or subtraction of a register that is extended.
 #[inline(always)]
-pub fn extended_word(op: ALUOp, extendop: ExtendOp, sf: u32, rm: u32, rn: u32, rd: u32) -> u32
-    requires { IsFormOf (extended_form op extendop (record { sf = sf; rm = rm; rn = rn; rd = rd })) }
-    ensures { result ≡ form_word (extended_form op extendop (record { sf = sf; rm = rm; rn = rn; rd = rd })) }
+pub fn extended_word(op: ALUOp, extendop: ExtendOp, registers: TwoRegisters) -> u32
+    requires { IsFormOf (extended_form op extendop registers) }
+    ensures { result ≡ form_word (extended_form op extendop registers) }
 {
+    let TwoRegisters { sf, rm, rn, rd } = registers;
     let ext = u32::from(extendop.bits());
     pack(
         Row::AddSubExt,
@@ -169,10 +185,11 @@ pub fn extended_word(op: ALUOp, extendop: ExtendOp, sf: u32, rm: u32, rn: u32, r
 
 /// The word of a product that is added or subtracted.
 #[inline(always)]
-pub fn product_word(op: ALUOp3, sf: u32, rm: u32, ra: u32, rn: u32, rd: u32) -> u32
-    requires { IsFormOf (product_form op ra (record { sf = sf; rm = rm; rn = rn; rd = rd })) }
-    ensures { result ≡ form_word (product_form op ra (record { sf = sf; rm = rm; rn = rn; rd = rd })) }
+pub fn product_word(op: ALUOp3, ra: u32, registers: TwoRegisters) -> u32
+    requires { IsFormOf (product_form op ra registers) }
+    ensures { result ≡ form_word (product_form op ra registers) }
 {
+    let TwoRegisters { sf, rm, rn, rd } = registers;
     match op {
         ALUOp3::MAdd => pack(Row::MulAdd, &[sf, rm, 0, ra, rn, rd]),
         ALUOp3::MSub => pack(Row::MulAdd, &[sf, rm, 1, ra, rn, rd]),

@@ -1,18 +1,19 @@
 //! The words of "Data Processing -- Register": operations on registers, and moves of them.
 
-ghost use Rattle.std.specs.Prelude.{◌≡◌, true};
+ghost use Rattle.std.specs.Prelude.{◌≡◌, ◌<◌, true};
 ghost use Rattle.a64_base.specs.declared.reg.Reg.TheVariants.{Real};
 ghost use Rattle.a64_base.specs.declared.size.OperandSize.TheVariants.{Size64};
 ghost use Rattle.a64_inst.specs.declared.virtuals.VirtualRegisters.TheVariants.{Refused};
 ghost use Rattle.a64_inst.specs.Operands as operands;
 ghost use Rattle.a64_inst.specs.Operands.{is_register_or_zero};
 ghost use Rattle.a64_inst.specs.IntegerOperands as sets;
+ghost use Rattle.a64_enc_int.specs.Registers.{IsReal};
 ghost use Rattle.a64_rows.specs.Forms.{form_word};
 ghost use Rattle.a64_emit.specs.IntegerForms as forms;
 
 use crate::word::integer::immediate::alu_rr_imm12_word;
 use crate::word::integer::operator::{
-    alu_word, bit_opcode_bits, extended_word, product_word, shifted_word,
+    TwoRegisters, alu_word, bit_opcode_bits, extended_word, product_word, shifted_word,
 };
 use a64_base::{
     Cond, ExtendOp, OperandSize, PReg, Reg, RegClass, ShiftOp, ShiftOpAndAmt, Writable, zero_reg,
@@ -21,18 +22,30 @@ use a64_enc_int::{enc_bit_rr, enc_ccmp, enc_ccmp_imm, enc_csel, register_field};
 use a64_imms::{Imm12, NZCV, UImm5};
 use a64_ops::{ALUOp, ALUOp3, BitOp};
 
+/// The size flag of an operation, and the numbers of its registers.
+#[inline(always)]
+pub fn two_registers(size: OperandSize, rd: Writable<Reg>, rn: Reg, rm: Reg) -> TwoRegisters
+    requires rd { IsReal rd }
+    requires rn { IsReal rn }
+    requires rm { IsReal rm }
+    ensures value { result ≡ forms.two_registers size rd rn rm }
+    ensures below { (result.sf < 2) × (result.rm < 32) × (result.rn < 32) × (result.rd < 32) }
+{
+    TwoRegisters {
+        sf: size.sf_bit(),
+        rm: register_field(rm),
+        rn: register_field(rn),
+        rd: register_field(rd.to_reg()),
+    }
+}
+
 /// The word of an `AluRRR`.
 #[tactic(auto, using(crate::proofs::Operands::general), unfolding(crate::specs::IntegerForms::alu_rrr_form, a64_inst::specs::IntegerOperands::are_alu_rrr_operands))]
 pub fn alu_rrr_word(op: ALUOp, size: OperandSize, rd: Writable<Reg>, rn: Reg, rm: Reg) -> u32
     requires { sets.are_alu_rrr_operands Refused op size rd rn rm ≡ true }
     ensures { result ≡ form_word (forms.alu_rrr_form op size rd rn rm) }
 {
-    let (rm, rn, rd) = (
-        register_field(rm),
-        register_field(rn),
-        register_field(rd.to_reg()),
-    );
-    alu_word(op, ShiftOp::LSL, 0, size.sf_bit(), rm, rn, rd)
+    alu_word(op, ShiftOp::LSL, 0, two_registers(size, rd, rn, rm))
 }
 
 /// The word of an `AluRRRR`.
@@ -48,9 +61,7 @@ pub fn alu_rrrr_word(
     requires { sets.are_alu_rrrr_operands Refused op size rd rn rm ra ≡ true }
     ensures { result ≡ form_word (forms.alu_rrrr_form op size rd rn rm ra) }
 {
-    let (rm, ra) = (register_field(rm), register_field(ra));
-    let (rn, rd) = (register_field(rn), register_field(rd.to_reg()));
-    product_word(op, size.sf_bit(), rm, ra, rn, rd)
+    product_word(op, register_field(ra), two_registers(size, rd, rn, rm))
 }
 
 /// The word of an `AluRRRShift`.
@@ -66,12 +77,7 @@ pub fn alu_rrr_shift_word(
     requires { sets.are_alu_rrr_shift_operands Refused op size rd rn rm shiftop ≡ true }
     ensures { result ≡ form_word (forms.alu_rrr_shift_form op size rd rn rm shiftop) }
 {
-    let (rm, rn, rd) = (
-        register_field(rm),
-        register_field(rn),
-        register_field(rd.to_reg()),
-    );
-    shifted_word(op, shiftop, size.sf_bit(), rm, rn, rd)
+    shifted_word(op, shiftop, two_registers(size, rd, rn, rm))
 }
 
 /// The word of an `AluRRRExtend`.
@@ -87,12 +93,7 @@ pub fn alu_rrr_extend_word(
     requires { sets.are_alu_rrr_extend_operands Refused op rd rn rm ≡ true }
     ensures { result ≡ form_word (forms.alu_rrr_extend_form op size rd rn rm extendop) }
 {
-    let (rm, rn, rd) = (
-        register_field(rm),
-        register_field(rn),
-        register_field(rd.to_reg()),
-    );
-    extended_word(op, extendop, size.sf_bit(), rm, rn, rd)
+    extended_word(op, extendop, two_registers(size, rd, rn, rm))
 }
 
 /// The word of a `BitRR`.

@@ -18,12 +18,12 @@ ghost use Rattle.a64_emit.specs.Words.{are_held_parts};
 
 use crate::word::integer::system::nop4_word;
 use a64_base::{ExtendOp, Reg, stack_reg};
-use a64_enc_int::{enc_ldst_imm19, enc_ldst_pair, enc_ldst_reg, enc_ldst_simm9, enc_ldst_uimm12};
+use a64_enc_int::{enc_ldst_pair, enc_ldst_reg, register_field};
 use a64_imms::{SImm7Scaled, SImm9, UImm12Scaled};
 use a64_inst::{AMode, AccessOp, MemLabel, PairAMode};
+use a64_rows::{Row, pack};
 
-/// The bits 31 to 22 of the word of a load or a store of one register, but for those that an
-/// unsigned offset and an index set.
+/// The bits 31 to 22 of the word of a load or a store of one register, but for those that an index sets.
 #[tactic(auto, using(crate::proofs::MemoryWords::fields_below))]
 fn access_bits(op: AccessOp) -> u32
     ensures { result ≡ size_of op * 2 ^ 8 + 224 + vector_of op * 2 ^ 4 + opc_of op }
@@ -32,6 +32,7 @@ fn access_bits(op: AccessOp) -> u32
 }
 
 /// The word of an access with an offset of 9 bits.
+#[tactic(auto, using(crate::proofs::AccessForms::data_real, crate::proofs::AccessForms::are_access_fields, crate::proofs::MemoryWords::fields_below), unfolding(crate::specs::MemoryForms::imm9_form))]
 fn imm9_word(op: AccessOp, rt: Reg, mode: u32, rn: Reg, simm9: SImm9) -> u32
     requires rt { is_data_register Refused op rt ≡ true }
     requires mode { mode < 4 }
@@ -40,16 +41,21 @@ fn imm9_word(op: AccessOp, rt: Reg, mode: u32, rn: Reg, simm9: SImm9) -> u32
     requires simm9 { IsOffset9 simm9.value }
     ensures { result ≡ form_word (forms.imm9_form op rt mode rn simm9.value) }
 {
-    enc_ldst_simm9(access_bits(op), simm9, mode, rn, rt)
+    let (sz, v, opc) = (op.size_field(), op.vector_field(), op.opc_field());
+    let (rn, rt) = (register_field(rn), register_field(rt));
+    pack(Row::LdStImm9, &[sz, v, opc, simm9.bits(), mode, rn, rt])
 }
 
 /// The word of an access with an unsigned offset.
+#[tactic(auto, using(crate::proofs::AccessForms::data_real, crate::proofs::AccessForms::are_access_fields, crate::proofs::MemoryWords::fields_below), unfolding(crate::specs::MemoryForms::unsigned_form))]
 pub fn unsigned_word(op: AccessOp, rt: Reg, rn: Reg, uimm12: UImm12Scaled) -> u32
     requires rt { is_data_register Refused op rt ≡ true }
     requires rn { IsGeneral rn }
     ensures { result ≡ form_word (forms.unsigned_form op rt rn (uimm12_value uimm12 / type_bytes (uimm12_scale uimm12))) }
 {
-    enc_ldst_uimm12(access_bits(op), uimm12, rn, rt)
+    let (sz, v, opc) = (op.size_field(), op.vector_field(), op.opc_field());
+    let (rn, rt) = (register_field(rn), register_field(rt));
+    pack(Row::LdStUnsigned, &[sz, v, opc, uimm12.bits(), rn, rt])
 }
 
 /// The word of an access with an index.
@@ -81,21 +87,19 @@ fn literal_words(label: MemLabel) -> u32
     }
 }
 
-/// The bits 31 to 24 of the word of the load of a literal.
-fn literal_bits(op: AccessOp) -> u32
-    ensures { result ≡ forms.option_or_zero (literal_of op) * 2 ^ 6 + 24 + vector_of op * 2 ^ 2 }
-{
-    (op.literal_field().unwrap_or(0) << 6) + 0b011_000 + (op.vector_field() << 2)
-}
-
 /// The word of the load of a literal.
+#[tactic(auto, using(crate::proofs::AccessForms::data_real, crate::proofs::AccessForms::literal_opc, crate::proofs::MemoryWords::fields_below, crate::proofs::MemoryWords::literal_below), unfolding(crate::specs::MemoryForms::literal_form))]
 #[inline(always)]
 pub fn literal_word(op: AccessOp, rt: Reg, words: u32) -> u32
     requires rt { is_data_register Refused op rt ≡ true }
     requires words { words < 2 ^ 19 }
     ensures { result ≡ form_word (forms.literal_form op rt words) }
 {
-    enc_ldst_imm19(literal_bits(op), words, rt)
+    let opc = op.literal_field().unwrap_or(0);
+    pack(
+        Row::LdLiteral,
+        &[opc, op.vector_field(), words, register_field(rt)],
+    )
 }
 
 /// The word of a load or a store of one register in a mode that stands in an instruction.
