@@ -41,6 +41,7 @@ pub fn two_registers(size: OperandSize, rd: Writable<Reg>, rn: Reg, rm: Reg) -> 
 
 /// The word of an `AluRRR`.
 #[tactic(auto, using(crate::proofs::Operands::general), unfolding(crate::specs::IntegerForms::alu_rrr_form, a64_inst::specs::IntegerOperands::are_alu_rrr_operands))]
+#[inline(always)]
 pub fn alu_rrr_word(op: ALUOp, size: OperandSize, rd: Writable<Reg>, rn: Reg, rm: Reg) -> u32
     requires { sets.are_alu_rrr_operands Refused op size rd rn rm ≡ true }
     ensures { result ≡ form_word (forms.alu_rrr_form op size rd rn rm) }
