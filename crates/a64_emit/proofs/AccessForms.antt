@@ -202,7 +202,7 @@ words_below (PCRel offset) = let small : residue (2 ^ 21) offset < 2 ^ 21 = resi
 words_below (Mach label) = lit< tt
 words_below (Pool addr) = lit< tt
 
-index_extend : (extend : ExtendOp) → is_index_extend extend ≡ true → limits.is_index_extend (extend_bits extend) ≡ true
+pub index_extend : (extend : ExtendOp) → is_index_extend extend ≡ true → limits.is_index_extend (extend_bits extend) ≡ true
 index_extend UXTW e = refl
 index_extend SXTW e = refl
 index_extend SXTX e = refl

@@ -5,35 +5,17 @@ use Rattle.a64_imms.specs.declared.offset.SImm7Scaled.{SImm7Scaled}
 use Rattle.a64_ops.specs.declared.access.AccessOp.{AccessOp}
 use Rattle.a64_ops.specs.Accesses.{size_of, vector_of, opc_of, literal_of}
 use Rattle.a64_rows.specs.Forms.{form_word}
-use Rattle.a64_rows.specs.Memory.{ld_st_reg, ld_st_pair}
+use Rattle.a64_rows.specs.Memory.{ld_st_pair}
 use Rattle.a64_enc_int.specs.Operators.{simm7_field}
-use Rattle.a64_enc_int.specs.RawBits.{indexed_access_of, pair_access_of}
+use Rattle.a64_enc_int.specs.RawBits.{pair_access_of}
 use Rattle.a64_enc_int.specs.Registers.{register_field}
-use Rattle.a64_emit.specs.MemoryForms.{indexed_form, option_or_zero, pair_word_form}
+use Rattle.a64_emit.specs.MemoryForms.{option_or_zero, pair_word_form}
 
 pub fields_below : (op : AccessOp) → (size_of op < 4) × (vector_of op < 2) × (opc_of op < 4)
 fields_below op = grind arith
 
 pub literal_below : (op : AccessOp) → option_or_zero (literal_of op) < 4
 literal_below op = grind arith
-
--- the bits 31 to 22 give size, V and opc
-record Gives (op : AccessOp) (bits : ℕ) : Type 0 where
-  sz : bits / 2 ^ 8 ≡ size_of op
-  v : bits / 2 ^ 4 % 2 ≡ vector_of op
-  opc : bits % 2 ^ 2 ≡ opc_of op
-
-gives : (op : AccessOp) (bits : ℕ) → bits ≡ size_of op * 2 ^ 8 + 224 + vector_of op * 2 ^ 4 + opc_of op → Gives op bits
-gives op bits e = let b = fields_below op in record { sz = omega (arith, e, b.0, b.1, b.2); v = omega (arith, e, b.0, b.1, b.2); opc = omega (arith, e, b.0, b.1, b.2) }
-
-pub indexed_is : (op : AccessOp) (rt rn rm : Reg) (ext s bits : ℕ) → bits ≡ size_of op * 2 ^ 8 + 224 + vector_of op * 2 ^ 4 + opc_of op
-    → form_word (indexed_access_of bits (record { rm = register_field rm; ext = ext; s = s; rn = register_field rn; rt = register_field rt })) ≡ form_word (indexed_form op rt rn rm ext s)
-unfolding indexed_form
-indexed_is op rt rn rm ext s bits e =
-    let g = gives op bits e in
-    ap (λ n. form_word (ld_st_reg (record { sz = n; v = bits / 2 ^ 4 % 2; opc = bits % 2 ^ 2; rm = register_field rm; ext = ext; s = s; rn = register_field rn; rt = register_field rt }))) g.sz
-    ∙ ap (λ n. form_word (ld_st_reg (record { sz = size_of op; v = n; opc = bits % 2 ^ 2; rm = register_field rm; ext = ext; s = s; rn = register_field rn; rt = register_field rt }))) g.v
-    ∙ ap (λ n. form_word (ld_st_reg (record { sz = size_of op; v = vector_of op; opc = n; rm = register_field rm; ext = ext; s = s; rn = register_field rn; rt = register_field rt }))) g.opc
 
 -- the bits 31 to 22 of pairs give opc, the index of the mode, and L
 pub pair_is : (load index : ℕ) (rn : Reg) (simm7 : SImm7Scaled) (rt rt2 : Reg) (bits : ℕ) → bits ≡ 672 + index * 2 + load → load < 2 → index < 4

@@ -49,22 +49,27 @@ pub fn mem_finalize(
 ) -> Result<(SmallVec<Inst, 4>, AMode), AllocError>
     requires access { IsAccessSize (type_bytes access_ty) }
     requires frame { FrameFits state.now.frame mem.now }
-    requires offset { IfSome (base_offset_of state.now.frame mem.now) (λ place. FitsSigned w64 place.offset) }
+    requires offset { IfSome (base_offset_of state.now.frame mem.now)
+        (λ place. FitsSigned w64 place.offset) }
     ensures succeeds { IsOk result }
     ensures others { base_offset_of state.now.frame mem.now ≡ None
         → IfOk result (λ final. (final.0.items ≡ []) × (final.1 ≡ held_mode for_code mem.now)) }
     ensures insts { IfSome (base_offset_of state.now.frame mem.now)
-        (λ place. IfOk result (λ final. final.0.items ≡ map (step_into (integer_register 16)) (steps_to access_ty place.offset))) }
+        (λ place. IfOk result (λ final.
+            final.0.items ≡ map (step_into (integer_register 16)) (steps_to access_ty place.offset))) }
     ensures mode { IfSome (base_offset_of state.now.frame mem.now)
         (λ place. IfOk result (λ final. StandsFor access_ty place final.1)) }
     // Once the steps of these instructions have run, the final mode's address is base plus offset.
     ensures address { IfSome (base_offset_of state.now.frame mem.now)
-        (λ place. IfOk result (λ final. Reaches access_ty place (steps_to access_ty place.offset) final.1)) }
+        (λ place. IfOk result (λ final.
+            Reaches access_ty place (steps_to access_ty place.offset) final.1)) }
     ensures faultless { IfOk result (λ final. HaveNoFault final.0.items) }
     // Both at once, for any mode.
     ensures steps { IfOk result
-        (λ final. final.0.items ≡ map (step_into (integer_register 16)) (final_steps state.now.frame access_ty mem.now)) }
-    ensures parts { IfOk result (λ final. parts_of final.1 ≡ mode_for for_code state.now.frame access_ty mem.now) }
+        (λ final. final.0.items
+            ≡ map (step_into (integer_register 16)) (final_steps state.now.frame access_ty mem.now)) }
+    ensures parts { IfOk result
+        (λ final. parts_of final.1 ≡ mode_for for_code state.now.frame access_ty mem.now) }
 {
     let Some(place) = place_of(state.frame_layout(), mem) else {
         return Ok((SmallVec::new(alloc), held_mode(for_code, mem)));

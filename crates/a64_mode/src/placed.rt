@@ -40,8 +40,10 @@ fn far_mode(base: Reg) -> AMode
 pub fn placed_mode(ty: IrType, base: Reg, offset: i64) -> AMode
     requires { IsAccessSize (type_bytes ty) }
     ensures stands { StandsFor ty (record { base = base; offset = offset }) result }
-    ensures address { Reaches ty (record { base = base; offset = offset }) (steps_to ty offset) result }
-    ensures parts { parts_of result ≡ finals.placed_mode ty (record { base = base; offset = offset }) }
+    ensures address { Reaches ty (record { base = base; offset = offset })
+        (steps_to ty offset) result }
+    ensures parts { parts_of result
+        ≡ finals.placed_mode ty (record { base = base; offset = offset }) }
 {
     if let Some(simm9) = SImm9::maybe_from_i64(offset) {
         return AMode::Unscaled { rn: base, simm9 };

@@ -68,7 +68,7 @@ fn entry_word(rtmp1: Writable<Reg>, rtmp2: Writable<Reg>) -> u32
         entry,
         rtmp1.to_reg(),
         rtmp2.to_reg(),
-        Some(ExtendOp::UXTW),
+        ExtendOp::UXTW,
         true,
     )
 }
@@ -211,7 +211,7 @@ pub fn probe_words(info: &EmitInfo, start: Writable<Reg>, end: Reg, step: Imm12)
             zero_reg(),
             stack_reg(),
             start.to_reg(),
-            None,
+            ExtendOp::UXTX,
             false,
         ),
         alu_rrr_word(

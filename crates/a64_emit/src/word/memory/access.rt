@@ -5,31 +5,25 @@ ghost use Rattle.a64_imms.specs.Offsets.{residue, IsOffset9};
 ghost use Rattle.a64_imms.specs.ScaledOffsets.{uimm12_value, uimm12_scale};
 ghost use Rattle.a64_imms.specs.Scales.{type_bytes};
 ghost use Rattle.a64_base.specs.declared.ir_type.IrType.TheVariants.{I64};
+ghost use Rattle.a64_base.specs.Shifts.{extend_bits};
 ghost use Rattle.a64_inst.specs.declared.virtuals.VirtualRegisters.TheVariants.{Refused};
 ghost use Rattle.a64_inst.specs.FinalModes.{held_mode, parts_of};
 ghost use Rattle.a64_inst.specs.MemoryOperands.{is_data_register, are_pair_operands, is_simm7_of};
 ghost use Rattle.a64_inst.specs.Operands.{is_offset, is_register_or_zero};
 ghost use Rattle.a64_ops.specs.Accesses.{size_of, vector_of, opc_of, literal_of};
 ghost use Rattle.a64_rows.specs.Forms.{form_word};
-ghost use Rattle.a64_enc_int.specs.Operators.{bit_of, index_option, IsIndexExtend};
+ghost use Rattle.a64_rows.specs.Limits as limits;
+ghost use Rattle.a64_enc_int.specs.Operators.{bit_of};
 ghost use Rattle.a64_enc_int.specs.Registers.{IsGeneral};
 ghost use Rattle.a64_emit.specs.MemoryForms as forms;
 ghost use Rattle.a64_emit.specs.Words.{are_held_parts};
 
 use crate::word::integer::system::nop4_word;
 use a64_base::{ExtendOp, Reg, stack_reg};
-use a64_enc_int::{enc_ldst_pair, enc_ldst_reg, register_field};
+use a64_enc_int::{enc_ldst_pair, register_field};
 use a64_imms::{SImm7Scaled, SImm9, UImm12Scaled};
 use a64_inst::{AMode, AccessOp, MemLabel, PairAMode};
 use a64_rows::{Row, pack};
-
-/// The bits 31 to 22 of the word of a load or a store of one register, but for those that an index sets.
-#[tactic(auto, using(crate::proofs::MemoryWords::fields_below))]
-fn access_bits(op: AccessOp) -> u32
-    ensures { result ≡ size_of op * 2 ^ 8 + 224 + vector_of op * 2 ^ 4 + opc_of op }
-{
-    (op.size_field() << 8) + 0b111_00000 + (op.vector_field() << 4) + op.opc_field()
-}
 
 /// The word of an access with an offset of 9 bits.
 #[tactic(auto, using(crate::proofs::AccessForms::data_real, crate::proofs::AccessForms::are_access_fields, crate::proofs::MemoryWords::fields_below), unfolding(crate::specs::MemoryForms::imm9_form))]
@@ -58,22 +52,26 @@ pub fn unsigned_word(op: AccessOp, rt: Reg, rn: Reg, uimm12: UImm12Scaled) -> u3
     pack(Row::LdStUnsigned, &[sz, v, opc, uimm12.bits(), rn, rt])
 }
 
-/// The word of an access with an index.
+/// The word of an access with an index, which `UXTX` leaves as it is.
+#[tactic(auto, using(crate::proofs::AccessForms::data_real, crate::proofs::AccessForms::are_access_fields, crate::proofs::MemoryWords::fields_below, crate::proofs::OneWord::extend_below), unfolding(crate::specs::MemoryForms::indexed_form))]
 pub fn indexed_word(
     op: AccessOp,
     rt: Reg,
     rn: Reg,
     rm: Reg,
-    extendop: Option<ExtendOp>,
+    extendop: ExtendOp,
     scaled: bool,
 ) -> u32
     requires rt { is_data_register Refused op rt ≡ true }
     requires rn { IsGeneral rn }
     requires rm { IsGeneral rm }
-    requires extendop { IsIndexExtend extendop }
-    ensures { result ≡ form_word (forms.indexed_form op rt rn rm (index_option extendop) (bit_of scaled)) }
+    requires extendop { limits.is_index_extend (extend_bits extendop) ≡ true }
+    ensures { result ≡ form_word (forms.indexed_form op rt rn rm (extend_bits extendop) (bit_of scaled)) }
 {
-    enc_ldst_reg(access_bits(op), rn, rm, scaled, extendop, rt)
+    let (sz, v, opc) = (op.size_field(), op.vector_field(), op.opc_field());
+    let (ext, s) = (u32::from(extendop.bits()), u32::from(scaled));
+    let (rm, rn, rt) = (register_field(rm), register_field(rn), register_field(rt));
+    pack(Row::LdStReg, &[sz, v, opc, rm, ext, s, rn, rt])
 }
 
 /// How many words a literal is ahead, modulo 2^19; none as long as it is a label's or a constant's.
@@ -103,6 +101,7 @@ pub fn literal_word(op: AccessOp, rt: Reg, words: u32) -> u32
 }
 
 /// The word of a load or a store of one register in a mode that stands in an instruction.
+#[tactic(auto, using(crate::proofs::AccessForms::index_extend))]
 #[inline(never)]
 pub fn held_word(op: AccessOp, rt: Reg, mode: &AMode) -> u32
     requires rt { is_data_register Refused op rt ≡ true }
@@ -112,13 +111,13 @@ pub fn held_word(op: AccessOp, rt: Reg, mode: &AMode) -> u32
     match *mode {
         AMode::Unscaled { rn, simm9 } => imm9_word(op, rt, 0, rn, simm9),
         AMode::UnsignedOffset { rn, uimm12 } => unsigned_word(op, rt, rn, uimm12),
-        AMode::RegReg { rn, rm } => indexed_word(op, rt, rn, rm, None, false),
-        AMode::RegScaled { rn, rm } => indexed_word(op, rt, rn, rm, None, true),
+        AMode::RegReg { rn, rm } => indexed_word(op, rt, rn, rm, ExtendOp::UXTX, false),
+        AMode::RegScaled { rn, rm } => indexed_word(op, rt, rn, rm, ExtendOp::UXTX, true),
         AMode::RegExtended { rn, rm, extendop } => {
-            indexed_word(op, rt, rn, rm, Some(extendop), false)
+            indexed_word(op, rt, rn, rm, extendop, false)
         }
         AMode::RegScaledExtended { rn, rm, extendop } => {
-            indexed_word(op, rt, rn, rm, Some(extendop), true)
+            indexed_word(op, rt, rn, rm, extendop, true)
         }
         AMode::Label { label } => literal_word(op, rt, literal_words(label)),
         AMode::SPPreIndexed { simm9 } => imm9_word(op, rt, 3, stack_reg(), simm9),
