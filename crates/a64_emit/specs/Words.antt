@@ -1,11 +1,15 @@
 -- What the words of instructions are asked for, and how they are put.
-use Rattle.std.specs.Prelude.{ℕ, ◌≡◌, Bool, true, ◌&&◌, ◌||◌, nat_eq, List, [], ◌∷◌, ◌++◌, map, Option, None, IfSome, IsSome}
+use Rattle.std.specs.Prelude.{ℕ, ◌≡◌, Bool, true, ◌&&◌, ◌||◌, nat_eq, List, [], ◌∷◌, ◌++◌, map, Option, None, Some, IfSome, IsSome}
 use Rattle.std.specs.Ordering.{nat_cmp}
 use Rattle.std.specs.FinMap.{FinMap, get}
+use Rattle.a64_base.specs.declared.cond.CondBrKind.{CondBrKind}
+use Rattle.a64_base.specs.declared.cond.TestBitAndBranchKind.{TestBitAndBranchKind}
+use Rattle.a64_base.specs.declared.entity.MachLabel.{MachLabel}
 use Rattle.a64_base.specs.declared.entity.TrapCode.{TrapCode}
 use Rattle.a64_base.specs.declared.entity.UserStackMap.{UserStackMap}
 use Rattle.a64_base.specs.declared.reg.Reg.{Reg}
 use Rattle.a64_base.specs.declared.target.BranchTarget.{BranchTarget}
+use Rattle.a64_base.specs.declared.target.BranchTarget.TheVariants as targets
 use Rattle.a64_base.specs.Registers.{integer_register}
 use Rattle.a64_imms.specs.Scales.{type_bytes}
 use Rattle.a64_ops.specs.declared.access.AccessOp.{AccessOp}
@@ -26,13 +30,13 @@ use Rattle.a64_inst.specs.Operands.{is_register_or_stack, is_register_or_zero}
 use Rattle.a64_rows.specs.Forms.{form_word}
 use Rattle.a64_buffer.specs.declared.site.Target.TheVariants.{Label, Constant, Trap, IslandEnd}
 use Rattle.a64_label_use.specs.declared.label_use.LabelUse.{LabelUse}
-use Rattle.a64_label_use.specs.declared.label_use.LabelUse.TheVariants.{Branch26}
+use Rattle.a64_label_use.specs.declared.label_use.LabelUse.TheVariants.{Adr21, Branch14, Branch19, Branch26}
 use Rattle.a64_emit.specs.declared.site.Site.{Site}
 use Rattle.a64_label_use.specs.LabelUses.{urgency_of}
-use Rattle.a64_emit.specs.ControlForms.{jump_form}
+use Rattle.a64_emit.specs.ControlForms.{cond_br_form, jump_form, label_address_form, test_bit_and_branch_form, trap_if_form}
 use Rattle.a64_emit.specs.declared.call.Callee.{Callee}
 use Rattle.a64_emit.specs.declared.call.Callee.TheVariants.{Symbol, Address}
-use Rattle.a64_emit.specs.Cells.{Data, Cell, Shape, OneWord, Several, Words, body_word, call_marks, cell_word, last_cell, branch_site, shape_of, other_cells}
+use Rattle.a64_emit.specs.Cells.{Data, Cell, Shape, OneWord, Several, Words, body_word, call_marks, cell_word, last_cell, branch_site, trap_site, shape_of, other_cells}
 
 -- the operands of a step into a register are in their sets
 abbrev pub CanStep : Reg → ConstStep → Type 0
@@ -77,10 +81,31 @@ put_cell word site trap = last_cell (Data word) site trap
 abbrev pub put_cells : List ℕ → ℕ → Option Site → Option TrapCode → List Cell
 put_cells first last site trap = map (λ word. put_cell word None None) first ++ put_cell last site trap ∷ []
 
+-- a jump as its word is put
+abbrev pub put_jump : BranchTarget → List Cell
+put_jump dest = put_cell (form_word (jump_form dest)) (branch_site Branch26 dest) None ∷ []
+
 -- a conditional branch as its word is put, and behind it a jump
 abbrev pub put_branches : ℕ → LabelUse → BranchTarget → BranchTarget → List Cell
-put_branches word kind taken not_taken =
-    put_cell word (branch_site kind taken) None ∷ put_cell (form_word (jump_form not_taken)) (branch_site Branch26 not_taken) None ∷ []
+put_branches word kind taken not_taken = put_cell word (branch_site kind taken) None ∷ put_jump not_taken
+
+-- a branch on a condition, and one on a bit of a register, each with a jump behind it
+abbrev pub put_cond_br : BranchTarget → BranchTarget → CondBrKind → List Cell
+put_cond_br taken not_taken kind =
+    put_branches (form_word (cond_br_form taken kind)) Branch19 taken not_taken
+
+abbrev pub put_test_bit : TestBitAndBranchKind → BranchTarget → BranchTarget → Reg → ℕ → List Cell
+put_test_bit kind taken not_taken rn bit =
+    put_branches (form_word (test_bit_and_branch_form kind taken rn bit)) Branch14 taken not_taken
+
+-- a word that branches to a trap word
+abbrev pub put_trap_if : CondBrKind → TrapCode → List Cell
+put_trap_if kind code = put_cell (form_word (trap_if_form kind)) (Some (trap_site code)) None ∷ []
+
+-- the address of a label
+abbrev pub put_label_address : Reg → MachLabel → List Cell
+put_label_address dst label =
+    put_cell (form_word (label_address_form dst)) (branch_site Adr21 (targets.Label label)) None ∷ []
 
 -- a cell as its word is put
 abbrev pub as_put : Cell → Cell

@@ -5,7 +5,8 @@ ghost use Rattle.a64_inst.specs.declared.group.Group.TheVariants.{Call, Control,
 ghost use Rattle.a64_inst.specs.declared.emission.EmitFlags.{EmitFlags};
 ghost use Rattle.a64_inst.specs.declared.virtuals.VirtualRegisters.TheVariants.{Refused};
 ghost use Rattle.a64_inst.specs.Faults.{has_operands, has_mode};
-ghost use Rattle.a64_inst.specs.ControlOperands.{are_jump_operands};
+ghost use Rattle.a64_inst.specs.ControlOperands.{are_cond_br_operands, are_jump_operands, are_test_bit_operands, is_test};
+ghost use Rattle.a64_inst.specs.Operands.{is_register_or_zero};
 ghost use Rattle.a64_inst.specs.Groups.{group_of};
 ghost use Rattle.a64_inst.specs.State.{State};
 ghost use Rattle.a64_buffer.specs.Buffer.{Buffer, end_of};
@@ -14,7 +15,7 @@ ghost use Rattle.a64_label_use.specs.declared.label_use.LabelUse.{LabelUse};
 ghost use Rattle.a64_emit.specs.Bounds.{asked_of};
 ghost use Rattle.a64_emit.specs.Cells as cells;
 ghost use Rattle.a64_emit.specs.Cells.{Data, data_cell, reloc_cell, shape_of, only_word, inst_cells, kept_cells};
-ghost use Rattle.a64_emit.specs.Words.{MayBePut, IsThere, as_put, put_cell, put_cells, put_branches, put_for};
+ghost use Rattle.a64_emit.specs.Words.{MayBePut, IsThere, as_put, put_branches, put_cell, put_cells, put_cond_br, put_for, put_jump, put_label_address, put_test_bit, put_trap_if};
 ghost use Rattle.a64_label_use.specs.LabelUses.{label_kinds};
 ghost use Rattle.a64_emit.specs.Emission.{trapped, PutsInPart, appended, IslandsIfNeeded, Puts, Emits, EmitsInPart, IsAppendedInPart, HasRoom, CellsFit, HasIslandRoom, IsReady};
 
@@ -29,7 +30,10 @@ use crate::word::control::{
 };
 use crate::word::integer::{only_immediate_word, only_register_word};
 use crate::word::memory::{SeveralWords, held_memory_word, memory_words};
-use a64_base::{BranchTarget, ExternalName, Reloc, TrapCode, UserStackMap};
+use a64_base::{
+    BranchTarget, CondBrKind, ExternalName, MachLabel, Reg, Reloc, TestBitAndBranchKind, TrapCode,
+    UserStackMap, Writable,
+};
 use a64_buffer::{ForceVeneers, MachBuffer, Target};
 use a64_inst::{EmitInfo, EmitState, FrameLayout, Group, Inst};
 use a64_label_use::LabelUse;
@@ -274,6 +278,111 @@ fn emit_conditional(
     emit_branch(sink, jump_word(not_taken), LabelUse::Branch26, not_taken)
 }
 
+/// A branch on a condition, with a jump behind it. Out of line, like those below, so that an instruction
+/// has no room of another to clear, and saves no registers for it.
+#[inline(never)]
+fn emit_cond_br(
+    sink: &mut MachBuffer<'_, LabelUse>,
+    taken: &BranchTarget,
+    not_taken: &BranchTarget,
+    kind: &CondBrKind,
+) -> Result<(), AllocError>
+    requires good { are_cond_br_operands Refused taken.now not_taken.now kind.now ≡ true }
+    requires short { end_of sink.old + 8 < 2 ^ 31 }
+    requires fits { CellsFit sink.old (put_cond_br taken.now not_taken.now kind.now) }
+    ensures ok { OnOk result
+        (sink.new ≡ appended sink.old (put_cond_br taken.now not_taken.now kind.now)) }
+    ensures err { OnErr result
+        (IsAppendedInPart sink.old sink.new (put_cond_br taken.now not_taken.now kind.now)) }
+{
+    let word = cond_br_word(*taken, *kind);
+    emit_conditional(sink, word, LabelUse::Branch19, *taken, *not_taken)
+}
+
+/// A branch on a bit of a register, with a jump behind it.
+#[inline(never)]
+fn emit_test_bit_and_branch(
+    sink: &mut MachBuffer<'_, LabelUse>,
+    kind: TestBitAndBranchKind,
+    taken: &BranchTarget,
+    not_taken: &BranchTarget,
+    rn: &Reg,
+    bit: u8,
+) -> Result<(), AllocError>
+    requires good { are_test_bit_operands Refused taken.now not_taken.now rn.now bit ≡ true }
+    requires short { end_of sink.old + 8 < 2 ^ 31 }
+    requires fits { CellsFit sink.old (put_test_bit kind taken.now not_taken.now rn.now bit) }
+    ensures ok { OnOk result
+        (sink.new ≡ appended sink.old (put_test_bit kind taken.now not_taken.now rn.now bit)) }
+    ensures err { OnErr result
+        (IsAppendedInPart sink.old sink.new
+            (put_test_bit kind taken.now not_taken.now rn.now bit)) }
+{
+    let word = test_bit_and_branch_word(kind, *taken, *rn, bit);
+    emit_conditional(sink, word, LabelUse::Branch14, *taken, *not_taken)
+}
+
+/// A jump.
+#[inline(never)]
+fn emit_jump(sink: &mut MachBuffer<'_, LabelUse>, dest: BranchTarget) -> Result<(), AllocError>
+    requires good { are_jump_operands dest ≡ true }
+    requires short { end_of sink.old + 4 < 2 ^ 31 }
+    requires fits { CellsFit sink.old (put_jump dest) }
+    ensures ok { OnOk result (sink.new ≡ appended sink.old (put_jump dest)) }
+    ensures err { OnErr result (IsAppendedInPart sink.old sink.new (put_jump dest)) }
+{
+    emit_branch(sink, jump_word(dest), LabelUse::Branch26, dest)
+}
+
+/// A branch to a trap word.
+#[inline(never)]
+fn emit_trap_if(
+    sink: &mut MachBuffer<'_, LabelUse>,
+    kind: &CondBrKind,
+    code: TrapCode,
+) -> Result<(), AllocError>
+    requires kind { is_test Refused kind.now ≡ true }
+    requires short { end_of sink.old + 4 < 2 ^ 31 }
+    requires fits { CellsFit sink.old (put_trap_if kind.now code) }
+    ensures ok { OnOk result (sink.new ≡ appended sink.old (put_trap_if kind.now code)) }
+    ensures err { OnErr result (IsAppendedInPart sink.old sink.new (put_trap_if kind.now code)) }
+{
+    emit_last(sink, trap_if_word(*kind), Some(trap_site(code)), None)
+}
+
+/// The address of a label.
+#[inline(never)]
+fn emit_label_address(
+    sink: &mut MachBuffer<'_, LabelUse>,
+    dst: &Writable<Reg>,
+    label: MachLabel,
+) -> Result<(), AllocError>
+    requires dst { is_register_or_zero Refused dst.now ≡ true }
+    requires short { end_of sink.old + 4 < 2 ^ 31 }
+    requires fits { CellsFit sink.old (put_label_address dst.now label) }
+    ensures ok { OnOk result (sink.new ≡ appended sink.old (put_label_address dst.now label)) }
+    ensures err { OnErr result
+        (IsAppendedInPart sink.old sink.new (put_label_address dst.now label)) }
+{
+    let word = label_address_word(*dst);
+    emit_branch(sink, word, LabelUse::Adr21, BranchTarget::Label(label))
+}
+
+/// A data word, which is no use, at which a trap is recorded where it may trap.
+#[inline(never)]
+fn emit_data(
+    sink: &mut MachBuffer<'_, LabelUse>,
+    word: u32,
+    trap: Option<TrapCode>,
+) -> Result<(), AllocError>
+    requires short { end_of sink.old + 4 < 2 ^ 31 }
+    requires fits { CellsFit sink.old (put_cell word None trap ∷ []) }
+    ensures ok { OnOk result (sink.new ≡ appended sink.old (put_cell word None trap ∷ [])) }
+    ensures err { OnErr result (IsAppendedInPart sink.old sink.new (put_cell word None trap ∷ [])) }
+{
+    emit_last(sink, word, None, trap)
+}
+
 /// Two data words, the low half of a number first.
 fn emit_word8(sink: &mut MachBuffer<'_, LabelUse>, value: u64) -> Result<(), AllocError>
     requires short { end_of sink.old + 8 < 2 ^ 31 }
@@ -300,36 +409,23 @@ fn emit_control(
     ensures err { OnErr result (IsAppendedInPart sink.old sink.new (put_for _frame.now _info.now inst.now)) }
 {
     match inst {
-        Inst::Jump { dest } => emit_branch(sink, jump_word(*dest), LabelUse::Branch26, *dest),
+        Inst::Jump { dest } => emit_jump(sink, *dest),
         Inst::CondBr {
             taken,
             not_taken,
             kind,
-        } => {
-            let word = cond_br_word(*taken, *kind);
-            emit_conditional(sink, word, LabelUse::Branch19, *taken, *not_taken)
-        }
+        } => emit_cond_br(sink, taken, not_taken, kind),
         Inst::TestBitAndBranch {
             kind,
             taken,
             not_taken,
             rn,
             bit,
-        } => {
-            let word = test_bit_and_branch_word(*kind, *taken, *rn, *bit);
-            emit_conditional(sink, word, LabelUse::Branch14, *taken, *not_taken)
-        }
-        Inst::TrapIf { kind, trap_code } => {
-            emit_last(sink, trap_if_word(*kind), Some(trap_site(*trap_code)), None)
-        }
-        Inst::LabelAddress { dst, label } => emit_branch(
-            sink,
-            label_address_word(*dst),
-            LabelUse::Adr21,
-            BranchTarget::Label(*label),
-        ),
-        Inst::Udf { trap_code } => emit_last(sink, UDF_WORD, None, Some(*trap_code)),
-        Inst::Word4 { value } => emit_last(sink, *value, None, None),
+        } => emit_test_bit_and_branch(sink, *kind, taken, not_taken, rn, *bit),
+        Inst::TrapIf { kind, trap_code } => emit_trap_if(sink, kind, *trap_code),
+        Inst::LabelAddress { dst, label } => emit_label_address(sink, dst, *label),
+        Inst::Udf { trap_code } => emit_data(sink, UDF_WORD, Some(*trap_code)),
+        Inst::Word4 { value } => emit_data(sink, *value, None),
         Inst::Word8 { value } => emit_word8(sink, *value),
         _ => Ok(()),
     }

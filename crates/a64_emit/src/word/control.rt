@@ -87,6 +87,7 @@ pub fn trap_if_word(kind: CondBrKind) -> u32
 
 /// The word of the conditional branch of a `TestBitAndBranch`, whose offset is zero as long as it has a label.
 #[tactic(auto, using(a64_inst::proofs::Good::target_fits, crate::proofs::Operands::general), unfolding(crate::specs::ControlForms::test_bit_and_branch_form))]
+#[inline(always)]
 pub fn test_bit_and_branch_word(
     kind: TestBitAndBranchKind,
     taken: BranchTarget,
