@@ -41,6 +41,7 @@ use Rattle.a64_inst.specs.declared.emission.EmitFlags.{EmitFlags}
 use Rattle.a64_inst.specs.declared.frame.FrameLayout.{FrameLayout}
 use Rattle.a64_inst.specs.declared.inst.Inst.{Inst}
 use Rattle.a64_inst.specs.declared.inst.Inst.TheVariants as insts
+use Rattle.a64_buffer.specs.declared.site.Target.{Target}
 use Rattle.a64_buffer.specs.declared.site.Target.TheVariants.{Label, Constant, Trap}
 use Rattle.a64_emit.specs.declared.call.Callee.{Callee}
 use Rattle.a64_emit.specs.declared.call.Callee.TheVariants.{Symbol, Address}
@@ -168,6 +169,10 @@ abbrev pub literal_site : MemLabel → Option Site
 literal_site (PCRel offset) = None
 literal_site (Mach label) = Some (record { kind = uses.Ldr19; target = Label label })
 literal_site (Pool addr) = Some (record { kind = uses.Ldr19; target = Constant addr })
+
+-- the use by which an access leads to something
+abbrev pub literal_use : Target → Site
+literal_use target = record { kind = uses.Ldr19; target = target }
 
 abbrev pub mode_site : AMode → Option Site
 mode_site (modes.Label label) = literal_site label

@@ -254,7 +254,7 @@ fn emit_memory(
     ensures err { OnErr result (IsAppendedInPart sink.old sink.new (put_for frame.now info.now inst.now)) }
 {
     match held_memory_word(inst, frame, info) {
-        Some(last) => emit_last(sink, last.word, last.site, last.trap),
+        Some(last) => emit_last(sink, last.word, last.site(), last.trap),
         None => emit_memory_words(inst, sink, info, frame),
     }
 }
@@ -265,17 +265,19 @@ fn emit_conditional(
     sink: &mut MachBuffer<'_, LabelUse>,
     word: u32,
     kind: LabelUse,
-    taken: BranchTarget,
-    not_taken: BranchTarget,
+    taken: &BranchTarget,
+    not_taken: &BranchTarget,
 ) -> Result<(), AllocError>
-    requires good { are_jump_operands not_taken ≡ true }
+    requires good { are_jump_operands not_taken.now ≡ true }
     requires short { end_of sink.old + 8 < 2 ^ 31 }
-    requires fits { CellsFit sink.old (put_branches word kind taken not_taken) }
-    ensures ok { OnOk result (sink.new ≡ appended sink.old (put_branches word kind taken not_taken)) }
-    ensures err { OnErr result (IsAppendedInPart sink.old sink.new (put_branches word kind taken not_taken)) }
+    requires fits { CellsFit sink.old (put_branches word kind taken.now not_taken.now) }
+    ensures ok { OnOk result
+        (sink.new ≡ appended sink.old (put_branches word kind taken.now not_taken.now)) }
+    ensures err { OnErr result
+        (IsAppendedInPart sink.old sink.new (put_branches word kind taken.now not_taken.now)) }
 {
-    emit_branch(sink, word, kind, taken)?;
-    emit_branch(sink, jump_word(not_taken), LabelUse::Branch26, not_taken)
+    emit_branch(sink, word, kind, *taken)?;
+    emit_branch(sink, jump_word(*not_taken), LabelUse::Branch26, *not_taken)
 }
 
 /// A branch on a condition, with a jump behind it. Out of line, like those below, so that an instruction
@@ -296,7 +298,7 @@ fn emit_cond_br(
         (IsAppendedInPart sink.old sink.new (put_cond_br taken.now not_taken.now kind.now)) }
 {
     let word = cond_br_word(*taken, *kind);
-    emit_conditional(sink, word, LabelUse::Branch19, *taken, *not_taken)
+    emit_conditional(sink, word, LabelUse::Branch19, taken, not_taken)
 }
 
 /// A branch on a bit of a register, with a jump behind it.
@@ -319,7 +321,7 @@ fn emit_test_bit_and_branch(
             (put_test_bit kind taken.now not_taken.now rn.now bit)) }
 {
     let word = test_bit_and_branch_word(kind, *taken, *rn, bit);
-    emit_conditional(sink, word, LabelUse::Branch14, *taken, *not_taken)
+    emit_conditional(sink, word, LabelUse::Branch14, taken, not_taken)
 }
 
 /// A jump.

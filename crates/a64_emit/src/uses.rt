@@ -1,6 +1,6 @@
 //! The uses of the words of instructions.
 
-ghost use Rattle.std.specs.Prelude.{◌≡◌, ◌≤◌, None, length};
+ghost use Rattle.std.specs.Prelude.{◌≡◌, ◌≤◌, None, length, option_map};
 ghost use Rattle.a64_base.specs.declared.reg.Reg.{Reg};
 ghost use Rattle.a64_inst.specs.declared.group.Group.TheVariants.{Call, Control, Memory, Sequence};
 ghost use Rattle.a64_inst.specs.Groups.{group_of};
@@ -105,6 +105,23 @@ fn literal_site(label: MemLabel) -> Option<Site>
         kind: LabelUse::Ldr19,
         target,
     })
+}
+
+/// What an access in a mode leads to, where it is a use.
+#[inline(always)]
+pub fn mode_target(mem: &AMode) -> Option<Target>
+    ensures { option_map cells.literal_use result ≡ cells.mode_site mem.now }
+{
+    match *mem {
+        AMode::Label {
+            label: MemLabel::Mach(label),
+        } => Some(Target::Label(label)),
+        AMode::Label {
+            label: MemLabel::Pool(constant),
+        }
+        | AMode::Const { addr: constant } => Some(Target::Constant(constant)),
+        _ => None,
+    }
 }
 
 /// The use that an access in a mode is, where it is one.

@@ -4,23 +4,25 @@ pub mod access;
 pub mod address;
 pub mod step;
 
-ghost use Rattle.std.specs.Prelude.{◌≡◌, [], length, true, false, is_some, IfSome, MatchOption};
+ghost use Rattle.std.specs.Prelude.{◌≡◌, [], length, true, false, is_some, option_map, IfSome, MatchOption};
 ghost use Rattle.a64_inst.specs.declared.group.Group.TheVariants.{Memory};
 ghost use Rattle.a64_inst.specs.declared.virtuals.VirtualRegisters.TheVariants.{Refused};
 ghost use Rattle.a64_inst.specs.Groups.{group_of};
 ghost use Rattle.a64_inst.specs.Faults.{has_operands, has_mode};
 ghost use Rattle.a64_inst.specs.MemoryOperands as memory;
 ghost use Rattle.a64_inst.specs.Modes.{base_offset_of};
-ghost use Rattle.a64_emit.specs.Cells.{Words, shape_of, access_shape, inst_cells};
+ghost use Rattle.a64_emit.specs.Cells.{Words, access_shape, inst_cells, literal_use, shape_of};
 ghost use Rattle.a64_emit.specs.Words.{AreSeveral};
 
 use crate::site::Site;
-use crate::uses::mode_site;
+use crate::uses::{mode_site, mode_target};
 use crate::word::memory::access::{held_word, in_code_word, pair_word};
 use crate::word::memory::address::{address_count, address_words};
 use crate::word::memory::step::step_words;
 use a64_base::{TrapCode, writable_spilltmp_reg};
+use a64_buffer::Target;
 use a64_inst::{AMode, AccessRef, EmitInfo, FrameLayout, Inst};
+use a64_label_use::LabelUse;
 use a64_mode::{final_mode, final_steps};
 use arrayvec::ArrayVec;
 
@@ -55,15 +57,28 @@ fn access_words(access: &AccessRef<'_>, frame: &FrameLayout) -> SeveralWords
     }
 }
 
-/// A word that may be a use, and may trap.
+/// The word of an access that may be a use, and may trap.
 #[derive(Clone, Copy)]
 pub struct LastWord {
     /// The word.
     pub word: u32,
-    /// The use that it is, where it is one.
-    pub site: Option<Site>,
+    /// What it leads to, where it is a use: that of a literal.
+    pub target: Option<Target>,
     /// The code of the trap that is recorded at it.
     pub trap: Option<TrapCode>,
+}
+
+impl LastWord {
+    /// The use that it is, where it is one.
+    #[inline(always)]
+    pub fn site(self) -> Option<Site>
+        ensures { result ≡ option_map literal_use self.target }
+    {
+        self.target.map(|target| Site {
+            kind: LabelUse::Ldr19,
+            target,
+        })
+    }
 }
 
 /// The word of a load or a store of one register in a mode that an instruction holds.
@@ -73,11 +88,12 @@ fn held_access(access: &AccessRef<'_>, _frame: &FrameLayout) -> LastWord
     requires operands { memory.are_access_operands _frame.now Refused access.now ≡ true }
     requires mode { memory.has_access_mode access.now.op access.now.mem ≡ true }
     requires held { is_some (base_offset_of _frame.now access.now.mem) ≡ false }
-    ensures { AreSeveral [] result.word result.site result.trap (access_shape _frame.now access.now) }
+    ensures { AreSeveral [] result.word (option_map literal_use result.target) result.trap
+        (access_shape _frame.now access.now) }
 {
     LastWord {
         word: in_code_word(access.op, access.reg, access.mem),
-        site: mode_site(access.mem),
+        target: mode_target(access.mem),
         trap: access.flags.trap_code(),
     }
 }
@@ -88,7 +104,9 @@ fn held_access(access: &AccessRef<'_>, _frame: &FrameLayout) -> LastWord
 pub fn held_memory_word(inst: &Inst, frame: &FrameLayout, _info: &EmitInfo) -> Option<LastWord>
     requires good { has_operands frame.now _info.now Refused inst.now ≡ true }
     requires mode { has_mode inst.now ≡ true }
-    ensures { IfSome result (λ last. AreSeveral [] last.word last.site last.trap (shape_of frame.now _info.now inst.now)) }
+    ensures { IfSome result (λ last.
+        AreSeveral [] last.word (option_map literal_use last.target) last.trap
+            (shape_of frame.now _info.now inst.now)) }
 {
     let access = inst.access_ref()?;
     // The word of a literal is made from where the register stands. The other modes get a copy of it.

@@ -1,5 +1,5 @@
 use Rattle.std.proofs.Common.{◌≡◌, ◌∙◌, [], map, true, sym, ap, subst}
-use Rattle.std.specs.Prelude.{◌&&◌, is_some}
+use Rattle.std.specs.Prelude.{◌&&◌, is_some, option_map}
 use Rattle.std.proofs.lemmas.Bool.{and_parts}
 use Rattle.a64_imms.specs.Scales.{type_bytes}
 use Rattle.a64_inst.specs.declared.virtuals.VirtualRegisters.TheVariants.{Refused}
@@ -9,7 +9,7 @@ use Rattle.a64_inst.specs.MemoryOperands.{are_access_operands, are_mode_operands
 use Rattle.a64_inst.specs.Modes.{base_offset_of}
 use Rattle.a64_rows.specs.Forms.{form_word}
 use Rattle.a64_emit.specs.MemoryForms.{held_form}
-use Rattle.a64_emit.specs.Cells.{access_shape}
+use Rattle.a64_emit.specs.Cells.{access_shape, literal_use}
 use Rattle.a64_emit.specs.Words.{AreSeveral, are_held_parts}
 use Rattle.a64_emit.proofs.Accesses.{held_good}
 use Rattle.a64_emit.proofs.Lights.{held_final, no_steps, none_of}
@@ -30,9 +30,9 @@ returns c =
     let access : Access = record { op = c.access.inside.op; reg = c.access.inside.reg; mem = c.access.inside.mem.now; flags = c.access.inside.flags } in
     let frame = c.args._frame.now in
     let none = none_of (base_offset_of frame access.mem) (ap (λ (a : Access). is_some (base_offset_of frame a.mem)) c.access.view_is ∙ c.requires.held) in
-    subst (λ (a : Access). AreSeveral [] c.in_code_word.result c.mode_site.result c.trap_code.result (access_shape frame a)) c.access.view_is (
+    subst (λ (a : Access). AreSeveral [] c.in_code_word.result (option_map literal_use c.mode_target.result) c.trap_code.result (access_shape frame a)) c.access.view_is (
       ap (map form_word) (sym (no_steps frame access none)),
       c.in_code_word.ensures ∙ ap (λ m. form_word (held_form access.op access.reg m)) (held_final frame access none),
-      c.mode_site.ensures,
+      c.mode_target.ensures,
       c.trap_code.ensures,
     )
