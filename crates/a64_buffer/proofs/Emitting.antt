@@ -386,7 +386,7 @@ module _ {K : Type 0} (r : Kinds K) (law : IsLawful r) (distance : ℕ) (force :
       served_behind r b.labels b.constants (begun r b) w m near.writing.served last.served near.writing.serves last_serves near.writing.part.later last.part.later near.writing.ahead q.index (last.old k d hk) v (q.is v) (q.waited v (last.old k d hk)) j d hj
 
   serves_m : Serves r b.labels b.constants (near.writing.served ++ last.served) (begun r b) m
-  serves_m = serves_join r b.labels b.constants (begun r b) w m near.writing.served last.served near.writing.serves last_serves near.writing.part.later last.part.later (λ k d h l. (last.given k d h l).labelled) cross
+  serves_m = serves_join r b.labels b.constants (begun r b) w m near.writing.served last.served near.writing.serves last_serves near.writing.part.later last.part.later (λ k d h l. (last.given k d h l).labelled) cross (λ k d low h n. last.direct k d h n)
 
   -- its end changes the jump alone, which waits for nothing
   ended_none : (k : ℕ) (d : Use K) → k < length m.uses → is_open r (get_or m.uses k d) ≡ true → IsSome (get_or (ended (end_of b) m).uses k d).stop → ⊥
@@ -398,6 +398,16 @@ module _ {K : Type 0} (r : Kinds K) (law : IsLawful r) (distance : ℕ) (force :
           let same : (get_or (ended (end_of b) m).uses k d).stop ≡ (get_or m.uses k d).stop = ap (λ v. v.stop) (get_or-map (stopped (stands_at (end_of b)) (end_of m)) m.uses k d d h) ∙ ap (λ t. cond t (Some (end_of m)) (get_or m.uses k d).stop) e in
           open_none r (get_or m.uses k d) o (subst IsSome same has)
 
+  -- and what is behind the jump stays
+  ended_stays : (k : ℕ) (d : Use K) → length (begun r b).uses ≤ k → k < length m.uses → get_or (ended (end_of b) m).uses k d ≡ get_or m.uses k d
+  ended_stays k d low h = go (stands_at (end_of b) (get_or m.uses k d)) refl
+    where
+      go : (t : Bool) → stands_at (end_of b) (get_or m.uses k d) ≡ t → get_or (ended (end_of b) m).uses k d ≡ get_or m.uses k d
+      go true e =
+          let same : (get_or m.uses (length b.uses) d).offset ≡ (get_or m.uses k d).offset = ap (λ v. v.offset) (at_m d) ∙ sym (eqb-true (get_or m.uses k d).offset (end_of b) e) in
+          absurd (sound_m.apart (length b.uses) k d (omega (arith, begun_count)) h same)
+      go false e = get_or-map (stopped (stands_at (end_of b)) (end_of m)) m.uses k d d h ∙ ap (λ t. record (get_or m.uses k d) { stop = cond t (Some (end_of m)) (get_or m.uses k d).stop }) e
+
   serves_now : Serves r b.labels b.constants ((near.writing.served ++ last.served) ++ []) (begun r b) b'
   serves_now =
       serves_join r b.labels b.constants (begun r b) m b' (near.writing.served ++ last.served) [] serves_m
@@ -405,6 +415,7 @@ module _ {K : Type 0} (r : Kinds K) (law : IsLawful r) (distance : ℕ) (force :
       (later_trans (begun r b) w m near.writing.part.later last.part.later) m_later
       (λ k d low high. absurd (omega (arith, low, high, length-map m.uses (stopped (stands_at (end_of b)) (end_of m)))))
       (λ j k d hj hk. absurd (omega arith))
+      (λ k d low h n. ended_stays k d low h)
 
   begun_own : HaveOwnTraps (begun r b).uses
   begun_own j k stop d lt h tj tk sj sk = elim (cases_lt k (length b.uses)) [
