@@ -26,7 +26,7 @@ use Rattle.a64_buffer.specs.Sound.{seen, IsPlaced, AreApart, IsKnown, IsSound}
 use Rattle.a64_buffer.specs.Islands.{IsVeneerUse}
 use Rattle.a64_buffer.specs.Space.{SameRoom, HasSpace}
 use Rattle.a64_buffer.specs.Pieces.{AtGoal, key_of, ComesBefore, Serves}
-use Rattle.a64_buffer.specs.Steps.{stopped, waits_for, GivesJump, GivesFar, GivesTrap, GivesCopy, IsPart, everywhere, HoldFrom, ServesNext, GivesAll, MayWrite, IsWriting, Writes, IsNextOpen, IsReady}
+use Rattle.a64_buffer.specs.Steps.{stopped, waits_for, GivesJump, GivesFar, GivesTrap, GivesCopy, IsPart, everywhere, HoldFrom, ServesNext, GivesAll, MayWrite, IsWriting, IsNextOpen, IsReady}
 use Rattle.a64_buffer.proofs.Rooms.{open_wants}
 use Rattle.a64_buffer.proofs.Laters.{later_none, later_trans, was_open}
 use Rattle.a64_buffer.proofs.Serving.{same_class, same_key, serves_none, served_behind, serves_join, open_none}
