@@ -1,5 +1,5 @@
 -- What an island that was written leaves.
-use Rattle.std.proofs.Common.{ℕ, ◌≡◌, ◌⊎◌, ◌+◌, ◌*◌, ◌/◌, ◌^◌, ◌<◌, ◌≤◌, Bool, true, false, cond, List, [], ◌∷◌, ◌++◌, All, map, length, get_or, Option, None, Some, refl, sym, ap, ◌∙◌, subst, arith, inl, inr}
+use Rattle.std.proofs.Common.{ℕ, ◌≡◌, ◌≢◌, ◌⊎◌, ◌+◌, ◌*◌, ◌/◌, ◌^◌, ◌<◌, ◌≤◌, Bool, true, false, cond, List, [], ◌∷◌, ◌++◌, All, map, length, get_or, Option, None, Some, refl, sym, ap, ◌∙◌, subst, arith, inl, inr}
 use Rattle.std.specs.Prelude.{IfSome, IsSome, IsSomeAnd, MatchOption, ◌&&◌, is_none, sum_by}
 use Rattle.std.specs.FinMap.{get}
 use Rattle.std.proofs.lemmas.Bool.{cases_lt, cases_eq, false≢true, eqb-true, eq-eqb}
@@ -398,15 +398,22 @@ module _ {K : Type 0} (r : Kinds K) (law : IsLawful r) (distance : ℕ) (force :
           let same : (get_or (ended (end_of b) m).uses k d).stop ≡ (get_or m.uses k d).stop = ap (λ v. v.stop) (get_or-map (stopped (stands_at (end_of b)) (end_of m)) m.uses k d d h) ∙ ap (λ t. cond t (Some (end_of m)) (get_or m.uses k d).stop) e in
           open_none r (get_or m.uses k d) o (subst IsSome same has)
 
-  -- and what is behind the jump stays
-  ended_stays : (k : ℕ) (d : Use K) → length (begun r b).uses ≤ k → k < length m.uses → get_or (ended (end_of b) m).uses k d ≡ get_or m.uses k d
-  ended_stays k d low h = go (stands_at (end_of b) (get_or m.uses k d)) refl
+  -- and whatever else there is stays
+  ended_stays : (k : ℕ) (d : Use K) → k < length m.uses → k ≢ length b.uses → get_or (ended (end_of b) m).uses k d ≡ get_or m.uses k d
+  ended_stays k d h other = go (stands_at (end_of b) (get_or m.uses k d)) refl
     where
       go : (t : Bool) → stands_at (end_of b) (get_or m.uses k d) ≡ t → get_or (ended (end_of b) m).uses k d ≡ get_or m.uses k d
       go true e =
-          let same : (get_or m.uses (length b.uses) d).offset ≡ (get_or m.uses k d).offset = ap (λ v. v.offset) (at_m d) ∙ sym (eqb-true (get_or m.uses k d).offset (end_of b) e) in
-          absurd (sound_m.apart (length b.uses) k d (omega (arith, begun_count)) h same)
+          let same : (get_or m.uses k d).offset ≡ (get_or m.uses (length b.uses) d).offset = eqb-true (get_or m.uses k d).offset (end_of b) e ∙ ap (λ v. v.offset) (sym (at_m d)) in
+          absurd (elim (cases_lt k (length b.uses)) [
+            | inl lt ↦ sound_m.apart k (length b.uses) d lt (omega (arith, count_m)) same
+            | inr ge ↦ sound_m.apart (length b.uses) k d (omega arith) h (sym same)
+          ])
       go false e = get_or-map (stopped (stands_at (end_of b)) (end_of m)) m.uses k d d h ∙ ap (λ t. record (get_or m.uses k d) { stop = cond t (Some (end_of m)) (get_or m.uses k d).stop }) e
+
+  -- so does what waits
+  pub ended_waits : (k : ℕ) (d : Use K) → k < length m.uses → rank_of (class r (get_or m.uses k d)) < 5 → get_or (ended (end_of b) m).uses k d ≡ get_or m.uses k d
+  ended_waits k d h low = ended_stays k d h (λ e. omega (arith, low, ap (λ n. rank_of (class r (get_or m.uses n d))) e, ap (λ v. rank_of (class r v)) (at_m d)))
 
   serves_now : Serves r b.labels b.constants ((near.writing.served ++ last.served) ++ []) (begun r b) b'
   serves_now =
@@ -415,7 +422,7 @@ module _ {K : Type 0} (r : Kinds K) (law : IsLawful r) (distance : ℕ) (force :
       (later_trans (begun r b) w m near.writing.part.later last.part.later) m_later
       (λ k d low high. absurd (omega (arith, low, high, length-map m.uses (stopped (stands_at (end_of b)) (end_of m)))))
       (λ j k d hj hk. absurd (omega arith))
-      (λ k d low h n. ended_stays k d low h)
+      (λ k d low h n. ended_stays k d h (omega (arith, low, begun_count)))
 
   begun_own : HaveOwnStops b.labels (begun r b).uses
   begun_own j k stop d lt h sj sk = elim (cases_lt k (length b.uses)) [

@@ -496,6 +496,10 @@ module _ {K : Type 0} (r : Kinds K) where
   pub all_closed_hold : (us us' : List (Use K)) (queues : List Queue) → Closes r us us' → AllHold r us queues → AllHold r us' queues
   all_closed_hold us us' queues c h k q l = closed_holds r k us us' _ _ _ c (h k q l)
 
+  -- and leave the limits as they are, where what wants anything stays
+  pub all_kept_limits : (us us' : List (Use K)) (queues : List Queue) → Closes r us us' → ((k : ℕ) (d : Use K) → k < length us → rank_of (class r (get_or us k d)) < 5 → get_or us' k d ≡ get_or us k d) → AllLimits r us queues → AllLimits r us' queues
+  all_kept_limits us us' queues c stays h k q l = kept_limit r k us us' (get_or queues k q).limit (get_or queues k q).first c (λ d w e. stays (get_or queues k q).first d w (omega (arith, l, e))) (h k q l)
+
   -- a use that gets a stop leaves what the queues hold
   pub stopped_hold : (us : List (Use K)) (queues : List Queue) (i : ℕ) (d : Use K) (stop : Option ℕ) → i < length us → is_none stop ≡ false → AllHold r us queues → AllHold r (set us i (record (get_or us i d) { stop = stop })) queues
   stopped_hold us queues i d stop l some h =

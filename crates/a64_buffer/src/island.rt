@@ -271,7 +271,6 @@ impl<'c, K: MachInstLabelUse> Parts<'c, K> {
         self.write_until(4);
         self.promote(distance, force);
         self.end_island(index, start);
-        self.await_island();
         Ok(())
     }
 
@@ -289,6 +288,7 @@ impl<'c, K: MachInstLabelUse> Parts<'c, K> {
         ensures room { SameRoom self.old self.new }
         ensures hold { AllHold K.kinds self.new.uses.items self.new.queues }
         ensures burdens { AreBurdens K.kinds self.new.uses.items self.new.burdens }
+        ensures limits { AllLimits K.kinds self.new.uses.items self.new.queues }
     {
         if self.promotes(distance, force) {
             self.write_until(5);

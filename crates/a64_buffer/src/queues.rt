@@ -114,18 +114,6 @@ pub fn settle_queue<K: MachInstLabelUse>(
     queues[rank as usize].leave_closed(uses, rank, none);
 }
 
-/// Leaves closed uses behind in all queues.
-pub fn settle_queues<K: MachInstLabelUse>(queues: &mut [Queue; 5], uses: &[Use<K>])
-    requires hold { AllHold K.kinds uses.now queues.old }
-    ensures hold { AllHold K.kinds uses.now queues.new }
-    ensures limits { AllLimits K.kinds uses.now queues.new }
-    ensures room { LoseRoom 0 queues.old queues.new }
-{
-    for rank in 0..5 {
-        queues[rank].settle(uses, rank as u64);
-    }
-}
-
 /// The use of the least limit in the first queue below a limit that has an open use.
 #[inline(always)]
 pub fn first_below(queues: &[Queue; 5], limit: u64) -> Option<usize>

@@ -9,7 +9,7 @@ ghost use Rattle.a64_buffer.specs.declared.queue.Queue.{Queue};
 use crate::class::Class;
 use crate::label_use::MachInstLabelUse;
 use crate::parts::Parts;
-use crate::queues::{have_room, queue_use, reserve_queues, settle_queue, settle_queues};
+use crate::queues::{have_room, queue_use, reserve_queues, settle_queue};
 use crate::site::Use;
 use std::alloc::AllocError;
 
@@ -64,16 +64,6 @@ impl<'c, K: MachInstLabelUse> Parts<'c, K> {
     {
         let none = self.burdens.has_none(class);
         settle_queue(&mut self.queues, &self.uses[..from], class, none);
-    }
-
-    /// Keeps what waits once an island stands.
-    pub fn await_island(&mut self)
-        requires hold { AllHold K.kinds self.old.uses.items self.old.queues }
-        requires burdens { AreBurdens K.kinds self.old.uses.items self.old.burdens }
-        ensures waiting { AreWaiting K.kinds self.old.uses.items self.new.queues self.new.burdens }
-        ensures rest { self.new ≡ record self.old { queues = self.new.queues } }
-    {
-        settle_queues(&mut self.queues, &self.uses);
     }
 
     /// Whether each open use reaches what it gets in the worst island, if that begins so many bytes

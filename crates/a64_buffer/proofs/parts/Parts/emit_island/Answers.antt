@@ -9,8 +9,8 @@ use Rattle.a64_buffer.specs.Pieces.{over_use, begun}
 use Rattle.a64_buffer.specs.Steps.{MayWrite, Writes, stands_at, ended}
 use Rattle.a64_buffer.proofs.Writing.{may_write_on}
 use Rattle.a64_buffer.proofs.Islands.{may_begin}
-use Rattle.a64_buffer.proofs.Emitting.{sound_m, at_m, island_made}
-use Rattle.a64_buffer.proofs.Queued.{stopped_closes, all_closed_hold, same_hold, same_limits}
+use Rattle.a64_buffer.proofs.Emitting.{sound_m, at_m, ended_waits, island_made}
+use Rattle.a64_buffer.proofs.Queued.{stopped_closes, all_closed_hold, all_kept_limits, same_hold, same_limits}
 use Rattle.a64_buffer.proofs.parts.Parts.emit_island.Goals as goal
 
 pub write_until-requires-clause-may : goal.write_until-requires-clause-may
@@ -79,31 +79,27 @@ end_island-requires-clause-start g c = λ d.
     ap (λ k. get_or c.promote.new.self.uses.items k d) index ∙ at_m g.K.MachInstLabelUse.kinds g.met.K.MachInstLabelUse.lawful c.args.distance c.args.force (seen c.args.self.now) (seen c.write_until.new.self) (seen c.promote.new.self) c.requires.sound.whole c.requires.short near c.promote.ensures.promotes d in
     ap (λ u. u.offset) over ∙ sym (c.end-start.ensures ∙ ap end_of same)
 
-pub await_island-requires : goal.await_island-requires
-await_island-requires g c =
-    let same : seen c.reserve_queues.new.self ≡ seen c.args.self.now = ap (λ p. seen p) c.reserve_queues.ensures.rest ∙ c.in_ok-reserve_all.ensures.rest in
-    let begun_is = c.begin_island.ensures.begun ∙ ap (begun g.K.MachInstLabelUse.kinds) same in
-    let near = subst (λ b. Writes g.K.MachInstLabelUse.kinds 4 b (seen c.write_until.new.self)) begun_is c.write_until.ensures.writes in
-    let apart = (sound_m g.K.MachInstLabelUse.kinds g.met.K.MachInstLabelUse.lawful c.args.distance c.args.force (seen c.args.self.now) (seen c.write_until.new.self) (seen c.promote.new.self) c.requires.sound.whole c.requires.short near c.promote.ensures.promotes).apart in
-    let ended_is : seen c.end_island.new.self ≡ ended (end_of (seen c.args.self.now)) (seen c.promote.new.self) = c.end_island.ensures.ended apart ∙ ap (λ start. ended start (seen c.promote.new.self)) (c.end-start.ensures ∙ ap end_of same) in
-    let closes = stopped_closes g.K.MachInstLabelUse.kinds (stands_at (end_of (seen c.args.self.now))) (end_of (seen c.promote.new.self)) c.promote.new.self.uses.items in
-    record {
-      hold = subst (AllHold g.K.MachInstLabelUse.kinds c.end_island.new.self.uses.items) (sym c.end_island.ensures.queues)
-          (subst (λ us. AllHold g.K.MachInstLabelUse.kinds us c.promote.new.self.queues) (sym (ap (λ b. b.uses) ended_is)) (all_closed_hold g.K.MachInstLabelUse.kinds c.promote.new.self.uses.items _ c.promote.new.self.queues closes c.promote.ensures.hold));
-      burdens = c.end_island.ensures.burdens;
-    }
-
 pub returns-clause-sound : goal.returns-clause-sound
 returns-clause-sound g c =
+    let r = g.K.MachInstLabelUse.kinds in
+    let law = g.met.K.MachInstLabelUse.lawful in
     let same : seen c.reserve_queues.new.self ≡ seen c.args.self.now = ap (λ p. seen p) c.reserve_queues.ensures.rest ∙ c.in_ok-reserve_all.ensures.rest in
-    let begun_is = c.begin_island.ensures.begun ∙ ap (begun g.K.MachInstLabelUse.kinds) same in
-    let near = subst (λ b. Writes g.K.MachInstLabelUse.kinds 4 b (seen c.write_until.new.self)) begun_is c.write_until.ensures.writes in
-    let apart = (sound_m g.K.MachInstLabelUse.kinds g.met.K.MachInstLabelUse.lawful c.args.distance c.args.force (seen c.args.self.now) (seen c.write_until.new.self) (seen c.promote.new.self) c.requires.sound.whole c.requires.short near c.promote.ensures.promotes).apart in
-    let ended_is = c.end_island.ensures.ended apart ∙ ap (λ start. ended start (seen c.promote.new.self)) (c.end-start.ensures ∙ ap end_of same) in
+    let begun_is = c.begin_island.ensures.begun ∙ ap (begun r) same in
+    let near = subst (λ b. Writes r 4 b (seen c.write_until.new.self)) begun_is c.write_until.ensures.writes in
+    let apart = (sound_m r law c.args.distance c.args.force (seen c.args.self.now) (seen c.write_until.new.self) (seen c.promote.new.self) c.requires.sound.whole c.requires.short near c.promote.ensures.promotes).apart in
+    let ended_is : seen c.end_island.new.self ≡ ended (end_of (seen c.args.self.now)) (seen c.promote.new.self) = c.end_island.ensures.ended apart ∙ ap (λ start. ended start (seen c.promote.new.self)) (c.end-start.ensures ∙ ap end_of same) in
+    let closes = stopped_closes r (stands_at (end_of (seen c.args.self.now))) (end_of (seen c.promote.new.self)) c.promote.new.self.uses.items in
+    let stays = ended_waits r law c.args.distance c.args.force (seen c.args.self.now) (seen c.write_until.new.self) (seen c.promote.new.self) c.requires.sound.whole c.requires.short near c.promote.ensures.promotes in
     record {
-      whole = subst (IsWhole g.K.MachInstLabelUse.kinds) (sym (ap (λ p. seen p) c.await_island.ensures.rest ∙ ended_is)) (island_made g.K.MachInstLabelUse.kinds g.met.K.MachInstLabelUse.lawful c.args.distance c.args.force (seen c.args.self.now) (seen c.write_until.new.self) (seen c.promote.new.self) c.requires.sound.whole c.requires.short near c.promote.ensures.promotes).whole;
-      chained = subst (λ p. AreChained p.uses.items p.earlier.items p.heads p.loads) (sym c.await_island.ensures.rest) c.end_island.ensures.chained;
-      waiting = subst (λ us. AreWaiting g.K.MachInstLabelUse.kinds us c.await_island.new.self.queues c.await_island.new.self.burdens) (sym (ap (λ p. p.uses.items) c.await_island.ensures.rest)) c.await_island.ensures.waiting;
+      whole = subst (IsWhole r) (sym ended_is) (island_made r law c.args.distance c.args.force (seen c.args.self.now) (seen c.write_until.new.self) (seen c.promote.new.self) c.requires.sound.whole c.requires.short near c.promote.ensures.promotes).whole;
+      chained = c.end_island.ensures.chained;
+      waiting = record {
+        hold = subst (AllHold r c.end_island.new.self.uses.items) (sym c.end_island.ensures.queues)
+            (subst (λ us. AllHold r us c.promote.new.self.queues) (sym (ap (λ b. b.uses) ended_is)) (all_closed_hold r c.promote.new.self.uses.items _ c.promote.new.self.queues closes c.promote.ensures.hold));
+        limits = subst (AllLimits r c.end_island.new.self.uses.items) (sym c.end_island.ensures.queues)
+            (subst (λ us. AllLimits r us c.promote.new.self.queues) (sym (ap (λ b. b.uses) ended_is)) (all_kept_limits r c.promote.new.self.uses.items _ c.promote.new.self.queues closes stays c.promote.ensures.limits));
+        burdens = c.end_island.ensures.burdens;
+      };
     }
 
 pub returns-clause-ok : goal.returns-clause-ok
@@ -113,4 +109,4 @@ returns-clause-ok g c =
     let near = subst (λ b. Writes g.K.MachInstLabelUse.kinds 4 b (seen c.write_until.new.self)) begun_is c.write_until.ensures.writes in
     let apart = (sound_m g.K.MachInstLabelUse.kinds g.met.K.MachInstLabelUse.lawful c.args.distance c.args.force (seen c.args.self.now) (seen c.write_until.new.self) (seen c.promote.new.self) c.requires.sound.whole c.requires.short near c.promote.ensures.promotes).apart in
     let ended_is = c.end_island.ensures.ended apart ∙ ap (λ start. ended start (seen c.promote.new.self)) (c.end-start.ensures ∙ ap end_of same) in
-    subst (HasIsland g.K.MachInstLabelUse.kinds c.args.distance c.args.force (seen c.args.self.now)) (sym (ap (λ p. seen p) c.await_island.ensures.rest ∙ ended_is)) (island_made g.K.MachInstLabelUse.kinds g.met.K.MachInstLabelUse.lawful c.args.distance c.args.force (seen c.args.self.now) (seen c.write_until.new.self) (seen c.promote.new.self) c.requires.sound.whole c.requires.short near c.promote.ensures.promotes)
+    subst (HasIsland g.K.MachInstLabelUse.kinds c.args.distance c.args.force (seen c.args.self.now)) (sym ended_is) (island_made g.K.MachInstLabelUse.kinds g.met.K.MachInstLabelUse.lawful c.args.distance c.args.force (seen c.args.self.now) (seen c.write_until.new.self) (seen c.promote.new.self) c.requires.sound.whole c.requires.short near c.promote.ensures.promotes)
