@@ -264,7 +264,7 @@ impl<'c, K: MachInstLabelUse> Parts<'c, K> {
         ensures err { OnErr result (seen self.new ≡ seen self.old) }
     {
         self.reserve_all()?;
-        self.reserve_queues()?;
+        self.reserve_veneers()?;
         let start = self.end();
         let index = self.uses.len();
         self.begin_island();

@@ -41,15 +41,12 @@ pub fn reserve_queue(queues: &mut [Queue; 5], class: Class, limit: u64) -> Resul
     Ok(())
 }
 
-/// Takes the memory for so many uses in each queue.
-pub fn reserve_queues(queues: &mut [Queue; 5], more: usize) -> Result<(), AllocError>
+/// Takes the memory for so many uses in the queue of the longest range, to which alone islands add.
+pub fn reserve_veneers(queues: &mut [Queue; 5], more: usize) -> Result<(), AllocError>
     ensures kept { (rank : ℕ) (q : Queue) → IsSameQueue (slice_index_or queues.old rank q) (slice_index_or queues.new rank q) }
     ensures ok { OnOk result (HaveRoomFor more queues.new) }
 {
-    for rank in 0..5 {
-        queues[rank].reserve(more)?;
-    }
-    Ok(())
+    queues[4].reserve(more)
 }
 
 /// Puts a use with a limit and an index into the queue of its class, where it is open.
