@@ -15,11 +15,11 @@ use Rattle.a64_buffer.specs.Kinds.{Kinds}
 use Rattle.a64_buffer.specs.declared.class.Class.{Class}
 use Rattle.a64_buffer.specs.declared.class.Class.TheVariants.{Near, Middle, Load, Trapping, Far, Direct}
 use Rattle.a64_buffer.specs.declared.room.Burdens.{Burdens}
-use Rattle.a64_buffer.specs.Buffer.{Buffer, end_of, leads_to, reached, closed_at}
+use Rattle.a64_buffer.specs.Buffer.{Buffer, end_of}
 use Rattle.a64_buffer.specs.Later.{IsSameUse, IsLater}
 use Rattle.a64_buffer.specs.Steps.{stopped}
 use Rattle.a64_buffer.specs.Classes.{first, second, third, burden, wants, class, class_of, rank_of, is_open}
-use Rattle.a64_buffer.specs.Queues.{entry_cmp, entry_of, entries, LosesRoom, LoseRoom, IsSameQueue, IsFirstStray, limit_of, IsEntry, NoneFarther, Follows, Holds, HoldsIn, IsNextWaiting, WaitsAt, IsLimitAt, IsFirstOf, IsLimitOf, IsLimit, AllHold, AllLimits, AreBurdens, AreWaiting}
+use Rattle.a64_buffer.specs.Queues.{entry_cmp, entry_of, entries, LosesRoom, LoseRoom, IsSameQueue, IsFirstStray, limit_of, IsEntry, NoneFarther, Follows, Holds, HoldsIn, IsNextWaiting, WaitsAt, IsLimitAt, IsFirstOf, IsLimitOf, IsLimit, AllHold, AllLimits, AreWaiting}
 use Rattle.a64_buffer.proofs.Rooms.{open_wants, open_stop}
 
 -- ---- elements of lists

@@ -1,8 +1,8 @@
 use Rattle.std.proofs.Common.{◌≡◌, length, get_or, sym, ◌∙◌, ap, subst, arith}
 use Rattle.a64_buffer.specs.Buffer.{end_of}
 use Rattle.a64_buffer.specs.Classes.{veneer_uses, weight_of}
-use Rattle.a64_buffer.specs.Chain.{constant_of, AreChained}
-use Rattle.a64_buffer.specs.Queues.{IsSameQueue, AllHold, AllLimits, AreBurdens, AreWaiting}
+use Rattle.a64_buffer.specs.Chain.{constant_of}
+use Rattle.a64_buffer.specs.Queues.{IsSameQueue, AllHold, AllLimits, AreBurdens}
 use Rattle.a64_buffer.specs.Islands.{HasIsland}
 use Rattle.a64_buffer.specs.Sound.{seen, IsWhole}
 use Rattle.a64_buffer.specs.Pieces.{over_use, begun}
