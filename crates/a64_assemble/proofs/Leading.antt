@@ -15,6 +15,7 @@ use Rattle.a64_buffer.specs.Buffer.{Buffer, end_of, IsFree}
 use Rattle.a64_buffer.specs.Sound.{IsTrap}
 use Rattle.a64_buffer.specs.Finished.{IsFinished}
 use Rattle.a64_emit.specs.declared.code.Code.{Code}
+use Rattle.a64_buffer.proofs.OwnStops.{own_traps}
 use Rattle.a64_label_use.specs.declared.label_use.LabelUse.{LabelUse}
 use Rattle.a64_emit.specs.declared.site.Site.{Site}
 use Rattle.a64_label_use.specs.LabelUses.{label_kinds, adds_distance}
@@ -148,9 +149,9 @@ module _ (frame : FrameLayout) (flags : EmitFlags) (items : List Item) (force : 
       let v = trap_use (get_or cells k d) (all_put k d within) (targets k d within) dt stop ct in
       let less = standing_rising (map (cells_of frame flags) items) out.places.items (end_of b) counts behind j k d lt within in
       elim (cases_lt u.index v.index) [
-        | inl below ↦ f.own_traps u.index v.index stop no_use below v.within u.trap v.trap u.stop_is v.stop_is
+        | inl below ↦ own_traps b.labels f.final.uses f.own_stops u.index v.index stop no_use below v.within u.trap v.trap u.stop_is v.stop_is
         | inr above ↦ elim (cases_lt v.index u.index) [
-          | inl below ↦ f.own_traps v.index u.index stop no_use below u.within v.trap u.trap v.stop_is u.stop_is
+          | inl below ↦ own_traps b.labels f.final.uses f.own_stops v.index u.index stop no_use below u.within v.trap u.trap v.stop_is u.stop_is
           | inr same ↦ (
               let e : u.index ≡ v.index = omega (arith, above, same) in
               let offsets = ap (λ n. (get_or f.final.uses n no_use).offset) e in

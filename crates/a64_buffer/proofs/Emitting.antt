@@ -1,5 +1,5 @@
 -- What an island that was written leaves.
-use Rattle.std.proofs.Common.{ℕ, ◌≡◌, ◌⊎◌, ◌+◌, ◌*◌, ◌/◌, ◌^◌, ◌<◌, ◌≤◌, Bool, true, false, cond, List, [], ◌∷◌, ◌++◌, All, map, length, get_or, Option, None, Some, refl, sym, ap, ◌∙◌, subst, arith, inl, inr}
+use Rattle.std.proofs.Common.{ℕ, ◌≡◌, ◌≢◌, ◌⊎◌, ◌+◌, ◌*◌, ◌/◌, ◌^◌, ◌<◌, ◌≤◌, Bool, true, false, cond, List, [], ◌∷◌, ◌++◌, All, map, length, get_or, Option, None, Some, refl, sym, ap, ◌∙◌, subst, arith, inl, inr}
 use Rattle.std.specs.Prelude.{IfSome, IsSome, IsSomeAnd, MatchOption, ◌&&◌, is_none, sum_by}
 use Rattle.std.specs.FinMap.{get}
 use Rattle.std.proofs.lemmas.Bool.{cases_lt, cases_eq, false≢true, eqb-true, eq-eqb}
@@ -17,7 +17,7 @@ use Rattle.a64_buffer.specs.Buffer.{Buffer, end_of, label_of, goal_of}
 use Rattle.a64_buffer.specs.Classes.{third, level_of, range_of, wants, rank_of, cost, class, is_open, weigh, weigh_label, burden, owed, owed_to, HasRoom, Fits}
 use Rattle.a64_buffer.specs.Later.{IsSameUse, IsLater, HasStopBelow}
 use Rattle.a64_buffer.specs.Constants.{IsConstant}
-use Rattle.a64_buffer.specs.Sound.{IsTrap, HaveOwnTraps, IsKnown, IsCopy, IsStop, IsRightlyOpen, IsSound, IsWhole, IsIsland}
+use Rattle.a64_buffer.specs.Sound.{MayShare, HaveOwnStops, IsKnown, IsCopy, IsStop, IsRightlyOpen, IsSound, IsWhole, IsIsland}
 use Rattle.a64_buffer.specs.Islands.{IsVeneerUse, IsNewUse, FarWaits, IsBeforePromotion, Promotes, LeavesFar, HasIsland}
 use Rattle.a64_buffer.specs.Steps.{stopped, stands_at, Adds, IsPart, HoldFrom, Writes, WritesFar, ended}
 use Rattle.a64_buffer.specs.Pieces.{over_use, begun, ComesBefore, Serves}
@@ -27,7 +27,7 @@ use Rattle.a64_buffer.proofs.Rooms.{open_wants, room_from, none_room, less_room}
 use Rattle.a64_buffer.proofs.Adding.{added_later, added_sound, old_use}
 use Rattle.a64_buffer.proofs.Laters.{same_records, later_beside, later_trans}
 use Rattle.a64_buffer.proofs.Serving.{open_none, serves_none, served_behind, serves_join, sites_stopped}
-use Rattle.a64_buffer.proofs.OwnTraps.{label_no_trap, own_later}
+use Rattle.a64_buffer.proofs.OwnStops.{own_later}
 use Rattle.a64_buffer.proofs.Writing.{part_none}
 use Rattle.a64_buffer.proofs.Traps.{no_traps}
 use Rattle.a64_buffer.proofs.Islands.{sound_beside, begun_end, begun_later, begun_sound, begun_sound_in, begun_weight, begun_within, open_areas, open_hold, close_areas, jump_reach, islands_more}
@@ -386,7 +386,7 @@ module _ {K : Type 0} (r : Kinds K) (law : IsLawful r) (distance : ℕ) (force :
       served_behind r b.labels b.constants (begun r b) w m near.writing.served last.served near.writing.serves last_serves near.writing.part.later last.part.later near.writing.ahead q.index (last.old k d hk) v (q.is v) (q.waited v (last.old k d hk)) j d hj
 
   serves_m : Serves r b.labels b.constants (near.writing.served ++ last.served) (begun r b) m
-  serves_m = serves_join r b.labels b.constants (begun r b) w m near.writing.served last.served near.writing.serves last_serves near.writing.part.later last.part.later (λ k d h l. (last.given k d h l).labelled) cross
+  serves_m = serves_join r b.labels b.constants (begun r b) w m near.writing.served last.served near.writing.serves last_serves near.writing.part.later last.part.later (λ k d h l. (last.given k d h l).labelled) cross (λ k d low h n. last.direct k d h n)
 
   -- its end changes the jump alone, which waits for nothing
   ended_none : (k : ℕ) (d : Use K) → k < length m.uses → is_open r (get_or m.uses k d) ≡ true → IsSome (get_or (ended (end_of b) m).uses k d).stop → ⊥
@@ -398,6 +398,23 @@ module _ {K : Type 0} (r : Kinds K) (law : IsLawful r) (distance : ℕ) (force :
           let same : (get_or (ended (end_of b) m).uses k d).stop ≡ (get_or m.uses k d).stop = ap (λ v. v.stop) (get_or-map (stopped (stands_at (end_of b)) (end_of m)) m.uses k d d h) ∙ ap (λ t. cond t (Some (end_of m)) (get_or m.uses k d).stop) e in
           open_none r (get_or m.uses k d) o (subst IsSome same has)
 
+  -- and whatever else there is stays
+  ended_stays : (k : ℕ) (d : Use K) → k < length m.uses → k ≢ length b.uses → get_or (ended (end_of b) m).uses k d ≡ get_or m.uses k d
+  ended_stays k d h other = go (stands_at (end_of b) (get_or m.uses k d)) refl
+    where
+      go : (t : Bool) → stands_at (end_of b) (get_or m.uses k d) ≡ t → get_or (ended (end_of b) m).uses k d ≡ get_or m.uses k d
+      go true e =
+          let same : (get_or m.uses k d).offset ≡ (get_or m.uses (length b.uses) d).offset = eqb-true (get_or m.uses k d).offset (end_of b) e ∙ ap (λ v. v.offset) (sym (at_m d)) in
+          absurd (elim (cases_lt k (length b.uses)) [
+            | inl lt ↦ sound_m.apart k (length b.uses) d lt (omega (arith, count_m)) same
+            | inr ge ↦ sound_m.apart (length b.uses) k d (omega arith) h (sym same)
+          ])
+      go false e = get_or-map (stopped (stands_at (end_of b)) (end_of m)) m.uses k d d h ∙ ap (λ t. record (get_or m.uses k d) { stop = cond t (Some (end_of m)) (get_or m.uses k d).stop }) e
+
+  -- so does what waits
+  pub ended_waits : (k : ℕ) (d : Use K) → k < length m.uses → rank_of (class r (get_or m.uses k d)) < 5 → get_or (ended (end_of b) m).uses k d ≡ get_or m.uses k d
+  ended_waits k d h low = ended_stays k d h (λ e. omega (arith, low, ap (λ n. rank_of (class r (get_or m.uses n d))) e, ap (λ v. rank_of (class r v)) (at_m d)))
+
   serves_now : Serves r b.labels b.constants ((near.writing.served ++ last.served) ++ []) (begun r b) b'
   serves_now =
       serves_join r b.labels b.constants (begun r b) m b' (near.writing.served ++ last.served) [] serves_m
@@ -405,36 +422,38 @@ module _ {K : Type 0} (r : Kinds K) (law : IsLawful r) (distance : ℕ) (force :
       (later_trans (begun r b) w m near.writing.part.later last.part.later) m_later
       (λ k d low high. absurd (omega (arith, low, high, length-map m.uses (stopped (stands_at (end_of b)) (end_of m)))))
       (λ j k d hj hk. absurd (omega arith))
+      (λ k d low h n. ended_stays k d h (omega (arith, low, begun_count)))
 
-  begun_own : HaveOwnTraps (begun r b).uses
-  begun_own j k stop d lt h tj tk sj sk = elim (cases_lt k (length b.uses)) [
+  begun_own : HaveOwnStops b.labels (begun r b).uses
+  begun_own j k stop d lt h sj sk = elim (cases_lt k (length b.uses)) [
     | inl inside ↦
         let at_j : get_or (begun r b).uses j d ≡ get_or b.uses j d = get_or_append_left b.uses (over_use r (end_of b) ∷ []) d j (omega arith) in
         let at_k : get_or (begun r b).uses k d ≡ get_or b.uses k d = get_or_append_left b.uses (over_use r (end_of b) ∷ []) d k inside in
-        whole.own_traps j k stop d lt inside (subst (λ (u : Use K). IsTrap u.target) at_j tj) (subst (λ (u : Use K). IsTrap u.target) at_k tk) (ap (λ (u : Use K). u.stop) (sym at_j) ∙ sj) (ap (λ (u : Use K). u.stop) (sym at_k) ∙ sk)
+        let share : MayShare b.labels stop (get_or b.uses j d).target (get_or b.uses k d).target = whole.own_stops j k stop d lt inside (ap (λ (u : Use K). u.stop) (sym at_j) ∙ sj) (ap (λ (u : Use K). u.stop) (sym at_k) ∙ sk) in
+        subst (λ (u : Use K). MayShare b.labels stop u.target (get_or (begun r b).uses k d).target) (sym at_j) (subst (λ (u : Use K). MayShare b.labels stop (get_or b.uses j d).target u.target) (sym at_k) share)
     | inr past ↦
         let at : length b.uses ≡ k = omega (arith, past, h, begun_count) in
-        subst (λ (u : Use K). IsTrap u.target) (ap (λ i. get_or (begun r b).uses i d) (sym at) ∙ at_begun d) tk
+        inr (inr (inr (ap (λ i. (get_or (begun r b).uses i d).target) (sym at) ∙ ap (λ (u : Use K). u.target) (at_begun d))))
   ]
 
-  own_now : HaveOwnTraps (ended (end_of b) m).uses
-  own_now =
-      own_later r b.constants b.labels ((near.writing.served ++ last.served) ++ []) (begun r b) b' serves_now (later_trans (begun r b) w b' near.writing.part.later w_later) sound_end.apart begun_own
-      (stops_below r (begun r b) b.islands (begun_sound r law b b.islands whole.sound (omega (arith, short))))
-      (λ k d low high trap. elim (given_now k d (omega (arith, low, begun_count)) high) [
-        | inl jump ↦ subst IsTrap jump.0 trap
-        | inr veneer ↦ label_no_trap (get_or (ended (end_of b) m).uses k d).target veneer.labelled trap
-      ])
+  labels_now : (ended (end_of b) m).labels ≡ b.labels
+  labels_now = last.part.labels ∙ near.writing.part.labels
+
+  own_now : HaveOwnStops (ended (end_of b) m).labels (ended (end_of b) m).uses
+  own_now = subst (λ ls. HaveOwnStops ls (ended (end_of b) m).uses) (sym labels_now) (
+      own_later r (ended (end_of b) m).islands ((near.writing.served ++ last.served) ++ []) (begun r b) b' serves_now (later_trans (begun r b) w b' near.writing.part.later w_later) labels_now sound_end
+      (stops_below r (begun r b) b.islands (begun_sound r law b b.islands whole.sound (omega (arith, short)))) begun_own
+      )
 
   pub island_made : HasIsland r distance force b (ended (end_of b) m)
   island_made = record {
     long = omega (arith, starts, last.part.later.end);
     islands = islands_now;
-    labels = last.part.labels ∙ near.writing.part.labels;
+    labels = labels_now;
     records = last.part.records ∙ near.writing.part.records;
     later = b_later;
     given = given_now;
-    whole = record { sound = sound_end; islands = islands_more r b b' (end_of m) b_later islands_now whole.islands new_island; fits = less_room r law (end_of m) (ended (end_of b) m).uses distance 0 (omega arith) fits_now; own_traps = own_now };
+    whole = record { sound = sound_end; islands = islands_more r b b' (end_of m) b_later islands_now whole.islands new_island; fits = less_room r law (end_of m) (ended (end_of b) m).uses distance 0 (omega arith) fits_now; own_stops = own_now };
     fits = fits_now;
     rooms = rooms_now;
     owed = omega (arith, ends, stopped_owed r (stands_at (end_of b)) (end_of m) m.uses);

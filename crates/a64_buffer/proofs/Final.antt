@@ -1,5 +1,5 @@
 -- What makes code finished.
-use Rattle.std.proofs.Common.{ℕ, ◌≡◌, ◌+◌, ◌-◌, ◌*◌, ◌/◌, ◌%◌, ◌^◌, ◌<◌, ◌≤◌, ◌&&◌, Bool, true, false, cond, nat_le, nat_eq, suc, List, [], ◌∷◌, ◌++◌, length, get_or, Option, Some, None, IfSome, All, refl, sym, ◌∙◌, ap, subst, arith, inl, inr}
+use Rattle.std.proofs.Common.{ℕ, ◌≡◌, ◌+◌, ◌-◌, ◌*◌, ◌/◌, ◌%◌, ◌^◌, ◌<◌, ◌≤◌, ◌&&◌, Bool, true, false, nat_le, suc, List, [], ◌∷◌, ◌++◌, length, get_or, Option, Some, None, IfSome, All, refl, sym, ◌∙◌, ap, subst, arith, inl, inr}
 use Rattle.std.specs.Prelude.{IsSome, IsSomeAnd, MatchOption, is_none}
 use Rattle.std.specs.Option.{option_and_then}
 use Rattle.std.specs.FinMap.{get}
@@ -9,7 +9,6 @@ use Rattle.a64_buffer.specs.declared.site.Use.{Use}
 use Rattle.a64_buffer.specs.declared.site.Target.{Target}
 use Rattle.a64_buffer.specs.declared.site.Target.TheVariants.{Label, Constant, Trap, IslandEnd}
 use Rattle.a64_buffer.specs.declared.finish.Finished.{Finished}
-use Rattle.a64_buffer.specs.declared.class.Class.TheVariants.{Near, Middle, Far}
 use Rattle.a64_buffer.specs.Kinds.{Kinds, IsLawful, IsWithin, GoesTo}
 use Rattle.a64_buffer.specs.Buffer.{Buffer, end_of, label_of, goal_of, is_within, IsFree, IsBound, IsReached}
 use Rattle.a64_buffer.specs.Areas.{InArea, Stands}
@@ -21,7 +20,8 @@ use Rattle.a64_buffer.specs.Steps.{Writes, MayWrite, everywhere}
 use Rattle.a64_buffer.specs.Leads.{FarAt, Arrives, JumpAt, LabelLeads, TargetLeads}
 use Rattle.a64_buffer.specs.Settled.{IsCodeOf, Reaches, MayLead, IsLed, AreSettled, Lists, IsCode}
 use Rattle.a64_buffer.specs.Finished.{JumpsOver, IsSettled, IsFinished}
-use Rattle.a64_buffer.proofs.OwnTraps.{label_no_trap, own_later}
+use Rattle.a64_buffer.proofs.Rooms.{label_wants}
+use Rattle.a64_buffer.proofs.OwnStops.{own_later}
 use Rattle.a64_buffer.proofs.Islands.{sound_beside, in_everywhere, open_areas, open_hold, more_areas, close_areas, later_keeps, island_stays}
 use Rattle.a64_buffer.proofs.Emitting.{all_closed, stops_below}
 
@@ -113,16 +113,8 @@ module _ {K : Type 0} (r : Kinds K) (law : IsLawful r) (b m : Buffer K) (whole :
       not_wanting : (target : Target) (kind : K) (l : ℕ) → label_of target ≡ Some l → wants (class_of r target kind) ≡ false → r.veneers kind ≡ false
       not_wanting (Label x) kind l q n = by (r.veneers kind) (r.urgency kind) n
         where
-          wanting : (n : ℕ) → wants (label_class true n) ≡ true
-          wanting n = one (nat_eq n 1) (nat_eq n 2)
-            where
-              one : (x y : Bool) → wants (cond x Near (cond y Middle Far)) ≡ true
-              one true y = refl
-              one false true = refl
-              one false false = refl
-
           by : (v : Bool) (n : ℕ) → wants (label_class v n) ≡ false → v ≡ false
-          by true n q = absurd (false≢true (sym q ∙ wanting n))
+          by true n q = absurd (false≢true (sym q ∙ label_wants n))
           by false n q = refl
       not_wanting (Constant c) kind l q n = absurd (let z : None ≡ Some l = q in cc)
       not_wanting (Trap c) kind l q n = absurd (let z : None ≡ Some l = q in cc)
@@ -338,7 +330,7 @@ module _ {K : Type 0} (r : Kinds K) (law : IsLawful r) (b m : Buffer K) (whole :
       given = w.writing.given;
       served = w.writing.served;
       serves = w.writing.serves;
-      own_traps = own_later r b.constants b.labels w.writing.served b m w.writing.serves later sound.apart whole.own_traps (stops_below r b b.islands whole.sound) (λ k d low high trap. label_no_trap (get_or m.uses k d).target (w.writing.given k d low high).labelled trap);
+      own_stops = own_later r (open_areas r law b) w.writing.served b m w.writing.serves later labels_are sound (stops_below r b b.islands whole.sound) whole.own_stops;
       final_sound = sound_beside r m m.islands m.records (open_areas r law b) areas sound closes;
       jumps = subst (λ bs. All (JumpsOver r bs) b.islands) (sym bytes_are) jumps_over;
       labels = labels;

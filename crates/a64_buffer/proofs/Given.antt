@@ -20,8 +20,8 @@ use Rattle.a64_buffer.specs.declared.class.Class.TheVariants.{Near, Middle, Load
 use Rattle.a64_buffer.specs.Classes.{Level, second, third, urgency_number, level_of, wants, rank_of, cost, veneer_uses, trap_words, class, class_of, range_of, is_open, weigh, burden, owed}
 use Rattle.a64_buffer.specs.Sound.{IsPlaced, IsKinded, IsKnown, IsJump, IsFar, IsTrapWord, IsCopy, LeadsOn, IsStop, IsSound, IsStoppedOrOpen}
 use Rattle.a64_buffer.specs.Islands.{IsVeneerUse}
-use Rattle.a64_buffer.specs.Pieces.{padding}
-use Rattle.a64_buffer.specs.Steps.{stands_at, is_load_of, waits_for, AtGoal, GivesJump, GivesFar, GivesTrap, GivesCopy, Within, HasGiven}
+use Rattle.a64_buffer.specs.Pieces.{padding, AtGoal}
+use Rattle.a64_buffer.specs.Steps.{stands_at, is_load_of, waits_for, GivesJump, GivesFar, GivesTrap, GivesCopy, Within, HasGiven}
 use Rattle.a64_buffer.proofs.Rooms.{open_wants, open_stop, wanting_urgency, wanting_range}
 use Rattle.a64_buffer.proofs.Adding.{added_end, added_count, new_use, all_uses}
 use Rattle.a64_buffer.proofs.Giving.{made_stop_of, made_goal, at_index, use_placed, use_kinded, end_reached, only_here, given}

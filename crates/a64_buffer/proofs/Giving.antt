@@ -17,7 +17,8 @@ use Rattle.a64_buffer.specs.Classes.{Level, third, level_of, wants, rank_of, cos
 use Rattle.a64_buffer.specs.Later.{IsLater, AreTraps}
 use Rattle.a64_buffer.specs.Sound.{IsPlaced, AreApart, IsKinded, IsKnown, IsStop, IsStoppedOrOpen, IsSound}
 use Rattle.a64_buffer.specs.Islands.{IsVeneerUse}
-use Rattle.a64_buffer.specs.Steps.{stopped, stands_at, AtGoal, Adds, Within, HasGiven}
+use Rattle.a64_buffer.specs.Pieces.{AtGoal}
+use Rattle.a64_buffer.specs.Steps.{stopped, stands_at, Adds, Within, HasGiven}
 use Rattle.a64_buffer.proofs.Costs.{SomeOpen}
 use Rattle.a64_buffer.proofs.Rooms.{open_wants, wanting_range}
 use Rattle.a64_buffer.proofs.Adding.{added_end, added_count, old_use, new_use, added_later, added_sound, added_rooms, sum_after, weigh_split, label_split}

@@ -15,7 +15,7 @@ pub mod Traps
 pub mod Laters
 pub mod Serving
 pub mod Pieces
-pub mod OwnTraps
+pub mod OwnStops
 pub mod Emitting
 pub mod Walks
 pub mod Bytes

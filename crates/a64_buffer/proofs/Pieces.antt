@@ -16,11 +16,11 @@ use Rattle.a64_buffer.specs.Kinds.{Kinds, IsLawful}
 use Rattle.a64_buffer.specs.Buffer.{Buffer, end_of, label_of, made_use}
 use Rattle.a64_buffer.specs.Classes.{class, class_of, rank_of, is_open}
 use Rattle.a64_buffer.specs.Sound.{IsSound, IsStoppedOrOpen, IsStop, IsRightlyOpen}
-use Rattle.a64_buffer.specs.Pieces.{padding, constant_of, trap_at, copy_words, site_of, key_of, words_for, stop_for, sites_for, piece_words, piece_traps, piece_sites, StopsAtPiece, IsServed, IsFirst, StopsWith}
+use Rattle.a64_buffer.specs.Pieces.{padding, constant_of, trap_at, copy_words, AtGoal, site_of, key_of, words_for, stop_for, sites_for, piece_words, piece_traps, piece_sites, StopsAtPiece, IsServed, IsFirst, StopsWith}
 use Rattle.a64_buffer.specs.Steps.{stopped, stands_at, is_load_of, waits_for, Adds, GivesJump, GivesFar, GivesTrap, GivesCopy, Within, ServesNext}
 use Rattle.a64_buffer.proofs.Rooms.{open_wants, open_stop}
 use Rattle.a64_buffer.proofs.Adding.{added_count, old_use, new_use}
-use Rattle.a64_buffer.proofs.Giving.{only_here}
+use Rattle.a64_buffer.proofs.Giving.{made_goal, only_here}
 use Rattle.a64_buffer.proofs.Pays.{label_is}
 use Rattle.a64_buffer.proofs.Serving.{flat_one, label_no_constant, sites_stopped}
 
@@ -55,7 +55,7 @@ module _ {K : Type 0} (r : Kinds K) (law : IsLawful r) (b b' : Buffer K) (areas 
       let h : IsStoppedOrOpen r b areas u = subst (IsStoppedOrOpen r b areas) (sym is) (s.stops index u within) in
       subst (λ o. MatchOption o (IsRightlyOpen r b areas u.target u.kind u.offset) (IsStop r b areas u.target u.kind u.offset)) (open_stop r u open') h
 
-  module _ (test : Use K → Bool) (place : ℕ) (added : List ℕ) (fresh : List (Use K)) (traps : List (ℕ × TrapCode)) (a : Adds test place added fresh traps b b') (passes : test u ≡ true) (words_are : words_for r b.constants (class r u) u.target (end_of b) ≡ added) (traps_are : trap_at u.target (end_of b) ≡ traps) (place_is : stop_for r b.constants (class r u) u.target (end_of b) ≡ place) (only : (k : ℕ) (d : Use K) → k < length b.uses → test (get_or b.uses k d) ≡ true → (get_or b.uses k d ≡ u) ⊎ (IsSome (constant_of u.target) × ((get_or b.uses k d).target ≡ u.target))) (alone : (v : Use K) → IsSome (constant_of u.target) → v.target ≡ u.target → IsSome (stopped test place v).stop) (labelled : All (λ v. IsSome (label_of v.target)) fresh) (sites_are : sites_for r (class r u) u.target (end_of b) ≡ map site_of fresh) where
+  module _ (test : Use K → Bool) (place : ℕ) (added : List ℕ) (fresh : List (Use K)) (traps : List (ℕ × TrapCode)) (a : Adds test place added fresh traps b b') (passes : test u ≡ true) (words_are : words_for r b.constants (class r u) u.target (end_of b) ≡ added) (traps_are : trap_at u.target (end_of b) ≡ traps) (place_is : stop_for r b.constants (class r u) u.target (end_of b) ≡ place) (only : (k : ℕ) (d : Use K) → k < length b.uses → test (get_or b.uses k d) ≡ true → (get_or b.uses k d ≡ u) ⊎ (IsSome (constant_of u.target) × ((get_or b.uses k d).target ≡ u.target))) (alone : (v : Use K) → IsSome (constant_of u.target) → v.target ≡ u.target → IsSome (stopped test place v).stop) (labelled : All (λ v. IsSome (label_of v.target)) fresh) (sites_are : sites_for r (class r u) u.target (end_of b) ≡ map site_of fresh) (goals : All (AtGoal b.labels) fresh) where
     abbrev served : Use K
     served = record u { stop = Some place }
 
@@ -140,6 +140,7 @@ module _ {K : Type 0} (r : Kinds K) (law : IsLawful r) (b b' : Buffer K) (areas 
         }) (λ k d h. absurd (omega arith));
         copied = All-cons (λ (w : Use K). IsSome (constant_of w.target) → All (λ v. v.target ≡ w.target → IsSome v.stop) b'.uses) served [] copied (λ k d h. absurd (omega arith));
         answered = answered;
+        new_answered = λ k d low h. inl (subst (AtGoal b.labels) (sym (new_use r law b b' areas test place added fresh traps s a k d low)) (goals (k - length b.uses) d (omega (arith, h, added_count r law b b' areas test place added fresh traps s a))));
       };
     }
 
@@ -163,6 +164,7 @@ module _ {K : Type 0} (r : Kinds K) (law : IsLawful r) (b b' : Buffer K) (areas 
         (λ v is_constant e. absurd (label_constant u.target label.0 label.1 is_constant))
         (All-cons (λ (v : Use K). IsSome (label_of v.target)) (made_use r b.labels (end_of b) u.target r.jump) [] (subst IsSome (sym label.1) refl) (λ k d h. absurd (omega arith)))
         (elim c [ inl e ↦ ap (λ k. sites_for r k u.target (end_of b)) e | inr e ↦ ap (λ k. sites_for r k u.target (end_of b)) e ])
+        (All-cons (AtGoal b.labels) (made_use r b.labels (end_of b) u.target r.jump) [] (made_goal r b.labels (end_of b) u.target r.jump) (λ k d h. absurd (omega arith)))
 
     pub far_next : class r u ≡ Far → GivesFar r u b b' → ServesNext r (class r u) b b'
     far_next c a =
@@ -175,6 +177,7 @@ module _ {K : Type 0} (r : Kinds K) (law : IsLawful r) (b b' : Buffer K) (areas 
         (λ v is_constant e. absurd (label_constant u.target label.0 label.1 is_constant))
         (All-cons (λ (v : Use K). IsSome (label_of v.target)) (made_use r b.labels (end_of b + 4 * length r.far_words) u.target r.far_use) [] (subst IsSome (sym label.1) refl) (λ k d h. absurd (omega arith)))
         (ap (λ k. sites_for r k u.target (end_of b)) c)
+        (All-cons (AtGoal b.labels) (made_use r b.labels (end_of b + 4 * length r.far_words) u.target r.far_use) [] (made_goal r b.labels (end_of b + 4 * length r.far_words) u.target r.far_use) (λ k d h. absurd (omega arith)))
 
     pub trap_next : (code : TrapCode) → u.target ≡ Trap code → GivesTrap r u code b b' → ServesNext r (class r u) b b'
     trap_next code e a =
@@ -186,6 +189,7 @@ module _ {K : Type 0} (r : Kinds K) (law : IsLawful r) (b b' : Buffer K) (areas 
         (λ v is_constant same. absurd (false≢true (subst (λ t. IsSome (constant_of t)) e is_constant)))
         (λ k d h. absurd (omega arith))
         (ap (λ t. sites_for r (class_of r t u.kind) t (end_of b)) e)
+        (λ k d h. absurd (omega arith))
 
   pub copy_next : (constant : VCodeConstant) (content : List ℕ) → u.target ≡ Constant constant → get b.constants constant.0 ≡ Some content → GivesCopy r constant.0 content b b' → ServesNext r (class r u) b b'
   copy_next constant content e known a =
@@ -198,6 +202,7 @@ module _ {K : Type 0} (r : Kinds K) (law : IsLawful r) (b b' : Buffer K) (areas 
       (λ v is_constant same. stops (end_of b + 4 * padding (end_of b) (length content)) v.target v.stop (same ∙ e))
       (λ k d h. absurd (omega arith))
       (ap (λ t. sites_for r (class_of r t u.kind) t (end_of b)) e)
+      (λ k d h. absurd (omega arith))
     where
       waits : (t : Target) (o : Option ℕ) → t ≡ Constant constant → o ≡ None → (is_load_of constant.0 t && is_none o) ≡ true
       waits t o e n = ap (λ t. is_load_of constant.0 t && is_none o) e ∙ (ap (λ c. c && is_none o) (eq-eqb constant.0 constant.0 refl) ∙ ap (λ o. true && is_none o) n)

@@ -15,11 +15,11 @@ use Rattle.a64_buffer.specs.Kinds.{Kinds}
 use Rattle.a64_buffer.specs.declared.class.Class.{Class}
 use Rattle.a64_buffer.specs.declared.class.Class.TheVariants.{Near, Middle, Load, Trapping, Far, Direct}
 use Rattle.a64_buffer.specs.declared.room.Burdens.{Burdens}
-use Rattle.a64_buffer.specs.Buffer.{Buffer, end_of, leads_to, reached, closed_at}
+use Rattle.a64_buffer.specs.Buffer.{Buffer, end_of}
 use Rattle.a64_buffer.specs.Later.{IsSameUse, IsLater}
 use Rattle.a64_buffer.specs.Steps.{stopped}
 use Rattle.a64_buffer.specs.Classes.{first, second, third, burden, wants, class, class_of, rank_of, is_open}
-use Rattle.a64_buffer.specs.Queues.{entry_cmp, entry_of, entries, LosesRoom, LoseRoom, IsSameQueue, IsFirstStray, limit_of, IsEntry, NoneFarther, Follows, Holds, HoldsIn, IsNextWaiting, WaitsAt, IsLimitAt, IsFirstOf, IsLimitOf, IsLimit, AllHold, AllLimits, AreBurdens, AreWaiting}
+use Rattle.a64_buffer.specs.Queues.{entry_cmp, entry_of, entries, LosesRoom, LoseRoom, IsSameQueue, IsFirstStray, limit_of, IsEntry, NoneFarther, Follows, Holds, HoldsIn, IsNextWaiting, WaitsAt, IsLimitAt, IsFirstOf, IsLimitOf, IsLimit, AllHold, AllLimits, AreWaiting}
 use Rattle.a64_buffer.proofs.Rooms.{open_wants, open_stop}
 
 -- ---- elements of lists
@@ -495,6 +495,10 @@ module _ {K : Type 0} (r : Kinds K) where
 
   pub all_closed_hold : (us us' : List (Use K)) (queues : List Queue) → Closes r us us' → AllHold r us queues → AllHold r us' queues
   all_closed_hold us us' queues c h k q l = closed_holds r k us us' _ _ _ c (h k q l)
+
+  -- and leave the limits as they are, where what wants anything stays
+  pub all_kept_limits : (us us' : List (Use K)) (queues : List Queue) → Closes r us us' → ((k : ℕ) (d : Use K) → k < length us → rank_of (class r (get_or us k d)) < 5 → get_or us' k d ≡ get_or us k d) → AllLimits r us queues → AllLimits r us' queues
+  all_kept_limits us us' queues c stays h k q l = kept_limit r k us us' (get_or queues k q).limit (get_or queues k q).first c (λ d w e. stays (get_or queues k q).first d w (omega (arith, l, e))) (h k q l)
 
   -- a use that gets a stop leaves what the queues hold
   pub stopped_hold : (us : List (Use K)) (queues : List Queue) (i : ℕ) (d : Use K) (stop : Option ℕ) → i < length us → is_none stop ≡ false → AllHold r us queues → AllHold r (set us i (record (get_or us i d) { stop = stop })) queues

@@ -1,6 +1,6 @@
 -- What keeps open uses within reach.
 use Rattle.std.proofs.Common.{ℕ, zero, suc, ◌≡◌, ◌+◌, ◌%◌, ◌≤◌, Bool, true, false, cond, List, [], ◌∷◌, ◌++◌, All, get_or, take, Option, None, Some, refl, sym, ap, ◌∙◌, subst, arith, inl, inr}
-use Rattle.std.specs.Prelude.{◌&&◌, is_none}
+use Rattle.std.specs.Prelude.{◌&&◌, is_none, nat_eq}
 use Rattle.std.proofs.lemmas.List.{get_or_append_left, length-append}
 use Rattle.std.proofs.lemmas.List.Elements.{All-push}
 use Rattle.std.proofs.lemmas.List.Sums.{sum_by-take-drop}
@@ -9,6 +9,7 @@ use Rattle.a64_buffer.specs.declared.site.Target.{Target}
 use Rattle.a64_buffer.specs.declared.site.Target.TheVariants.{Label, Constant, Trap, IslandEnd}
 use Rattle.a64_buffer.specs.Kinds.{Kinds, IsLawful}
 use Rattle.a64_buffer.specs.declared.class.Class.{Class}
+use Rattle.a64_buffer.specs.declared.class.Class.TheVariants.{Near, Middle, Far}
 use Rattle.a64_buffer.specs.Classes.{Level, first, second, third, urgency_number, level_of, wants, cost, cost_in, label_class, class, class_of, range_of, is_open, weigh, burden, HasRoom}
 use Rattle.a64_buffer.specs.Sound.{IsPlaced, IsKinded}
 use Rattle.a64_buffer.specs.Steps.{Within, UseHasRoom}
@@ -21,6 +22,15 @@ urgency_is (suc zero) p q = refl
 urgency_is (suc (suc zero)) p q = refl
 urgency_is (suc (suc (suc zero))) p q = refl
 urgency_is (suc (suc (suc (suc n)))) p q = absurd (omega arith)
+
+-- a use of a label that may have a veneer may want one
+pub label_wants : (n : ℕ) → wants (label_class true n) ≡ true
+label_wants n = by (nat_eq n 1) (nat_eq n 2)
+  where
+    by : (x y : Bool) → wants (cond x Near (cond y Middle Far)) ≡ true
+    by true y = refl
+    by false true = refl
+    by false false = refl
 
 both_true : (a b : Bool) → (a && b) ≡ true → (a ≡ true) × (b ≡ true)
 both_true true b e = (refl, e)

@@ -1,20 +1,20 @@
 -- What stands in islands and in the pool, part by part.
-use Rattle.std.proofs.Common.{ℕ, ◌≡◌, ◌+◌, ◌-◌, ◌*◌, ◌<◌, ◌≤◌, true, List, [], ◌∷◌, ◌++◌, Bool, All, Any, map, length, get_or, Option, None, Some, refl, sym, ap, ◌∙◌, subst, arith, inl, inr, nat_cmp}
-use Rattle.std.specs.Prelude.{IsSome, ◌&&◌, is_none}
+use Rattle.std.proofs.Common.{ℕ, ◌≡◌, ◌+◌, ◌-◌, ◌*◌, ◌<◌, ◌≤◌, true, false, List, [], ◌∷◌, ◌++◌, Bool, All, Any, map, length, get_or, Option, None, Some, refl, sym, ap, ◌∙◌, subst, arith, inl, inr, nat_cmp}
+use Rattle.std.specs.Prelude.{IsSome, IfSome, ◌&&◌, is_none}
 use Rattle.std.specs.List.{AllPairs, flat_map}
 use Rattle.std.specs.FinMap.{FinMap}
 use Rattle.std.proofs.lemmas.Bool.{cases_lt, false≢true}
-use Rattle.std.proofs.lemmas.List.{append-nil, append_assoc, length-append, get_or_append_left, get_or-append_right}
+use Rattle.std.proofs.lemmas.List.{append-nil, append_assoc, length-append, length-map, get_or_append_left, get_or-append_right}
 use Rattle.std.proofs.lemmas.List.Concat.{flat_map-append, flat_map-cons}
 use Rattle.std.proofs.lemmas.List.Elements.{All-append, All-same}
 use Rattle.a64_buffer.specs.declared.site.Use.{Use}
 use Rattle.a64_buffer.specs.declared.site.Target.{Target}
 use Rattle.a64_buffer.specs.declared.site.Target.TheVariants.{Label, Constant, Trap, IslandEnd}
 use Rattle.a64_buffer.specs.Kinds.{Kinds}
-use Rattle.a64_buffer.specs.Buffer.{Buffer, end_of, label_of}
+use Rattle.a64_buffer.specs.Buffer.{Buffer, end_of, label_of, goal_of}
 use Rattle.a64_buffer.specs.Classes.{class, class_of, wants, rank_of, is_open}
 use Rattle.a64_buffer.specs.Later.{IsSameUse, IsLater}
-use Rattle.a64_buffer.specs.Pieces.{constant_of, site_of, key_of, ComesBefore, words_for, piece_words, piece_traps, piece_sites, StopsAtPiece, pieces, IsServed, IsFirst, StopsWith, Serves}
+use Rattle.a64_buffer.specs.Pieces.{constant_of, AtGoal, IsAnswered, site_of, key_of, ComesBefore, words_for, piece_words, piece_traps, piece_sites, StopsAtPiece, pieces, IsServed, IsFirst, StopsWith, Serves}
 use Rattle.a64_buffer.specs.Steps.{stopped}
 use Rattle.a64_buffer.proofs.Rooms.{open_wants, open_stop}
 use Rattle.a64_buffer.proofs.Laters.{was_open}
@@ -103,6 +103,7 @@ module _ {K : Type 0} (r : Kinds K) where
       waited = λ k d h. absurd (omega arith);
       copied = λ k d h. absurd (omega arith);
       answered = λ k d h o s. absurd (closed k d h o s);
+      new_answered = λ k d low h. absurd (omega (arith, low, h, ap length sites, length-map b.uses site_of, length-map b'.uses site_of));
     }
 
     -- ---- one part behind another
@@ -122,7 +123,7 @@ module _ {K : Type 0} (r : Kinds K) where
             λ is_constant e. open_none (get_or m.uses index v) o (first_part.copied j d hj is_constant index v h (sym same.target ∙ (ap (λ (w : Use K). w.target) is ∙ sym e))),
           )
 
-      module _ (labelled : (k : ℕ) (d : Use K) → length m.uses ≤ k → k < length c.uses → IsSome (label_of (get_or c.uses k d).target)) (cross : (j k : ℕ) (d : Use K) → j < length us → k < length vs → ComesBefore r (get_or us j d) (get_or vs k d)) where
+      module _ (labelled : (k : ℕ) (d : Use K) → length m.uses ≤ k → k < length c.uses → IsSome (label_of (get_or c.uses k d).target)) (cross : (j k : ℕ) (d : Use K) → j < length us → k < length vs → ComesBefore r (get_or us j d) (get_or vs k d)) (steady : (k : ℕ) (d : Use K) → length b.uses ≤ k → k < length m.uses → wants (class r (get_or m.uses k d)) ≡ false → get_or c.uses k d ≡ get_or m.uses k d) where
         end_is : end_of b + 4 * length (flat_map (piece_words r constants) (pieces r constants (end_of b) us)) ≡ end_of m
         end_is = omega (arith, ap length first_part.words, length-append b.words (flat_map (piece_words r constants) (pieces r constants (end_of b) us)))
 
@@ -183,6 +184,37 @@ module _ {K : Type 0} (r : Kinds K) where
                   any_left (StopsWith (get_or c.uses k d)) us vs (subst (λ (w : Use K). Any (StopsWith w) us) (sym (kept k d inside has)) (first_part.answered k d h o has))
             ] refl
 
+        -- what the first part made has its stop by then, is served behind, or wants nothing and stays
+        new_between : (k : ℕ) (d : Use K) → length b.uses ≤ k → k < length m.uses → IsAnswered labels (us ++ vs) (get_or c.uses k d)
+        new_between k d low h = elim (get_or m.uses k d).stop as (λ t. (get_or m.uses k d).stop ≡ t → IsAnswered labels (us ++ vs) (get_or c.uses k d)) [
+          | None ↦ λ e. waiting (wants (class r (get_or m.uses k d))) refl e
+          | Some t ↦ λ e. carried (kept k d h (subst IsSome (sym e) refl))
+        ] refl
+          where
+            carried : get_or c.uses k d ≡ get_or m.uses k d → IsAnswered labels (us ++ vs) (get_or c.uses k d)
+            carried same = elim (first_part.new_answered k d low h) [
+              | inl goal ↦ inl (subst (AtGoal labels) (sym same) goal)
+              | inr piece ↦ inr (any_left (StopsWith (get_or c.uses k d)) us vs (subst (λ (w : Use K). Any (StopsWith w) us) (sym same) piece))
+            ]
+
+            waiting : (w : Bool) → wants (class r (get_or m.uses k d)) ≡ w → (get_or m.uses k d).stop ≡ None → IsAnswered labels (us ++ vs) (get_or c.uses k d)
+            waiting false n e = carried (steady k d low h n)
+            waiting true w e =
+                let o : is_open r (get_or m.uses k d) ≡ true = ap (λ s. wants (class r (get_or m.uses k d)) && is_none s) e ∙ ap (λ w. w && true) w in
+                elim (get_or c.uses k d).stop as (λ t. (get_or c.uses k d).stop ≡ t → IsAnswered labels (us ++ vs) (get_or c.uses k d)) [
+                  | None ↦ λ none. inl (subst (λ o. IfSome o (λ stop. goal_of labels (get_or c.uses k d).target ≡ Some stop)) (sym none) tt)
+                  | Some t ↦ λ some. inr (any_right (StopsWith (get_or c.uses k d)) us vs (second'.answered k d h o (subst IsSome (sym some) refl)))
+                ] refl
+
+        new_both : (k : ℕ) (d : Use K) → length b.uses ≤ k → k < length c.uses → IsAnswered labels (us ++ vs) (get_or c.uses k d)
+        new_both k d low h = elim (cases_lt k (length m.uses)) [
+          | inl lt ↦ new_between k d low lt
+          | inr ge ↦ elim (second'.new_answered k d ge h) [
+            | inl goal ↦ inl goal
+            | inr piece ↦ inr (any_right (StopsWith (get_or c.uses k d)) us vs piece)
+          ]
+        ]
+
         -- a constant that is copied in the second part was not copied in the first
         not_copied : (j : ℕ) (e : Use K) → j < length vs → IsSome (constant_of (get_or vs j e).target) → (k : ℕ) (d : Use K) → k < length m.uses → (get_or m.uses k d).target ≡ (get_or vs j e).target → Any (StopsWith (get_or m.uses k d)) us → ⊥
         not_copied j e hj is_constant k d h same (i, w, hi, at, stops) =
@@ -224,4 +256,5 @@ module _ {K : Type 0} (r : Kinds K) where
           waited = All-append (IsServed r labels b c) us vs waited_first waited_second;
           copied = All-append (λ (u : Use K). IsSome (constant_of u.target) → All (λ v. v.target ≡ u.target → IsSome v.stop) c.uses) us vs copied_first second'.copied;
           answered = answered_both;
+          new_answered = new_both;
         }

@@ -16,16 +16,15 @@ use Rattle.a64_buffer.specs.Kinds.{Kinds, IsLawful}
 use Rattle.a64_buffer.specs.Buffer.{Records, Buffer, end_of, new_buffer, label_of, leads_to, goal_of, is_within, reached, made_use, closed_at, IsFree, IsOutside}
 use Rattle.a64_buffer.specs.Classes.{level_of, wants, cost, class, is_open, weigh, weight_of, burden, range_of, HasRoom, Fits}
 use Rattle.a64_buffer.specs.Later.{IsSameUse, IsLaterFrom, IsLater}
-use Rattle.a64_buffer.specs.Sound.{IsPlaced, IsTrap, HaveOwnTraps, IsKinded, IsKnown, IsStop, IsRightlyOpen, IsStoppedOrOpen, IsWhole}
+use Rattle.a64_buffer.specs.Sound.{IsPlaced, IsShared, MayShare, HaveOwnStops, IsKinded, IsKnown, IsStop, IsRightlyOpen, IsStoppedOrOpen, IsWhole}
 use Rattle.a64_buffer.specs.Steps.{stopped, Adds}
 use Rattle.a64_buffer.proofs.Labels.{get_here, get_other}
 use Rattle.a64_buffer.proofs.Uses.{apart_push, apart_map, leads_same, leads_other}
 use Rattle.a64_buffer.proofs.Growth.{Grows, stop_stays}
 use Rattle.a64_buffer.proofs.Adding.{added_later, added_sound}
-use Rattle.a64_buffer.proofs.Giving.{made_stop}
+use Rattle.a64_buffer.proofs.Giving.{made_stop, made_goal}
 use Rattle.a64_buffer.proofs.Laters.{same_use, same_records}
 use Rattle.a64_buffer.proofs.Traps.{no_traps, one_trap, same_traps}
-use Rattle.a64_buffer.proofs.OwnTraps.{trap_made, trap_closed}
 use Rattle.a64_buffer.proofs.Islands.{map_none, sound_beside, Keeps, later_keeps, islands_stay}
 
 module _ {K : Type 0} (r : Kinds K) where
@@ -61,7 +60,7 @@ module _ {K : Type 0} (r : Kinds K) where
     };
     islands = record { each = λ k d h. absurd (omega arith); in_order = λ j k h i. absurd (omega arith) };
     fits = record { rooms = λ k d h. absurd (omega arith) };
-    own_traps = λ j k stop d lt h. absurd (omega arith);
+    own_stops = λ j k stop d lt h. absurd (omega arith);
   }
 
   module _ (law : IsLawful r) (b : Buffer K) (whole : IsWhole r b) where
@@ -85,7 +84,7 @@ module _ {K : Type 0} (r : Kinds K) where
         sound = added_sound r law b put b.islands (λ v. false) (end_of b) added [] [] whole.sound adds (λ k d h. absurd (omega arith)) (λ k d h e. absurd (false≢true e)) (omega (arith, put_end)) (λ k d h. absurd (omega arith)) (λ j k d lt h. absurd (omega arith)) (λ k d h. absurd (omega arith)) (λ k d h. absurd (omega arith)) (λ k d h. absurd (omega arith));
         islands = islands_stay r b put (later_keeps b put put_later) refl whole.islands;
         fits = record { rooms = λ k d w o. let x = fits.rooms k d w o in omega (arith, put_end) };
-        own_traps = whole.own_traps;
+        own_stops = whole.own_stops;
       }
 
     -- ---- one more trap
@@ -105,7 +104,7 @@ module _ {K : Type 0} (r : Kinds K) where
         sound = added_sound r law b trapped b.islands (λ v. false) (end_of b) [] [] ((end_of b, code) ∷ []) whole.sound adds_trap (λ k d h. absurd (omega arith)) (λ k d h e. absurd (false≢true e)) whole.sound.short (λ k d h. absurd (omega arith)) (λ j k d lt h. absurd (omega arith)) (λ k d h. absurd (omega arith)) (λ k d h. absurd (omega arith)) (λ k d h. absurd (omega arith));
         islands = islands_stay r b trapped (later_keeps b trapped trap_later) refl whole.islands;
         fits = record { rooms = λ k d w o. whole.fits.rooms k d w o };
-        own_traps = whole.own_traps;
+        own_stops = whole.own_stops;
       }
 
     -- ---- more records
@@ -116,7 +115,7 @@ module _ {K : Type 0} (r : Kinds K) where
         sound = sound_beside r b b.islands records b.islands b.islands whole.sound (λ p size h i. i);
         islands = islands_stay r b (record b { records = records }) (record { end = omega arith; words = λ i h. refl; count = omega arith; uses = λ k d h. same_use (end_of b) (get_or b.uses k d) }) refl whole.islands;
         fits = record { rooms = λ k d w o. whole.fits.rooms k d w o };
-        own_traps = whole.own_traps;
+        own_stops = whole.own_stops;
       }
 
     -- ---- one more use
@@ -167,18 +166,18 @@ module _ {K : Type 0} (r : Kinds K) where
         records = same_records b.records;
       }
 
-      used_own : HaveOwnTraps (b.uses ++ made_use r b.labels offset target kind ∷ [])
-      used_own j k stop d lt h tj tk sj sk = elim (cases_lt k (length b.uses)) [
+      used_own : HaveOwnStops b.labels (b.uses ++ made_use r b.labels offset target kind ∷ [])
+      used_own j k stop d lt h sj sk = elim (cases_lt k (length b.uses)) [
         | inl inside ↦
             let at_j = kept_use j d (omega arith) in
             let at_k = kept_use k d inside in
-            whole.own_traps j k stop d lt inside (subst (λ (u : Use K). IsTrap u.target) at_j tj) (subst (λ (u : Use K). IsTrap u.target) at_k tk) (ap (λ (u : Use K). u.stop) (sym at_j) ∙ sj) (ap (λ (u : Use K). u.stop) (sym at_k) ∙ sk)
+            let share : MayShare b.labels stop (get_or b.uses j d).target (get_or b.uses k d).target = whole.own_stops j k stop d lt inside (ap (λ (u : Use K). u.stop) (sym at_j) ∙ sj) (ap (λ (u : Use K). u.stop) (sym at_k) ∙ sk) in
+            subst (λ (u : Use K). MayShare b.labels stop u.target (get_or used.uses k d).target) (sym at_j) (subst (λ (u : Use K). MayShare b.labels stop (get_or b.uses j d).target u.target) (sym at_k) share)
         | inr past ↦
             let at : length b.uses ≡ k = omega (arith, past, h, length_push b.uses made) in
             let is : get_or (b.uses ++ made_use r b.labels offset target kind ∷ []) k d ≡ made = get_or_push b.uses made d k at in
-            let none : made.stop ≡ None = trap_made r b.labels offset target kind (subst (λ (u : Use K). IsTrap u.target) is tk) in
-            let z : None ≡ Some stop = sym none ∙ (ap (λ (u : Use K). u.stop) (sym is) ∙ sk) in
-            cc
+            let goal : goal_of b.labels target ≡ Some stop = subst (λ o. IfSome o (λ stop. goal_of b.labels target ≡ Some stop)) (ap (λ (u : Use K). u.stop) (sym is) ∙ sk) (made_goal r b.labels offset target kind) in
+            inr (inr (inl (subst (λ (u : Use K). goal_of b.labels u.target ≡ Some stop) (sym is) goal)))
       ]
 
       pub whole_use : offset % 4 ≡ 0 → offset < end_of b → IsFree b.uses offset → IsOutside b.islands offset → IsKinded r target kind → IsKnown b.constants target → Fits r (record b { uses = b.uses ++ made_use r b.labels offset target kind ∷ [] }) 0 → IsWhole r (record b { uses = b.uses ++ made_use r b.labels offset target kind ∷ [] })
@@ -194,7 +193,7 @@ module _ {K : Type 0} (r : Kinds K) where
         };
         islands = islands_stay r b used used_keeps refl whole.islands;
         fits = fits;
-        own_traps = used_own;
+        own_stops = used_own;
       }
         where
           old : (u : Use K) (o : Option ℕ) → MatchOption o (IsRightlyOpen r b b.islands u.target u.kind u.offset) (IsStop r b b.islands u.target u.kind u.offset) → MatchOption o (IsRightlyOpen r used b.islands u.target u.kind u.offset) (IsStop r used b.islands u.target u.kind u.offset)
@@ -346,16 +345,46 @@ module _ {K : Type 0} (r : Kinds K) where
             (λ k d w o. let x = h.rooms k d w (closed_open (get_or b.uses k d) o) in omega (arith, bind_weight label (end_of b) (cost (level_of (class r (get_or b.uses k d)))) b.uses));
       }
 
-      bound_own : HaveOwnTraps (map (closed_at r label (end_of b)) b.uses)
-      bound_own j k stop d lt h tj tk sj sk =
+      -- a stop is shared still, and one that came now is at the label's place
+      shared_still : (target : Target) (stop : ℕ) → IsShared b.labels target stop → IsShared (insert b.labels label (end_of b)) target stop
+      shared_still target stop h = elim h [ inl e ↦ inl (go (label_of target) e) | inr e ↦ inr e ]
+        where
+          go : (o : Option ℕ) → option_and_then (λ l. get b.labels l) o ≡ Some stop → option_and_then (λ l. get (insert b.labels label (end_of b)) l) o ≡ Some stop
+          go None e = absurd (let z : None ≡ Some stop = e in cc)
+          go (Some l) e = still l stop e
+
+      came_now : (u : Use K) (stop : ℕ) → (closed_at r label (end_of b) u).stop ≡ Some stop → (u.stop ≡ Some stop) ⊎ (goal_of (insert b.labels label (end_of b)) u.target ≡ Some stop)
+      came_now u stop = go (leads_to label u.target) refl u.stop
+        where
+          there : (w : Bool) → cond w (Some (end_of b)) None ≡ Some stop → end_of b ≡ stop
+          there true e = cc e
+          there false e = absurd (let z : None ≡ Some stop = e in cc)
+
+          go : (c : Bool) → leads_to label u.target ≡ c → (o : Option ℕ) → cond (c && is_none o) (reached r u.kind u.offset (end_of b)) o ≡ Some stop → (o ≡ Some stop) ⊎ (goal_of (insert b.labels label (end_of b)) u.target ≡ Some stop)
+          go true e None f = elim (is_or_not (label_of u.target)) [
+            | inl same ↦ inr (ap (λ o. option_and_then (λ l. get (insert b.labels label (end_of b)) l) o) same ∙ (get_here b.labels label (end_of b) ∙ ap (λ n. Some n) (there (is_within r u.kind u.offset (end_of b)) f)))
+            | inr ne ↦ absurd (false≢true (sym (leads_other label u.target ne) ∙ e))
+          ]
+          go false e None f = absurd (let z : None ≡ Some stop = f in cc)
+          go true e (Some t) f = inl f
+          go false e (Some t) f = inl f
+
+      bound_own : HaveOwnStops (insert b.labels label (end_of b)) (map (closed_at r label (end_of b)) b.uses)
+      bound_own j k stop d lt h sj sk =
           let inside : k < length b.uses = omega (arith, h, length-map b.uses (closed_at r label (end_of b))) in
           let at_j = closed_use j d (omega arith) in
           let at_k = closed_use k d inside in
-          let trap_j : IsTrap (get_or b.uses j d).target = subst (λ (u : Use K). IsTrap u.target) at_j tj in
-          let trap_k : IsTrap (get_or b.uses k d).target = subst (λ (u : Use K). IsTrap u.target) at_k tk in
-          whole.own_traps j k stop d lt inside trap_j trap_k
-          (sym (trap_closed r label (end_of b) (get_or b.uses j d) trap_j) ∙ (ap (λ (u : Use K). u.stop) (sym at_j) ∙ sj))
-          (sym (trap_closed r label (end_of b) (get_or b.uses k d) trap_k) ∙ (ap (λ (u : Use K). u.stop) (sym at_k) ∙ sk))
+          subst (λ (u : Use K). MayShare bound'.labels stop u.target (get_or bound'.uses k d).target) (sym at_j) (subst (λ (u : Use K). MayShare bound'.labels stop (get_or b.uses j d).target u.target) (sym at_k) (
+          elim (came_now (get_or b.uses j d) stop (ap (λ (u : Use K). u.stop) (sym at_j) ∙ sj)) [
+            | inr goal ↦ inr (inl (inl goal))
+            | inl old_j ↦ elim (came_now (get_or b.uses k d) stop (ap (λ (u : Use K). u.stop) (sym at_k) ∙ sk)) [
+              | inr goal ↦ inr (inr (inl goal))
+              | inl old_k ↦ elim (whole.own_stops j k stop d lt inside old_j old_k) [
+                | inl load ↦ inl load
+                | inr shared ↦ inr (elim shared [ inl x ↦ inl (shared_still (get_or b.uses j d).target stop x) | inr x ↦ inr (shared_still (get_or b.uses k d).target stop x) ])
+              ]
+            ]
+          ]))
 
       pub whole_bind : IsWhole r (record b { uses = map (closed_at r label (end_of b)) b.uses; labels = insert b.labels label (end_of b) })
       whole_bind = record {
@@ -373,5 +402,5 @@ module _ {K : Type 0} (r : Kinds K) where
         };
         islands = islands_stay r b bound' bind_keeps refl whole.islands;
         fits = bind_room 0 whole.fits;
-        own_traps = bound_own;
+        own_stops = bound_own;
       }

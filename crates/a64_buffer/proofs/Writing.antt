@@ -25,8 +25,8 @@ use Rattle.a64_buffer.specs.Later.{IsSameUse, IsLater}
 use Rattle.a64_buffer.specs.Sound.{seen, IsPlaced, AreApart, IsKnown, IsSound}
 use Rattle.a64_buffer.specs.Islands.{IsVeneerUse}
 use Rattle.a64_buffer.specs.Space.{SameRoom, HasSpace}
-use Rattle.a64_buffer.specs.Pieces.{key_of, ComesBefore, Serves}
-use Rattle.a64_buffer.specs.Steps.{stopped, waits_for, AtGoal, GivesJump, GivesFar, GivesTrap, GivesCopy, IsPart, everywhere, HoldFrom, ServesNext, GivesAll, MayWrite, IsWriting, Writes, IsNextOpen, IsReady}
+use Rattle.a64_buffer.specs.Pieces.{AtGoal, key_of, ComesBefore, Serves}
+use Rattle.a64_buffer.specs.Steps.{stopped, waits_for, GivesJump, GivesFar, GivesTrap, GivesCopy, IsPart, everywhere, HoldFrom, ServesNext, GivesAll, MayWrite, IsWriting, IsNextOpen, IsReady}
 use Rattle.a64_buffer.proofs.Rooms.{open_wants}
 use Rattle.a64_buffer.proofs.Laters.{later_none, later_trans, was_open}
 use Rattle.a64_buffer.proofs.Serving.{same_class, same_key, serves_none, served_behind, serves_join, open_none}
@@ -93,7 +93,8 @@ module _ {K : Type 0} (r : Kinds K) where
       record {
         served = w.served ++ g.next.served ∷ [];
         serves = serves_join r b.labels b.constants b m b' w.served (g.next.served ∷ []) w.serves next_serves w.part.later later (λ k d h l. (g.given.given k d h l).labelled)
-            (λ j k d hj hk. let z : k ≡ 0 = omega arith in subst (λ n. ComesBefore r (get_or w.served j d) (get_or (g.next.served ∷ []) n d)) (sym z) (behind j d hj));
+            (λ j k d hj hk. let z : k ≡ 0 = omega arith in subst (λ n. ComesBefore r (get_or w.served j d) (get_or (g.next.served ∷ []) n d)) (sym z) (behind j d hj))
+            (λ k d low h n. unwanting k d h n);
         ahead = All-append (λ (u : Use K). All (λ v. is_open r v ≡ true → key_of r u < key_of r v) b'.uses) w.served (g.next.served ∷ [])
             (λ j d hj k e hk o. omega (arith, (behind j d hj).0, key_next k e hk o))
             (All-cons (λ (u : Use K). All (λ v. is_open r v ≡ true → key_of r u < key_of r v) b'.uses) g.next.served [] key_next (λ k d h. absurd (omega arith)));
@@ -125,6 +126,10 @@ module _ {K : Type 0} (r : Kinds K) where
         );
       }
     where
+      -- what wants nothing stays
+      unwanting : (k : ℕ) (d : Use K) → k < length m.uses → wants (class r (get_or m.uses k d)) ≡ false → get_or b'.uses k d ≡ get_or m.uses k d
+      unwanting k d h n = g.given.spared k d h (λ e. false≢true (sym n ∙ (ap wants e ∙ wanting c (omega arith))))
+
       n : ServesNext r c m b'
       n = g.next
 

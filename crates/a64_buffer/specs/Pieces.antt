@@ -49,6 +49,14 @@ copy_words content place = replicate (padding place (length content)) 0 ++ words
 abbrev pub StopsWith : {K : Type 0} → Use K → Use K → Type 0
 StopsWith v u = (v ≡ u) ⊎ (IsSome (constant_of u.target) × (v.target ≡ u.target) × (v.stop ≡ u.stop))
 
+-- a use that stops at its label, if anywhere
+abbrev pub AtGoal : {K : Type 0} → FinMap nat_cmp ℕ → Use K → Type 0
+AtGoal labels u = IfSome u.stop (λ stop. goal_of labels u.target ≡ Some stop)
+
+-- a use has no stop, or has it at its label's place or by the piece of one of the served uses
+abbrev pub IsAnswered : {K : Type 0} → FinMap nat_cmp ℕ → List (Use K) → Use K → Type 0
+IsAnswered labels served u = AtGoal labels u ⊎ Any (StopsWith u) served
+
 -- a use, but for its stop
 abbrev pub site_of : {K : Type 0} → Use K → ℕ × Target × K
 site_of u = (u.offset, u.target, u.kind)
@@ -135,8 +143,8 @@ module _ {K : Type 0} (r : Kinds K) where
 
   -- the words that were added are the pieces of some uses, in the order of islands, and nothing else:
   -- each of these uses had waited and stops at its piece, the new uses are those of these words, each
-  -- trap word is recorded, each constant has one copy, at its first use, and what had waited and has a
-  -- stop now has it by one of these pieces
+  -- trap word is recorded, each constant has one copy, at its first use, what had waited and has a
+  -- stop now has it by one of these pieces, and a new use has it so or at its label's place
   pub record Serves (labels : FinMap nat_cmp ℕ) (constants : FinMap nat_cmp (List ℕ)) (served : List (Use K)) (b b' : Buffer K) : Type 0 where
     pub words : b'.words ≡ b.words ++ flat_map (piece_words constants) (pieces constants (end_of b) served)
     pub traps_are : b'.traps ≡ b.traps ++ flat_map (piece_traps constants) (pieces constants (end_of b) served)
@@ -147,3 +155,6 @@ module _ {K : Type 0} (r : Kinds K) where
     pub waited : All (IsServed labels b b') served
     pub copied : All (λ u. IsSome (constant_of u.target) → All (λ v. v.target ≡ u.target → IsSome v.stop) b'.uses) served
     pub answered : (k : ℕ) (d : Use K) → k < length b.uses → is_open r (slice_index_or b.uses k d) ≡ true → IsSome (slice_index_or b'.uses k d).stop → Any (StopsWith (slice_index_or b'.uses k d)) served
+    pub new_answered :
+        (k : ℕ) (d : Use K) → length b.uses ≤ k → k < length b'.uses
+        → IsAnswered labels served (slice_index_or b'.uses k d)

@@ -30,9 +30,9 @@ pub record IsSameQueue (q q' : Queue) : Type 0 where
   pub next : q'.next ≡ q.next
   pub entries' : entries q' ≡ entries q
 
--- each queue has room for so many strays more
+-- the queue of the longest range, to which alone islands add, has room for so many strays more
 abbrev pub HaveRoomFor : ℕ → List Queue → Type 0
-HaveRoomFor count queues = (rank : ℕ) (q : Queue) → rank < 5 → heap_len (slice_index_or queues rank q).strays + count ≤ heap_capacity (slice_index_or queues rank q).strays
+HaveRoomFor count queues = (q : Queue) → heap_len (slice_index_or queues 4 q).strays + count ≤ heap_capacity (slice_index_or queues 4 q).strays
 
 -- a queue lost room for so many strays at most
 abbrev pub LosesRoom : ℕ → Queue → Queue → Type 0

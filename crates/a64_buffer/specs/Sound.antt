@@ -1,5 +1,5 @@
 -- What is true of every buffer of code.
-use Rattle.std.specs.Prelude.{ℕ, ◌≡◌, ◌≢◌, ◌⊎◌, ◌+◌, ◌*◌, ◌/◌, ◌%◌, ◌^◌, ◌<◌, ◌≤◌, false, IsTrue, List, [], ◌∷◌, All, Contains, length, slice_index, slice_index_or, Some, IfSome, IsSomeAnd, MatchOption}
+use Rattle.std.specs.Prelude.{ℕ, ◌≡◌, ◌≢◌, ◌⊎◌, ◌+◌, ◌*◌, ◌/◌, ◌%◌, ◌^◌, ◌<◌, ◌≤◌, false, IsTrue, List, [], ◌∷◌, All, Contains, length, slice_index, slice_index_or, Some, IfSome, IsSome, IsSomeAnd, MatchOption}
 use Rattle.std.specs.Ordering.{nat_cmp}
 use Rattle.std.specs.FinMap.{FinMap, get}
 use Rattle.a64_base.specs.declared.entity.TrapCode.{TrapCode}
@@ -13,6 +13,7 @@ use Rattle.a64_buffer.specs.Kinds.{Kinds, IsWithin}
 use Rattle.a64_buffer.specs.Buffer.{Buffer, end_of, goal_of, is_within}
 use Rattle.a64_buffer.specs.Areas.{InArea, HasUse, Stands}
 use Rattle.a64_buffer.specs.Classes.{Fits}
+use Rattle.a64_buffer.specs.Pieces.{constant_of}
 use Rattle.a64_buffer.specs.Chain.{AreChained}
 use Rattle.a64_buffer.specs.Queues.{AreWaiting}
 
@@ -36,12 +37,24 @@ IsTrap (Constant constant) = ⊥
 IsTrap (Trap code) = Unit {0}
 IsTrap IslandEnd = ⊥
 
--- no two uses of traps stop at one trap word
-abbrev pub HaveOwnTraps : {K : Type 0} → List (Use K) → Type 0
-HaveOwnTraps {K} uses =
+-- a stop that a use may share with any other: the place of its label, or, where it is the jump over an
+-- island, the end of that
+abbrev pub IsShared : FinMap nat_cmp ℕ → Target → ℕ → Type 0
+IsShared labels target stop = (goal_of labels target ≡ Some stop) ⊎ (target ≡ IslandEnd)
+
+-- uses of two targets may stop at one place: they load one constant, or one of them may share that stop
+abbrev pub MayShare : FinMap nat_cmp ℕ → ℕ → Target → Target → Type 0
+MayShare labels stop s t =
+    (IsSome (constant_of s) × (s ≡ t))
+    ⊎ IsShared labels s stop ⊎ IsShared labels t stop
+
+-- no two uses stop at one place, but for loads of one constant, uses that stop at the place of their
+-- label, and jumps over islands
+abbrev pub HaveOwnStops : {K : Type 0} → FinMap nat_cmp ℕ → List (Use K) → Type 0
+HaveOwnStops {K} labels uses =
     (j k stop : ℕ) (d : Use K) → j < k → k < length uses
-    → IsTrap (slice_index_or uses j d).target → IsTrap (slice_index_or uses k d).target
-    → (slice_index_or uses j d).stop ≡ Some stop → (slice_index_or uses k d).stop ≢ Some stop
+    → (slice_index_or uses j d).stop ≡ Some stop → (slice_index_or uses k d).stop ≡ Some stop
+    → MayShare labels stop (slice_index_or uses j d).target (slice_index_or uses k d).target
 
 -- a constant that a use loads is there
 abbrev pub IsKnown : FinMap nat_cmp (List ℕ) → Target → Type 0
@@ -137,7 +150,7 @@ module _ {K : Type 0} (r : Kinds K) where
     pub sound : IsSound b b.islands
     pub islands : AreIslands b
     pub fits : Fits r b 0
-    pub own_traps : HaveOwnTraps b.uses
+    pub own_stops : HaveOwnStops b.labels b.uses
 
   -- the parts of such a buffer, with its chains of uses, and what is kept of the open ones
   pub record AreSound (p : Parts K) : Type 0 where

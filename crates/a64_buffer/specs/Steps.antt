@@ -1,14 +1,13 @@
 -- What gives open uses what they wait for, one after another.
-use Rattle.std.specs.Prelude.{ℕ, ◌≡◌, ◌⊎◌, ◌+◌, ◌*◌, ◌^◌, ◌<◌, ◌≤◌, Bool, true, false, ◌&&◌, nat_eq, if◌then◌else◌, List, [], ◌∷◌, ◌++◌, All, map, length, take, slice_index_or, replicate, Option, Some, is_none, IfSome, MatchOption}
-use Rattle.std.specs.Ordering.{nat_cmp}
-use Rattle.std.specs.FinMap.{FinMap, get}
+use Rattle.std.specs.Prelude.{ℕ, ◌≡◌, ◌⊎◌, ◌+◌, ◌*◌, ◌^◌, ◌<◌, ◌≤◌, Bool, true, false, ◌&&◌, nat_eq, if◌then◌else◌, List, [], ◌∷◌, ◌++◌, All, map, length, take, slice_index_or, replicate, Option, Some, is_none, MatchOption}
+use Rattle.std.specs.FinMap.{get}
 use Rattle.a64_base.specs.declared.entity.TrapCode.{TrapCode}
 use Rattle.a64_buffer.specs.declared.site.Use.{Use}
 use Rattle.a64_buffer.specs.declared.site.Target.{Target}
 use Rattle.a64_buffer.specs.declared.site.Target.TheVariants.{Label, Constant, Trap, IslandEnd}
 use Rattle.a64_buffer.specs.Word.{words_of}
 use Rattle.a64_buffer.specs.Kinds.{Kinds}
-use Rattle.a64_buffer.specs.Buffer.{Buffer, end_of, goal_of, made_use}
+use Rattle.a64_buffer.specs.Buffer.{Buffer, end_of, made_use}
 use Rattle.a64_buffer.specs.Areas.{InArea}
 use Rattle.a64_buffer.specs.Chain.{AreChained}
 use Rattle.a64_buffer.specs.declared.parts.Parts.{Parts}
@@ -20,7 +19,7 @@ use Rattle.a64_buffer.specs.declared.force.ForceVeneers.TheVariants.{No, Yes}
 use Rattle.a64_buffer.specs.Later.{IsLater}
 use Rattle.a64_buffer.specs.Space.{HasSpace}
 use Rattle.a64_buffer.specs.Sound.{seen, IsSound}
-use Rattle.a64_buffer.specs.Pieces.{padding, key_of, Serves}
+use Rattle.a64_buffer.specs.Pieces.{padding, AtGoal, key_of, Serves}
 use Rattle.a64_buffer.specs.Islands.{IsVeneerUse, FarWaits}
 
 -- a use that stops at a place, where it passes a test
@@ -40,10 +39,6 @@ is_load_of constant IslandEnd = false
 
 abbrev pub waits_for : {K : Type 0} → ℕ → Use K → Bool
 waits_for constant u = is_load_of constant u.target && is_none u.stop
-
--- a use that stops at its label, if anywhere
-abbrev pub AtGoal : {K : Type 0} → FinMap nat_cmp ℕ → Use K → Type 0
-AtGoal labels u = IfSome u.stop (λ stop. goal_of labels u.target ≡ Some stop)
 
 -- words and uses were added, and the uses that pass a test stop at a place
 pub record Adds {K : Type 0} (test : Use K → Bool) (place : ℕ) (added : List ℕ) (fresh : List (Use K)) (traps : List (ℕ × TrapCode)) (b b' : Buffer K) : Type 0 where

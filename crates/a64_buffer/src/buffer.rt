@@ -72,7 +72,8 @@ impl<'c, K: MachInstLabelUse> MachBuffer<'c, K> {
     /// Where the next word will stand, in bytes from the start of the code. What is true of every buffer
     /// is told here: uses stand before the end, islands end at it at most, each open use still reaches
     /// what it gets in an island at the end, a use that has a stop has it before the end, or at its label,
-    /// and the constants have their sizes.
+    /// no two uses stop at one place but loads of one constant and uses at their labels, and the constants
+    /// have their sizes.
     #[inline(always)]
     pub fn cur_offset(&self) -> u32
         ensures value { result ≡ end_of self.now }

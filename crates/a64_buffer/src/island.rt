@@ -264,14 +264,13 @@ impl<'c, K: MachInstLabelUse> Parts<'c, K> {
         ensures err { OnErr result (seen self.new ≡ seen self.old) }
     {
         self.reserve_all()?;
-        self.reserve_queues()?;
+        self.reserve_veneers()?;
         let start = self.end();
         let index = self.uses.len();
         self.begin_island();
         self.write_until(4);
         self.promote(distance, force);
         self.end_island(index, start);
-        self.await_island();
         Ok(())
     }
 
@@ -289,6 +288,7 @@ impl<'c, K: MachInstLabelUse> Parts<'c, K> {
         ensures room { SameRoom self.old self.new }
         ensures hold { AllHold K.kinds self.new.uses.items self.new.queues }
         ensures burdens { AreBurdens K.kinds self.new.uses.items self.new.burdens }
+        ensures limits { AllLimits K.kinds self.new.uses.items self.new.queues }
     {
         if self.promotes(distance, force) {
             self.write_until(5);

@@ -1,6 +1,6 @@
 //! Kinds of label uses.
 
-ghost use Rattle.std.specs.Prelude.{◌≡◌, ◌≤◌, ◌^◌, IsTrue, ◌%◌, length};
+ghost use Rattle.std.specs.Prelude.{ℕ, ◌≡◌, ◌≤◌, ◌^◌, IsTrue, ◌%◌, length};
 ghost use Rattle.std.specs.Int.{w32, from_le_bytes};
 ghost use Rattle.a64_buffer.specs.Word.{outside};
 ghost use Rattle.a64_buffer.specs.Kinds.{Kinds, IsWithin, GoesTo, SaysDistance, IsLawful, veneer_bytes, IsVeneer};
@@ -13,6 +13,9 @@ use a64_base::Reloc;
 pub trait MachInstLabelUse: Copy + Eq {
     /// What the kinds mean.
     ghost kinds: { Kinds Self };
+
+    /// What the alignment of code is.
+    ghost ALIGN: { ℕ };
 
     /// The alignment of code.
     const ALIGN: u32;
@@ -91,4 +94,7 @@ pub trait MachInstLabelUse: Copy + Eq {
     /// The laws of kinds: what a kind that adds says, how urgency, veneers and ranges go together, and
     /// that a far veneer has five words at most.
     ghost lawful: { IsLawful kinds };
+
+    /// Code stands at multiples of a word's bytes.
+    ghost aligned: { ALIGN ≡ 4 };
 }

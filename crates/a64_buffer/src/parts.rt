@@ -347,7 +347,7 @@ impl<'c, K: MachInstLabelUse> Parts<'c, K> {
     {
         let pool = self.end();
         self.reserve_all()?;
-        self.reserve_queues()?;
+        self.reserve_veneers()?;
         self.write_until(5);
         self.finish_words(pool)
     }

@@ -185,7 +185,7 @@ impl Queue {
 
     /// Leaves closed uses behind, until open ones are first, and finds the least limit.
     #[inline(always)]
-    pub fn settle<K: MachInstLabelUse>(&mut self, uses: &[Use<K>], rank: u64)
+    fn settle<K: MachInstLabelUse>(&mut self, uses: &[Use<K>], rank: u64)
         requires rank { rank < 5 }
         requires holds { HoldsIn K.kinds rank uses.now self.old }
         ensures holds { HoldsIn K.kinds rank uses.now self.new }

@@ -41,15 +41,12 @@ pub fn reserve_queue(queues: &mut [Queue; 5], class: Class, limit: u64) -> Resul
     Ok(())
 }
 
-/// Takes the memory for so many uses in each queue.
-pub fn reserve_queues(queues: &mut [Queue; 5], more: usize) -> Result<(), AllocError>
+/// Takes the memory for so many uses in the queue of the longest range, to which alone islands add.
+pub fn reserve_veneers(queues: &mut [Queue; 5], more: usize) -> Result<(), AllocError>
     ensures kept { (rank : ℕ) (q : Queue) → IsSameQueue (slice_index_or queues.old rank q) (slice_index_or queues.new rank q) }
     ensures ok { OnOk result (HaveRoomFor more queues.new) }
 {
-    for rank in 0..5 {
-        queues[rank].reserve(more)?;
-    }
-    Ok(())
+    queues[4].reserve(more)
 }
 
 /// Puts a use with a limit and an index into the queue of its class, where it is open.
@@ -112,18 +109,6 @@ pub fn settle_queue<K: MachInstLabelUse>(
 {
     let rank = class.rank();
     queues[rank as usize].leave_closed(uses, rank, none);
-}
-
-/// Leaves closed uses behind in all queues.
-pub fn settle_queues<K: MachInstLabelUse>(queues: &mut [Queue; 5], uses: &[Use<K>])
-    requires hold { AllHold K.kinds uses.now queues.old }
-    ensures hold { AllHold K.kinds uses.now queues.new }
-    ensures limits { AllLimits K.kinds uses.now queues.new }
-    ensures room { LoseRoom 0 queues.old queues.new }
-{
-    for rank in 0..5 {
-        queues[rank].settle(uses, rank as u64);
-    }
 }
 
 /// The use of the least limit in the first queue below a limit that has an open use.

@@ -9,7 +9,7 @@ ghost use Rattle.a64_buffer.specs.declared.queue.Queue.{Queue};
 use crate::class::Class;
 use crate::label_use::MachInstLabelUse;
 use crate::parts::Parts;
-use crate::queues::{have_room, queue_use, reserve_queues, settle_queue, settle_queues};
+use crate::queues::{have_room, queue_use, reserve_veneers, settle_queue};
 use crate::site::Use;
 use std::alloc::AllocError;
 
@@ -37,15 +37,15 @@ impl<'c, K: MachInstLabelUse> Parts<'c, K> {
         }
     }
 
-    /// Takes the memory for the uses that an island may add, in each queue.
-    pub fn reserve_queues(&mut self) -> Result<(), AllocError>
+    /// Takes the memory for the uses that an island may add, in the queue of the longest range.
+    pub fn reserve_veneers(&mut self) -> Result<(), AllocError>
         requires burdens { AreBurdens K.kinds self.old.uses.items self.old.burdens }
         ensures kept { (rank : ℕ) (q : Queue) → IsSameQueue (slice_index_or self.old.queues rank q) (slice_index_or self.new.queues rank q) }
         ensures ok { OnOk result (HaveRoomFor (weight_of K.kinds veneer_uses self.old.uses.items + 1) self.new.queues) }
         ensures rest { self.new ≡ record self.old { queues = self.new.queues } }
     {
         let more = self.burdens.third as usize / 12 + 1;
-        reserve_queues(&mut self.queues, more)?;
+        reserve_veneers(&mut self.queues, more)?;
         Ok(())
     }
 
@@ -64,16 +64,6 @@ impl<'c, K: MachInstLabelUse> Parts<'c, K> {
     {
         let none = self.burdens.has_none(class);
         settle_queue(&mut self.queues, &self.uses[..from], class, none);
-    }
-
-    /// Keeps what waits once an island stands.
-    pub fn await_island(&mut self)
-        requires hold { AllHold K.kinds self.old.uses.items self.old.queues }
-        requires burdens { AreBurdens K.kinds self.old.uses.items self.old.burdens }
-        ensures waiting { AreWaiting K.kinds self.old.uses.items self.new.queues self.new.burdens }
-        ensures rest { self.new ≡ record self.old { queues = self.new.queues } }
-    {
-        settle_queues(&mut self.queues, &self.uses);
     }
 
     /// Whether each open use reaches what it gets in the worst island, if that begins so many bytes

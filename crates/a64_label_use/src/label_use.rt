@@ -1,6 +1,6 @@
 //! The kinds of label uses of A64 code.
 
-ghost use Rattle.std.specs.Prelude.{◌≡◌, ◌<◌, ◌≤◌, IsTrue, ◌+◌, ◌*◌, ◌/◌, ◌%◌, ◌-◌, ◌^◌, ◌*ℤ◌, pos, negsuc, suc, nat_lt, if◌then◌else◌, length, [], ◌∷◌};
+ghost use Rattle.std.specs.Prelude.{◌≡◌, ◌<◌, ◌≤◌, IsTrue, ◌+◌, ◌*◌, ◌/◌, ◌%◌, ◌-◌, ◌^◌, ◌*ℤ◌, pos, negsuc, suc, nat_lt, if◌then◌else◌, length, [], ◌∷◌, refl};
 ghost use Rattle.std.specs.Int.{w32, from_le_bytes};
 ghost use Rattle.a64_buffer.specs.Word.{word_at, StandAt, outside, field_bits};
 ghost use Rattle.a64_buffer.specs.Kinds.{IsWithin, GoesTo, SaysDistance, IsVeneer, veneer_bytes};
@@ -95,6 +95,8 @@ impl MachInstLabelUse for LabelUse {
     ghost use Rattle.a64_label_use.specs.LabelLaws.{label_kinds_lawful};
 
     ghost kinds = { label_kinds };
+
+    ghost ALIGN = { 4 };
 
     const ALIGN: u32 = 4;
 
@@ -235,4 +237,6 @@ impl MachInstLabelUse for LabelUse {
     }
 
     ghost lawful = { label_kinds_lawful };
+
+    ghost aligned = { refl };
 }

@@ -82,6 +82,8 @@ impl MachInstLabelUse for ShortUse {
       relocated = λ reloc addend. None;
     } };
 
+    ghost ALIGN = { 4 };
+
     const ALIGN: u32 = 4;
 
     fn max_pos_range(self) -> u32 {
@@ -241,4 +243,6 @@ impl MachInstLabelUse for ShortUse {
       ];
       far_length = omega arith;
     } };
+
+    ghost aligned = { refl };
 }

@@ -1,67 +1,67 @@
 use Rattle.std.proofs.Common.{◌≡◌, length, get_or, sym, ◌∙◌, ap, subst, arith}
 use Rattle.a64_buffer.specs.Buffer.{end_of}
 use Rattle.a64_buffer.specs.Classes.{veneer_uses, weight_of}
-use Rattle.a64_buffer.specs.Chain.{constant_of, AreChained}
-use Rattle.a64_buffer.specs.Queues.{IsSameQueue, AllHold, AllLimits, AreBurdens, AreWaiting}
+use Rattle.a64_buffer.specs.Chain.{constant_of}
+use Rattle.a64_buffer.specs.Queues.{IsSameQueue, AllHold, AllLimits, AreBurdens}
 use Rattle.a64_buffer.specs.Islands.{HasIsland}
 use Rattle.a64_buffer.specs.Sound.{seen, IsWhole}
 use Rattle.a64_buffer.specs.Pieces.{over_use, begun}
 use Rattle.a64_buffer.specs.Steps.{MayWrite, Writes, stands_at, ended}
 use Rattle.a64_buffer.proofs.Writing.{may_write_on}
 use Rattle.a64_buffer.proofs.Islands.{may_begin}
-use Rattle.a64_buffer.proofs.Emitting.{sound_m, at_m, island_made}
-use Rattle.a64_buffer.proofs.Queued.{stopped_closes, all_closed_hold, same_hold, same_limits}
+use Rattle.a64_buffer.proofs.Emitting.{sound_m, at_m, ended_waits, island_made}
+use Rattle.a64_buffer.proofs.Queued.{stopped_closes, all_closed_hold, all_kept_limits, same_hold, same_limits}
 use Rattle.a64_buffer.proofs.parts.Parts.emit_island.Goals as goal
 
 pub write_until-requires-clause-may : goal.write_until-requires-clause-may
 write_until-requires-clause-may g c =
-    let begun_is = c.begin_island.ensures.begun ∙ ap (begun g.K.MachInstLabelUse.kinds) (ap (λ p. seen p) c.reserve_queues.ensures.rest ∙ c.in_ok-reserve_all.ensures.rest) in
+    let begun_is = c.begin_island.ensures.begun ∙ ap (begun g.K.MachInstLabelUse.kinds) (ap (λ p. seen p) c.reserve_veneers.ensures.rest ∙ c.in_ok-reserve_all.ensures.rest) in
     subst (MayWrite g.K.MachInstLabelUse.kinds) (sym begun_is) (may_begin g.K.MachInstLabelUse.kinds g.met.K.MachInstLabelUse.lawful (seen c.args.self.now) c.requires.sound.whole c.requires.short)
 
 pub promote-requires-clause-may : goal.promote-requires-clause-may
 promote-requires-clause-may g c =
-    let begun_is = c.begin_island.ensures.begun ∙ ap (begun g.K.MachInstLabelUse.kinds) (ap (λ p. seen p) c.reserve_queues.ensures.rest ∙ c.in_ok-reserve_all.ensures.rest) in
+    let begun_is = c.begin_island.ensures.begun ∙ ap (begun g.K.MachInstLabelUse.kinds) (ap (λ p. seen p) c.reserve_veneers.ensures.rest ∙ c.in_ok-reserve_all.ensures.rest) in
     may_write_on g.K.MachInstLabelUse.kinds 4 (seen c.begin_island.new.self) (seen c.write_until.new.self)
     (subst (MayWrite g.K.MachInstLabelUse.kinds) (sym begun_is) (may_begin g.K.MachInstLabelUse.kinds g.met.K.MachInstLabelUse.lawful (seen c.args.self.now) c.requires.sound.whole c.requires.short))
     c.write_until.ensures.writes.writing
 
-pub reserve_queues-requires : goal.reserve_queues-requires
-reserve_queues-requires g c = record {
+pub reserve_veneers-requires : goal.reserve_veneers-requires
+reserve_veneers-requires g c = record {
   burdens = subst (λ us. AreBurdens g.K.MachInstLabelUse.kinds us c.reserve_all.new.self.burdens) (sym (ap (λ b. b.uses) c.in_ok-reserve_all.ensures.rest)) (subst (AreBurdens g.K.MachInstLabelUse.kinds c.args.self.now.uses.items) (sym c.in_ok-reserve_all.ensures.burdens) c.requires.sound.waiting.burdens);
 }
 
 pub begin_island-requires-clause-hold : goal.begin_island-requires-clause-hold
 begin_island-requires-clause-hold g c =
-    let same : seen c.reserve_queues.new.self ≡ seen c.args.self.now = ap (λ p. seen p) c.reserve_queues.ensures.rest ∙ c.in_ok-reserve_all.ensures.rest in
-    subst (λ us. AllHold g.K.MachInstLabelUse.kinds us c.reserve_queues.new.self.queues) (sym (ap (λ b. b.uses) same))
-    (same_hold g.K.MachInstLabelUse.kinds c.args.self.now.uses.items c.args.self.now.queues c.reserve_queues.new.self.queues
-    (λ rank q. subst (λ qs. IsSameQueue (get_or qs rank q) (get_or c.reserve_queues.new.self.queues rank q)) c.in_ok-reserve_all.ensures.queues (c.reserve_queues.ensures.kept rank q))
+    let same : seen c.reserve_veneers.new.self ≡ seen c.args.self.now = ap (λ p. seen p) c.reserve_veneers.ensures.rest ∙ c.in_ok-reserve_all.ensures.rest in
+    subst (λ us. AllHold g.K.MachInstLabelUse.kinds us c.reserve_veneers.new.self.queues) (sym (ap (λ b. b.uses) same))
+    (same_hold g.K.MachInstLabelUse.kinds c.args.self.now.uses.items c.args.self.now.queues c.reserve_veneers.new.self.queues
+    (λ rank q. subst (λ qs. IsSameQueue (get_or qs rank q) (get_or c.reserve_veneers.new.self.queues rank q)) c.in_ok-reserve_all.ensures.queues (c.reserve_veneers.ensures.kept rank q))
     c.requires.sound.waiting.hold)
 
 pub begin_island-requires-clause-limits : goal.begin_island-requires-clause-limits
 begin_island-requires-clause-limits g c =
-    let same : seen c.reserve_queues.new.self ≡ seen c.args.self.now = ap (λ p. seen p) c.reserve_queues.ensures.rest ∙ c.in_ok-reserve_all.ensures.rest in
-    subst (λ us. AllLimits g.K.MachInstLabelUse.kinds us c.reserve_queues.new.self.queues) (sym (ap (λ b. b.uses) same))
-    (same_limits g.K.MachInstLabelUse.kinds c.args.self.now.uses.items c.args.self.now.queues c.reserve_queues.new.self.queues
-    (λ rank q. subst (λ qs. IsSameQueue (get_or qs rank q) (get_or c.reserve_queues.new.self.queues rank q)) c.in_ok-reserve_all.ensures.queues (c.reserve_queues.ensures.kept rank q))
+    let same : seen c.reserve_veneers.new.self ≡ seen c.args.self.now = ap (λ p. seen p) c.reserve_veneers.ensures.rest ∙ c.in_ok-reserve_all.ensures.rest in
+    subst (λ us. AllLimits g.K.MachInstLabelUse.kinds us c.reserve_veneers.new.self.queues) (sym (ap (λ b. b.uses) same))
+    (same_limits g.K.MachInstLabelUse.kinds c.args.self.now.uses.items c.args.self.now.queues c.reserve_veneers.new.self.queues
+    (λ rank q. subst (λ qs. IsSameQueue (get_or qs rank q) (get_or c.reserve_veneers.new.self.queues rank q)) c.in_ok-reserve_all.ensures.queues (c.reserve_veneers.ensures.kept rank q))
     c.requires.sound.waiting.limits)
 
 pub begin_island-requires-clause-burdens : goal.begin_island-requires-clause-burdens
 begin_island-requires-clause-burdens g c =
-    subst (λ p. AreBurdens g.K.MachInstLabelUse.kinds p.uses.items p.burdens) (sym c.reserve_queues.ensures.rest)
+    subst (λ p. AreBurdens g.K.MachInstLabelUse.kinds p.uses.items p.burdens) (sym c.reserve_veneers.ensures.rest)
     (subst (λ us. AreBurdens g.K.MachInstLabelUse.kinds us c.reserve_all.new.self.burdens) (sym (ap (λ b. b.uses) c.in_ok-reserve_all.ensures.rest)) (subst (AreBurdens g.K.MachInstLabelUse.kinds c.args.self.now.uses.items) (sym c.in_ok-reserve_all.ensures.burdens) c.requires.sound.waiting.burdens))
 
 pub begin_island-requires-clause-few : goal.begin_island-requires-clause-few
-begin_island-requires-clause-few g c = omega (arith, ap (λ p. p.burdens.third) c.reserve_queues.ensures.rest, ap (λ b. b.third) c.in_ok-reserve_all.ensures.burdens, c.requires.sound.waiting.burdens.third_is, c.requires.short)
+begin_island-requires-clause-few g c = omega (arith, ap (λ p. p.burdens.third) c.reserve_veneers.ensures.rest, ap (λ b. b.third) c.in_ok-reserve_all.ensures.burdens, c.requires.sound.waiting.burdens.third_is, c.requires.short)
 
 pub begin_island-requires-clause-queued : goal.begin_island-requires-clause-queued
 begin_island-requires-clause-queued g c =
-    let weight : weight_of g.K.MachInstLabelUse.kinds veneer_uses c.reserve_queues.new.self.uses.items ≡ weight_of g.K.MachInstLabelUse.kinds veneer_uses c.reserve_all.new.self.uses.items = ap (λ p. weight_of g.K.MachInstLabelUse.kinds veneer_uses p.uses.items) c.reserve_queues.ensures.rest in
-    λ rank q l. omega (arith, c.in_ok-reserve_queues.ensures.ok rank q l, weight)
+    let weight : weight_of g.K.MachInstLabelUse.kinds veneer_uses c.reserve_veneers.new.self.uses.items ≡ weight_of g.K.MachInstLabelUse.kinds veneer_uses c.reserve_all.new.self.uses.items = ap (λ p. weight_of g.K.MachInstLabelUse.kinds veneer_uses p.uses.items) c.reserve_veneers.ensures.rest in
+    λ q. omega (arith, c.in_ok-reserve_veneers.ensures.ok q, weight)
 
 pub end_island-requires-clause-target : goal.end_island-requires-clause-target
 end_island-requires-clause-target g c = λ d.
-    let same : seen c.reserve_queues.new.self ≡ seen c.args.self.now = ap (λ p. seen p) c.reserve_queues.ensures.rest ∙ c.in_ok-reserve_all.ensures.rest in
+    let same : seen c.reserve_veneers.new.self ≡ seen c.args.self.now = ap (λ p. seen p) c.reserve_veneers.ensures.rest ∙ c.in_ok-reserve_all.ensures.rest in
     let begun_is = c.begin_island.ensures.begun ∙ ap (begun g.K.MachInstLabelUse.kinds) same in
     let near = subst (λ b. Writes g.K.MachInstLabelUse.kinds 4 b (seen c.write_until.new.self)) begun_is c.write_until.ensures.writes in
     let index : c.len-index.result ≡ length c.args.self.now.uses.items = omega (arith, c.len-index.ensures, ap (λ b. length b.uses) same) in
@@ -71,7 +71,7 @@ end_island-requires-clause-target g c = λ d.
 
 pub end_island-requires-clause-start : goal.end_island-requires-clause-start
 end_island-requires-clause-start g c = λ d.
-    let same : seen c.reserve_queues.new.self ≡ seen c.args.self.now = ap (λ p. seen p) c.reserve_queues.ensures.rest ∙ c.in_ok-reserve_all.ensures.rest in
+    let same : seen c.reserve_veneers.new.self ≡ seen c.args.self.now = ap (λ p. seen p) c.reserve_veneers.ensures.rest ∙ c.in_ok-reserve_all.ensures.rest in
     let begun_is = c.begin_island.ensures.begun ∙ ap (begun g.K.MachInstLabelUse.kinds) same in
     let near = subst (λ b. Writes g.K.MachInstLabelUse.kinds 4 b (seen c.write_until.new.self)) begun_is c.write_until.ensures.writes in
     let index : c.len-index.result ≡ length c.args.self.now.uses.items = omega (arith, c.len-index.ensures, ap (λ b. length b.uses) same) in
@@ -79,38 +79,34 @@ end_island-requires-clause-start g c = λ d.
     ap (λ k. get_or c.promote.new.self.uses.items k d) index ∙ at_m g.K.MachInstLabelUse.kinds g.met.K.MachInstLabelUse.lawful c.args.distance c.args.force (seen c.args.self.now) (seen c.write_until.new.self) (seen c.promote.new.self) c.requires.sound.whole c.requires.short near c.promote.ensures.promotes d in
     ap (λ u. u.offset) over ∙ sym (c.end-start.ensures ∙ ap end_of same)
 
-pub await_island-requires : goal.await_island-requires
-await_island-requires g c =
-    let same : seen c.reserve_queues.new.self ≡ seen c.args.self.now = ap (λ p. seen p) c.reserve_queues.ensures.rest ∙ c.in_ok-reserve_all.ensures.rest in
-    let begun_is = c.begin_island.ensures.begun ∙ ap (begun g.K.MachInstLabelUse.kinds) same in
-    let near = subst (λ b. Writes g.K.MachInstLabelUse.kinds 4 b (seen c.write_until.new.self)) begun_is c.write_until.ensures.writes in
-    let apart = (sound_m g.K.MachInstLabelUse.kinds g.met.K.MachInstLabelUse.lawful c.args.distance c.args.force (seen c.args.self.now) (seen c.write_until.new.self) (seen c.promote.new.self) c.requires.sound.whole c.requires.short near c.promote.ensures.promotes).apart in
-    let ended_is : seen c.end_island.new.self ≡ ended (end_of (seen c.args.self.now)) (seen c.promote.new.self) = c.end_island.ensures.ended apart ∙ ap (λ start. ended start (seen c.promote.new.self)) (c.end-start.ensures ∙ ap end_of same) in
-    let closes = stopped_closes g.K.MachInstLabelUse.kinds (stands_at (end_of (seen c.args.self.now))) (end_of (seen c.promote.new.self)) c.promote.new.self.uses.items in
-    record {
-      hold = subst (AllHold g.K.MachInstLabelUse.kinds c.end_island.new.self.uses.items) (sym c.end_island.ensures.queues)
-          (subst (λ us. AllHold g.K.MachInstLabelUse.kinds us c.promote.new.self.queues) (sym (ap (λ b. b.uses) ended_is)) (all_closed_hold g.K.MachInstLabelUse.kinds c.promote.new.self.uses.items _ c.promote.new.self.queues closes c.promote.ensures.hold));
-      burdens = c.end_island.ensures.burdens;
-    }
-
 pub returns-clause-sound : goal.returns-clause-sound
 returns-clause-sound g c =
-    let same : seen c.reserve_queues.new.self ≡ seen c.args.self.now = ap (λ p. seen p) c.reserve_queues.ensures.rest ∙ c.in_ok-reserve_all.ensures.rest in
-    let begun_is = c.begin_island.ensures.begun ∙ ap (begun g.K.MachInstLabelUse.kinds) same in
-    let near = subst (λ b. Writes g.K.MachInstLabelUse.kinds 4 b (seen c.write_until.new.self)) begun_is c.write_until.ensures.writes in
-    let apart = (sound_m g.K.MachInstLabelUse.kinds g.met.K.MachInstLabelUse.lawful c.args.distance c.args.force (seen c.args.self.now) (seen c.write_until.new.self) (seen c.promote.new.self) c.requires.sound.whole c.requires.short near c.promote.ensures.promotes).apart in
-    let ended_is = c.end_island.ensures.ended apart ∙ ap (λ start. ended start (seen c.promote.new.self)) (c.end-start.ensures ∙ ap end_of same) in
+    let r = g.K.MachInstLabelUse.kinds in
+    let law = g.met.K.MachInstLabelUse.lawful in
+    let same : seen c.reserve_veneers.new.self ≡ seen c.args.self.now = ap (λ p. seen p) c.reserve_veneers.ensures.rest ∙ c.in_ok-reserve_all.ensures.rest in
+    let begun_is = c.begin_island.ensures.begun ∙ ap (begun r) same in
+    let near = subst (λ b. Writes r 4 b (seen c.write_until.new.self)) begun_is c.write_until.ensures.writes in
+    let apart = (sound_m r law c.args.distance c.args.force (seen c.args.self.now) (seen c.write_until.new.self) (seen c.promote.new.self) c.requires.sound.whole c.requires.short near c.promote.ensures.promotes).apart in
+    let ended_is : seen c.end_island.new.self ≡ ended (end_of (seen c.args.self.now)) (seen c.promote.new.self) = c.end_island.ensures.ended apart ∙ ap (λ start. ended start (seen c.promote.new.self)) (c.end-start.ensures ∙ ap end_of same) in
+    let closes = stopped_closes r (stands_at (end_of (seen c.args.self.now))) (end_of (seen c.promote.new.self)) c.promote.new.self.uses.items in
+    let stays = ended_waits r law c.args.distance c.args.force (seen c.args.self.now) (seen c.write_until.new.self) (seen c.promote.new.self) c.requires.sound.whole c.requires.short near c.promote.ensures.promotes in
     record {
-      whole = subst (IsWhole g.K.MachInstLabelUse.kinds) (sym (ap (λ p. seen p) c.await_island.ensures.rest ∙ ended_is)) (island_made g.K.MachInstLabelUse.kinds g.met.K.MachInstLabelUse.lawful c.args.distance c.args.force (seen c.args.self.now) (seen c.write_until.new.self) (seen c.promote.new.self) c.requires.sound.whole c.requires.short near c.promote.ensures.promotes).whole;
-      chained = subst (λ p. AreChained p.uses.items p.earlier.items p.heads p.loads) (sym c.await_island.ensures.rest) c.end_island.ensures.chained;
-      waiting = subst (λ us. AreWaiting g.K.MachInstLabelUse.kinds us c.await_island.new.self.queues c.await_island.new.self.burdens) (sym (ap (λ p. p.uses.items) c.await_island.ensures.rest)) c.await_island.ensures.waiting;
+      whole = subst (IsWhole r) (sym ended_is) (island_made r law c.args.distance c.args.force (seen c.args.self.now) (seen c.write_until.new.self) (seen c.promote.new.self) c.requires.sound.whole c.requires.short near c.promote.ensures.promotes).whole;
+      chained = c.end_island.ensures.chained;
+      waiting = record {
+        hold = subst (AllHold r c.end_island.new.self.uses.items) (sym c.end_island.ensures.queues)
+            (subst (λ us. AllHold r us c.promote.new.self.queues) (sym (ap (λ b. b.uses) ended_is)) (all_closed_hold r c.promote.new.self.uses.items _ c.promote.new.self.queues closes c.promote.ensures.hold));
+        limits = subst (AllLimits r c.end_island.new.self.uses.items) (sym c.end_island.ensures.queues)
+            (subst (λ us. AllLimits r us c.promote.new.self.queues) (sym (ap (λ b. b.uses) ended_is)) (all_kept_limits r c.promote.new.self.uses.items _ c.promote.new.self.queues closes stays c.promote.ensures.limits));
+        burdens = c.end_island.ensures.burdens;
+      };
     }
 
 pub returns-clause-ok : goal.returns-clause-ok
 returns-clause-ok g c =
-    let same : seen c.reserve_queues.new.self ≡ seen c.args.self.now = ap (λ p. seen p) c.reserve_queues.ensures.rest ∙ c.in_ok-reserve_all.ensures.rest in
+    let same : seen c.reserve_veneers.new.self ≡ seen c.args.self.now = ap (λ p. seen p) c.reserve_veneers.ensures.rest ∙ c.in_ok-reserve_all.ensures.rest in
     let begun_is = c.begin_island.ensures.begun ∙ ap (begun g.K.MachInstLabelUse.kinds) same in
     let near = subst (λ b. Writes g.K.MachInstLabelUse.kinds 4 b (seen c.write_until.new.self)) begun_is c.write_until.ensures.writes in
     let apart = (sound_m g.K.MachInstLabelUse.kinds g.met.K.MachInstLabelUse.lawful c.args.distance c.args.force (seen c.args.self.now) (seen c.write_until.new.self) (seen c.promote.new.self) c.requires.sound.whole c.requires.short near c.promote.ensures.promotes).apart in
     let ended_is = c.end_island.ensures.ended apart ∙ ap (λ start. ended start (seen c.promote.new.self)) (c.end-start.ensures ∙ ap end_of same) in
-    subst (HasIsland g.K.MachInstLabelUse.kinds c.args.distance c.args.force (seen c.args.self.now)) (sym (ap (λ p. seen p) c.await_island.ensures.rest ∙ ended_is)) (island_made g.K.MachInstLabelUse.kinds g.met.K.MachInstLabelUse.lawful c.args.distance c.args.force (seen c.args.self.now) (seen c.write_until.new.self) (seen c.promote.new.self) c.requires.sound.whole c.requires.short near c.promote.ensures.promotes)
+    subst (HasIsland g.K.MachInstLabelUse.kinds c.args.distance c.args.force (seen c.args.self.now)) (sym ended_is) (island_made g.K.MachInstLabelUse.kinds g.met.K.MachInstLabelUse.lawful c.args.distance c.args.force (seen c.args.self.now) (seen c.write_until.new.self) (seen c.promote.new.self) c.requires.sound.whole c.requires.short near c.promote.ensures.promotes)

@@ -14,51 +14,51 @@ if_ok : {T E : Type 0} {P Q : T → Type 0} (r : Result T E) → ((x : T) → P 
 if_ok (Ok x) f h = f x h
 if_ok (Err e) f h = tt
 
-pub reserve_queues-requires : goal.reserve_queues-requires
-reserve_queues-requires g c = record {
+pub reserve_veneers-requires : goal.reserve_veneers-requires
+reserve_veneers-requires g c = record {
   burdens = subst (λ us. AreBurdens g.K.MachInstLabelUse.kinds us c.reserve_all.new.self.burdens) (sym (ap (λ b. b.uses) c.in_ok-reserve_all.ensures.rest)) (subst (AreBurdens g.K.MachInstLabelUse.kinds c.args.self.uses.items) (sym c.in_ok-reserve_all.ensures.burdens) c.requires.sound.waiting.burdens);
 }
 
 pub write_until-requires-clause-hold : goal.write_until-requires-clause-hold
 write_until-requires-clause-hold g c =
-    subst (λ us. AllHold g.K.MachInstLabelUse.kinds us c.reserve_queues.new.self.queues) (sym (ap (λ p. p.uses.items) c.reserve_queues.ensures.rest ∙ ap (λ b. b.uses) c.in_ok-reserve_all.ensures.rest))
-    (same_hold g.K.MachInstLabelUse.kinds c.args.self.uses.items c.args.self.queues c.reserve_queues.new.self.queues
-    (λ rank q. subst (λ qs. IsSameQueue (get_or qs rank q) (get_or c.reserve_queues.new.self.queues rank q)) c.in_ok-reserve_all.ensures.queues (c.reserve_queues.ensures.kept rank q))
+    subst (λ us. AllHold g.K.MachInstLabelUse.kinds us c.reserve_veneers.new.self.queues) (sym (ap (λ p. p.uses.items) c.reserve_veneers.ensures.rest ∙ ap (λ b. b.uses) c.in_ok-reserve_all.ensures.rest))
+    (same_hold g.K.MachInstLabelUse.kinds c.args.self.uses.items c.args.self.queues c.reserve_veneers.new.self.queues
+    (λ rank q. subst (λ qs. IsSameQueue (get_or qs rank q) (get_or c.reserve_veneers.new.self.queues rank q)) c.in_ok-reserve_all.ensures.queues (c.reserve_veneers.ensures.kept rank q))
     c.requires.sound.waiting.hold)
 
 pub write_until-requires-clause-limits : goal.write_until-requires-clause-limits
 write_until-requires-clause-limits g c =
-    subst (λ us. AllLimits g.K.MachInstLabelUse.kinds us c.reserve_queues.new.self.queues) (sym (ap (λ p. p.uses.items) c.reserve_queues.ensures.rest ∙ ap (λ b. b.uses) c.in_ok-reserve_all.ensures.rest))
-    (same_limits g.K.MachInstLabelUse.kinds c.args.self.uses.items c.args.self.queues c.reserve_queues.new.self.queues
-    (λ rank q. subst (λ qs. IsSameQueue (get_or qs rank q) (get_or c.reserve_queues.new.self.queues rank q)) c.in_ok-reserve_all.ensures.queues (c.reserve_queues.ensures.kept rank q))
+    subst (λ us. AllLimits g.K.MachInstLabelUse.kinds us c.reserve_veneers.new.self.queues) (sym (ap (λ p. p.uses.items) c.reserve_veneers.ensures.rest ∙ ap (λ b. b.uses) c.in_ok-reserve_all.ensures.rest))
+    (same_limits g.K.MachInstLabelUse.kinds c.args.self.uses.items c.args.self.queues c.reserve_veneers.new.self.queues
+    (λ rank q. subst (λ qs. IsSameQueue (get_or qs rank q) (get_or c.reserve_veneers.new.self.queues rank q)) c.in_ok-reserve_all.ensures.queues (c.reserve_veneers.ensures.kept rank q))
     c.requires.sound.waiting.limits)
 
 pub write_until-requires-clause-burdens : goal.write_until-requires-clause-burdens
 write_until-requires-clause-burdens g c =
-    subst (λ p. AreBurdens g.K.MachInstLabelUse.kinds p.uses.items p.burdens) (sym c.reserve_queues.ensures.rest)
+    subst (λ p. AreBurdens g.K.MachInstLabelUse.kinds p.uses.items p.burdens) (sym c.reserve_veneers.ensures.rest)
     (subst (λ us. AreBurdens g.K.MachInstLabelUse.kinds us c.reserve_all.new.self.burdens) (sym (ap (λ b. b.uses) c.in_ok-reserve_all.ensures.rest)) (subst (AreBurdens g.K.MachInstLabelUse.kinds c.args.self.uses.items) (sym c.in_ok-reserve_all.ensures.burdens) c.requires.sound.waiting.burdens))
 
 pub write_until-requires-clause-queued : goal.write_until-requires-clause-queued
 write_until-requires-clause-queued g c =
-    let weight : weight_of g.K.MachInstLabelUse.kinds veneer_uses c.reserve_queues.new.self.uses.items ≡ weight_of g.K.MachInstLabelUse.kinds veneer_uses c.reserve_all.new.self.uses.items = ap (λ p. weight_of g.K.MachInstLabelUse.kinds veneer_uses p.uses.items) c.reserve_queues.ensures.rest in
-    λ rank q l. omega (arith, c.in_ok-reserve_queues.ensures.ok rank q l, weight)
+    let weight : weight_of g.K.MachInstLabelUse.kinds veneer_uses c.reserve_veneers.new.self.uses.items ≡ weight_of g.K.MachInstLabelUse.kinds veneer_uses c.reserve_all.new.self.uses.items = ap (λ p. weight_of g.K.MachInstLabelUse.kinds veneer_uses p.uses.items) c.reserve_veneers.ensures.rest in
+    λ q. omega (arith, c.in_ok-reserve_veneers.ensures.ok q, weight)
 
 pub write_until-requires-clause-space : goal.write_until-requires-clause-space
 write_until-requires-clause-space g c =
     let space = c.in_ok-reserve_all.ensures.ok in
-    subst (HasSpace g.K.MachInstLabelUse.kinds) (sym c.reserve_queues.ensures.rest) (record { words = omega (arith, space.words); uses = omega (arith, space.uses); earlier = omega (arith, space.earlier); traps = omega (arith, space.traps) })
+    subst (HasSpace g.K.MachInstLabelUse.kinds) (sym c.reserve_veneers.ensures.rest) (record { words = omega (arith, space.words); uses = omega (arith, space.uses); earlier = omega (arith, space.earlier); traps = omega (arith, space.traps) })
 
 pub write_until-requires-clause-may : goal.write_until-requires-clause-may
-write_until-requires-clause-may g c = subst (MayWrite g.K.MachInstLabelUse.kinds) (sym (ap (λ p. seen p) c.reserve_queues.ensures.rest ∙ c.in_ok-reserve_all.ensures.rest)) (may_finish g.K.MachInstLabelUse.kinds (seen c.args.self) c.requires.sound.whole c.requires.short)
+write_until-requires-clause-may g c = subst (MayWrite g.K.MachInstLabelUse.kinds) (sym (ap (λ p. seen p) c.reserve_veneers.ensures.rest ∙ c.in_ok-reserve_all.ensures.rest)) (may_finish g.K.MachInstLabelUse.kinds (seen c.args.self) c.requires.sound.whole c.requires.short)
 
 pub finish_words-requires-clause-able : goal.finish_words-requires-clause-able
 finish_words-requires-clause-able g c =
-    let writes = subst (λ b. Writes g.K.MachInstLabelUse.kinds 5 b (seen c.write_until.new.self)) (ap (λ p. seen p) c.reserve_queues.ensures.rest ∙ c.in_ok-reserve_all.ensures.rest) c.write_until.ensures.writes in
+    let writes = subst (λ b. Writes g.K.MachInstLabelUse.kinds 5 b (seen c.write_until.new.self)) (ap (λ p. seen p) c.reserve_veneers.ensures.rest ∙ c.in_ok-reserve_all.ensures.rest) c.write_until.ensures.writes in
     all_lead g.K.MachInstLabelUse.kinds g.met.K.MachInstLabelUse.lawful (seen c.args.self) (seen c.write_until.new.self) c.requires.sound.whole writes c.requires.bound c.requires.direct
 
 pub returns : goal.returns
 returns g c =
-    let writes = subst (λ b. Writes g.K.MachInstLabelUse.kinds 5 b (seen c.write_until.new.self)) (ap (λ p. seen p) c.reserve_queues.ensures.rest ∙ c.in_ok-reserve_all.ensures.rest) c.write_until.ensures.writes in
+    let writes = subst (λ b. Writes g.K.MachInstLabelUse.kinds 5 b (seen c.write_until.new.self)) (ap (λ p. seen p) c.reserve_veneers.ensures.rest ∙ c.in_ok-reserve_all.ensures.rest) c.write_until.ensures.writes in
     if_ok c.finish_words.result
     (λ code is. code_finished g.K.MachInstLabelUse.kinds g.met.K.MachInstLabelUse.lawful (seen c.args.self) (seen c.write_until.new.self) c.requires.sound.whole writes c.requires.bound c.requires.direct code
     (subst (λ pool. IsCode g.K.MachInstLabelUse.kinds (seen c.write_until.new.self) pool code) c.end-pool.ensures is))

@@ -1,11 +1,13 @@
-use Rattle.std.proofs.Common.{◌≡◌, ◌+◌, ◌<◌, ◌≤◌, ◌++◌, ◌∷◌, [], List, length, refl, sym, ◌∙◌, ap, subst, arith, get_or, take}
-use Rattle.std.proofs.lemmas.List.{take_all, length-take-le, length_push}
+use Rattle.std.proofs.Common.{◌≡◌, ◌+◌, ◌<◌, ◌≤◌, true, ◌++◌, ◌∷◌, [], List, length, refl, sym, ◌∙◌, ap, subst, arith, get_or, take}
+use Rattle.std.proofs.lemmas.List.{take_all, length-take-le, length_push, get_or_push}
 use Rattle.a64_buffer.specs.declared.site.Use.{Use}
-use Rattle.a64_buffer.specs.Classes.{rank_of, veneer_uses, weight_of}
+use Rattle.std.specs.BinaryHeap.{heap_len, heap_capacity}
+use Rattle.a64_buffer.specs.declared.class.Class.TheVariants.{Far}
+use Rattle.a64_buffer.specs.Classes.{rank_of, veneer_uses, weight_of, class, is_open}
 use Rattle.a64_buffer.specs.Queues.{LoseRoom, IsLimit, AllHold, AllLimits}
 use Rattle.a64_buffer.specs.Sound.{seen}
 use Rattle.a64_buffer.specs.Steps.{AddsUse}
-use Rattle.a64_buffer.proofs.Queued.{wanting_rank, island_hold, island_limit}
+use Rattle.a64_buffer.proofs.Queued.{island_hold, island_limit}
 use Rattle.a64_buffer.proofs.Writing.{ready_wants}
 use Rattle.a64_buffer.proofs.parts.Parts.serve_as.Goals as goal
 
@@ -34,12 +36,22 @@ settle_class-requires-clause-limits g c =
     (λ k d w e. given.spared k d w (λ z. other (ap rank_of (sym z) ∙ e)))
     (c.requires.limits rank q l))
 
+-- the use that is added last
+added_last : {K : Type 0} (us us' : List (Use K)) (u d : Use K) → length us ≤ length us' → AddsUse us us' u → get_or us' (length us) d ≡ u
+added_last us us' u d le e = ap (λ vs. get_or vs (length us) d) e ∙ get_or_push (take (length us) us') u d (length us) (length-take-le (length us) us' le)
+
+-- a use that an island adds waits in the queue of the longest range
 pub queue_use-requires-clause-room : goal.queue_use-requires-clause-room
 queue_use-requires-clause-room g c = λ q w less.
-    let l : rank_of c.waiting_class.result < 5 = wanting_rank g.K.MachInstLabelUse.kinds c.waiting_class.result w in
-    let lost : LoseRoom 0 c.args.self.now.queues c.settle_class.new.self.queues = subst (λ qs. LoseRoom 0 qs c.settle_class.new.self.queues) c.give-added.ensures.queues c.settle_class.ensures.room in
     let given = c.give-added.ensures.gives.given in
-    omega (arith, c.requires.queued (rank_of c.waiting_class.result) q l, lost (rank_of c.waiting_class.result) q l, given.uses, added_count c.args.self.now.uses.items c.give-added.new.self.uses.items c.in-Some.site given.part.later.count c.in-Some.ensures.added)
+    let old = c.args.self.now.uses.items in
+    let count = added_count old c.give-added.new.self.uses.items c.in-Some.site given.part.later.count c.in-Some.ensures.added in
+    let last = added_last old c.give-added.new.self.uses.items c.in-Some.site c.in-Some.site given.part.later.count c.in-Some.ensures.added in
+    let opened : is_open g.K.MachInstLabelUse.kinds c.in-Some.site ≡ true = c.waiting_class.ensures.open' ∙ w in
+    let far : c.waiting_class.result ≡ Far = sym (c.waiting_class.ensures.is w) ∙ (ap (class g.K.MachInstLabelUse.kinds) (sym last) ∙ given.fars (length old) c.in-Some.site (omega arith) (omega (arith, count)) (ap (is_open g.K.MachInstLabelUse.kinds) last ∙ opened)) in
+    let lost : LoseRoom 0 c.args.self.now.queues c.settle_class.new.self.queues = subst (λ qs. LoseRoom 0 qs c.settle_class.new.self.queues) c.give-added.ensures.queues c.settle_class.ensures.room in
+    subst (λ k. heap_len (get_or c.settle_class.new.self.queues (rank_of k) q).strays < heap_capacity (get_or c.settle_class.new.self.queues (rank_of k) q).strays) (sym far)
+    (omega (arith, c.requires.queued q, lost 4 q (omega arith), given.uses, count))
 
 pub returns-in-Some-clause-hold : goal.returns-in-Some-clause-hold
 returns-in-Some-clause-hold g c =
@@ -59,7 +71,7 @@ pub returns-in-Some-clause-queued : goal.returns-in-Some-clause-queued
 returns-in-Some-clause-queued g c =
     let lost : LoseRoom 0 c.args.self.now.queues c.settle_class.new.self.queues = subst (λ qs. LoseRoom 0 qs c.settle_class.new.self.queues) c.give-added.ensures.queues c.settle_class.ensures.room in
     let given = c.give-added.ensures.gives.given in
-    λ rank q l. omega (arith, c.requires.queued rank q l, lost rank q l, c.queue_use.ensures.room rank q l, given.uses, added_count c.args.self.now.uses.items c.give-added.new.self.uses.items c.in-Some.site given.part.later.count c.in-Some.ensures.added, ap (λ p. weight_of g.K.MachInstLabelUse.kinds veneer_uses p.uses.items) c.settle_class.ensures.rest)
+    λ q. omega (arith, c.requires.queued q, lost 4 q (omega arith), c.queue_use.ensures.room 4 q (omega arith), given.uses, added_count c.args.self.now.uses.items c.give-added.new.self.uses.items c.in-Some.site given.part.later.count c.in-Some.ensures.added, ap (λ p. weight_of g.K.MachInstLabelUse.kinds veneer_uses p.uses.items) c.settle_class.ensures.rest)
 
 pub returns-in_default-clause-hold : goal.returns-in_default-clause-hold
 returns-in_default-clause-hold g c =
