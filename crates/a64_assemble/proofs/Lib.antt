@@ -49,6 +49,7 @@ pub mod Leading
 pub mod Recording
 pub mod CodeRecords
 pub mod Areas
+pub mod Answering
 pub mod Filling
 pub mod OwnVeneers
 pub mod Tallied
