@@ -60,6 +60,8 @@ pub mod Owns
 pub mod FirstPut
 pub mod ReadingBack
 pub mod WrongReadings
+pub mod WrongPieces
+pub mod WrongAreas
 pub mod OpenCells
 pub mod ItemsRead
 pub mod Made
