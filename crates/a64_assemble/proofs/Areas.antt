@@ -1,6 +1,6 @@
 -- The pieces that a buffer wrote for some uses, in an island or in the pool, stand in finished code.
 use Rattle.std.proofs.Common.{ℕ, pos, ◌+ℤ◌, ◌≡◌, ◌⊎◌, ◌+◌, ◌*◌, ◌<◌, ◌≤◌, suc, zero, true, false, List, [], ◌∷◌, ◌++◌, length, get_or, map, drop, None, Some, refl, sym, ap, ◌∙◌, subst, arith, inl, inr}
-use Rattle.std.specs.Prelude.{All, IfSome, IsSome, ◌&&◌, is_none}
+use Rattle.std.specs.Prelude.{All, Any, IfSome, IsSome, ◌&&◌, is_none}
 use Rattle.std.specs.List.{AllPairs, flat_map}
 use Rattle.std.specs.Ordering.{nat_cmp}
 use Rattle.std.specs.FinMap.{FinMap, get}
@@ -25,7 +25,7 @@ use Rattle.a64_buffer.specs.Classes.{class, class_of, wants, is_open}
 use Rattle.a64_buffer.specs.Later.{IsSameUse, IsLater}
 use Rattle.a64_buffer.specs.Sound.{IsSound}
 use Rattle.a64_buffer.specs.Pieces as pieces
-use Rattle.a64_buffer.specs.Pieces.{Serves, IsServed, StopsAtPiece}
+use Rattle.a64_buffer.specs.Pieces.{IsAnswered, Serves, IsServed, StopsAtPiece}
 use Rattle.a64_buffer.specs.Finished.{IsFinished}
 use Rattle.a64_buffer.proofs.Emitting.{stops_below}
 use Rattle.a64_buffer.proofs.WordLists.{words_whole}
@@ -44,7 +44,7 @@ use Rattle.a64_assemble.specs.Elements.{elements_of}
 use Rattle.a64_assemble.specs.Progress.{HasPut}
 use Rattle.a64_assemble.specs.Owners.{AreOwned}
 use Rattle.a64_assemble.specs.Placement.{IsWanting}
-use Rattle.a64_assemble.specs.Fillings.{IsFirstFrom, HoldsPieces}
+use Rattle.a64_assemble.specs.Fillings.{IsFirstFrom, StopsBetween, StopsBy, HoldsPieces}
 use Rattle.a64_assemble.proofs.Needing.{some_same}
 use Rattle.a64_assemble.proofs.Placing.{IsKnownUse, known_cell, says_stop, stop_said, wanting_in}
 
@@ -57,7 +57,7 @@ sized constants are number content e = of (subst (λ o. IfSome o IsConstant) e (
     of (inr (inl eight)) = words_whole content (omega (arith, eight))
     of (inr (inr sixteen)) = words_whole content (omega (arith, sixteen))
 
-field_says : (kind : LabelUse) (put word place stop : ℕ) → adds_distance kind ≡ false → GoesTo label_kinds kind put word place stop → pos place +ℤ distance_in kind word ≡ pos stop
+pub field_says : (kind : LabelUse) (put word place stop : ℕ) → adds_distance kind ≡ false → GoesTo label_kinds kind put word place stop → pos place +ℤ distance_in kind word ≡ pos stop
 field_says uses.Branch14 put word place stop e g = g
 field_says uses.Branch19 put word place stop e g = g
 field_says uses.Branch26 put word place stop e g = g
@@ -99,7 +99,8 @@ Told = ℕ × Target × LabelUse
 no_told : Told
 no_told = (0, IslandEnd, uses.Branch26)
 
--- pieces were written for uses that waited in m, or were made since: behind start, up to the end of w
+-- pieces were written for uses that waited in m, or were made since: behind start, up to the end of w; the uses that were made
+-- with them stop by them, or at their labels' places, and those that were made later stop nowhere before
 pub record IsWritten (constants : FinMap nat_cmp (List ℕ)) (m start w final : Buffer LabelUse) (served : List (Use LabelUse)) : Type 0 where
   pub serves : Serves label_kinds m.labels constants served start w
   pub known : IsLater m final
@@ -109,6 +110,8 @@ pub record IsWritten (constants : FinMap nat_cmp (List ℕ)) (m start w final : 
   pub started : (k : ℕ) (d : Use LabelUse) → k < length m.uses → get_or start.uses k d ≡ get_or m.uses k d
   pub low : All (λ u. u.offset < end_of start) start.uses
   pub new : (k : ℕ) (d : Use LabelUse) → length m.uses ≤ k → k < length w.uses → IsSome (pieces.constant_of (get_or w.uses k d).target) → ⊥
+  pub made : (k : ℕ) (d : Use LabelUse) → length m.uses ≤ k → k < length w.uses → wants (class label_kinds (get_or w.uses k d)) ≡ true → IsAnswered m.labels served (get_or w.uses k d)
+  pub behind : (k stop : ℕ) → length w.uses ≤ k → k < length final.uses → wants (class label_kinds (get_or final.uses k no_use)) ≡ true → (get_or final.uses k no_use).stop ≡ Some stop → (end_of w ≤ stop) ⊎ (goal_of final.labels (get_or final.uses k no_use).target ≡ Some stop)
 
 module _ (frame : FrameLayout) (flags : EmitFlags) (items : List Item) (force : ForceVeneers) (b : Buffer LabelUse) (code : Finished) (f : IsFinished label_kinds b code) (out : Code) (o : IsOutput code out) (h : HasPut force (elements_of frame flags items) (length (elements_of frame flags items)) out.places.items b) (owned : AreOwned (elements_of frame flags items) (length (elements_of frame flags items)) out.places.items b) (are : AreConstants b.constants) (m start w : Buffer LabelUse) (served : List (Use LabelUse)) (a : IsWritten b.constants m start w f.final served) where
   abbrev use_at : ℕ → Use LabelUse
@@ -331,12 +334,14 @@ module _ (frame : FrameLayout) (flags : EmitFlags) (items : List Item) (force : 
   pub holds_pieces : (MayServe : ℕ × Site → Type 0)
       → ((u : Use LabelUse) (q : IsServed label_kinds m.labels start w u) → IsWanting frame flags items out u.offset (site_of u).1)
       → ((k : ℕ) → k < length served → MayServe (site_of (get_or served k no_use)))
+      → ((u : ℕ × Site) (stop : ℕ) → StopsBetween frame flags items b.constants out (end_of m) (end_of w) u stop → Any (StopsBy frame flags items b.constants out stop u) (map site_of served))
       → HoldsPieces frame flags items b.constants out (end_of m) (end_of start) (end_of w) MayServe
-  holds_pieces MayServe wanting may = record {
+  holds_pieces MayServe wanting may answers = record {
     served = map site_of served;
     uses_are = all_sites (λ u. IsWanting frame flags items out u.0 u.1) (λ k l. wanting (get_or served k no_use) (a.serves.waited k no_use l));
     in_order = order;
     first = all_sites (IsFirstFrom frame flags items b.constants out (end_of m)) first;
     may_serve = all_sites MayServe may;
     fills = pieces_fill;
+    answered = answers;
   }

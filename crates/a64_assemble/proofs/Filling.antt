@@ -1,9 +1,9 @@
 -- The islands and the pool of finished code hold what uses wait for, and nothing else.
 use Rattle.std.proofs.Common.{ℕ, ◌≡◌, ◌⊎◌, ◌+◌, ◌-◌, ◌*◌, ◌/◌, ◌%◌, ◌<◌, ◌≤◌, suc, zero, true, false, List, [], ◌∷◌, ◌++◌, length, get_or, map, take, Option, None, Some, refl, sym, ap, ◌∙◌, subst, arith, inl, inr}
-use Rattle.std.specs.Prelude.{All, Contains, IfSome, IsSome, slice_get}
+use Rattle.std.specs.Prelude.{All, Contains, IfSome, IsSome, MatchOption, ◌&&◌, nat_le, slice_get}
 use Rattle.std.specs.List.{flat_map}
 use Rattle.std.specs.FinMap.{get}
-use Rattle.std.proofs.lemmas.Bool.{cases_lt, false≢true}
+use Rattle.std.proofs.lemmas.Bool.{cases_lt, false≢true, le-leb}
 use Rattle.std.proofs.lemmas.List.{length-append, length-map, length-take-le, get_or-map, get_or-take, get_or_append_left, get_or-append-add, get_or_default}
 use Rattle.std.proofs.lemmas.List.Elements.{All-append, All-same}
 use Rattle.std.proofs.lemmas.Option.{slice_get-get_or, slice_get_within}
@@ -23,9 +23,11 @@ use Rattle.a64_buffer.specs.Word.{outside, word_at}
 use Rattle.a64_buffer.specs.Buffer.{Buffer, end_of, label_of, goal_of, is_within, IsBound}
 use Rattle.a64_buffer.specs.Classes.{class, class_of, wants}
 use Rattle.a64_buffer.specs.Islands.{IsNewUse}
+use Rattle.a64_buffer.specs.Kinds.{IsWithin}
 use Rattle.a64_buffer.specs.Later.{IsLater}
 use Rattle.a64_buffer.specs.Pieces as pieces
 use Rattle.a64_buffer.specs.Pieces.{Serves, IsServed}
+use Rattle.a64_buffer.specs.Sound.{IsStop, IsRightlyOpen}
 use Rattle.a64_buffer.specs.Finished.{IsFinished}
 use Rattle.a64_buffer.proofs.Emitting.{stops_below}
 use Rattle.a64_buffer.proofs.Laters.{later_none, later_trans}
@@ -44,15 +46,17 @@ use Rattle.a64_assemble.specs.Elements.{Element, Binding, Asking, cells_in, elem
 use Rattle.a64_assemble.specs.OpenUses.{WasAsked}
 use Rattle.a64_assemble.specs.Progress.{HasPut}
 use Rattle.a64_assemble.specs.Owners.{AreOwned}
+use Rattle.a64_assemble.specs.OwnStops.{AllStopAhead}
 use Rattle.a64_assemble.specs.Placement.{IsVeneerWord, IsWanting, IsOpenIn}
 use Rattle.a64_assemble.specs.Fillings.{IsLateOrFar, HoldsPieces, IsFilledIsland, IsFilledPool}
 use Rattle.a64_assemble.proofs.Areas.{stops_from, IsWritten, FinalServed, final_served, old_wanting, holds_pieces}
+use Rattle.a64_assemble.proofs.Answering.{island_answered, use_behind, answers}
 use Rattle.a64_assemble.proofs.BoundLabels.{bound_at}
 use Rattle.a64_assemble.proofs.Itemized.{binding_item}
 use Rattle.a64_assemble.proofs.Islanded.{island_after}
 use Rattle.a64_assemble.proofs.Needing.{some_same}
 use Rattle.a64_assemble.proofs.Owners.{IsPieceJump, piece_jump, short_kind}
-use Rattle.a64_assemble.proofs.Placing.{all_cells_are, says_stop, not_inside}
+use Rattle.a64_assemble.proofs.Placing.{all_cells_are, label_is, says_stop, not_inside}
 
 pub no_constant : (t : Target) → IsSome (label_of t) → IsSome (pieces.constant_of t) → ⊥
 no_constant (Label l) s c = false≢true c
@@ -60,7 +64,7 @@ no_constant (Constant n) s c = false≢true s
 no_constant (Trap x) s c = false≢true s
 no_constant IslandEnd s c = false≢true s
 
-module _ (frame : FrameLayout) (flags : EmitFlags) (items : List Item) (force : ForceVeneers) (b : Buffer LabelUse) (code : Finished) (f : IsFinished label_kinds b code) (out : Code) (o : IsOutput code out) (h : HasPut force (elements_of frame flags items) (length (elements_of frame flags items)) out.places.items b) (owned : AreOwned (elements_of frame flags items) (length (elements_of frame flags items)) out.places.items b) (are : AreConstants b.constants) (all_bound : All (IsBound b.labels) b.uses) where
+module _ (frame : FrameLayout) (flags : EmitFlags) (items : List Item) (force : ForceVeneers) (b : Buffer LabelUse) (code : Finished) (f : IsFinished label_kinds b code) (out : Code) (o : IsOutput code out) (h : HasPut force (elements_of frame flags items) (length (elements_of frame flags items)) out.places.items b) (owned : AreOwned (elements_of frame flags items) (length (elements_of frame flags items)) out.places.items b) (are : AreConstants b.constants) (all_bound : All (IsBound b.labels) b.uses) (ahead : AllStopAhead b) where
   abbrev xs : List Element
   xs = elements_of frame flags items
 
@@ -101,6 +105,8 @@ module _ (frame : FrameLayout) (flags : EmitFlags) (items : List Item) (force : 
     started = λ k d lt. refl;
     low = λ k d lt. (f.sound.placed k d lt).inside;
     new = λ k d ge lt c. no_constant (get_or f.final.uses k d).target (f.given k d ge lt).labelled c;
+    made = λ k d ge lt want. f.serves.new_answered k d ge lt;
+    behind = λ k stop ge lt want e. absurd (omega (arith, ge, lt));
   }
 
   -- a use of one of the shorter urgencies is a cell's
@@ -134,6 +140,9 @@ module _ (frame : FrameLayout) (flags : EmitFlags) (items : List Item) (force : 
 
   abbrev Told : Type 0
   Told = ℕ × Target × LabelUse
+
+  reaches : (kind : LabelUse) (offset place : ℕ) → IsWithin (label_kinds.forward kind) (label_kinds.backward kind) offset place → is_within label_kinds kind offset place ≡ true
+  reaches kind offset place w = ap (λ t. t && nat_le offset (place + label_kinds.backward kind)) (le-leb place (offset + label_kinds.forward kind) w.ahead) ∙ le-leb offset (place + label_kinds.backward kind) w.behind
 
   -- a jump word in the pool is a veneer word
   pool_veneer : (k : ℕ) → length b.uses ≤ k → k < length f.final.uses → wants (class label_kinds (use_at k)) ≡ true → ((use_at k).kind ≡ uses.Branch26) × IsVeneerWord frame flags items out (use_at k).offset (use_at k).target
@@ -190,6 +199,14 @@ module _ (frame : FrameLayout) (flags : EmitFlags) (items : List Item) (force : 
               let below : island.1 ≤ end_of b = subst (λ (i : ℕ × ℕ). i.1 ≤ end_of b) known.2 (h.laid.below known.0 island known.1) in
               let tall : island.0 + 4 ≤ island.1 = subst (λ (i : ℕ × ℕ). i.0 + 4 ≤ i.1) known.2 (h.laid.once known.0 island known.1).stands.long in
               omega (arith, below, tall, begins, j.place_is);
+          away = λ there.
+              let stops : IsStop label_kinds f.final (b.islands ++ (end_of b, end_of f.final) ∷ []) (use_at q.index).target (use_at q.index).kind (use_at q.index).offset (use_at k).offset =
+              subst (λ g. MatchOption g (IsRightlyOpen label_kinds f.final (b.islands ++ (end_of b, end_of f.final) ∷ []) (use_at q.index).target (use_at q.index).kind (use_at q.index).offset) (IsStop label_kinds f.final (b.islands ++ (end_of b, end_of f.final) ∷ []) (use_at q.index).target (use_at q.index).kind (use_at q.index).offset)) stop (f.final_sound.stops q.index no_use q.within) in
+              let goal : goal_of b.labels (use_at k).target ≡ Some (use_at k).offset = label_is frame flags items force b code f out o h owned ((use_at q.index).offset, record { kind = (use_at q.index).kind; target = (use_at k).target }) (use_at k).offset there in
+              let far : is_within label_kinds (use_at q.index).kind (use_at q.index).offset (use_at k).offset ≡ false = subst (λ g. IfSome g (λ place. is_within label_kinds (use_at q.index).kind (use_at q.index).offset place ≡ false)) goal
+              (subst (λ t. IfSome (goal_of b.labels t) (λ place. is_within label_kinds (use_at q.index).kind (use_at q.index).offset place ≡ false)) target
+              (subst (λ (u : Use LabelUse). IfSome (goal_of b.labels u.target) (λ place. is_within label_kinds u.kind u.offset place ≡ false)) (sym is) q.far_off)) in
+              false≢true (sym far ∙ reaches (use_at q.index).kind (use_at q.index).offset (use_at k).offset stops.within);
         },
       )
 
@@ -227,7 +244,8 @@ module _ (frame : FrameLayout) (flags : EmitFlags) (items : List Item) (force : 
       let pool = pool_is b code f out o in
       subst (λ n. HoldsPieces frame flags items b.constants out n n (length out.bytes.items) (IsFarOff b.constants out)) (sym pool)
       (subst (λ n. HoldsPieces frame flags items b.constants out (end_of b) (end_of b) n (IsFarOff b.constants out)) (sym (end_is b code f out o))
-      (holds_pieces frame flags items force b code f out o h owned are b b f.final f.served pool_written (IsFarOff b.constants out) pool_wanting (λ k l. pool_far (get_or f.served k no_use) (f.serves.waited k no_use l))))
+      (holds_pieces frame flags items force b code f out o h owned are b b f.final f.served pool_written (IsFarOff b.constants out) pool_wanting (λ k l. pool_far (get_or f.served k no_use) (f.serves.waited k no_use l))
+      (answers frame flags items force b code f out o h owned are b b f.final f.served pool_written)))
 
   -- ---- an island
 
@@ -262,6 +280,13 @@ module _ (frame : FrameLayout) (flags : EmitFlags) (items : List Item) (force : 
           (λ k d lt. let x = (z.whole.sound.placed k d lt).inside in omega (arith, x, begun_end))
           (λ k d lt. one k d lt);
       new = λ k d ge lt c. new_use (get_or z.written.uses k d) (z.has.given k d ge lt) c;
+      made = λ k d ge lt want. island_answered m z.written z.has k d ge lt want;
+      behind = λ k stop ge lt want e.
+          let fresh = (later_trans z.written b f.final z.since f.later).fresh k no_use ge lt in
+          elim (use_behind frame flags items force b code f out o h owned ahead island listed k stop lt want (omega (arith, fresh, z.ends)) e) [
+            | inl far ↦ inl (omega (arith, far, z.ends))
+            | inr goal ↦ inr (subst (λ labels. goal_of labels (use_at k).target ≡ Some stop) (sym f.labels_kept) goal)
+          ];
     }
       where
         one : (k : ℕ) (d : Use LabelUse) → k < 1 → (get_or (pieces.over_use label_kinds (end_of m) ∷ []) k d).offset < end_of begun_m
@@ -379,7 +404,8 @@ module _ (frame : FrameLayout) (flags : EmitFlags) (items : List Item) (force : 
               (subst (λ n. HoldsPieces frame flags items b.constants out (end_of m) (end_of begun_m) n May) z.ends
               (holds_pieces frame flags items force b code f out o h owned are m begun_m z.written z.has.served island_written May
               (λ u q. old_wanting frame flags items force b code f out o h owned are m begun_m z.written z.has.served island_written u q (served_old u q))
-              (λ k l. (island_open k l, island_late (get_or z.has.served k no_use) (z.has.serves.waited k no_use l))))));
+              (λ k l. (island_open k l, island_late (get_or z.has.served k no_use) (z.has.serves.waited k no_use l)))
+              (answers frame flags items force b code f out o h owned are m begun_m z.written z.has.served island_written))));
         }
 
   -- each island holds what uses waited for there, in the order of islands, and nothing else

@@ -49,6 +49,7 @@ pub mod Leading
 pub mod Recording
 pub mod CodeRecords
 pub mod Areas
+pub mod Answering
 pub mod Filling
 pub mod OwnVeneers
 pub mod Tallied
@@ -59,6 +60,8 @@ pub mod Owns
 pub mod FirstPut
 pub mod ReadingBack
 pub mod WrongReadings
+pub mod WrongPieces
+pub mod WrongAreas
 pub mod OpenCells
 pub mod ItemsRead
 pub mod Made

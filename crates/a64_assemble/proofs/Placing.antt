@@ -1,9 +1,10 @@
 -- The uses that finished code has by its bytes are those that the buffer knows.
-use Rattle.std.proofs.Common.{ℕ, zero, suc, pos, ◌+ℤ◌, ◌≡◌, ◌⊎◌, ◌+◌, ◌-◌, ◌*◌, ◌/◌, ◌<◌, ◌≤◌, true, false, List, [], ◌∷◌, ◌++◌, All, length, get_or, map, take, Option, None, Some, refl, sym, ap, ◌∙◌, subst, arith, inl, inr}
+use Rattle.std.proofs.Common.{ℕ, zero, suc, pos, ◌≡◌, ◌⊎◌, ◌+◌, ◌-◌, ◌*◌, ◌/◌, ◌<◌, ◌≤◌, true, false, List, [], ◌∷◌, ◌++◌, All, length, get_or, map, take, Option, None, Some, refl, sym, ap, ◌∙◌, subst, arith, inl, inr}
 use Rattle.std.specs.Prelude.{Contains, IsSome, IfSome, MatchOption}
 use Rattle.std.specs.FinMap.{get}
 use Rattle.std.proofs.lemmas.Bool.{cases_lt, cases_eq, false≢true}
-use Rattle.std.proofs.lemmas.List.{length-append, get_or_append_left, get_or-append-add, get_or_default, take_all}
+use Rattle.std.proofs.lemmas.List.{length-append, get_or_append_left, get_or_default, take_all}
+use Rattle.a64_base.specs.declared.entity.MachLabel.{MachLabel}
 use Rattle.a64_inst.specs.declared.emission.EmitFlags.{EmitFlags}
 use Rattle.a64_inst.specs.declared.frame.FrameLayout.{FrameLayout}
 use Rattle.a64_inst.specs.declared.item.Item.{Item}
@@ -15,7 +16,7 @@ use Rattle.a64_buffer.specs.declared.force.ForceVeneers.{ForceVeneers}
 use Rattle.a64_buffer.specs.Areas.{InArea}
 use Rattle.a64_buffer.specs.Word.{outside, word_at}
 use Rattle.a64_buffer.specs.Kinds.{GoesTo}
-use Rattle.a64_buffer.specs.Buffer.{Buffer, end_of, label_of, IsFree}
+use Rattle.a64_buffer.specs.Buffer.{Buffer, end_of, label_of, goal_of, IsFree}
 use Rattle.a64_buffer.specs.Classes.{wants, class, class_of}
 use Rattle.a64_buffer.specs.Sound.{IsJump, IsFar, IsStop, IsRightlyOpen, LeadsOn}
 use Rattle.a64_buffer.specs.Finished.{IsFinished}
@@ -33,7 +34,7 @@ use Rattle.a64_assemble.specs.Elements.{Element, cells_in, elements_of}
 use Rattle.a64_assemble.specs.Stations.{IsLaid, end_of_element}
 use Rattle.a64_assemble.specs.Progress.{HasPut}
 use Rattle.a64_assemble.specs.Owners.{IsGivenJump, AreOwned}
-use Rattle.a64_assemble.specs.Placement.{IsVeneerWord, IsWanting}
+use Rattle.a64_assemble.specs.Placement.{IsLabelAt, IsVeneerWord, IsWanting}
 use Rattle.a64_assemble.proofs.Arrivals.{no_use, IsOutput, pool_is, use_settled, word_free, old_site}
 use Rattle.a64_assemble.proofs.Finishing.{all_stop}
 use Rattle.a64_assemble.proofs.Itemized.{cells_same}
@@ -124,6 +125,16 @@ module _ (xs : List Element) (count : ℕ) (places : List ℕ) (islands : List (
     ]
   ]
 
+  -- an island that holds a place behind another stands behind that
+  pub whole_behind : (x y : ℕ × ℕ) → Contains islands x → Contains islands y → (place : ℕ) → x.1 ≤ place → place < y.1 → x.1 ≤ y.0
+  whole_behind x y cx cy place low high = elim (cases_lt cx.0 cy.0) [
+    | inl lt ↦ (let a = laid.apart cx.0 cy.0 x lt cy.1 in omega (arith, a, ap (λ (i : ℕ × ℕ). i.1) cx.2, ap (λ (i : ℕ × ℕ). i.0) (get_or_default islands cy.0 x y cy.1 ∙ cy.2)))
+    | inr ge ↦ elim (cases_eq cx.0 cy.0) [
+      | inl e ↦ absurd (let same : x ≡ y = sym cx.2 ∙ (ap (λ n. get_or islands n x) e ∙ (get_or_default islands cy.0 x y cy.1 ∙ cy.2)) in omega (arith, ap (λ (i : ℕ × ℕ). i.1) same, low, high))
+      | inr ne ↦ absurd (let a = laid.apart cy.0 cx.0 x (omega (arith, ge, ne)) cx.1 in let long : x.0 ≤ x.1 = subst (λ (i : ℕ × ℕ). i.0 ≤ i.1) cx.2 (let z = (laid.once cx.0 x cx.1).stands.long in omega (arith, z)) in omega (arith, a, long, ap (λ (i : ℕ × ℕ). i.0) cx.2, ap (λ (i : ℕ × ℕ). i.1) (get_or_default islands cy.0 x y cy.1 ∙ cy.2), low, high))
+    ]
+  ]
+
 -- ---- uses by bytes
 
 module _ (frame : FrameLayout) (flags : EmitFlags) where
@@ -174,9 +185,40 @@ module _ (frame : FrameLayout) (flags : EmitFlags) (items : List Item) (force : 
       go None e s = absurd (false≢true s)
       go (Some t) e s = ap (λ n. Some n) (one_stop (use_at k).kind (word_at out.bytes.items (use_at k).offset) (use_at k).offset t stop (adds_none k w want) (says_stop k w want t e) says)
 
+  -- ---- labels
+
+  -- where a label is bound to, it is listed, and the other way round
+  pub label_at : (u : ℕ × Site) (place : ℕ) → goal_of b.labels u.1.target ≡ Some place → IsLabelAt frame flags items out u place
+  label_at u place e = go u.1.target e
+    where
+      go : (t : Target) → goal_of b.labels t ≡ Some place → IsLabelAt frame flags items out (u.0, record { kind = u.1.kind; target = t }) place
+      go (Label label) e = subst (λ (ls : List (MachLabel × ℕ)). Contains ls (label, place)) (sym o.labels) ((f.labels.listed label place).1 e)
+      go (Constant n) e = absurd (let z : None ≡ Some place = e in cc)
+      go (Trap c) e = absurd (let z : None ≡ Some place = e in cc)
+      go IslandEnd e = absurd (let z : None ≡ Some place = e in cc)
+
+  pub label_is : (u : ℕ × Site) (place : ℕ) → IsLabelAt frame flags items out u place → goal_of b.labels u.1.target ≡ Some place
+  label_is u place at = go u.1.target at
+    where
+      go : (t : Target) → IsLabelAt frame flags items out (u.0, record { kind = u.1.kind; target = t }) place → goal_of b.labels t ≡ Some place
+      go (Label label) at = (f.labels.listed label place).0 (subst (λ (ls : List (MachLabel × ℕ)). Contains ls (label, place)) o.labels at)
+      go (Constant n) at = absurd at
+      go (Trap c) at = absurd at
+      go IslandEnd at = absurd at
+
+  -- no label stands in an island, but at its begin
+  no_label_inside : (island : ℕ × ℕ) → Contains b.islands island → (t : Target) (place : ℕ) → goal_of b.labels t ≡ Some place → island.0 < place → place < island.1 → ⊥
+  no_label_inside island listed (Label label) place e low high =
+      let only = h.labels.only label.0 place e in
+      let at : get_or (out.places.items ++ end_of b ∷ []) only.0 0 ≡ place = get_or_append_left out.places.items (end_of b ∷ []) 0 only.0 (let w = only.1 in omega (arith, w, h.laid.each_placed)) ∙ only.3 in
+      not_inside xs (length xs) out.places.items b.islands (end_of b) h.laid island listed only.0 only.1 (omega (arith, low, at)) (omega (arith, high, at))
+  no_label_inside island listed (Constant n) place e low high = let z : None ≡ Some place = e in cc
+  no_label_inside island listed (Trap c) place e low high = let z : None ≡ Some place = e in cc
+  no_label_inside island listed IslandEnd place e low high = let z : None ≡ Some place = e in cc
+
   -- ---- a use that the buffer knows stands in the bytes
 
-  cell_in : (k : ℕ) (d : Use LabelUse) → k < length b.uses → IsCellUse (standing (map cells_in (take (length xs) xs)) out.places.items) (site_of (get_or b.uses k d)) → IsCellUse cells (site_of (get_or f.final.uses k d))
+  pub cell_in : (k : ℕ) (d : Use LabelUse) → k < length b.uses → IsCellUse (standing (map cells_in (take (length xs) xs)) out.places.items) (site_of (get_or b.uses k d)) → IsCellUse cells (site_of (get_or f.final.uses k d))
   cell_in k d w c = subst (IsCellUse cells) (sym (old_site b code f out o k d w)) (subst (λ cs. IsCellUse cs (site_of (get_or b.uses k d))) (all_cells_are frame flags items out.places.items) c)
 
   veneer_in : (k : ℕ) → k < length b.uses → IsGivenJump (standing (map cells_in (take (length xs) xs)) out.places.items) b (get_or b.uses k no_use) → IsVeneerWord frame flags items out (use_at k).offset (use_at k).target
@@ -203,6 +245,7 @@ module _ (frame : FrameLayout) (flags : EmitFlags) (items : List Item) (force : 
         use' = subst (λ t. IsCellUse cells ((use_at j.parent).offset, record { kind = (use_at j.parent).kind; target = t })) target (cell_in j.parent no_use j.within (j.owned no_use));
         stops = says_stop j.parent (final_within j.parent j.within) want (use_at k).offset there;
         not_over = λ island listed begins says. islands_apart xs (length xs) out.places.items b.islands (end_of b) h.laid j.island island j.listed (subst (λ is. Contains is island) islands_are listed) (let x = j.behind in omega (arith, x, at, begins)) (let x = j.before in omega (arith, x, at, begins));
+        away = λ there. no_label_inside j.island j.listed (use_at k).target (use_at k).offset (label_is ((use_at j.parent).offset, record { kind = (use_at j.parent).kind; target = (use_at k).target }) (use_at k).offset there) (let x = j.behind in omega (arith, x, at)) (let x = j.before in omega (arith, x, at));
       }
     where
       listed_area : (island : ℕ × ℕ) (place : ℕ) → Contains b.islands island → island.0 ≤ place → place + 4 ≤ island.1 → InArea (areas out) place 4
@@ -228,7 +271,12 @@ module _ (frame : FrameLayout) (flags : EmitFlags) (items : List Item) (force : 
     ];
   }
 
-  -- ---- and what stands in the bytes before the pool, the buffer knows
+  -- ---- and what stands in the bytes the finished buffer knows, and the buffer before it what stands before the pool
+
+  pub record IsFinalUse (u : ℕ × Site) : Type 0 where
+    pub index : ℕ
+    pub within : index < length f.final.uses
+    pub is : site_of (use_at index) ≡ u
 
   pub record IsKnownUse (u : ℕ × Site) : Type 0 where
     pub index : ℕ
@@ -243,7 +291,7 @@ module _ (frame : FrameLayout) (flags : EmitFlags) (items : List Item) (force : 
       record { index = r.index; within = r.within; is = old_site b code f out o r.index no_use r.within ∙ (r.is no_use ∙ ap (λ n. (n, u.1)) c.2) }
 
   -- what stands where a shorter branch stops
-  module _ (place : ℕ) (target : Target) (v : IsVeneerWord frame flags items out place target) (early : place < out.pool) where
+  module _ (place : ℕ) (target : Target) (v : IsVeneerWord frame flags items out place target) where
     user_known : IsKnownUse (v.user, record { kind = v.kind; target = target })
     user_known = known_cell (v.user, record { kind = v.kind; target = target }) v.use'
 
@@ -262,39 +310,7 @@ module _ (frame : FrameLayout) (flags : EmitFlags) (items : List Item) (force : 
     user_leads : IsStop label_kinds f.final (b.islands ++ (end_of b, end_of f.final) ∷ []) user.target user.kind user.offset place
     user_leads = subst (λ g. MatchOption g (IsRightlyOpen label_kinds f.final (b.islands ++ (end_of b, end_of f.final) ∷ []) user.target user.kind user.offset) (IsStop label_kinds f.final (b.islands ++ (end_of b, end_of f.final) ∷ []) user.target user.kind user.offset)) user_stops (f.final_sound.stops user_known.index no_use user_within)
 
-    -- no label is bound there
-    no_label : (label : ℕ) → get f.final.labels label ≡ Some place → ⊥
-    no_label label e =
-        let only = h.labels.only label place (ap (λ labels. get labels label) (sym f.labels_kept) ∙ e) in
-        let at : get_or (out.places.items ++ end_of b ∷ []) only.0 0 ≡ place = get_or_append_left out.places.items (end_of b ∷ []) 0 only.0 (let w = only.1 in omega (arith, w, h.laid.each_placed)) ∙ only.3 in
-        elim (cases_lt v.area.index (length out.islands.items)) [
-          | inl inside ↦
-              let island : ℕ × ℕ = get_or out.islands.items v.area.index (0, 0) in
-              let is : get_or (areas out) v.area.index (0, 0) ≡ island = get_or_append_left out.islands.items ((out.pool, length out.bytes.items) ∷ []) (0, 0) v.area.index inside in
-              let listed : Contains out.islands.items island = (v.area.index, inside, get_or_default out.islands.items v.area.index island (0, 0) inside) in
-              let known : Contains b.islands island = subst (λ is. Contains is island) islands_are listed in
-              let low : island.0 ≤ place = omega (arith, v.area.begins, ap (λ (i : ℕ × ℕ). i.0) is) in
-              let high : place + 4 ≤ island.1 = omega (arith, v.area.ends, ap (λ (i : ℕ × ℕ). i.1) is) in
-              elim (cases_eq island.0 place) [
-                | inl first ↦ v.not_over island listed (sym first) (over island known first)
-                | inr ne ↦ not_inside xs (length xs) out.places.items b.islands (end_of b) h.laid island known only.0 only.1 (omega (arith, low, ne, at)) (omega (arith, high, at))
-              ]
-          | inr behind ↦
-              let long = length-append out.islands.items ((out.pool, length out.bytes.items) ∷ []) in
-              let w = v.area.within in
-              let n : v.area.index ≡ length out.islands.items + 0 = omega (arith, behind, long, w) in
-              let is : get_or (areas out) v.area.index (0, 0) ≡ (out.pool, length out.bytes.items) = ap (λ i. get_or (areas out) i (0, 0)) n ∙ get_or-append-add out.islands.items ((out.pool, length out.bytes.items) ∷ []) 0 (0, 0) in
-              omega (arith, v.area.begins, ap (λ (i : ℕ × ℕ). i.0) is, early)
-        ]
-      where
-        over : (island : ℕ × ℕ) → Contains b.islands island → island.0 ≡ place → StopsAt out uses.Branch26 0 place island.1
-        over island known first =
-            let j = f.jumps known.0 island known.1 in
-            let goes : pos island.0 +ℤ label_kinds.field uses.Branch26 (word_at code.bytes.items island.0) ≡ pos island.1 = subst (λ (i : ℕ × ℕ). GoesTo label_kinds uses.Branch26 0x14000000 (word_at code.bytes.items i.0) i.0 i.1) known.2 j.goes in
-            subst (λ n. pos n +ℤ label_kinds.field uses.Branch26 (word_at out.bytes.items n) ≡ pos island.1) first
-            (subst (λ bytes. pos island.0 +ℤ label_kinds.field uses.Branch26 (word_at bytes island.0) ≡ pos island.1) (sym o.bytes) goes)
-
-    -- nor a far veneer
+    -- no far veneer stands there
     no_far : IsFar label_kinds f.final (b.islands ++ (end_of b, end_of f.final) ∷ []) user.target place → ⊥
     no_far far =
         let aligned = user_leads.aligned in
@@ -309,18 +325,15 @@ module _ (frame : FrameLayout) (flags : EmitFlags) (items : List Item) (force : 
         no_jump : outside (mask_for uses.Branch26) 0x98000090 ≡ 0x14000000 → ⊥
         no_jump e = let z : 0x98000000 ≡ 0x14000000 = e in omega (arith, z)
 
-    known_jump : IsKnownUse (place, record { kind = uses.Branch26; target = target })
-    known_jump = go target refl v.labelled
+    final_jump : IsFinalUse (place, record { kind = uses.Branch26; target = target })
+    final_jump = go target refl v.labelled
       where
-        jump : IsJump label_kinds f.final (b.islands ++ (end_of b, end_of f.final) ∷ []) user.target place → IsKnownUse (place, record { kind = uses.Branch26; target = target })
+        jump : IsJump label_kinds f.final (b.islands ++ (end_of b, end_of f.final) ∷ []) user.target place → IsFinalUse (place, record { kind = uses.Branch26; target = target })
         jump j =
             let u = j.use' in
             record {
               index = u.index;
-              within = elim (cases_lt u.index (length b.uses)) [
-                | inl old ↦ old
-                | inr new ↦ (let fresh = f.later.fresh u.index no_use new u.within in absurd (omega (arith, fresh, u.offset_is no_use, early, pool_at)))
-              ];
+              within = u.within;
               is =
                   ap (λ n. (n, record { kind = (use_at u.index).kind; target = (use_at u.index).target })) (u.offset_is no_use)
                   ∙ (ap (λ kind. (place, record { kind = kind; target = (use_at u.index).target })) (u.kind_is no_use)
@@ -328,9 +341,9 @@ module _ (frame : FrameLayout) (flags : EmitFlags) (items : List Item) (force : 
                   ∙ ap (λ (s : ℕ × Site). (place, record { kind = uses.Branch26; target = s.1.target })) user_known.is));
             }
 
-        go : (t : Target) → target ≡ t → IsSome (label_of t) → IsKnownUse (place, record { kind = uses.Branch26; target = target })
+        go : (t : Target) → target ≡ t → IsSome (label_of t) → IsFinalUse (place, record { kind = uses.Branch26; target = target })
         go (Label l) e s = elim (subst (λ t. LeadsOn label_kinds f.final (b.islands ++ (end_of b, end_of f.final) ∷ []) user.kind t place) (ap (λ (s : ℕ × Site). s.1.target) user_known.is ∙ e) user_leads.leads) [
-          | inl goal ↦ absurd (no_label l.0 goal)
+          | inl goal ↦ absurd (v.away (label_at (v.user, record { kind = v.kind; target = target }) place (subst (λ t. goal_of b.labels t ≡ Some place) (sym e) (ap (λ labels. get labels l.0) (sym f.labels_kept) ∙ goal))))
           | inr more ↦ elim more.1 [
             | inl j ↦ jump (subst (λ t. IsJump label_kinds f.final (b.islands ++ (end_of b, end_of f.final) ∷ []) t place) (sym (ap (λ (s : ℕ × Site). s.1.target) user_known.is ∙ e)) j.1)
             | inr far ↦ absurd (no_far (subst (λ t. IsFar label_kinds f.final (b.islands ++ (end_of b, end_of f.final) ∷ []) t place) (sym (ap (λ (s : ℕ × Site). s.1.target) user_known.is ∙ e)) far))
@@ -340,8 +353,20 @@ module _ (frame : FrameLayout) (flags : EmitFlags) (items : List Item) (force : 
         go (Trap c) e s = absurd (false≢true s)
         go IslandEnd e s = absurd (false≢true s)
 
-  pub wanting_known : (place : ℕ) (site : Site) → IsWanting frame flags items out place site → place < out.pool → IsKnownUse (place, site)
-  wanting_known place site w early = elim w.is [
-    | inl c ↦ known_cell (place, site) c
-    | inr v ↦ subst (λ kind. IsKnownUse (place, record { kind = kind; target = site.target })) (sym v.0) (known_jump place site.target v.1 early)
+  pub wanting_final : (place : ℕ) (site : Site) → IsWanting frame flags items out place site → IsFinalUse (place, site)
+  wanting_final place site w = elim w.is [
+    | inl c ↦ (let u = known_cell (place, site) c in record { index = u.index; within = final_within u.index u.within; is = u.is })
+    | inr v ↦ subst (λ kind. IsFinalUse (place, record { kind = kind; target = site.target })) (sym v.0) (final_jump place site.target v.1)
   ]
+
+  pub wanting_known : (place : ℕ) (site : Site) → IsWanting frame flags items out place site → place < out.pool → IsKnownUse (place, site)
+  wanting_known place site w early =
+      let u = wanting_final place site w in
+      record {
+        index = u.index;
+        within = elim (cases_lt u.index (length b.uses)) [
+          | inl old ↦ old
+          | inr new ↦ (let fresh = f.later.fresh u.index no_use new u.within in absurd (omega (arith, fresh, ap (λ (s : ℕ × Site). s.0) u.is, early, pool_at)))
+        ];
+        is = u.is;
+      }

@@ -1,5 +1,5 @@
 -- What the islands and the pool of finished code hold, told from its bytes.
-use Rattle.std.specs.Prelude.{ℕ, ◌≡◌, ◌⊎◌, ◌+◌, ◌<◌, ◌≤◌, false, List, All, Contains, length, slice_get, Some, IsSome}
+use Rattle.std.specs.Prelude.{ℕ, ◌≡◌, ◌⊎◌, ◌+◌, ◌<◌, ◌≤◌, false, List, All, Any, Contains, length, slice_get, Some, IsSome}
 use Rattle.std.specs.List.{AllPairs}
 use Rattle.std.specs.Ordering.{nat_cmp}
 use Rattle.std.specs.FinMap.{FinMap}
@@ -15,7 +15,7 @@ use Rattle.a64_emit.specs.declared.site.Site.{Site}
 use Rattle.a64_label_use.specs.LabelUses.{label_kinds}
 use Rattle.a64_emit.specs.Layout.{IsIslandAfter}
 use Rattle.a64_emit.specs.Contents.{ComesBefore, IsCellUse, Fills, IsFarOff}
-use Rattle.a64_assemble.specs.Placement.{standing_cells, UseStopsAt, IsWanting, IsOpenIn}
+use Rattle.a64_assemble.specs.Placement.{standing_cells, UseStopsAt, IsLabelAt, IsWanting, IsOpenIn}
 
 module _ (frame : FrameLayout) (flags : EmitFlags) (items : List Item) (constants : FinMap nat_cmp (List ℕ)) (code : Code) where
   -- no use of the same constant that stops at a place or behind it stands before a use
@@ -34,9 +34,25 @@ module _ (frame : FrameLayout) (flags : EmitFlags) (items : List Item) (constant
     | IslandEnd ↦ ⊥
   ]
 
+  -- what may want something of an island stops between two places, and not where its label stands
+  pub record StopsBetween (begin to : ℕ) (u : ℕ × Site) (stop : ℕ) : Type 0 where
+    pub is : IsWanting frame flags items code u.0 u.1
+    pub stops : UseStopsAt frame flags items code u.0 u.1.kind stop
+    pub from : begin ≤ stop
+    pub before : stop < to
+    pub away : IsLabelAt frame flags items code u stop → ⊥
+
+  -- a use that stops at a place does so by the piece of one: by its own, or by the copy of its constant
+  abbrev pub StopsBy : ℕ → ℕ × Site → ℕ × Site → Type 0
+  StopsBy stop u v =
+      (v ≡ u)
+      ⊎ (IsSome (constant_of u.1.target)
+      × (v.1.target ≡ u.1.target)
+      × UseStopsAt frame flags items code v.0 v.1.kind stop)
+
   -- from one place to another stands what some uses wait for, and nothing else, in the order of islands: each
   -- constant once, for its first use that stops behind the begin, and veneers, of cells' uses and of veneer words,
-  -- only where they may be given
+  -- only where they may be given; and whatever stops there, from the begin on, does so by one of these pieces
   pub record HoldsPieces (begin from to : ℕ) (MayServe : ℕ × Site → Type 0) : Type 0 where
     pub served : List (ℕ × Site)
     pub uses_are : All (λ u. IsWanting frame flags items code u.0 u.1) served
@@ -44,6 +60,8 @@ module _ (frame : FrameLayout) (flags : EmitFlags) (items : List Item) (constant
     pub first : All (IsFirstFrom begin) served
     pub may_serve : All MayServe served
     pub fills : Fills constants code from served to
+    pub answered :
+        (u : ℕ × Site) (stop : ℕ) → StopsBetween begin to u stop → Any (StopsBy stop u) served
 
   -- an island stands behind an item, and holds pieces behind its jump, for uses that are open there
   pub record IsFilledIsland (island : ℕ × ℕ) : Type 0 where

@@ -1,17 +1,16 @@
 -- Where the uses of cells stop: ahead of themselves, and branches at veneers of their own.
-use Rattle.std.specs.Prelude.{ℕ, ◌≡◌, ◌≢◌, ◌⊎◌, ◌<◌, true, List, All, Contains, Some, IfSome, IsSome}
+use Rattle.std.specs.Prelude.{ℕ, ◌≡◌, ◌≢◌, ◌⊎◌, ◌<◌, true, List, All, Some, IfSome, IsSome}
 use Rattle.a64_inst.specs.declared.emission.EmitFlags.{EmitFlags}
 use Rattle.a64_inst.specs.declared.frame.FrameLayout.{FrameLayout}
 use Rattle.a64_inst.specs.declared.item.Item.{Item}
 use Rattle.a64_buffer.specs.declared.site.Use.{Use}
-use Rattle.a64_buffer.specs.declared.site.Target.TheVariants.{Label, Constant, Trap, IslandEnd}
 use Rattle.a64_buffer.specs.Buffer.{Buffer, label_of, goal_of, IsOutside}
 use Rattle.a64_buffer.specs.Classes.{wants}
 use Rattle.a64_emit.specs.declared.code.Code.{Code}
 use Rattle.a64_label_use.specs.declared.label_use.LabelUse.{LabelUse}
 use Rattle.a64_emit.specs.declared.site.Site.{Site}
 use Rattle.a64_emit.specs.Contents.{site_class, IsCellUse}
-use Rattle.a64_assemble.specs.Placement.{standing_cells, UseStopsAt}
+use Rattle.a64_assemble.specs.Placement.{standing_cells, UseStopsAt, IsLabelAt}
 
 -- ---- of a buffer
 
@@ -31,22 +30,16 @@ module _ (frame : FrameLayout) (flags : EmitFlags) (items : List Item) (code : C
     pub wanting : wants (site_class u.1) ≡ true
     pub stops : UseStopsAt frame flags items code u.0 u.1.kind stop
 
-  -- the label of a use stands at a place
-  abbrev pub IsLabelAt : ℕ × Site → ℕ → Type 0
-  IsLabelAt u place = elim u.1.target [
-    | Label label ↦ Contains code.labels.items (label, place)
-    | Constant constant ↦ ⊥
-    | Trap trap ↦ ⊥
-    | IslandEnd ↦ ⊥
-  ]
-
   -- each stops ahead of itself, and goes back to nothing that stands in an island before it; but a branch may stop at its
   -- label's place, wherever that is
   abbrev pub StopAhead : Type 0
-  StopAhead = (u : ℕ × Site) (stop : ℕ) → IsStopOf u stop → (u.0 < stop) ⊎ IsLabelAt u stop
+  StopAhead =
+      (u : ℕ × Site) (stop : ℕ) → IsStopOf u stop
+      → (u.0 < stop) ⊎ IsLabelAt frame flags items code u stop
 
   -- two branches stop at one place only where the label of one of them stands: each veneer serves one of them
   abbrev pub HaveOwnVeneers : Type 0
   HaveOwnVeneers =
       (u v : ℕ × Site) (stop : ℕ) → u.0 ≢ v.0 → IsSome (label_of u.1.target) → IsSome (label_of v.1.target)
-      → IsStopOf u stop → IsStopOf v stop → IsLabelAt u stop ⊎ IsLabelAt v stop
+      → IsStopOf u stop → IsStopOf v stop
+      → IsLabelAt frame flags items code u stop ⊎ IsLabelAt frame flags items code v stop

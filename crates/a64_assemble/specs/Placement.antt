@@ -10,7 +10,7 @@ use Rattle.a64_buffer.specs.declared.class.Class.TheVariants.{Far}
 use Rattle.a64_buffer.specs.declared.force.ForceVeneers.{ForceVeneers}
 use Rattle.a64_buffer.specs.declared.force.ForceVeneers.TheVariants.{No, Yes}
 use Rattle.a64_buffer.specs.declared.site.Target.{Target}
-use Rattle.a64_buffer.specs.declared.site.Target.TheVariants.{Label}
+use Rattle.a64_buffer.specs.declared.site.Target.TheVariants.{Label, Constant, Trap, IslandEnd}
 use Rattle.a64_buffer.specs.Areas.{InArea}
 use Rattle.a64_buffer.specs.Buffer.{label_of}
 use Rattle.a64_buffer.specs.Classes.{wants}
@@ -36,8 +36,17 @@ module _ (frame : FrameLayout) (flags : EmitFlags) (items : List Item) (code : C
   abbrev pub UseStopsAt : ℕ → LabelUse → ℕ → Type 0
   UseStopsAt place kind stop = StopsAt code kind 0 place stop
 
+  -- the label of a use stands at a place
+  abbrev pub IsLabelAt : ℕ × Site → ℕ → Type 0
+  IsLabelAt u place = elim u.1.target [
+    | Label label ↦ Contains code.labels.items (label, place)
+    | Constant constant ↦ ⊥
+    | Trap trap ↦ ⊥
+    | IslandEnd ↦ ⊥
+  ]
+
   -- a veneer word, with its label as target: a jump word of an area at which a branch of 14 or 19 bits to that
-  -- label stops, and which is not the jump over an island
+  -- label stops, where the label does not stand, and which is not the jump over an island
   pub record IsVeneerWord (place : ℕ) (target : Target) : Type 0 where
     pub area : InArea (areas code) place 4
     pub word : outside (mask_for uses.Branch26) (word_at code.bytes.items place) ≡ 0x14000000
@@ -48,6 +57,7 @@ module _ (frame : FrameLayout) (flags : EmitFlags) (items : List Item) (code : C
     pub use' : IsCellUse standing_cells (user, record { kind = kind; target = target })
     pub stops : UseStopsAt user kind place
     pub not_over : (island : ℕ × ℕ) → Contains code.islands.items island → place ≡ island.0 → UseStopsAt place uses.Branch26 island.1 → ⊥
+    pub away : IsLabelAt (user, record { kind = kind; target = target }) place → ⊥
 
   -- a use that may want something of an island: a cell's, or a veneer word
   pub record IsWanting (place : ℕ) (site : Site) : Type 0 where
