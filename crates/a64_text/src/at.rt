@@ -33,6 +33,7 @@ pub trait Field: Copy {
 }
 
 /// What the field at a place holds.
+#[inline(always)]
 pub fn get<T: Field>(values: &[Value], i: usize) -> T
     ensures { result ≡ T.of (slice_get values.now i) }
 {
