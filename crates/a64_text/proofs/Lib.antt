@@ -1,3 +1,4 @@
+pub mod OtherKinds
 pub mod Headings
 pub mod Decimals
 pub mod TwoDigits

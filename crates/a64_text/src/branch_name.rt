@@ -57,9 +57,9 @@ fn make_cond_br(name: CondBrName, values: &[Value]) -> Option<CondBrKind>
     ensures { MakesCondBr name values.now result }
 {
     match name {
-        CondBrName::Zero => Some(CondBrKind::Zero(at::reg(values, 0), at::size(values, 1))),
-        CondBrName::NotZero => Some(CondBrKind::NotZero(at::reg(values, 0), at::size(values, 1))),
-        CondBrName::Cond => Some(CondBrKind::Cond(at::cond(values, 0))),
+        CondBrName::Zero => Some(CondBrKind::Zero(at::get(values, 0), at::get(values, 1))),
+        CondBrName::NotZero => Some(CondBrKind::NotZero(at::get(values, 0), at::get(values, 1))),
+        CondBrName::Cond => Some(CondBrKind::Cond(at::get(values, 0))),
     }
 }
 

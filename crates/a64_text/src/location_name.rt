@@ -52,8 +52,8 @@ fn make_location(name: LocationName, values: &[Value]) -> Option<RetLocation>
     ensures { MakesLocation name values.now result }
 {
     match name {
-        LocationName::Reg => Some(RetLocation::Reg(at::reg(values, 0), at::ir_type(values, 1))),
-        LocationName::Stack => Some(RetLocation::Stack(at::i64(values, 0), at::ir_type(values, 1))),
+        LocationName::Reg => Some(RetLocation::Reg(at::get(values, 0), at::get(values, 1))),
+        LocationName::Stack => Some(RetLocation::Stack(at::get(values, 0), at::get(values, 1))),
     }
 }
 

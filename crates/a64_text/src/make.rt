@@ -66,7 +66,7 @@ pub fn put_bind(items: &mut Vec<Item>, values: &[Value]) -> bool
     requires { vec_len items.old < vec_capacity items.old }
     ensures { Puts names.Bind values.now items.old.items items.new.items result }
 {
-    items.push_reserved(Item::Bind(at::label(values, 0)));
+    items.push_reserved(Item::Bind(at::get(values, 0)));
     true
 }
 
@@ -83,7 +83,7 @@ pub fn make_constant(alloc: Global, values: &[Value]) -> Result<Option<Entry>, A
     let Some(bytes) = read_constant(alloc, at::list(values, 1))? else {
         return Ok(None);
     };
-    Ok(Some(Entry::Constant(VCodeConstant(at::u32(values, 0)), bytes)))
+    Ok(Some(Entry::Constant(VCodeConstant(at::get(values, 0)), bytes)))
 }
 
 /// The size of an area of the frame.
@@ -92,7 +92,7 @@ pub fn make_frame(values: &[Value]) -> Entry
     ensures made { Makes names.Frame values.now (Some result) }
     ensures sized { IsSized result }
 {
-    Entry::Frame(at::frame_field(values, 0), at::u32(values, 1))
+    Entry::Frame(at::get(values, 0), at::get(values, 1))
 }
 
 /// The setting, which is true.
@@ -101,5 +101,5 @@ pub fn make_flag(values: &[Value]) -> Entry
     ensures made { Makes names.Flag values.now (Some result) }
     ensures sized { IsSized result }
 {
-    Entry::Flag(at::emit_flag(values, 0))
+    Entry::Flag(at::get(values, 0))
 }

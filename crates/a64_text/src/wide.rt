@@ -16,7 +16,10 @@ pub fn read_wide(token: &[u8]) -> Option<MoveWideConst>
 {
     let mut values: ArrayVec<Value, 2> = ArrayVec::new();
     let _ = read_fields::<Parts, 2>(&[Kind::U32, Kind::U32], Some(token), None, &mut values)?;
-    let (bits, shift) = (at::u32(values.as_slice(), 0), at::u32(values.as_slice(), 1));
+    let (bits, shift) = (
+        at::get::<u32>(values.as_slice(), 0),
+        at::get::<u32>(values.as_slice(), 1),
+    );
     if bits > 0xffff || shift > 48 || shift % 16 != 0 {
         return None;
     }

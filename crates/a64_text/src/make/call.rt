@@ -17,7 +17,7 @@ use crate::list::read_list;
 use crate::make::{emit_called, emit_some};
 use crate::name::CallName;
 use crate::value::Value;
-use a64_base::{ExternalName, PRegSet};
+use a64_base::{ExternalName, PRegSet, Reg};
 use a64_inst::{Boxed, CallArgPair, CallInfo, CallRetPair, Inst, Item, ReturnCallInfo};
 use a64_list::ListVec;
 use std::alloc::{AllocError, Global};
@@ -51,10 +51,10 @@ fn call_info<T: Drop>(dest: T, values: &[Value], lists: CallLists) -> CallInfo<T
         uses,
         defs,
         clobbers,
-        caller_conv: at::convention(values, 4),
-        callee_conv: at::convention(values, 5),
-        callee_pop_size: at::u32(values, 6),
-        patchable: at::truth(values, 7),
+        caller_conv: at::get(values, 4),
+        callee_conv: at::get(values, 5),
+        callee_pop_size: at::get(values, 6),
+        patchable: at::get(values, 7),
     }
 }
 
@@ -66,7 +66,7 @@ fn call(alloc: Global, values: &[Value]) -> Result<Option<Inst>, AllocError>
     let Some(lists) = call_lists(alloc, values)? else {
         return Ok(None);
     };
-    let dest = ExternalName(at::u32(values, 0));
+    let dest = ExternalName(at::get(values, 0));
     Ok(Some(Inst::Call {
         info: Boxed::new(alloc, call_info(dest, values, lists))?,
     }))
@@ -80,7 +80,7 @@ fn call_ind(alloc: Global, values: &[Value]) -> Result<Option<Inst>, AllocError>
     let Some(lists) = call_lists(alloc, values)? else {
         return Ok(None);
     };
-    let dest = at::reg(values, 0);
+    let dest = at::get::<Reg>(values, 0);
     Ok(Some(Inst::CallInd {
         info: Boxed::new(alloc, call_info(dest, values, lists))?,
     }))
@@ -97,9 +97,9 @@ fn return_call_info<T: Drop>(
     ReturnCallInfo {
         dest,
         uses,
-        new_stack_arg_size: at::u32(values, 2),
-        key: at::key(values, 3),
-        sign_return_address_all: at::truth(values, 4),
+        new_stack_arg_size: at::get(values, 2),
+        key: at::get(values, 3),
+        sign_return_address_all: at::get(values, 4),
     }
 }
 
@@ -111,7 +111,7 @@ fn return_call(alloc: Global, values: &[Value]) -> Result<Option<Inst>, AllocErr
     let Some(uses) = read_list::<CallArgPair>(alloc, at::list(values, 1))? else {
         return Ok(None);
     };
-    let dest = ExternalName(at::u32(values, 0));
+    let dest = ExternalName(at::get(values, 0));
     Ok(Some(Inst::ReturnCall {
         info: Boxed::new(alloc, return_call_info(dest, values, uses))?,
     }))
@@ -125,7 +125,7 @@ fn return_call_ind(alloc: Global, values: &[Value]) -> Result<Option<Inst>, Allo
     let Some(uses) = read_list::<CallArgPair>(alloc, at::list(values, 1))? else {
         return Ok(None);
     };
-    let dest = at::reg(values, 0);
+    let dest = at::get::<Reg>(values, 0);
     Ok(Some(Inst::ReturnCallInd {
         info: Boxed::new(alloc, return_call_info(dest, values, uses))?,
     }))
@@ -150,11 +150,11 @@ pub fn put_call(
     match name {
         CallName::Call => {
             let inst = call(alloc, values)?;
-            Ok(emit_called(items, inst, at::map(values, 8)))
+            Ok(emit_called(items, inst, at::get(values, 8)))
         }
         CallName::CallInd => {
             let inst = call_ind(alloc, values)?;
-            Ok(emit_called(items, inst, at::map(values, 8)))
+            Ok(emit_called(items, inst, at::get(values, 8)))
         }
         CallName::ReturnCall => Ok(emit_some(items, return_call(alloc, values)?)),
         CallName::ReturnCallInd => Ok(emit_some(items, return_call_ind(alloc, values)?)),

@@ -25,7 +25,7 @@ fn indirect_br(alloc: Global, values: &[Value]) -> Result<Option<Inst>, AllocErr
         return Ok(None);
     };
     Ok(Some(Inst::IndirectBr {
-        rn: at::reg(values, 0),
+        rn: at::get(values, 0),
         targets,
     }))
 }
@@ -51,32 +51,32 @@ pub fn put_control(
         ControlName::Jump => Ok(emit(
             items,
             Inst::Jump {
-                dest: at::target(values, 0),
+                dest: at::get(values, 0),
             },
         )),
         ControlName::CondBr => Ok(emit(
             items,
             Inst::CondBr {
-                taken: at::target(values, 0),
-                not_taken: at::target(values, 1),
-                kind: at::cond_br_kind(values, 2),
+                taken: at::get(values, 0),
+                not_taken: at::get(values, 1),
+                kind: at::get(values, 2),
             },
         )),
         ControlName::TestBitAndBranch => Ok(emit(
             items,
             Inst::TestBitAndBranch {
-                kind: at::test_bit_kind(values, 0),
-                taken: at::target(values, 1),
-                not_taken: at::target(values, 2),
-                rn: at::reg(values, 3),
-                bit: at::u8(values, 4),
+                kind: at::get(values, 0),
+                taken: at::get(values, 1),
+                not_taken: at::get(values, 2),
+                rn: at::get(values, 3),
+                bit: at::get(values, 4),
             },
         )),
         ControlName::TrapIf => Ok(emit(
             items,
             Inst::TrapIf {
-                kind: at::cond_br_kind(values, 0),
-                trap_code: TrapCode(at::u8(values, 1)),
+                kind: at::get(values, 0),
+                trap_code: TrapCode(at::get(values, 1)),
             },
         )),
         ControlName::IndirectBr => Ok(emit_some(items, indirect_br(alloc, values)?)),
@@ -84,32 +84,32 @@ pub fn put_control(
         ControlName::Udf => Ok(emit(
             items,
             Inst::Udf {
-                trap_code: TrapCode(at::u8(values, 0)),
+                trap_code: TrapCode(at::get(values, 0)),
             },
         )),
         ControlName::Word4 => Ok(emit(
             items,
             Inst::Word4 {
-                value: at::u32(values, 0),
+                value: at::get(values, 0),
             },
         )),
         ControlName::Word8 => Ok(emit(
             items,
             Inst::Word8 {
-                value: at::u64(values, 0),
+                value: at::get(values, 0),
             },
         )),
         ControlName::EmitIsland => Ok(emit(
             items,
             Inst::EmitIsland {
-                needed_space: at::u32(values, 0),
+                needed_space: at::get(values, 0),
             },
         )),
         ControlName::LabelAddress => Ok(emit(
             items,
             Inst::LabelAddress {
-                dst: Writable::from_reg(at::reg(values, 0)),
-                label: at::label(values, 1),
+                dst: Writable::from_reg(at::get(values, 0)),
+                label: at::get(values, 1),
             },
         )),
     }

@@ -21,9 +21,9 @@ pub fn put_access(items: &mut Vec<Item>, op: AccessOp, values: &[Value]) -> bool
 {
     let access = Access {
         op,
-        reg: at::reg(values, 0),
-        mem: at::mode(values, 1),
-        flags: at::flags(values, 2),
+        reg: at::get(values, 0),
+        mem: at::get(values, 1),
+        flags: at::get(values, 2),
     };
     emit(items, Inst::from_access(access))
 }
@@ -39,26 +39,26 @@ pub fn put_memory(items: &mut Vec<Item>, name: MemoryName, values: &[Value]) -> 
         MemoryName::LoadP64 => emit(
             items,
             Inst::LoadP64 {
-                rt: Writable::from_reg(at::reg(values, 0)),
-                rt2: Writable::from_reg(at::reg(values, 1)),
-                mem: at::pair_mode(values, 2),
-                flags: at::flags(values, 3),
+                rt: Writable::from_reg(at::get(values, 0)),
+                rt2: Writable::from_reg(at::get(values, 1)),
+                mem: at::get(values, 2),
+                flags: at::get(values, 3),
             },
         ),
         MemoryName::StoreP64 => emit(
             items,
             Inst::StoreP64 {
-                rt: at::reg(values, 0),
-                rt2: at::reg(values, 1),
-                mem: at::pair_mode(values, 2),
-                flags: at::flags(values, 3),
+                rt: at::get(values, 0),
+                rt2: at::get(values, 1),
+                mem: at::get(values, 2),
+                flags: at::get(values, 3),
             },
         ),
         MemoryName::LoadAddr => emit(
             items,
             Inst::LoadAddr {
-                rd: Writable::from_reg(at::reg(values, 0)),
-                mem: at::mode(values, 1),
+                rd: Writable::from_reg(at::get(values, 0)),
+                mem: at::get(values, 1),
             },
         ),
     }

@@ -65,8 +65,8 @@ fn unsigned_offset(values: &[Value]) -> Option<AMode>
     ensures { MakesMode ModeName.UnsignedOffset values.now result }
 {
     Some(AMode::UnsignedOffset {
-        rn: at::reg(values, 0),
-        uimm12: scaled_of(at::i64(values, 1), at::ir_type(values, 2))?,
+        rn: at::get(values, 0),
+        uimm12: scaled_of(at::get(values, 1), at::get(values, 2))?,
     })
 }
 
@@ -76,7 +76,7 @@ fn in_code(values: &[Value]) -> Option<AMode>
     ensures { MakesMode ModeName.Label values.now result }
 {
     Some(AMode::Label {
-        label: mem_label_of(at::mem_label_name(values, 0), at::i64(values, 1))?,
+        label: mem_label_of(at::get(values, 0), at::get(values, 1))?,
     })
 }
 
@@ -87,53 +87,53 @@ pub fn make_mode(name: ModeName, values: &[Value]) -> Option<AMode>
 {
     match name {
         ModeName::RegReg => Some(AMode::RegReg {
-            rn: at::reg(values, 0),
-            rm: at::reg(values, 1),
+            rn: at::get(values, 0),
+            rm: at::get(values, 1),
         }),
         ModeName::RegScaled => Some(AMode::RegScaled {
-            rn: at::reg(values, 0),
-            rm: at::reg(values, 1),
+            rn: at::get(values, 0),
+            rm: at::get(values, 1),
         }),
         ModeName::RegScaledExtended => Some(AMode::RegScaledExtended {
-            rn: at::reg(values, 0),
-            rm: at::reg(values, 1),
-            extendop: at::extend(values, 2),
+            rn: at::get(values, 0),
+            rm: at::get(values, 1),
+            extendop: at::get(values, 2),
         }),
         ModeName::RegExtended => Some(AMode::RegExtended {
-            rn: at::reg(values, 0),
-            rm: at::reg(values, 1),
-            extendop: at::extend(values, 2),
+            rn: at::get(values, 0),
+            rm: at::get(values, 1),
+            extendop: at::get(values, 2),
         }),
         ModeName::Unscaled => Some(AMode::Unscaled {
-            rn: at::reg(values, 0),
-            simm9: at::offset9(values, 1),
+            rn: at::get(values, 0),
+            simm9: at::get(values, 1),
         }),
         ModeName::UnsignedOffset => unsigned_offset(values),
         ModeName::Label => in_code(values),
         ModeName::SPPreIndexed => Some(AMode::SPPreIndexed {
-            simm9: at::offset9(values, 0),
+            simm9: at::get(values, 0),
         }),
         ModeName::SPPostIndexed => Some(AMode::SPPostIndexed {
-            simm9: at::offset9(values, 0),
+            simm9: at::get(values, 0),
         }),
         ModeName::FPOffset => Some(AMode::FPOffset {
-            off: at::i64(values, 0),
+            off: at::get(values, 0),
         }),
         ModeName::SPOffset => Some(AMode::SPOffset {
-            off: at::i64(values, 0),
+            off: at::get(values, 0),
         }),
         ModeName::IncomingArg => Some(AMode::IncomingArg {
-            off: at::i64(values, 0),
+            off: at::get(values, 0),
         }),
         ModeName::SlotOffset => Some(AMode::SlotOffset {
-            off: at::i64(values, 0),
+            off: at::get(values, 0),
         }),
         ModeName::RegOffset => Some(AMode::RegOffset {
-            rn: at::reg(values, 0),
-            off: at::i64(values, 1),
+            rn: at::get(values, 0),
+            off: at::get(values, 1),
         }),
         ModeName::Const => Some(AMode::Const {
-            addr: VCodeConstant(at::u32(values, 0)),
+            addr: VCodeConstant(at::get(values, 0)),
         }),
     }
 }
@@ -145,14 +145,14 @@ pub fn make_pair_mode(name: PairModeName, values: &[Value]) -> Option<PairAMode>
 {
     match name {
         PairModeName::SignedOffset => Some(PairAMode::SignedOffset {
-            reg: at::reg(values, 0),
-            simm7: at::pair_offset(values, 1),
+            reg: at::get(values, 0),
+            simm7: at::get(values, 1),
         }),
         PairModeName::SPPreIndexed => Some(PairAMode::SPPreIndexed {
-            simm7: at::pair_offset(values, 0),
+            simm7: at::get(values, 0),
         }),
         PairModeName::SPPostIndexed => Some(PairAMode::SPPostIndexed {
-            simm7: at::pair_offset(values, 0),
+            simm7: at::get(values, 0),
         }),
     }
 }

@@ -47,11 +47,11 @@ fn jt_sequence(alloc: Global, values: &[Value]) -> Result<Option<Inst>, AllocErr
         return Ok(None);
     };
     Ok(Some(Inst::JTSequence {
-        default: at::label(values, 0),
+        default: at::get(values, 0),
         targets,
-        ridx: at::reg(values, 2),
-        rtmp1: Writable::from_reg(at::reg(values, 3)),
-        rtmp2: Writable::from_reg(at::reg(values, 4)),
+        ridx: at::get(values, 2),
+        rtmp1: Writable::from_reg(at::get(values, 3)),
+        rtmp2: Writable::from_reg(at::get(values, 4)),
     }))
 }
 
@@ -77,7 +77,7 @@ pub fn put_sequence(
         SequenceName::DummyUse => Ok(emit(
             items,
             Inst::DummyUse {
-                reg: at::reg(values, 0),
+                reg: at::get(values, 0),
             },
         )),
         SequenceName::SequencePoint => Ok(emit(items, Inst::SequencePoint)),
@@ -85,32 +85,32 @@ pub fn put_sequence(
         SequenceName::LoadExtNameGot => Ok(emit(
             items,
             Inst::LoadExtNameGot {
-                rd: Writable::from_reg(at::reg(values, 0)),
-                name: ExternalName(at::u32(values, 1)),
+                rd: Writable::from_reg(at::get(values, 0)),
+                name: ExternalName(at::get(values, 1)),
             },
         )),
         SequenceName::LoadExtNameNear => Ok(emit(
             items,
             Inst::LoadExtNameNear {
-                rd: Writable::from_reg(at::reg(values, 0)),
-                name: ExternalName(at::u32(values, 1)),
-                offset: at::i64(values, 2),
+                rd: Writable::from_reg(at::get(values, 0)),
+                name: ExternalName(at::get(values, 1)),
+                offset: at::get(values, 2),
             },
         )),
         SequenceName::LoadExtNameFar => Ok(emit(
             items,
             Inst::LoadExtNameFar {
-                rd: Writable::from_reg(at::reg(values, 0)),
-                name: ExternalName(at::u32(values, 1)),
-                offset: at::i64(values, 2),
+                rd: Writable::from_reg(at::get(values, 0)),
+                name: ExternalName(at::get(values, 1)),
+                offset: at::get(values, 2),
             },
         )),
         SequenceName::StackProbeLoop => Ok(emit(
             items,
             Inst::StackProbeLoop {
-                start: Writable::from_reg(at::reg(values, 0)),
-                end: at::reg(values, 1),
-                step: at::imm12(values, 2),
+                start: Writable::from_reg(at::get(values, 0)),
+                end: at::get(values, 1),
+                step: at::get(values, 2),
             },
         )),
     }

@@ -9,8 +9,8 @@ pub returns-in_err-read_fields : goal.returns-in_err-read_fields
 returns-in_err-read_fields c = rw c.from_residual.ensures (no_pair c.args.token.now c.in_err-read_fields.ensures.read)
 
 pub returns-then-bits-gt65535 : goal.returns-then-bits-gt65535
-returns-then-bits-gt65535 c = no_wide c.args.token.now c.read_fields.new.values.items c.in_ok-read_fields.ensures.read c.u32-bits.result c.u32-shift.result
-    (c.u32-bits.ensures ∙ ap (λ (t : List Value). u32_at t 0) c.as_slice.ensures.value) (c.u32-shift.ensures ∙ ap (λ (t : List Value). u32_at t 1) c.as_slice-2.ensures.value) (λ w fits bits_are place_is.
+returns-then-bits-gt65535 c = no_wide c.args.token.now c.read_fields.new.values.items c.in_ok-read_fields.ensures.read c.get-bits.result c.get-shift.result
+    (c.get-bits.ensures ∙ ap (λ (t : List Value). u32_at t 0) c.as_slice.ensures.value) (c.get-shift.ensures ∙ ap (λ (t : List Value). u32_at t 1) c.as_slice-2.ensures.value) (λ w fits bits_are place_is.
     elim c.then-bits-gt65535.branch [
       | then-bits-gt65535-via-then-bits-gt65535 v ↦ omega (arith, fits.0)
       | then-bits-gt65535-via-else-bits-gt65535+then-shift-gt48 v ↦ omega (arith, fits.1)
@@ -18,6 +18,6 @@ returns-then-bits-gt65535 c = no_wide c.args.token.now c.read_fields.new.values.
     ])
 
 pub returns : goal.returns
-returns c = is_wide c.args.token.now c.read_fields.new.values.items c.in_ok-read_fields.ensures.read c.u32-bits.result c.u32-shift.result
-    (c.u32-bits.ensures ∙ ap (λ (t : List Value). u32_at t 0) c.as_slice.ensures.value) (c.u32-shift.ensures ∙ ap (λ (t : List Value). u32_at t 1) c.as_slice-2.ensures.value)
+returns c = is_wide c.args.token.now c.read_fields.new.values.items c.in_ok-read_fields.ensures.read c.get-bits.result c.get-shift.result
+    (c.get-bits.ensures ∙ ap (λ (t : List Value). u32_at t 0) c.as_slice.ensures.value) (c.get-shift.ensures ∙ ap (λ (t : List Value). u32_at t 1) c.as_slice-2.ensures.value)
     _ (omega arith, omega arith) refl (omega arith)
