@@ -1,7 +1,6 @@
 -- The form of an instruction of one word that has no fault of its own is a form of its row.
 use Rattle.std.proofs.Common.{ℕ, ◌≡◌, ◌<◌, ◌^◌, Bool, true, false, refl, lit<, arith, rules}
-use Rattle.std.specs.Prelude.{◌&&◌, ◌==◌, not}
-use Rattle.std.proofs.lemmas.Bool.{and_parts}
+use Rattle.std.specs.Prelude.{◌==◌, not}
 use Rattle.std.proofs.lemmas.Bool.Decides.{nat_tests}
 use Rattle.a64_base.specs.declared.reg.Reg.{Reg}
 use Rattle.a64_base.specs.declared.shift.ExtendOp.{ExtendOp}
@@ -14,17 +13,15 @@ use Rattle.a64_ops.specs.declared.operator.ALUOp.{ALUOp}
 use Rattle.a64_ops.specs.declared.operator.ALUOp.TheVariants as alu
 use Rattle.a64_ops.specs.declared.operator.ALUOp3.{ALUOp3}
 use Rattle.a64_ops.specs.declared.operator.ALUOp3.TheVariants.{MAdd, MSub, UMAddL, SMAddL}
-use Rattle.a64_inst.specs.declared.virtuals.VirtualRegisters.TheVariants.{Refused}
-use Rattle.a64_inst.specs.Operands.{is_register_or_zero}
 use Rattle.a64_inst.specs.IntegerOperands.{is_no_rotation, takes_shift}
 use Rattle.a64_rows.specs.Forms.{IsFormOf}
 use Rattle.a64_rows.specs.Limits.{is_bit_number}
 use Rattle.a64_rows.specs.DataProcessing.{add_sub_reg, logic_reg, add_sub_carry, mul_high}
 use Rattle.a64_enc_int.specs.Operators.{bit_of}
-use Rattle.a64_enc_int.specs.Registers.{register_field}
+use Rattle.a64_enc_int.proofs.Registers.{field_below}
 use Rattle.a64_emit.specs.declared.word.integer.operator.TwoRegisters.{TwoRegisters}
 use Rattle.a64_emit.specs.IntegerForms.{op_of, s_of, opc_of, n_of, two_registers, no_shift, add_sub, logic, with_carry, high_product, alu_form, extraction, shifted_form, extended_form, product_form}
-use Rattle.a64_emit.proofs.Operands.{zero_below, sf_below}
+use Rattle.a64_emit.proofs.Operands.{sf_below}
 
 -- ---- operations on two registers
 
@@ -35,14 +32,8 @@ pub record AreWithin (r : TwoRegisters) : Type 0 where
   pub rn : r.rn < 32
   pub rd : r.rd < 32
 
-pub registers_within : (size : OperandSize) (rd rn rm : Reg) → register_field rd < 32 → register_field rn < 32 → register_field rm < 32 → AreWithin (two_registers size rd rn rm)
-registers_within size rd rn rm d n m = record { sf = sf_below size; rm = m; rn = n; rd = d }
-
-pub zeros_within : (size : OperandSize) (rd rn rm : Reg) → (is_register_or_zero Refused rd && (is_register_or_zero Refused rn && is_register_or_zero Refused rm)) ≡ true → AreWithin (two_registers size rd rn rm)
-zeros_within size rd rn rm e =
-    let (result, operands) = and_parts (is_register_or_zero Refused rd) (is_register_or_zero Refused rn && is_register_or_zero Refused rm) e in
-    let (first, second) = and_parts (is_register_or_zero Refused rn) (is_register_or_zero Refused rm) operands in
-    registers_within size rd rn rm (zero_below rd result) (zero_below rn first) (zero_below rm second)
+pub registers_within : (size : OperandSize) (rd rn rm : Reg) → AreWithin (two_registers size rd rn rm)
+registers_within size rd rn rm = record { sf = sf_below size; rm = field_below rm; rn = field_below rn; rd = field_below rd }
 
 -- a shift within the widths and limits of the rows that have one
 pub record IsShift (sf : ℕ) (shift : Shift) : Type 0 where
