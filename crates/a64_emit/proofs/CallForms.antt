@@ -25,7 +25,7 @@ use Rattle.a64_emit.specs.MemoryForms.{addend, addend_form, offset_register, pai
 use Rattle.a64_emit.proofs.Accesses.{addend_good}
 use Rattle.a64_emit.proofs.AccessForms.{shape_forms, pair_word_is_form}
 use Rattle.a64_emit.proofs.BranchForms.{auti_is_form, branch_link_is_form, branch_link_register_is_form, indirect_br_is_form, jump_is_form}
-use Rattle.a64_emit.proofs.ImmediateForms.{alu_rr_imm12_within}
+use Rattle.a64_emit.proofs.ImmediateForms.{alu_rr_imm12_is_form}
 use Rattle.a64_emit.proofs.RegisterForms.{alu_rrr_extend_is_form}
 use Rattle.a64_emit.proofs.SequenceForms.{plan_shape}
 
@@ -50,7 +50,7 @@ adjust_are_forms amount = go (int_eq amount (pos 0)) (is_addend (unsigned_abs am
     go true small e = All-nil IsFormOf
     go false true e =
         let imm = addend (unsigned_abs amount) in
-        one_form (addend_form stack stack amount) (alu_rr_imm12_within (sum_op amount) Size64 stack stack imm (addend_good (unsigned_abs amount) e))
+        one_form (addend_form stack stack amount) (alu_rr_imm12_is_form (sum_op amount) Size64 stack stack imm (addend_good (unsigned_abs amount) e))
     go false false e =
         All-append IsFormOf steps (last ∷ []) (shape_forms offset_register (plan_of (unsigned_abs amount)) (plan_shape (unsigned_abs amount)))
         (one_form last (alu_rrr_extend_is_form (sum_op amount) Size64 stack stack offset_register UXTX))

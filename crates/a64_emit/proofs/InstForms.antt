@@ -1,5 +1,5 @@
 -- The cells of instructions and items without a fault are forms of their rows, or data.
-use Rattle.std.proofs.Common.{ℕ, ℤ, pos, suc, ◌-ℤ◌, ◌≡◌, ◌+◌, ◌*◌, ◌/◌, ◌%◌, ◌<◌, ◌^◌, Bool, true, false, List, [], ◌∷◌, ◌++◌, length, get_or, map, Option, None, Some, refl, sym, subst, lit<, arith}
+use Rattle.std.proofs.Common.{ℕ, ℤ, pos, suc, ◌-ℤ◌, ◌≡◌, ◌+◌, ◌*◌, ◌<◌, ◌^◌, Bool, true, false, List, [], ◌∷◌, ◌++◌, length, get_or, map, Option, None, Some, refl, sym, subst, arith, rules}
 use Rattle.std.specs.Prelude.{All, ◌&&◌, not, if◌then◌else◌}
 use Rattle.std.specs.List.{flat_map}
 use Rattle.std.specs.Ordering.{nat_cmp, int_eq}
@@ -12,10 +12,8 @@ use Rattle.a64_base.specs.declared.entity.UserStackMap.{UserStackMap}
 use Rattle.a64_base.specs.declared.ir_type.IrType.TheVariants.{I8}
 use Rattle.a64_base.specs.declared.key.APIKey.{APIKey}
 use Rattle.a64_base.specs.declared.reg.Reg.{Reg}
-use Rattle.a64_base.specs.declared.reg.Reg.TheVariants.{Real}
 use Rattle.a64_base.specs.declared.size.OperandSize.TheVariants.{Size64}
 use Rattle.a64_base.specs.declared.target.BranchTarget.{BranchTarget}
-use Rattle.a64_base.specs.declared.target.BranchTarget.TheVariants.{Label}
 use Rattle.a64_ops.specs.declared.operator.ALUOp.TheVariants as alu
 use Rattle.a64_plan.specs.Plans.{plan_of}
 use Rattle.a64_inst.specs.declared.access.Access.{Access}
@@ -34,6 +32,8 @@ use Rattle.a64_inst.specs.Addresses.{is_numbered}
 use Rattle.a64_inst.specs.CallOperands.{are_call_defs, is_result_at}
 use Rattle.a64_inst.specs.Faults.{can_restore, has_plain_operands, has_other_operands, has_operands, has_other_mode, has_mode, has_scratch, inst_fault, is_restorable}
 use Rattle.a64_inst.specs.FinalModes.{FinalMode, SignedOffset, ScaledOffset, Other, final_mode, final_steps}
+use Rattle.a64_inst.specs.ControlOperands.{are_test_bit_operands}
+use Rattle.a64_inst.specs.IntegerOperands.{are_alu_rr_imm12_operands, are_alu_rr_imm_logic_operands, are_alu_rr_imm_shift_operands, are_alu_rrr_shift_operands, are_bit_rr_operands, are_mov_wide_operands, are_mov_k_operands, are_bitfield_move_operands, are_bitfield_move_mod_operands}
 use Rattle.a64_inst.specs.Lone.{is_lone}
 use Rattle.a64_inst.specs.MemoryOperands.{is_addend, needs_x17_beside, are_mode_parts, are_mode_operands, are_address_operands, are_access_operands, has_access_mode, is_data_register}
 use Rattle.a64_inst.specs.Operands.{is_register, is_register_or_zero, is_same_register}
@@ -45,23 +45,27 @@ use Rattle.a64_emit.specs.declared.call.Callee.{Callee}
 use Rattle.a64_emit.specs.declared.call.Callee.TheVariants.{Symbol, Address}
 use Rattle.a64_label_use.specs.declared.label_use.LabelUse.{LabelUse}
 use Rattle.a64_label_use.specs.declared.label_use.LabelUse.TheVariants as uses
-use Rattle.a64_emit.specs.Cells.{Cell, Shape, OneWord, Several, Words, FormOf, Data, plain, trap_site, last_cell, branch, branches, data_cell, quiet, sum_shape, address_shape, access_shape, plain_shape, other_shape, shape_of, shape_cells, inst_cells, cells_of, pop_forms, call_cell, call_cells, patchable_cells, result_cells, lone_cell, restored_cell, leave_forms, return_cell, return_cells, keep, kept_by}
+use Rattle.a64_emit.specs.Cells.{Cell, Shape, OneWord, Several, Words, plain, last_cell, branch, branches, quiet, sum_shape, address_shape, access_shape, plain_shape, other_shape, shape_of, shape_cells, inst_cells, cells_of, pop_forms, call_cell, call_cells, patchable_cells, result_cells, lone_cell, restored_cell, leave_forms, return_cell, return_cells, keep, kept_by}
 use Rattle.a64_emit.specs.FormCells.{IsFormBody, IsFormCell, HasHalfword, RestoresHalfwords, HoldsHalfword}
 use Rattle.a64_emit.specs.Faults.{item_fault}
-use Rattle.a64_emit.specs.ControlForms.{jump_form, cond_br_form, trap_if_form, test_bit_and_branch_form, label_address_form, udf_word}
-use Rattle.a64_emit.specs.IntegerForms.{mov_form}
+use Rattle.a64_emit.specs.ControlForms.{jump_form, ret_form, brk_form}
+use Rattle.a64_emit.specs.IntegerForms.{mov_form, csneg_form, cset_form, csetm_form, ccmp_form, ccmp_imm_form, mov_to_nzcv_form, mov_from_nzcv_form}
 use Rattle.a64_emit.specs.MemoryForms.{step_forms, addend_register, offset_register, addend, addend_form, sum_form, sum_op}
 use Rattle.a64_emit.proofs.Accesses.{mode_good, byte_size, addend_good}
 use Rattle.a64_emit.proofs.AccessForms.{HoldsOffset, final_holds, plan_forms, final_steps_forms, parts_are_form, access_is_form, access_steps_forms, pair_is_form}
 use Rattle.a64_emit.proofs.BranchForms as control
+use Rattle.a64_emit.proofs.BranchForms.{branch_forms}
 use Rattle.a64_emit.proofs.CallForms.{adjust_are_forms, call_is_form, leave_are_forms, return_is_form}
 use Rattle.a64_emit.proofs.CallLoads.{loading, loaded_cells}
 use Rattle.a64_emit.proofs.CallOperands.{call_results, return_restorable}
 use Rattle.a64_emit.proofs.ImmediateForms as immediate
+use Rattle.a64_emit.proofs.ImmediateForms.{immediate_forms}
 use Rattle.a64_emit.proofs.LogicForms.{alu_rr_imm_logic_within}
-use Rattle.a64_emit.proofs.Operands.{test_bit_parts}
+use Rattle.a64_emit.proofs.OneWord.{field_widths}
+use Rattle.a64_emit.proofs.Operands.{parts}
 use Rattle.a64_emit.proofs.RegisterForms as register
-use Rattle.a64_emit.proofs.SequenceForms.{plain_forms, sequence_forms}
+use Rattle.a64_emit.proofs.RegisterForms.{register_forms}
+use Rattle.a64_emit.proofs.SequenceForms.{plain_forms, sequences}
 
 -- ---- shapes
 
@@ -98,7 +102,7 @@ module _ (rd rn : Reg) where
       go : (none same small : Bool) → is_addend (unsigned_abs offset) ≡ small → AreForms (if none then (if same then Words [] else quiet [] (mov_form Size64 rd rn)) else if small then quiet [] (addend_form rd rn offset) else quiet (step_forms addend_register (plan_of (unsigned_abs offset))) (sum_form rd rn offset))
       go true true small e = All-nil IsFormCell
       go true false small e = (All-nil IsFormOf, register.mov_is_form Size64 rd rn)
-      go false same true e = (All-nil IsFormOf, immediate.alu_rr_imm12_within (sum_op offset) Size64 rd rn (addend (unsigned_abs offset)) (addend_good (unsigned_abs offset) e))
+      go false same true e = (All-nil IsFormOf, immediate.alu_rr_imm12_is_form (sum_op offset) Size64 rd rn (addend (unsigned_abs offset)) (addend_good (unsigned_abs offset) e))
       go false same false e = (plan_forms addend_register (unsigned_abs offset) fits, register.alu_rrr_is_form (sum_op offset) Size64 rd rn addend_register)
 
 mode_forms : (rd : Reg) (before : List Form) (mode : FinalMode) → All IsFormOf before → HoldsOffset mode → AreForms (address_shape rd before mode)
@@ -122,63 +126,15 @@ branch_pair form kind taken not_taken is = two_cells (branch form kind taken) (b
 
 -- ---- instructions that are no calls
 
+-- a form is one of its row by the widths of its fields, or by its own lemma where they are not enough
+ruleset inst_rules = (rules, parts, field_widths, register_forms, immediate_forms, alu_rr_imm_logic_within, branch_forms, sequences, pair_is_form, address_forms, All-nil, one_cell, two_cells, branch_pair)
+
 module _ (frame : FrameLayout) (flags : EmitFlags) where
   plain_shape_forms : (inst : Inst) → HasHalfword inst → has_plain_operands frame flags Refused inst ≡ true → AreForms (plain_shape frame flags inst)
-  plain_shape_forms insts.Nop0 fits good = All-nil IsFormCell
+  unfolding csneg_form cset_form csetm_form ccmp_form ccmp_imm_form mov_to_nzcv_form mov_from_nzcv_form ret_form brk_form
+      are_alu_rr_imm12_operands are_alu_rr_imm_logic_operands are_alu_rr_imm_shift_operands are_alu_rrr_shift_operands are_bit_rr_operands are_mov_wide_operands are_mov_k_operands are_bitfield_move_operands are_bitfield_move_mod_operands are_test_bit_operands
   plain_shape_forms insts.Nop4 fits good = control.nop4_is_form
-  plain_shape_forms (insts.AluRRR alu_op size rd rn rm) fits good = register.alu_rrr_is_form alu_op size rd rn rm
-  plain_shape_forms (insts.AluRRRR alu_op size rd rn rm ra) fits good = register.alu_rrrr_is_form alu_op size rd rn rm ra
-  plain_shape_forms (insts.AluRRImm12 alu_op size rd rn imm12) fits good = immediate.alu_rr_imm12_is_form alu_op size rd rn imm12 good
-  plain_shape_forms (insts.AluRRImmLogic alu_op size rd rn imml) fits good = alu_rr_imm_logic_within alu_op size rd rn imml good
-  plain_shape_forms (insts.AluRRImmShift alu_op size rd rn immshift) fits good = immediate.alu_rr_imm_shift_is_form alu_op size rd rn immshift good
-  plain_shape_forms (insts.AluRRRShift alu_op size rd rn rm shiftop) fits good = register.alu_rrr_shift_is_form alu_op size rd rn rm shiftop good
-  plain_shape_forms (insts.AluRRRExtend alu_op size rd rn rm extendop) fits good = register.alu_rrr_extend_is_form alu_op size rd rn rm extendop
-  plain_shape_forms (insts.BitRR op size rd rn) fits good = register.bit_rr_is_form op size rd rn good
-  plain_shape_forms (insts.Mov size rd rm) fits good = register.mov_is_form size rd rm
-  plain_shape_forms (insts.MovFromPReg rd rm) fits good = register.mov_is_form Size64 rd (Real rm)
-  plain_shape_forms (insts.MovToPReg rd rm) fits good = register.mov_is_form Size64 (Real rd) rm
-  plain_shape_forms (insts.MovWide op rd imm size) fits good = immediate.mov_wide_is_form op rd imm size good fits
-  plain_shape_forms (insts.MovK rd rn imm size) fits good = immediate.mov_k_is_form rd rn imm size good fits
-  plain_shape_forms (insts.CSel rd rn rm cond) fits good = register.csel_is_form rd rn rm cond
-  plain_shape_forms (insts.CSNeg rd rn rm cond) fits good = register.csneg_is_form rd rn rm cond
-  plain_shape_forms (insts.CSet rd cond) fits good = register.cset_is_form rd cond
-  plain_shape_forms (insts.CSetm rd cond) fits good = register.csetm_is_form rd cond
-  plain_shape_forms (insts.CCmp size rn rm nzcv cond) fits good = register.ccmp_is_form size rn rm nzcv cond
-  plain_shape_forms (insts.CCmpImm size rn imm nzcv cond) fits good = register.ccmp_imm_is_form size rn imm nzcv cond
-  plain_shape_forms (insts.Extend rd rn signed from_bits to_bits) fits good = register.extend_is_form rd rn signed from_bits to_bits good
-  plain_shape_forms (insts.BitfieldMove size bfm_op rd rn immr imms) fits good = immediate.bitfield_move_is_form size bfm_op rd rn immr imms good
-  plain_shape_forms (insts.BitfieldMoveMod size rd ri rn immr imms) fits good = immediate.bitfield_move_mod_is_form size rd ri rn immr imms good
-  plain_shape_forms (insts.MovToNZCV rn) fits good = control.mov_to_nzcv_is_form rn
-  plain_shape_forms (insts.MovFromNZCV rd) fits good = control.mov_from_nzcv_is_form rd
-  plain_shape_forms (insts.Adr rd off) fits good = immediate.adr_is_form rd off
-  plain_shape_forms (insts.Adrp rd off) fits good = immediate.adrp_is_form rd off
-  plain_shape_forms insts.Ret fits good = control.ret_is_form
-  plain_shape_forms (insts.Jump dest) fits good = one_cell (branch (jump_form dest) uses.Branch26 dest) (control.jump_is_form dest)
-  plain_shape_forms (insts.CondBr taken not_taken kind) fits good =
-      branch_pair (cond_br_form taken kind) uses.Branch19 taken not_taken (control.cond_br_is_form taken kind)
-  plain_shape_forms (insts.TestBitAndBranch kind taken not_taken rn bit) fits good =
-      branch_pair (test_bit_and_branch_form kind taken rn bit) uses.Branch14 taken not_taken (control.test_bit_and_branch_is_form kind taken rn bit (test_bit_parts taken not_taken rn bit good).below)
-  plain_shape_forms (insts.TrapIf kind trap_code) fits good = one_cell (last_cell (FormOf (trap_if_form kind)) (Some (trap_site trap_code)) None) (control.trap_if_is_form kind)
-  plain_shape_forms (insts.EmitIsland needed_space) fits good = All-nil IsFormCell
-  plain_shape_forms (insts.IndirectBr rn targets) fits good = control.indirect_br_is_form rn
-  plain_shape_forms insts.Brk fits good = control.brk_is_form
-  plain_shape_forms (insts.Udf trap_code) fits good = one_cell (last_cell (Data udf_word) None (Some trap_code)) tt
-  plain_shape_forms (insts.Word4 value) fits good = one_cell (data_cell value) tt
-  plain_shape_forms (insts.Word8 value) fits good = two_cells (data_cell (value % 2 ^ 32)) (data_cell (value / 2 ^ 32)) tt tt
-  plain_shape_forms (insts.LabelAddress dst label) fits good = one_cell (branch (label_address_form dst) uses.Adr21 (Label label)) (control.label_address_is_form dst)
-  plain_shape_forms (insts.Args args) fits good = sequence_forms frame flags (insts.Args args) refl good
-  plain_shape_forms (insts.Rets rets) fits good = sequence_forms frame flags (insts.Rets rets) refl good
-  plain_shape_forms (insts.DummyUse reg) fits good = sequence_forms frame flags (insts.DummyUse reg) refl good
-  plain_shape_forms insts.SequencePoint fits good = sequence_forms frame flags insts.SequencePoint refl good
-  plain_shape_forms (insts.JTSequence default targets ridx rtmp1 rtmp2) fits good = sequence_forms frame flags (insts.JTSequence default targets ridx rtmp1 rtmp2) refl good
-  plain_shape_forms (insts.LoadExtNameGot rd name) fits good = sequence_forms frame flags (insts.LoadExtNameGot rd name) refl good
-  plain_shape_forms (insts.LoadExtNameNear rd name offset) fits good = sequence_forms frame flags (insts.LoadExtNameNear rd name offset) refl good
-  plain_shape_forms (insts.LoadExtNameFar rd name offset) fits good = sequence_forms frame flags (insts.LoadExtNameFar rd name offset) refl good
-  plain_shape_forms (insts.StackProbeLoop start end step) fits good = sequence_forms frame flags (insts.StackProbeLoop start end step) refl good
-  plain_shape_forms (insts.LoadP64 rt rt2 mem trap) fits good = (All-nil IsFormOf, pair_is_form 1 rt rt2 mem (lit< tt))
-  plain_shape_forms (insts.StoreP64 rt rt2 mem trap) fits good = (All-nil IsFormOf, pair_is_form 0 rt rt2 mem (lit< tt))
-  plain_shape_forms (insts.LoadAddr rd mem) fits good = address_forms frame rd mem good
-  plain_shape_forms _ fits good = absurd cc
+  plain_shape_forms _ fits good = search inst_rules
 
 module _ (frame : FrameLayout) where
   access_forms : (access : Access) → are_access_operands frame Refused access ≡ true → has_access_mode access.op access.mem ≡ true → AreForms (access_shape frame access)

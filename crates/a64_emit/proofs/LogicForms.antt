@@ -1,5 +1,5 @@
 -- The form of a logical operation with an immediate that has no fault of its own is a form of its row.
-use Rattle.std.proofs.Common.{◌≡◌, ◌+◌, ◌-◌, ◌<◌, true, false, refl, ap, ◌∙◌, arith}
+use Rattle.std.proofs.Common.{◌≡◌, ◌+◌, ◌-◌, ◌<◌, true, false, refl, ap, ◌∙◌, arith, rules}
 use Rattle.std.specs.Prelude.{◌&&◌, ◌==◌, nat_eq}
 use Rattle.std.proofs.lemmas.Bool.{and_parts, and_from, eqb-true}
 use Rattle.std.proofs.lemmas.Nat.{mod_below}
@@ -23,10 +23,8 @@ use Rattle.a64_rows.specs.Limits.{is_bitmask, is_bitmask_of}
 use Rattle.a64_rows.specs.DataProcessing.{logic_imm}
 use Rattle.a64_enc_int.specs.Operators.{bit_of}
 use Rattle.a64_enc_int.proofs.Immediates.{logic_within}
-use Rattle.a64_enc_int.proofs.Registers.{field_below}
 use Rattle.a64_emit.specs.IntegerForms.{logic_fields, taken, alu_rr_imm_logic_form}
-use Rattle.a64_emit.proofs.Operands.{sf_below}
-use Rattle.a64_emit.proofs.OneWord.{opc_below, bit_of_below}
+use Rattle.a64_emit.proofs.OneWord.{field_widths}
 
 same_size : (a b : OperandSize) → is_same_size a b ≡ true → a ≡ b
 same_size Size32 Size32 e = refl
@@ -45,7 +43,7 @@ record AreFields (size : OperandSize) (imm : ImmLogic) : Type 0 where
   bitmask : is_bitmask_of (sf_of size) (bit_of imm.n) imm.r imm.s ≡ true
 
 fields_within : (op : ALUOp) (size : OperandSize) (rd rn : Reg) (imm : ImmLogic) → AreFields size imm → IsFormOf (logic_imm (logic_fields op size rd rn imm))
-fields_within op size rd rn imm are = ((sf_below size, (opc_below op, (bit_of_below imm.n, (are.r, (are.s, (field_below rn, (field_below rd, tt))))))), are.bitmask)
+fields_within op size rd rn imm are = search (rules, field_widths)
 
 lawful_fields : (size : OperandSize) (imm : ImmLogic) → imm.size ≡ size → IsImmLogic imm → AreFields size imm
 lawful_fields size imm same is = record { r = r_fits imm.size imm is; s = s_fits imm.size imm is; bitmask = logic_within size imm same is }
@@ -103,11 +101,9 @@ taken_fields alu.OrrNot size rd imm kind same e = inverted_fields size imm same 
 taken_fields alu.EorNot size rd imm kind same e = inverted_fields size imm same e
 taken_fields _ size rd imm kind same e = absurd cc
 
-pub alu_rr_imm_logic_within : (op : ALUOp) (size : OperandSize) (rd rn : Reg) (imml : ImmLogic) → are_alu_rr_imm_logic_operands Refused op size rd rn imml ≡ true → IsFormOf (alu_rr_imm_logic_form op size rd rn imml)
-unfolding are_alu_rr_imm_logic_operands alu_rr_imm_logic_form
-alu_rr_imm_logic_within op size rd rn imml good =
-    let (result, others) = and_parts (is_logic_result Refused op rd) (is_register_or_zero Refused rn && is_logic_of size imml) good in
-    let (_, of_size) = and_parts (is_register_or_zero Refused rn) (is_logic_of size imml) others in
+pub alu_rr_imm_logic_within : (op : ALUOp) (size : OperandSize) (rd rn : Reg) (imml : ImmLogic) → is_logic_result Refused op rd ≡ true → is_logic_of size imml ≡ true → IsFormOf (alu_rr_imm_logic_form op size rd rn imml)
+unfolding alu_rr_imm_logic_form
+alu_rr_imm_logic_within op size rd rn imml result of_size =
     let (same, is) = and_parts (is_same_size imml.size size) (is_imm_logic imml) of_size in
     fields_within op size rd rn (taken op imml) (taken_fields op size rd imml result (same_size imml.size size same) is)
 

@@ -33,6 +33,16 @@ use Rattle.a64_enc_int.specs.Branches.{IsGeneralTest}
 use Rattle.a64_enc_int.specs.Registers.{IsReal, IsGeneral, register_field}
 use Rattle.a64_enc_int.proofs.Registers.{field_below}
 
+-- ---- the parts of a test that holds
+
+pub first_holds : (x y : Bool) → (x && y) ≡ true → x ≡ true
+first_holds x y e = (and_parts x y e).0
+
+pub second_holds : (x y : Bool) → (x && y) ≡ true → y ≡ true
+second_holds x y e = (and_parts x y e).1
+
+pub ruleset parts = (first_holds, second_holds)
+
 -- ---- registers of a test are general
 
 int_class : (class : RegClass) → is_int class ≡ true → class ≡ Int

@@ -1,35 +1,30 @@
 -- The form of an integer operation on registers that has no fault of its own is a form of its row.
-use Rattle.std.proofs.Common.{ℕ, ◌≡◌, ◌-◌, ◌<◌, ◌^◌, Bool, true, false, refl, subst, lit<, arith}
+use Rattle.std.proofs.Common.{ℕ, ◌≡◌, ◌-◌, ◌<◌, ◌^◌, Bool, true, false, refl, subst, arith, rules}
 use Rattle.std.specs.Prelude.{◌&&◌, ◌||◌, not, nat_lt, nat_eq, if◌then◌else◌}
-use Rattle.std.proofs.lemmas.Bool.{and_parts}
 use Rattle.a64_base.specs.declared.cond.Cond.{Cond}
 use Rattle.a64_base.specs.declared.reg.Reg.{Reg}
 use Rattle.a64_base.specs.declared.shift.ExtendOp.{ExtendOp}
 use Rattle.a64_base.specs.declared.size.OperandSize.{OperandSize}
 use Rattle.a64_base.specs.declared.size.OperandSize.TheVariants.{Size32, Size64}
-use Rattle.a64_base.specs.Conditions.{condition_bits, inverse_of}
 use Rattle.a64_base.specs.OperandSizes.{sf_of, is_64_bits}
 use Rattle.a64_base.specs.Registers.{integer_register}
 use Rattle.a64_base.specs.ShiftParts.{Shift}
-use Rattle.a64_imms.specs.declared.flags.NZCV.{NZCV}
-use Rattle.a64_imms.specs.declared.unsigned.UImm5.{UImm5}
-use Rattle.a64_imms.specs.Flags.{Flags, flags_of, nzcv_bits}
 use Rattle.a64_ops.specs.declared.operator.ALUOp.{ALUOp}
 use Rattle.a64_ops.specs.declared.operator.ALUOp.TheVariants.{Orr}
 use Rattle.a64_ops.specs.declared.operator.ALUOp3.{ALUOp3}
 use Rattle.a64_ops.specs.declared.operator.BitOp.{BitOp}
-use Rattle.a64_ops.specs.declared.operator.BitOp.TheVariants.{RBit, Clz, Cls, Rev16, Rev32, Rev64}
+use Rattle.a64_ops.specs.declared.operator.BitOp.TheVariants.{Rev64}
 use Rattle.a64_inst.specs.declared.virtuals.VirtualRegisters.TheVariants.{Refused}
-use Rattle.a64_inst.specs.Operands.{is_register_or_zero, is_stack_pointer, is_bit_of}
-use Rattle.a64_inst.specs.IntegerOperands.{takes_shift, is_rev64, are_extend_operands, are_alu_rrr_shift_operands, are_bit_rr_operands}
+use Rattle.a64_inst.specs.Operands.{is_stack_pointer, is_bit_of}
+use Rattle.a64_inst.specs.IntegerOperands.{takes_shift, is_rev64, are_extend_operands}
 use Rattle.a64_rows.specs.Forms.{Form, IsFormOf}
 use Rattle.a64_rows.specs.DataProcessing.{add_sub_imm, logic_reg, logic_imm, bitfield}
 use Rattle.a64_rows.specs.Limits.{is_one_source}
 use Rattle.a64_enc_int.specs.Registers.{register_field}
 use Rattle.a64_enc_int.proofs.Registers.{field_below}
-use Rattle.a64_emit.specs.IntegerForms.{two_registers, no_shift, alu_rrr_form, alu_rrrr_form, alu_rrr_shift_form, alu_rrr_extend_form, bit_opcode, bit_rr_form, mov_form, extend_form, csel_form, csneg_form, cset_form, csetm_form, ccmp_form, ccmp_imm_form}
+use Rattle.a64_emit.specs.IntegerForms.{two_registers, no_shift, alu_rrr_form, alu_rrrr_form, alu_rrr_shift_form, alu_rrr_extend_form, bit_opcode, bit_rr_form, mov_form, extend_form, csel_form}
 use Rattle.a64_emit.proofs.Operands.{sf_below, bit_below, bit_in, bit_number, extension_is_form}
-use Rattle.a64_emit.proofs.OneWord.{registers_within, no_shift_within, alu_within, shifted_within, extended_within, product_within}
+use Rattle.a64_emit.proofs.OneWord.{registers_within, no_shift_within, alu_within, shifted_within, extended_within, product_within, field_widths}
 
 -- ---- operations on two registers
 
@@ -37,12 +32,10 @@ pub alu_rrr_is_form : (op : ALUOp) (size : OperandSize) (rd rn rm : Reg) → IsF
 unfolding alu_rrr_form
 alu_rrr_is_form op size rd rn rm = alu_within (two_registers size rd rn rm) (registers_within size rd rn rm) op no_shift (no_shift_within (sf_of size) (sf_below size)) (grind arith)
 
-pub alu_rrr_shift_is_form : (op : ALUOp) (size : OperandSize) (rd rn rm : Reg) (shiftop : Shift) → are_alu_rrr_shift_operands Refused op size rd rn rm shiftop ≡ true
+pub alu_rrr_shift_is_form : (op : ALUOp) (size : OperandSize) (rd rn rm : Reg) (shiftop : Shift) → takes_shift op size shiftop.op ≡ true → is_bit_of size shiftop.amount ≡ true
     → IsFormOf (alu_rrr_shift_form op size rd rn rm shiftop)
-unfolding are_alu_rrr_shift_operands alu_rrr_shift_form
-alu_rrr_shift_is_form op size rd rn rm shiftop good =
-    let (_, shift) = and_parts (is_register_or_zero Refused rd && (is_register_or_zero Refused rn && is_register_or_zero Refused rm)) (takes_shift op size shiftop.op && is_bit_of size shiftop.amount) good in
-    let (takes, bit) = and_parts (takes_shift op size shiftop.op) (is_bit_of size shiftop.amount) shift in
+unfolding alu_rrr_shift_form
+alu_rrr_shift_is_form op size rd rn rm shiftop takes bit =
     let below = bit_below size shiftop.amount bit in
     shifted_within (two_registers size rd rn rm) (registers_within size rd rn rm) op size shiftop takes
     (record { amount = bit_in size shiftop.amount below; bit = bit_number size shiftop.amount below })
@@ -61,18 +54,12 @@ bit_opcode_below : (op : BitOp) → bit_opcode op < 2 ^ 6
 bit_opcode_below op = grind arith
 
 bit_opcode_of : (op : BitOp) (size : OperandSize) → (not (is_rev64 op) || is_64_bits size) ≡ true → is_one_source (sf_of size) (bit_opcode op) ≡ true
-bit_opcode_of RBit size e = refl
-bit_opcode_of Rev16 size e = refl
-bit_opcode_of Rev32 size e = refl
 bit_opcode_of Rev64 size e = grind arith
-bit_opcode_of Clz size e = refl
-bit_opcode_of Cls size e = refl
+bit_opcode_of _ size e = refl
 
-pub bit_rr_is_form : (op : BitOp) (size : OperandSize) (rd rn : Reg) → are_bit_rr_operands Refused op size rd rn ≡ true → IsFormOf (bit_rr_form op size rd rn)
-unfolding are_bit_rr_operands bit_rr_form
-bit_rr_is_form op size rd rn good =
-    let (_, wide) = and_parts (is_register_or_zero Refused rd && is_register_or_zero Refused rn) (not (is_rev64 op) || is_64_bits size) good in
-    ((sf_below size, (bit_opcode_below op, (field_below rn, (field_below rd, tt)))), bit_opcode_of op size wide)
+pub bit_rr_is_form : (op : BitOp) (size : OperandSize) (rd rn : Reg) → (not (is_rev64 op) || is_64_bits size) ≡ true → IsFormOf (bit_rr_form op size rd rn)
+unfolding bit_rr_form
+bit_rr_is_form op size rd rn wide = (search (rules, field_widths, bit_opcode_below), bit_opcode_of op size wide)
 
 pub mov_is_form : (size : OperandSize) (rd rm : Reg) → IsFormOf (mov_form size rd rm)
 unfolding mov_form alu_rrr_form
@@ -85,7 +72,7 @@ mov_is_form size rd rm = go (is_stack_pointer Refused rm)
     from_register = logic_reg (record { sf = sf_of size; opc = 1; sh = 0; n = 0; rm = register_field rm; imm6 = 0; rn = 31; rd = register_field rd })
 
     go : (stack : Bool) → IsFormOf (if stack then out_of_stack else from_register)
-    go true = ((lit< tt, (lit< tt, (lit< tt, (lit< tt, (lit< tt, (lit< tt, (field_below rd, tt))))))), refl)
+    go true = search (rules, field_below)
     go false = alu_rrr_is_form Orr size rd (integer_register 31) rm
 
 -- ---- extensions
@@ -115,7 +102,7 @@ extend_is_form rd rn signed from_bits to_bits good = go (not signed && nat_eq fr
     })
 
     go : (one word : Bool) → IsFormOf (if one then one_bit else if word then mov_form Size32 rd rn else bits)
-    go true word = ((lit< tt, (lit< tt, (lit< tt, (lit< tt, (lit< tt, (field_below rn, (field_below rd, tt))))))), refl)
+    go true word = search (rules, field_below)
     go false true = mov_is_form Size32 rd rn
     go false false =
         let (size, size_is) = extension_size signed to_bits in
@@ -124,32 +111,9 @@ extend_is_form rd rn signed from_bits to_bits good = go (not signed && nat_eq fr
 
 -- ---- by a condition
 
-pub condition_below : (cond : Cond) → condition_bits cond < 2 ^ 4
-condition_below cond = grind arith
-
-flags_below : (flags : Flags) → nzcv_bits flags < 2 ^ 4
-flags_below flags = grind arith
-
 pub csel_is_form : (rd rn rm : Reg) (cond : Cond) → IsFormOf (csel_form rd rn rm cond)
 unfolding csel_form
-csel_is_form rd rn rm cond = ((lit< tt, (field_below rm, (condition_below cond, (lit< tt, (field_below rn, (field_below rd, tt)))))), refl)
+csel_is_form rd rn rm cond = search (rules, field_widths)
 
-pub csneg_is_form : (rd rn rm : Reg) (cond : Cond) → IsFormOf (csneg_form rd rn rm cond)
-unfolding csneg_form
-csneg_is_form rd rn rm cond = ((lit< tt, (field_below rm, (condition_below cond, (lit< tt, (field_below rn, (field_below rd, tt)))))), refl)
-
-pub cset_is_form : (rd : Reg) (cond : Cond) → IsFormOf (cset_form rd cond)
-unfolding cset_form
-cset_is_form rd cond = ((lit< tt, (lit< tt, (condition_below (inverse_of cond), (lit< tt, (lit< tt, (field_below rd, tt)))))), refl)
-
-pub csetm_is_form : (rd : Reg) (cond : Cond) → IsFormOf (csetm_form rd cond)
-unfolding csetm_form
-csetm_is_form rd cond = ((lit< tt, (lit< tt, (condition_below (inverse_of cond), (lit< tt, (lit< tt, (field_below rd, tt)))))), refl)
-
-pub ccmp_is_form : (size : OperandSize) (rn rm : Reg) (flags : NZCV) (cond : Cond) → IsFormOf (ccmp_form size rn rm flags cond)
-unfolding ccmp_form
-ccmp_is_form size rn rm flags cond = ((sf_below size, (field_below rm, (condition_below cond, (lit< tt, (field_below rn, (flags_below (flags_of flags), tt)))))), refl)
-
-pub ccmp_imm_is_form : (size : OperandSize) (rn : Reg) (imm : UImm5) (flags : NZCV) (cond : Cond) → IsFormOf (ccmp_imm_form size rn imm flags cond)
-unfolding ccmp_imm_form
-ccmp_imm_is_form size rn imm flags cond = ((sf_below size, (imm.below, (condition_below cond, (lit< tt, (field_below rn, (flags_below (flags_of flags), tt)))))), refl)
+-- those of operations on registers
+pub ruleset register_forms = (alu_rrr_is_form, alu_rrr_shift_is_form, alu_rrr_extend_is_form, alu_rrrr_is_form, bit_rr_is_form, mov_is_form, extend_is_form, csel_is_form)
