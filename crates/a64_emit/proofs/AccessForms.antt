@@ -1,19 +1,15 @@
 -- The forms of loads and stores that have no fault of their own, and of the steps before them, are forms of their rows.
 use Rattle.std.proofs.Common.{ℕ, ℤ, pos, negsuc, ◌≡◌, ◌*◌, ◌/◌, ◌%◌, ◌<◌, ◌≤◌, ◌^◌, Bool, true, false, List, [], ◌∷◌, Option, None, Some, refl, sym, subst, lit<, arith}
-use Rattle.std.specs.Prelude.{All, ◌&&◌, ◌||◌, ◌==◌, not, nat_eq, nat_le, nat_lt, if◌then◌else◌}
+use Rattle.std.specs.Prelude.{All, ◌&&◌, ◌==◌, not, nat_eq, nat_le, if◌then◌else◌}
 use Rattle.std.specs.Int.RustNames.{unsigned_abs}
 use Rattle.std.specs.List.{AllByRecursion}
 use Rattle.std.proofs.lemmas.Bool.{and_parts, leb-true, ltb-true}
-use Rattle.std.proofs.lemmas.Bool.Decides.{nat_tests}
 use Rattle.std.proofs.lemmas.Int.{ints}
 use Rattle.std.proofs.lemmas.List.Elements.{All-nil, All-cons}
 use Rattle.std.proofs.lemmas.Nat.{div_below}
 use Rattle.a64_base.specs.declared.ir_type.IrType.{IrType}
-use Rattle.a64_base.specs.declared.ir_type.IrType.TheVariants.{I64}
 use Rattle.a64_base.specs.declared.reg.Reg.{Reg}
 use Rattle.a64_base.specs.declared.reg.Reg.TheVariants.{Real, Virtual}
-use Rattle.a64_base.specs.declared.reg.RegClass.{RegClass}
-use Rattle.a64_base.specs.declared.reg.RegClass.TheVariants.{Int, Float}
 use Rattle.a64_base.specs.declared.shift.ExtendOp.{ExtendOp}
 use Rattle.a64_base.specs.declared.shift.ExtendOp.TheVariants.{UXTW, SXTW, SXTX}
 use Rattle.a64_base.specs.declared.size.OperandSize.{OperandSize}
@@ -41,28 +37,28 @@ use Rattle.a64_inst.specs.declared.mode.PairAMode.TheVariants as pairs
 use Rattle.a64_inst.specs.declared.virtuals.VirtualRegisters.TheVariants.{Refused}
 use Rattle.a64_inst.specs.Accesses.{access_type}
 use Rattle.a64_inst.specs.FinalModes.{FinalMode, SignedOffset, ScaledOffset, Other, held_mode, parts_of, placed_mode, final_mode, final_steps}
-use Rattle.a64_inst.specs.MemoryOperands.{are_mode_parts, are_mode_operands, has_units, has_access_mode, is_index_extend, is_data_register, are_access_operands, are_pair_operands, are_pair_parts, is_simm7_of}
+use Rattle.a64_inst.specs.MemoryOperands.{are_mode_parts, are_mode_operands, has_units, has_access_mode, is_index_extend, is_data_register, are_access_operands}
 use Rattle.a64_inst.specs.Modes.{BaseOffset, base_offset_of, IsAccessSize, is_offset9, is_scaled_offset, is_far, steps_to}
-use Rattle.a64_inst.specs.Operands.{is_int, is_register_or_zero, is_register_or_stack, is_vector_register}
+use Rattle.a64_inst.specs.Operands.{is_register_or_zero, is_register_or_stack, is_vector_register}
 use Rattle.a64_rows.specs.Forms.{IsFormOf}
 use Rattle.a64_rows.specs.Limits as limits
-use Rattle.a64_enc_int.specs.Registers.{register_field, IsReal}
-use Rattle.a64_enc_int.proofs.Immediates.{simm9_below, simm7_below, uimm12_below}
+use Rattle.a64_enc_int.specs.Registers.{IsReal}
+use Rattle.a64_enc_int.proofs.Immediates.{residue_below, simm9_below, simm7_below, uimm12_below}
+use Rattle.a64_enc_int.proofs.Registers.{field_below}
 use Rattle.a64_emit.specs.MemoryForms.{step_form, step_forms, imm9_form, unsigned_form, indexed_form, option_or_zero, literal_form, literal_words, held_form, access_steps, access_form, offset_register, pair_word_form, pair_form}
 use Rattle.a64_emit.specs.Words.{are_held_parts}
 use Rattle.a64_emit.proofs.Accesses.{access_size, parts_good}
 use Rattle.a64_emit.proofs.BranchForms.{nop4_is_form}
-use Rattle.a64_emit.proofs.ImmediateForms.{mov_wide_within, mov_k_within, residue_below}
+use Rattle.a64_emit.proofs.ImmediateForms.{mov_wide_within, mov_k_within}
 use Rattle.a64_emit.proofs.LogicForms.{orr_is_form}
 use Rattle.a64_emit.proofs.MemoryWords.{fields_below, literal_below}
 use Rattle.a64_emit.proofs.OneWord.{extend_below}
-use Rattle.a64_emit.proofs.Operands.{zero_below, stack_below}
 
 -- ---- the steps of a plan
 
-module _ (rd : Reg) (d : register_field rd < 32) where
+module _ (rd : Reg) where
   movk_is_form : (size : OperandSize) (step : ConstStep) → IsMovK size step → IsFormOf (step_form rd step)
-  movk_is_form size (steps.MovK imm width) (e, is) = mov_k_within rd imm width (subst (λ z. IsWithin z imm) (sym e) is) d
+  movk_is_form size (steps.MovK imm width) (e, is) = mov_k_within rd imm width (subst (λ z. IsWithin z imm) (sym e) is)
   movk_is_form size (steps.MovZ imm width) is = elim is [ ]
   movk_is_form size (steps.MovN imm width) is = elim is [ ]
   movk_is_form size (steps.Orr imm) is = elim is [ ]
@@ -74,12 +70,12 @@ module _ (rd : Reg) (d : register_field rd < 32) where
   pub shape_forms : (plan : List ConstStep) → IsShape plan → All IsFormOf (step_forms rd plan)
   shape_forms [] is = elim is [ ]
   shape_forms (steps.MovZ imm size ∷ rest) (is, are) =
-      All-cons IsFormOf (step_form rd (steps.MovZ imm size)) (step_forms rd rest) (mov_wide_within wide.MovZ rd imm size is d) (movks_are_forms size rest are)
+      All-cons IsFormOf (step_form rd (steps.MovZ imm size)) (step_forms rd rest) (mov_wide_within wide.MovZ rd imm size is) (movks_are_forms size rest are)
   shape_forms (steps.MovN imm size ∷ rest) (is, are) =
-      All-cons IsFormOf (step_form rd (steps.MovN imm size)) (step_forms rd rest) (mov_wide_within wide.MovN rd imm size is d) (movks_are_forms size rest are)
+      All-cons IsFormOf (step_form rd (steps.MovN imm size)) (step_forms rd rest) (mov_wide_within wide.MovN rd imm size is) (movks_are_forms size rest are)
   shape_forms (steps.MovK imm size ∷ rest) is = elim is [ ]
   shape_forms (steps.Orr imm ∷ []) (size, is, e) =
-      All-cons IsFormOf (step_form rd (steps.Orr imm)) [] (orr_is_form rd (integer_register 31) imm d (lit< tt) is) (All-nil IsFormOf)
+      All-cons IsFormOf (step_form rd (steps.Orr imm)) [] (orr_is_form rd (integer_register 31) imm is) (All-nil IsFormOf)
   shape_forms (steps.Orr imm ∷ step ∷ rest) (size, is, e) = absurd cc
 
   -- of any constant
@@ -149,14 +145,6 @@ final_holds frame ty mem size parts = go (base_offset_of frame mem)
 
 -- ---- one register
 
-vector_number : (class : RegClass) (n : ℕ) → (not (is_int class) && nat_lt n 32) ≡ true → register_field (Real (record { number = n; class = class })) < 32
-vector_number Int n e = absurd cc
-vector_number Float n e = grind (arith, nat_tests)
-
-vector_below : (reg : Reg) → is_vector_register Refused reg ≡ true → register_field reg < 32
-vector_below (Real p) e = vector_number p.class p.number e
-vector_below (Virtual index class) e = absurd cc
-
 pub data_real : (op : AccessOp) (reg : Reg) → is_data_register Refused op reg ≡ true → IsReal reg
 data_real op (Real p) e = tt
 data_real op (Virtual index class) e = go (moves_vector op) e
@@ -165,37 +153,30 @@ data_real op (Virtual index class) e = go (moves_vector op) e
     go true f = absurd cc
     go false f = absurd cc
 
-pub data_below : (op : AccessOp) (reg : Reg) → is_data_register Refused op reg ≡ true → register_field reg < 32
-data_below op reg e = go (moves_vector op) e
-  where
-    go : (vector : Bool) → (if vector then is_vector_register Refused reg else is_register_or_zero Refused reg) ≡ true → register_field reg < 32
-    go true f = vector_below reg f
-    go false f = zero_below reg f
-
 pub are_access_fields : (op : AccessOp) → limits.is_access (size_of op) (vector_of op) (opc_of op) ≡ true
 are_access_fields op = grind arith
 
-module _ (op : AccessOp) (rt rn : Reg) (t : register_field rt < 32) (n : register_field rn < 32) where
+module _ (op : AccessOp) (rt rn : Reg) where
   pub imm9_is_form : (mode : ℕ) (offset : ℤ) → mode < 4 → not (mode == 2) ≡ true → IsFormOf (imm9_form op rt mode rn offset)
   unfolding imm9_form
   imm9_is_form mode offset m a =
-      let f = fields_below op in ((f.0, (f.1, (f.2, (simm9_below offset, (m, (n, (t, tt))))))), rw (are_access_fields op, a) refl)
+      let f = fields_below op in ((f.0, (f.1, (f.2, (simm9_below offset, (m, (field_below rn, (field_below rt, tt))))))), rw (are_access_fields op, a) refl)
 
   pub unsigned_is_form : (units : ℕ) → units < 2 ^ 12 → IsFormOf (unsigned_form op rt rn units)
   unfolding unsigned_form
-  unsigned_is_form units u = let f = fields_below op in ((f.0, (f.1, (f.2, (u, (n, (t, tt)))))), are_access_fields op)
+  unsigned_is_form units u = let f = fields_below op in ((f.0, (f.1, (f.2, (u, (field_below rn, (field_below rt, tt)))))), are_access_fields op)
 
-  pub indexed_is_form : (rm : Reg) (ext s : ℕ) → register_field rm < 32 → ext < 2 ^ 3 → limits.is_index_extend ext ≡ true → s < 2 → IsFormOf (indexed_form op rt rn rm ext s)
+  pub indexed_is_form : (rm : Reg) (ext s : ℕ) → ext < 2 ^ 3 → limits.is_index_extend ext ≡ true → s < 2 → IsFormOf (indexed_form op rt rn rm ext s)
   unfolding indexed_form
-  indexed_is_form rm ext s m e is b =
-      let f = fields_below op in ((f.0, (f.1, (f.2, (m, (e, (b, (n, (t, tt)))))))), rw (are_access_fields op, is) refl)
+  indexed_is_form rm ext s e is b =
+      let f = fields_below op in ((f.0, (f.1, (f.2, (field_below rm, (e, (b, (field_below rn, (field_below rt, tt)))))))), rw (are_access_fields op, is) refl)
 
 pub literal_opc : (op : AccessOp) → nat_le (option_or_zero (literal_of op)) 2 ≡ true
 literal_opc op = grind arith
 
-pub literal_is_form : (op : AccessOp) (rt : Reg) (words : ℕ) → register_field rt < 32 → words < 2 ^ 19 → IsFormOf (literal_form op rt words)
+pub literal_is_form : (op : AccessOp) (rt : Reg) (words : ℕ) → words < 2 ^ 19 → IsFormOf (literal_form op rt words)
 unfolding literal_form
-literal_is_form op rt words t w = ((literal_below op, ((fields_below op).1, (w, (t, tt)))), literal_opc op)
+literal_is_form op rt words w = ((literal_below op, ((fields_below op).1, (w, (field_below rt, tt)))), literal_opc op)
 
 words_below : (label : MemLabel) → literal_words label < 2 ^ 19
 words_below (PCRel offset) = let small : residue (2 ^ 21) offset < 2 ^ 21 = residue_below (2 ^ 21) offset (lit< tt) in omega (arith, small)
@@ -208,65 +189,47 @@ index_extend SXTW e = refl
 index_extend SXTX e = refl
 index_extend _ e = absurd cc
 
-stack_pointer_below : register_field (integer_register 63) < 32
-stack_pointer_below = lit< tt
-
-module _ (op : AccessOp) (rt : Reg) (t : register_field rt < 32) where
-  index_below : (rn rm : Reg) → (is_register_or_stack Refused rn && is_register_or_zero Refused rm) ≡ true → (register_field rn < 32) × (register_field rm < 32)
-  index_below rn rm e = let (base, index) = and_parts (is_register_or_stack Refused rn) (is_register_or_zero Refused rm) e in (stack_below rn base, zero_below rm index)
-
-  other_is_form : (mode : AMode) → are_mode_parts Refused mode ≡ true → has_access_mode op mode ≡ true → IsFormOf (held_form op rt (Other mode))
-  other_is_form (modes.RegReg rn rm) a b = let (n, m) = index_below rn rm a in indexed_is_form op rt rn t n rm 3 0 m (lit< tt) refl (lit< tt)
-  other_is_form (modes.RegScaled rn rm) a b = let (n, m) = index_below rn rm a in indexed_is_form op rt rn t n rm 3 1 m (lit< tt) refl (lit< tt)
-  other_is_form (modes.RegExtended rn rm extendop) a b =
-      let (n, m) = index_below rn rm a in indexed_is_form op rt rn t n rm (extend_bits extendop) 0 m (extend_below extendop) (index_extend extendop b) (lit< tt)
-  other_is_form (modes.RegScaledExtended rn rm extendop) a b =
-      let (n, m) = index_below rn rm a in indexed_is_form op rt rn t n rm (extend_bits extendop) 1 m (extend_below extendop) (index_extend extendop b) (lit< tt)
-  other_is_form (modes.Label label) a b = literal_is_form op rt (literal_words label) t (words_below label)
-  other_is_form (modes.SPPreIndexed simm9) a b = imm9_is_form op rt (integer_register 63) t stack_pointer_below 3 simm9.value (lit< tt) refl
-  other_is_form (modes.SPPostIndexed simm9) a b = imm9_is_form op rt (integer_register 63) t stack_pointer_below 1 simm9.value (lit< tt) refl
-  other_is_form _ a b = nop4_is_form
+module _ (op : AccessOp) (rt : Reg) where
+  other_is_form : (mode : AMode) → has_access_mode op mode ≡ true → IsFormOf (held_form op rt (Other mode))
+  other_is_form (modes.RegReg rn rm) has = indexed_is_form op rt rn rm 3 0 (lit< tt) refl (lit< tt)
+  other_is_form (modes.RegScaled rn rm) has = indexed_is_form op rt rn rm 3 1 (lit< tt) refl (lit< tt)
+  other_is_form (modes.RegExtended rn rm extendop) has = indexed_is_form op rt rn rm (extend_bits extendop) 0 (extend_below extendop) (index_extend extendop has) (lit< tt)
+  other_is_form (modes.RegScaledExtended rn rm extendop) has = indexed_is_form op rt rn rm (extend_bits extendop) 1 (extend_below extendop) (index_extend extendop has) (lit< tt)
+  other_is_form (modes.Label label) has = literal_is_form op rt (literal_words label) (words_below label)
+  other_is_form (modes.SPPreIndexed simm9) has = imm9_is_form op rt (integer_register 63) 3 simm9.value (lit< tt) refl
+  other_is_form (modes.SPPostIndexed simm9) has = imm9_is_form op rt (integer_register 63) 1 simm9.value (lit< tt) refl
+  other_is_form _ has = nop4_is_form
 
   held_is_form : (mode : FinalMode) → are_held_parts op mode ≡ true → HoldsOffset mode → IsFormOf (held_form op rt mode)
-  held_is_form (SignedOffset rn offset) a h =
-      imm9_is_form op rt rn t (stack_below rn (and_parts (is_register_or_stack Refused rn) (is_offset9 offset) a).0) 0 offset (lit< tt) refl
-  held_is_form (ScaledOffset rn offset ty) a h =
-      unsigned_is_form op rt rn t (stack_below rn (and_parts (is_register_or_stack Refused rn) (nat_eq offset 0 || nat_eq (type_bytes ty) (type_bytes (access_type op))) a).0) (offset / type_bytes ty) h.1
-  held_is_form (Other mode) a h = let (parts, has) = and_parts (are_mode_parts Refused mode) (has_access_mode op mode) a in other_is_form mode parts has
+  held_is_form (SignedOffset rn offset) a h = imm9_is_form op rt rn 0 offset (lit< tt) refl
+  held_is_form (ScaledOffset rn offset ty) a h = unsigned_is_form op rt rn (offset / type_bytes ty) h.1
+  held_is_form (Other mode) a h = other_is_form mode (and_parts (are_mode_parts Refused mode) (has_access_mode op mode) a).1
 
 -- by the parts of its mode alone
-pub parts_are_form : (frame : FrameLayout) (access : Access) → is_data_register Refused access.op access.reg ≡ true → are_mode_parts Refused access.mem ≡ true → has_units (type_bytes (access_type access.op)) access.mem ≡ true → has_access_mode access.op access.mem ≡ true
+pub parts_are_form : (frame : FrameLayout) (access : Access) → are_mode_parts Refused access.mem ≡ true → has_units (type_bytes (access_type access.op)) access.mem ≡ true → has_access_mode access.op access.mem ≡ true
     → IsFormOf (access_form frame access)
-parts_are_form frame access register parts units mode =
-    held_is_form access.op access.reg (data_below access.op access.reg register) (final_mode frame (access_type access.op) access.mem)
+parts_are_form frame access parts units mode =
+    held_is_form access.op access.reg (final_mode frame (access_type access.op) access.mem)
     (parts_good access.op frame access.mem parts units mode)
     (final_holds frame (access_type access.op) access.mem (access_size access.op) parts)
 
 pub access_is_form : (frame : FrameLayout) (access : Access) → are_access_operands frame Refused access ≡ true → has_access_mode access.op access.mem ≡ true → IsFormOf (access_form frame access)
 unfolding are_access_operands are_mode_operands
 access_is_form frame access good mode =
-    let (register, others) = and_parts (is_data_register Refused access.op access.reg) (are_mode_operands frame Refused access.mem && has_units (type_bytes (access_type access.op)) access.mem) good in
+    let (_, others) = and_parts (is_data_register Refused access.op access.reg) (are_mode_operands frame Refused access.mem && has_units (type_bytes (access_type access.op)) access.mem) good in
     let (operands, units) = and_parts (are_mode_operands frame Refused access.mem) (has_units (type_bytes (access_type access.op)) access.mem) others in
-    parts_are_form frame access register (and_parts (are_mode_parts Refused access.mem) _ operands).0 units mode
+    parts_are_form frame access (and_parts (are_mode_parts Refused access.mem) _ operands).0 units mode
 
 pub access_steps_forms : (frame : FrameLayout) (access : Access) → All IsFormOf (access_steps frame access)
-access_steps_forms frame access = final_steps_forms offset_register (lit< tt) frame (access_type access.op) access.mem
+access_steps_forms frame access = final_steps_forms offset_register frame (access_type access.op) access.mem
 
 -- ---- two registers
 
-pub pair_word_is_form : (load idx : ℕ) (rn : Reg) (simm7 : SImm7Scaled) (rt rt2 : Reg) → load < 2 → idx < 4 → not (idx == 0) ≡ true → register_field rn < 32 → register_field rt < 32 → register_field rt2 < 32
-    → IsFormOf (pair_word_form load idx rn simm7 rt rt2)
+pub pair_word_is_form : (load idx : ℕ) (rn : Reg) (simm7 : SImm7Scaled) (rt rt2 : Reg) → load < 2 → idx < 4 → not (idx == 0) ≡ true → IsFormOf (pair_word_form load idx rn simm7 rt rt2)
 unfolding pair_word_form
-pair_word_is_form load idx rn simm7 rt rt2 l i some n t t2 = ((lit< tt, (lit< tt, (i, (l, (simm7_below simm7, (t2, (n, (t, tt)))))))), rw some refl)
+pair_word_is_form load idx rn simm7 rt rt2 l i some = ((lit< tt, (lit< tt, (i, (l, (simm7_below simm7, (field_below rt2, (field_below rn, (field_below rt, tt)))))))), rw some refl)
 
-pub pair_is_form : (load : ℕ) (rt rt2 : Reg) (mem : PairAMode) → load < 2 → are_pair_operands Refused rt rt2 mem ≡ true → IsFormOf (pair_form load rt rt2 mem)
-unfolding are_pair_operands
-pair_is_form load rt rt2 mem l good =
-    let (registers, parts) = and_parts (is_register_or_zero Refused rt && is_register_or_zero Refused rt2) (are_pair_parts Refused I64 mem) good in
-    let (first, second) = and_parts (is_register_or_zero Refused rt) (is_register_or_zero Refused rt2) registers in
-    go mem parts (zero_below rt first) (zero_below rt2 second)
-  where
-    go : (mem : PairAMode) → are_pair_parts Refused I64 mem ≡ true → register_field rt < 32 → register_field rt2 < 32 → IsFormOf (pair_form load rt rt2 mem)
-    go (pairs.SignedOffset reg simm7) a t t2 = pair_word_is_form load 2 reg simm7 rt rt2 l (lit< tt) refl (stack_below reg (and_parts (is_register_or_stack Refused reg) (is_simm7_of I64 simm7) a).0) t t2
-    go (pairs.SPPreIndexed simm7) a t t2 = pair_word_is_form load 3 (integer_register 63) simm7 rt rt2 l (lit< tt) refl stack_pointer_below t t2
-    go (pairs.SPPostIndexed simm7) a t t2 = pair_word_is_form load 1 (integer_register 63) simm7 rt rt2 l (lit< tt) refl stack_pointer_below t t2
+pub pair_is_form : (load : ℕ) (rt rt2 : Reg) (mem : PairAMode) → load < 2 → IsFormOf (pair_form load rt rt2 mem)
+pair_is_form load rt rt2 (pairs.SignedOffset reg simm7) l = pair_word_is_form load 2 reg simm7 rt rt2 l (lit< tt) refl
+pair_is_form load rt rt2 (pairs.SPPreIndexed simm7) l = pair_word_is_form load 3 (integer_register 63) simm7 rt rt2 l (lit< tt) refl
+pair_is_form load rt rt2 (pairs.SPPostIndexed simm7) l = pair_word_is_form load 1 (integer_register 63) simm7 rt rt2 l (lit< tt) refl

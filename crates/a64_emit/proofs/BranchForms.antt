@@ -1,9 +1,11 @@
 -- The form of a branch, a hint or an access to the flags that has no fault of its own is a form of its row.
-use Rattle.std.proofs.Common.{ℕ, ℤ, pos, negsuc, ◌≡◌, ◌<◌, ◌^◌, true, refl, lit<, arith}
+use Rattle.std.proofs.Common.{ℕ, ℤ, pos, negsuc, ◌≡◌, ◌<◌, ◌^◌, true, refl, lit<, arith, rules}
+use Rattle.std.specs.Prelude.{nat_lt}
 use Rattle.std.specs.Int.{int_rem_euclid}
 use Rattle.std.specs.Int.RustNames.{unsigned_abs}
+use Rattle.std.proofs.lemmas.Bool.{ltb-true}
 use Rattle.a64_base.specs.declared.cond.CondBrKind.{CondBrKind}
-use Rattle.a64_base.specs.declared.cond.CondBrKind.TheVariants.{Zero, NotZero, Cond}
+use Rattle.a64_base.specs.declared.cond.CondBrKind.TheVariants.{Zero}
 use Rattle.a64_base.specs.declared.cond.TestBitAndBranchKind.{TestBitAndBranchKind}
 use Rattle.a64_base.specs.declared.cond.TestBitAndBranchKind.TheVariants.{Z, NZ}
 use Rattle.a64_base.specs.declared.key.APIKey.{APIKey}
@@ -12,37 +14,26 @@ use Rattle.a64_base.specs.declared.target.BranchTarget.{BranchTarget}
 use Rattle.a64_base.specs.declared.target.BranchTarget.TheVariants.{Label, ResolvedOffset}
 use Rattle.a64_base.specs.Target.{offset_field}
 use Rattle.a64_base.specs.Words.{words_of}
-use Rattle.a64_inst.specs.declared.virtuals.VirtualRegisters.TheVariants.{Refused}
-use Rattle.a64_inst.specs.ControlOperands.{is_test}
-use Rattle.a64_inst.specs.Operands.{is_register_or_zero}
 use Rattle.a64_rows.specs.Forms.{IsFormOf}
 use Rattle.a64_enc_int.specs.Branches.{conditional_form, nonzero_of}
-use Rattle.a64_emit.specs.IntegerForms.{nop4_form, mov_to_nzcv_form, mov_from_nzcv_form}
-use Rattle.a64_emit.specs.ControlForms.{ret_form, jump_form, cond_br_form, trap_if_form, test_bit_and_branch_form, indirect_br_form, brk_form, label_address_form, branch_link_form, branch_link_register_form, auti_number, auti_form}
-use Rattle.a64_emit.proofs.Operands.{zero_below, sf_below}
+use Rattle.a64_enc_int.proofs.Registers.{field_below}
+use Rattle.a64_emit.specs.IntegerForms.{nop4_form}
+use Rattle.a64_emit.specs.ControlForms.{jump_form, cond_br_form, trap_if_form, test_bit_and_branch_form, indirect_br_form, label_address_form, branch_link_form, branch_link_register_form, auti_number, auti_form}
 use Rattle.a64_emit.proofs.ImmediateForms.{adr_is_form}
-use Rattle.a64_emit.proofs.RegisterForms.{condition_below}
+use Rattle.a64_emit.proofs.OneWord.{field_widths}
 
 -- ---- hints and flags
 
 pub nop4_is_form : IsFormOf nop4_form
 unfolding nop4_form
-nop4_is_form = ((lit< tt, (lit< tt, tt)), refl)
-
-pub mov_to_nzcv_is_form : (rn : Reg) → is_register_or_zero Refused rn ≡ true → IsFormOf (mov_to_nzcv_form rn)
-unfolding mov_to_nzcv_form
-mov_to_nzcv_is_form rn good = ((lit< tt, (zero_below rn good, tt)), refl)
-
-pub mov_from_nzcv_is_form : (rd : Reg) → is_register_or_zero Refused rd ≡ true → IsFormOf (mov_from_nzcv_form rd)
-unfolding mov_from_nzcv_form
-mov_from_nzcv_is_form rd good = ((lit< tt, (zero_below rd good, tt)), refl)
+nop4_is_form = search rules
 
 auti_below : (key : APIKey) → auti_number key < 2 ^ 3
 auti_below key = grind arith
 
 pub auti_is_form : (key : APIKey) → IsFormOf (auti_form key)
 unfolding auti_form
-auti_is_form key = ((lit< tt, (auti_below key, tt)), refl)
+auti_is_form key = search (rules, auti_below)
 
 -- ---- branches
 
@@ -55,52 +46,47 @@ offset_below : (bits : ℕ) (dest : BranchTarget) → 0 < 2 ^ bits → offset_fi
 offset_below bits (Label label) some = some
 offset_below bits (ResolvedOffset offset) some = remainder_below (2 ^ bits) (words_of offset) some
 
-pub ret_is_form : IsFormOf ret_form
-unfolding ret_form
-ret_is_form = ((lit< tt, (lit< tt, tt)), refl)
-
-pub brk_is_form : IsFormOf brk_form
-unfolding brk_form
-brk_is_form = (tt, refl)
-
-pub indirect_br_is_form : (rn : Reg) → is_register_or_zero Refused rn ≡ true → IsFormOf (indirect_br_form rn)
+pub indirect_br_is_form : (rn : Reg) → IsFormOf (indirect_br_form rn)
 unfolding indirect_br_form
-indirect_br_is_form rn good = ((lit< tt, (zero_below rn good, tt)), refl)
+indirect_br_is_form rn = search (rules, field_below)
 
 pub branch_link_is_form : IsFormOf branch_link_form
 unfolding branch_link_form
-branch_link_is_form = ((lit< tt, (lit< tt, tt)), refl)
+branch_link_is_form = search rules
 
-pub branch_link_register_is_form : (rn : Reg) → is_register_or_zero Refused rn ≡ true → IsFormOf (branch_link_register_form rn)
+pub branch_link_register_is_form : (rn : Reg) → IsFormOf (branch_link_register_form rn)
 unfolding branch_link_register_form
-branch_link_register_is_form rn good = ((lit< tt, (zero_below rn good, tt)), refl)
+branch_link_register_is_form rn = search (rules, field_below)
 
 pub jump_is_form : (dest : BranchTarget) → IsFormOf (jump_form dest)
 unfolding jump_form
 jump_is_form dest = ((lit< tt, (offset_below 26 dest (lit< tt), tt)), refl)
 
-conditional_is_form : (distance : ℕ) (kind : CondBrKind) → distance < 2 ^ 19 → is_test Refused kind ≡ true → IsFormOf (conditional_form distance kind)
-conditional_is_form distance (Zero reg size) d good = ((sf_below size, (lit< tt, (d, (zero_below reg good, tt)))), refl)
-conditional_is_form distance (NotZero reg size) d good = ((sf_below size, (lit< tt, (d, (zero_below reg good, tt)))), refl)
-conditional_is_form distance (Cond cond) d good = ((d, (condition_below cond, tt)), refl)
+conditional_is_form : (distance : ℕ) (kind : CondBrKind) → distance < 2 ^ 19 → IsFormOf (conditional_form distance kind)
+conditional_is_form distance (Zero reg size) d = search (rules, field_widths)
+conditional_is_form distance _ d = search (rules, field_widths)
 
-pub cond_br_is_form : (taken : BranchTarget) (kind : CondBrKind) → is_test Refused kind ≡ true → IsFormOf (cond_br_form taken kind)
+pub cond_br_is_form : (taken : BranchTarget) (kind : CondBrKind) → IsFormOf (cond_br_form taken kind)
 unfolding cond_br_form
-cond_br_is_form taken kind good = conditional_is_form (offset_field 19 taken) kind (offset_below 19 taken (lit< tt)) good
+cond_br_is_form taken kind = conditional_is_form (offset_field 19 taken) kind (offset_below 19 taken (lit< tt))
 
-pub trap_if_is_form : (kind : CondBrKind) → is_test Refused kind ≡ true → IsFormOf (trap_if_form kind)
+pub trap_if_is_form : (kind : CondBrKind) → IsFormOf (trap_if_form kind)
 unfolding trap_if_form
-trap_if_is_form kind good = cond_br_is_form (ResolvedOffset (pos 0)) kind good
+trap_if_is_form kind = cond_br_is_form (ResolvedOffset (pos 0)) kind
 
 nonzero_below : (kind : TestBitAndBranchKind) → nonzero_of kind < 2
 nonzero_below Z = lit< tt
 nonzero_below NZ = lit< tt
 
-pub test_bit_and_branch_is_form : (kind : TestBitAndBranchKind) (taken : BranchTarget) (rn : Reg) (bit : ℕ) → is_register_or_zero Refused rn ≡ true → bit < 64 → IsFormOf (test_bit_and_branch_form kind taken rn bit)
+pub test_bit_and_branch_is_form : (kind : TestBitAndBranchKind) (taken : BranchTarget) (rn : Reg) (bit : ℕ) → nat_lt bit 64 ≡ true → IsFormOf (test_bit_and_branch_form kind taken rn bit)
 unfolding test_bit_and_branch_form
-test_bit_and_branch_is_form kind taken rn bit register below =
-    ((omega (arith, below), (nonzero_below kind, (omega (arith, below), (offset_below 14 taken (lit< tt), (zero_below rn register, tt))))), refl)
+test_bit_and_branch_is_form kind taken rn bit small =
+    let below = ltb-true bit 64 small in
+    ((omega (arith, below), (nonzero_below kind, (omega (arith, below), (offset_below 14 taken (lit< tt), (field_below rn, tt))))), refl)
 
-pub label_address_is_form : (dst : Reg) → is_register_or_zero Refused dst ≡ true → IsFormOf (label_address_form dst)
+pub label_address_is_form : (dst : Reg) → IsFormOf (label_address_form dst)
 unfolding label_address_form
-label_address_is_form dst good = adr_is_form dst (pos 0) good
+label_address_is_form dst = adr_is_form dst (pos 0)
+
+-- those of branches and hints
+pub ruleset branch_forms = (nop4_is_form, jump_is_form, cond_br_is_form, trap_if_is_form, test_bit_and_branch_is_form, indirect_br_is_form, label_address_is_form)

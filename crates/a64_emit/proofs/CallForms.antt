@@ -22,11 +22,9 @@ use Rattle.a64_emit.specs.Cells.{adjust_forms, call_form, frame_forms, key_forms
 use Rattle.a64_emit.specs.ControlForms.{auti_form}
 use Rattle.a64_emit.specs.IntegerForms.{alu_rrr_extend_form}
 use Rattle.a64_emit.specs.MemoryForms.{addend, addend_form, offset_register, pair_form, step_forms, sum_op}
-use Rattle.a64_emit.specs.Words.{IsCalled}
 use Rattle.a64_emit.proofs.Accesses.{addend_good}
 use Rattle.a64_emit.proofs.AccessForms.{shape_forms, pair_word_is_form}
 use Rattle.a64_emit.proofs.BranchForms.{auti_is_form, branch_link_is_form, branch_link_register_is_form, indirect_br_is_form, jump_is_form}
-use Rattle.a64_emit.proofs.CallOperands.{far_good, near_good, sum_either}
 use Rattle.a64_emit.proofs.ImmediateForms.{alu_rr_imm12_is_form}
 use Rattle.a64_emit.proofs.RegisterForms.{alu_rrr_extend_is_form}
 use Rattle.a64_emit.proofs.SequenceForms.{plan_shape}
@@ -52,17 +50,16 @@ adjust_are_forms amount = go (int_eq amount (pos 0)) (is_addend (unsigned_abs am
     go true small e = All-nil IsFormOf
     go false true e =
         let imm = addend (unsigned_abs amount) in
-        one_form (addend_form stack stack amount)
-        (alu_rr_imm12_is_form (sum_op amount) Size64 stack stack imm (near_good (sum_op amount) stack stack imm (sum_either amount) refl refl (addend_good (unsigned_abs amount) e)))
+        one_form (addend_form stack stack amount) (alu_rr_imm12_is_form (sum_op amount) Size64 stack stack imm (addend_good (unsigned_abs amount) e))
     go false false e =
-        All-append IsFormOf steps (last ∷ []) (shape_forms offset_register (lit< tt) (plan_of (unsigned_abs amount)) (plan_shape (unsigned_abs amount)))
-        (one_form last (alu_rrr_extend_is_form (sum_op amount) Size64 stack stack offset_register UXTX (far_good (sum_op amount) stack stack offset_register (sum_either amount) refl refl refl)))
+        All-append IsFormOf steps (last ∷ []) (shape_forms offset_register (plan_of (unsigned_abs amount)) (plan_shape (unsigned_abs amount)))
+        (one_form last (alu_rrr_extend_is_form (sum_op amount) Size64 stack stack offset_register UXTX))
 
 -- ---- calls
 
-pub call_is_form : (callee : Callee) → IsCalled callee → IsFormOf (call_form callee)
-call_is_form (Symbol name) is = branch_link_is_form
-call_is_form (Address reg) is = branch_link_register_is_form reg is
+pub call_is_form : (callee : Callee) → IsFormOf (call_form callee)
+call_is_form (Symbol name) = branch_link_is_form
+call_is_form (Address reg) = branch_link_register_is_form reg
 
 -- ---- returns that call
 
@@ -74,7 +71,7 @@ frame_are_forms setup = go (nat_eq setup 0)
 
     go : (none : Bool) → All IsFormOf (if none then [] else restoring ∷ [])
     go true = All-nil IsFormOf
-    go false = one_form restoring (pair_word_is_form 1 1 stack (record { value = pos setup; scale_ty = I64 }) (integer_register 29) (integer_register 30) (lit< tt) (lit< tt) refl (lit< tt) (lit< tt) (lit< tt))
+    go false = one_form restoring (pair_word_is_form 1 1 stack (record { value = pos setup; scale_ty = I64 }) (integer_register 29) (integer_register 30) (lit< tt) (lit< tt) refl)
 
 key_are_forms : (setup : ℕ) (all : Bool) (key : Option APIKey) → All IsFormOf (key_forms setup all key)
 key_are_forms setup all None = All-nil IsFormOf
@@ -91,6 +88,6 @@ leave_are_forms frame size key all =
     (All-append IsFormOf (frame_forms frame.setup_area_size) (adjust_forms moved) (frame_are_forms frame.setup_area_size) (adjust_are_forms moved))
     (key_are_forms frame.setup_area_size all key)
 
-pub return_is_form : (callee : Callee) → IsCalled callee → IsFormOf (return_form callee)
-return_is_form (Symbol name) is = jump_is_form (ResolvedOffset (pos 0))
-return_is_form (Address reg) is = indirect_br_is_form reg is
+pub return_is_form : (callee : Callee) → IsFormOf (return_form callee)
+return_is_form (Symbol name) = jump_is_form (ResolvedOffset (pos 0))
+return_is_form (Address reg) = indirect_br_is_form reg

@@ -29,7 +29,7 @@ use Rattle.a64_inst.specs.Groups.{group_of}
 use Rattle.a64_inst.specs.Modes.{BaseOffset, base_offset_of, is_far, steps_to}
 use Rattle.a64_emit.specs.Cells.{Cell, FormOf, access_shape, inst_cells, last_cell, load_at, mode_site, other_shape, plain, result_cells, result_load, shape_cells}
 use Rattle.a64_emit.specs.MemoryForms.{access_form, offset_register, step_form, step_forms}
-use Rattle.a64_emit.proofs.ImmediateForms.{residue_below}
+use Rattle.a64_enc_int.proofs.Immediates.{residue_below}
 
 -- an instruction that is made of an access is a load or a store, and has that access
 made_access : (op : AccessOp) (reg : Reg) (mem : AMode) (flags : Option TrapCode) → access_of (inst_with op reg mem flags) ≡ Some (record { op = op; reg = reg; mem = mem; flags = flags })

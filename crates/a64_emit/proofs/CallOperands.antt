@@ -1,5 +1,5 @@
 -- The operands of the words of calls are in their sets.
-use Rattle.std.proofs.Common.{ℕ, ℤ, pos, negsuc, ◌≡◌, ◌≤◌, ◌%◌, ◌^◌, ◌⊎◌, inl, inr, Bool, true, List, refl, ap}
+use Rattle.std.proofs.Common.{ℕ, ℤ, pos, ◌≡◌, ◌≤◌, ◌%◌, ◌^◌, ◌⊎◌, inl, inr, Bool, true, List, refl, ap}
 use Rattle.std.specs.Prelude.{All, ◌&&◌, nat_eq, nat_le, nat_lt}
 use Rattle.std.proofs.lemmas.Bool.{and_from, and_parts, eq-eqb, eqb-true, le-leb, leb-true}
 use Rattle.a64_base.specs.declared.ir_type.IrType.TheVariants.{I64}
@@ -19,7 +19,7 @@ use Rattle.a64_inst.specs.MemoryOperands.{are_pair_operands}
 use Rattle.a64_inst.specs.Operands.{is_imm12, is_register}
 use Rattle.a64_plan.specs.declared.step.ConstStep.{ConstStep}
 use Rattle.a64_plan.specs.Shapes.{IsShape}
-use Rattle.a64_emit.specs.MemoryForms.{offset_register, sum_op}
+use Rattle.a64_emit.specs.MemoryForms.{offset_register}
 use Rattle.a64_emit.specs.Words.{CanStep}
 use Rattle.a64_emit.proofs.Accesses.{can_steps}
 
@@ -46,11 +46,6 @@ pub frame_good : (rt rt2 : Reg) (setup : ℕ) (amount : ℤ) → rt ≡ integer_
     → are_pair_operands Refused rt rt2 (SPPostIndexed (record { value = amount; scale_ty = I64 })) ≡ true
 unfolding are_pair_operands
 frame_good rt rt2 setup amount first second same small aligned = rw (first, second, same) (and_from (nat_le setup 504) (nat_eq (setup % 8) 0) (le-leb setup 504 small) (eq-eqb (setup % 8) 0 aligned))
-
--- the operator of an amount is one of these
-pub sum_either : (amount : ℤ) → (sum_op amount ≡ Add) ⊎ (sum_op amount ≡ Sub)
-sum_either (pos n) = inl refl
-sum_either (negsuc n) = inr refl
 
 -- ---- operands of calls
 

@@ -1,7 +1,7 @@
 -- The form of an integer operation with an immediate that has no fault of its own is a form of its row.
-use Rattle.std.proofs.Common.{ℕ, ℤ, pos, negsuc, ◌≡◌, ◌/◌, ◌%◌, ◌<◌, ◌^◌, true, refl, lit<, arith}
-use Rattle.std.specs.Prelude.{◌&&◌, ◌==◌, not}
-use Rattle.std.proofs.lemmas.Bool.{and_parts, leb-true, le-leb, ltb-true}
+use Rattle.std.proofs.Common.{ℕ, ℤ, ◌≡◌, ◌<◌, ◌^◌, true, refl, lit<, arith, rules}
+use Rattle.std.specs.Prelude.{◌==◌, not}
+use Rattle.std.proofs.lemmas.Bool.{leb-true, le-leb, ltb-true}
 use Rattle.a64_base.specs.declared.reg.Reg.{Reg}
 use Rattle.a64_base.specs.declared.size.OperandSize.{OperandSize}
 use Rattle.a64_base.specs.declared.size.OperandSize.TheVariants.{Size32, Size64}
@@ -17,26 +17,25 @@ use Rattle.a64_ops.specs.declared.operator.BfmOp.{BfmOp}
 use Rattle.a64_ops.specs.declared.operator.BfmOp.TheVariants.{UBfm, SBfm}
 use Rattle.a64_ops.specs.declared.operator.MoveWideOp.{MoveWideOp}
 use Rattle.a64_ops.specs.declared.operator.MoveWideOp.TheVariants.{MovZ, MovN}
-use Rattle.a64_inst.specs.declared.virtuals.VirtualRegisters.TheVariants.{Refused}
-use Rattle.a64_inst.specs.Operands.{is_register_or_zero, is_register_or_stack, is_same_register, is_bit_of, is_imm12, is_wide_in}
-use Rattle.a64_inst.specs.IntegerOperands.{is_add_sub_result, is_shift, are_alu_rr_imm12_operands, are_alu_rr_imm_shift_operands, are_mov_wide_operands, are_mov_k_operands, are_bitfield_move_operands, are_bitfield_move_mod_operands}
+use Rattle.a64_inst.specs.Operands.{is_bit_of, is_imm12, is_wide_in}
+use Rattle.a64_inst.specs.IntegerOperands.{is_shift}
 use Rattle.a64_plan.specs.Shapes.{IsWithin}
 use Rattle.a64_rows.specs.Forms.{IsFormOf}
 use Rattle.a64_rows.specs.DataProcessing.{bitfield, move_wide}
+use Rattle.a64_enc_int.specs.Branches.{distance_low, distance_high}
 use Rattle.a64_enc_int.specs.Operators.{move_wide_opc}
 use Rattle.a64_enc_int.specs.Registers.{register_field}
+use Rattle.a64_enc_int.proofs.Immediates.{residue_below}
+use Rattle.a64_enc_int.proofs.Registers.{field_below}
 use Rattle.a64_emit.specs.IntegerForms.{two_registers, alu_rr_imm12_form, mov_wide_form, mov_k_form, shift_opc, shift_immr, shift_imms, alu_rr_imm_shift_form, bfm_opc, bitfield_move_form, bitfield_move_mod_form, adr_form, adrp_form}
-use Rattle.a64_emit.proofs.Operands.{zero_below, stack_below, add_sub_below, sf_below, bit_below, bit_in, bit_number}
-use Rattle.a64_emit.proofs.OneWord.{op_below, s_below, bit_of_below, registers_within, extraction_within}
+use Rattle.a64_emit.proofs.Operands.{bit_below, bit_in, bit_number}
+use Rattle.a64_emit.proofs.OneWord.{registers_within, extraction_within, field_widths}
 
 -- ---- additions and subtractions
 
-pub alu_rr_imm12_is_form : (op : ALUOp) (size : OperandSize) (rd rn : Reg) (imm12 : Imm12) → are_alu_rr_imm12_operands Refused op rd rn imm12 ≡ true → IsFormOf (alu_rr_imm12_form op size rd rn imm12)
-unfolding are_alu_rr_imm12_operands alu_rr_imm12_form
-alu_rr_imm12_is_form op size rd rn imm12 good =
-    let (result, others) = and_parts (is_add_sub_result Refused op rd) (is_register_or_stack Refused rn && is_imm12 imm12) good in
-    let (operand, small) = and_parts (is_register_or_stack Refused rn) (is_imm12 imm12) others in
-    ((sf_below size, (op_below op, (s_below op, (bit_of_below imm12.shift12, (ltb-true imm12.bits 4096 small, (stack_below rn operand, (add_sub_below op rd result, tt))))))), refl)
+pub alu_rr_imm12_is_form : (op : ALUOp) (size : OperandSize) (rd rn : Reg) (imm12 : Imm12) → is_imm12 imm12 ≡ true → IsFormOf (alu_rr_imm12_form op size rd rn imm12)
+unfolding alu_rr_imm12_form
+alu_rr_imm12_is_form op size rd rn imm12 small = let bits = ltb-true imm12.bits 4096 small in search (rules, field_widths, bits)
 
 -- ---- wide moves
 
@@ -44,67 +43,54 @@ wide_in : (size : OperandSize) (imm : MoveWideConst) → is_wide_in size imm ≡
 wide_in Size32 imm w fits = let l = leb-true imm.shift 1 w in record { bits_fit = fits; has_place = omega (arith, l) }
 wide_in Size64 imm w fits = let l = leb-true imm.shift 3 w in record { bits_fit = fits; has_place = omega (arith, l) }
 
-wide_within : (size : OperandSize) (imm : MoveWideConst) (opc rd : ℕ) → IsWithin size imm → opc < 2 ^ 2 → not (opc == 1) ≡ true → rd < 32
-    → IsFormOf (move_wide (record { sf = sf_of size; opc = opc; hw = imm.shift; imm16 = imm.bits; rd = rd }))
-wide_within Size32 imm opc rd is o a d = let l = is.has_place in ((lit< tt, (o, (omega (arith, l), (is.bits_fit, (d, tt))))), rw (a, le-leb imm.shift 1 (omega (arith, l))) refl)
-wide_within Size64 imm opc rd is o a d = ((lit< tt, (o, (is.has_place, (is.bits_fit, (d, tt))))), rw a refl)
+wide_within : (size : OperandSize) (imm : MoveWideConst) (opc : ℕ) (rd : Reg) → IsWithin size imm → opc < 2 ^ 2 → not (opc == 1) ≡ true
+    → IsFormOf (move_wide (record { sf = sf_of size; opc = opc; hw = imm.shift; imm16 = imm.bits; rd = register_field rd }))
+wide_within Size32 imm opc rd is o a = let l = is.has_place in ((lit< tt, (o, (omega (arith, l), (is.bits_fit, (field_below rd, tt))))), rw (a, le-leb imm.shift 1 (omega (arith, l))) refl)
+wide_within Size64 imm opc rd is o a = ((lit< tt, (o, (is.has_place, (is.bits_fit, (field_below rd, tt))))), rw a refl)
 
 opc_below : (op : MoveWideOp) → (move_wide_opc op < 2 ^ 2) × (not (move_wide_opc op == 1) ≡ true)
 opc_below MovZ = (lit< tt, refl)
 opc_below MovN = (lit< tt, refl)
 
 -- of a halfword inside a register of the size
-pub mov_wide_within : (op : MoveWideOp) (rd : Reg) (imm : MoveWideConst) (size : OperandSize) → IsWithin size imm → register_field rd < 32 → IsFormOf (mov_wide_form op rd imm size)
+pub mov_wide_within : (op : MoveWideOp) (rd : Reg) (imm : MoveWideConst) (size : OperandSize) → IsWithin size imm → IsFormOf (mov_wide_form op rd imm size)
 unfolding mov_wide_form
-mov_wide_within op rd imm size is d = wide_within size imm (move_wide_opc op) (register_field rd) is (opc_below op).0 (opc_below op).1 d
+mov_wide_within op rd imm size is = wide_within size imm (move_wide_opc op) rd is (opc_below op).0 (opc_below op).1
 
-pub mov_k_within : (rd : Reg) (imm : MoveWideConst) (size : OperandSize) → IsWithin size imm → register_field rd < 32 → IsFormOf (mov_k_form rd imm size)
+pub mov_k_within : (rd : Reg) (imm : MoveWideConst) (size : OperandSize) → IsWithin size imm → IsFormOf (mov_k_form rd imm size)
 unfolding mov_k_form
-mov_k_within rd imm size is d = wide_within size imm 3 (register_field rd) is (lit< tt) refl d
+mov_k_within rd imm size is = wide_within size imm 3 rd is (lit< tt) refl
 
 -- which a halfword is that has 16 bits
-pub mov_wide_is_form : (op : MoveWideOp) (rd : Reg) (imm : MoveWideConst) (size : OperandSize) → are_mov_wide_operands Refused rd imm size ≡ true → imm.bits < 2 ^ 16 → IsFormOf (mov_wide_form op rd imm size)
-unfolding are_mov_wide_operands
-mov_wide_is_form op rd imm size good fits =
-    let (result, wide) = and_parts (is_register_or_zero Refused rd) (is_wide_in size imm) good in
-    mov_wide_within op rd imm size (wide_in size imm wide fits) (zero_below rd result)
+pub mov_wide_is_form : (op : MoveWideOp) (rd : Reg) (imm : MoveWideConst) (size : OperandSize) → is_wide_in size imm ≡ true → imm.bits < 2 ^ 16 → IsFormOf (mov_wide_form op rd imm size)
+mov_wide_is_form op rd imm size wide fits = mov_wide_within op rd imm size (wide_in size imm wide fits)
 
-pub mov_k_is_form : (rd rn : Reg) (imm : MoveWideConst) (size : OperandSize) → are_mov_k_operands Refused rd rn imm size ≡ true → imm.bits < 2 ^ 16 → IsFormOf (mov_k_form rd imm size)
-unfolding are_mov_k_operands
-mov_k_is_form rd rn imm size good fits =
-    let (registers, others) = and_parts (is_register_or_zero Refused rd && is_register_or_zero Refused rn) (is_same_register rd rn && is_wide_in size imm) good in
-    mov_k_within rd imm size (wide_in size imm (and_parts (is_same_register rd rn) (is_wide_in size imm) others).1 fits)
-    (zero_below rd (and_parts (is_register_or_zero Refused rd) (is_register_or_zero Refused rn) registers).0)
+pub mov_k_is_form : (rd : Reg) (imm : MoveWideConst) (size : OperandSize) → is_wide_in size imm ≡ true → imm.bits < 2 ^ 16 → IsFormOf (mov_k_form rd imm size)
+mov_k_is_form rd imm size wide fits = mov_k_within rd imm size (wide_in size imm wide fits)
 
 -- ---- bit fields
 
-bitfield_within : (size : OperandSize) (opc immr imms rn rd : ℕ) → opc < 2 ^ 2 → not (opc == 3) ≡ true → immr < operand_bits size → imms < operand_bits size → rn < 32 → rd < 32
-    → IsFormOf (bitfield (record { sf = sf_of size; opc = opc; immr = immr; imms = imms; rn = rn; rd = rd }))
-bitfield_within size opc immr imms rn rd o a r s n d =
-    ((sf_below size, (o, (bit_in size immr r, (bit_in size imms s, (n, (d, tt)))))), rw (a, bit_number size immr r, bit_number size imms s) refl)
+bitfield_within : (size : OperandSize) (opc immr imms : ℕ) (rn rd : Reg) → opc < 2 ^ 2 → not (opc == 3) ≡ true → immr < operand_bits size → imms < operand_bits size
+    → IsFormOf (bitfield (record { sf = sf_of size; opc = opc; immr = immr; imms = imms; rn = register_field rn; rd = register_field rd }))
+bitfield_within size opc immr imms rn rd o a r s =
+    let first = bit_in size immr r in
+    let last = bit_in size imms s in
+    (search (rules, field_widths, first, last), rw (a, bit_number size immr r, bit_number size imms s) refl)
 
 bfm_opc_below : (op : BfmOp) → (bfm_opc op < 2 ^ 2) × (not (bfm_opc op == 3) ≡ true)
 bfm_opc_below SBfm = (lit< tt, refl)
 bfm_opc_below UBfm = (lit< tt, refl)
 
-pub bitfield_move_is_form : (size : OperandSize) (op : BfmOp) (rd rn : Reg) (immr imms : UImm6) → are_bitfield_move_operands Refused size rd rn immr imms ≡ true → IsFormOf (bitfield_move_form size op rd rn immr imms)
-unfolding are_bitfield_move_operands bitfield_move_form
-bitfield_move_is_form size op rd rn immr imms good =
-    let (registers, bits) = and_parts (is_register_or_zero Refused rd && is_register_or_zero Refused rn) (is_bit_of size immr.imm && is_bit_of size imms.imm) good in
-    let (result, operand) = and_parts (is_register_or_zero Refused rd) (is_register_or_zero Refused rn) registers in
-    let (first, last) = and_parts (is_bit_of size immr.imm) (is_bit_of size imms.imm) bits in
-    bitfield_within size (bfm_opc op) immr.imm imms.imm (register_field rn) (register_field rd) (bfm_opc_below op).0 (bfm_opc_below op).1
-    (bit_below size immr.imm first) (bit_below size imms.imm last) (zero_below rn operand) (zero_below rd result)
+pub bitfield_move_is_form : (size : OperandSize) (op : BfmOp) (rd rn : Reg) (immr imms : UImm6) → is_bit_of size immr.imm ≡ true → is_bit_of size imms.imm ≡ true
+    → IsFormOf (bitfield_move_form size op rd rn immr imms)
+unfolding bitfield_move_form
+bitfield_move_is_form size op rd rn immr imms first last =
+    bitfield_within size (bfm_opc op) immr.imm imms.imm rn rd (bfm_opc_below op).0 (bfm_opc_below op).1 (bit_below size immr.imm first) (bit_below size imms.imm last)
 
-pub bitfield_move_mod_is_form : (size : OperandSize) (rd ri rn : Reg) (immr imms : UImm6) → are_bitfield_move_mod_operands Refused size rd ri rn immr imms ≡ true → IsFormOf (bitfield_move_mod_form size rd rn immr imms)
-unfolding are_bitfield_move_mod_operands are_bitfield_move_operands bitfield_move_mod_form
-bitfield_move_mod_is_form size rd ri rn immr imms both =
-    let good = (and_parts (is_register_or_zero Refused ri && is_same_register rd ri) (are_bitfield_move_operands Refused size rd rn immr imms) both).1 in
-    let (registers, bits) = and_parts (is_register_or_zero Refused rd && is_register_or_zero Refused rn) (is_bit_of size immr.imm && is_bit_of size imms.imm) good in
-    let (result, operand) = and_parts (is_register_or_zero Refused rd) (is_register_or_zero Refused rn) registers in
-    let (first, last) = and_parts (is_bit_of size immr.imm) (is_bit_of size imms.imm) bits in
-    bitfield_within size 1 immr.imm imms.imm (register_field rn) (register_field rd) (lit< tt) refl
-    (bit_below size immr.imm first) (bit_below size imms.imm last) (zero_below rn operand) (zero_below rd result)
+pub bitfield_move_mod_is_form : (size : OperandSize) (rd rn : Reg) (immr imms : UImm6) → is_bit_of size immr.imm ≡ true → is_bit_of size imms.imm ≡ true → IsFormOf (bitfield_move_mod_form size rd rn immr imms)
+unfolding bitfield_move_mod_form
+bitfield_move_mod_is_form size rd rn immr imms first last =
+    bitfield_within size 1 immr.imm imms.imm rn rd (lit< tt) refl (bit_below size immr.imm first) (bit_below size imms.imm last)
 
 -- ---- shifts
 
@@ -115,40 +101,36 @@ shifted_bits op Size64 amount h = grind arith
 shift_opc_below : (op : ALUOp) → (shift_opc op < 2 ^ 2) × (not (shift_opc op == 3) ≡ true)
 shift_opc_below op = grind arith
 
-pub alu_rr_imm_shift_is_form : (op : ALUOp) (size : OperandSize) (rd rn : Reg) (immshift : ImmShift) → are_alu_rr_imm_shift_operands Refused op size rd rn immshift ≡ true → IsFormOf (alu_rr_imm_shift_form op size rd rn immshift)
-unfolding are_alu_rr_imm_shift_operands alu_rr_imm_shift_form
-alu_rr_imm_shift_is_form op size rd rn immshift good =
-    let (kind, others) = and_parts (is_shift op) (is_register_or_zero Refused rd && (is_register_or_zero Refused rn && is_bit_of size immshift.imm)) good in
-    let (result, rest) = and_parts (is_register_or_zero Refused rd) (is_register_or_zero Refused rn && is_bit_of size immshift.imm) others in
-    let (operand, bit) = and_parts (is_register_or_zero Refused rn) (is_bit_of size immshift.imm) rest in
-    go op kind (zero_below rd result) (zero_below rn operand) (bit_below size immshift.imm bit)
-  where
-    shifts : (op : ALUOp) → register_field rd < 32 → register_field rn < 32 → immshift.imm < operand_bits size
-        → IsFormOf (bitfield (record { sf = sf_of size; opc = shift_opc op; immr = shift_immr op size immshift.imm; imms = shift_imms op size immshift.imm; rn = register_field rn; rd = register_field rd }))
-    shifts op d n b =
-        bitfield_within size (shift_opc op) (shift_immr op size immshift.imm) (shift_imms op size immshift.imm) (register_field rn) (register_field rd) (shift_opc_below op).0 (shift_opc_below op).1
-        (shifted_bits op size immshift.imm b).0 (shifted_bits op size immshift.imm b).1 n d
+shift_is_form : (op : ALUOp) (size : OperandSize) (rd rn : Reg) (amount : ℕ) → amount < operand_bits size
+    → IsFormOf (bitfield (record { sf = sf_of size; opc = shift_opc op; immr = shift_immr op size amount; imms = shift_imms op size amount; rn = register_field rn; rd = register_field rd }))
+shift_is_form op size rd rn amount b =
+    bitfield_within size (shift_opc op) (shift_immr op size amount) (shift_imms op size amount) rn rd (shift_opc_below op).0 (shift_opc_below op).1 (shifted_bits op size amount b).0 (shifted_bits op size amount b).1
 
-    go : (op : ALUOp) → is_shift op ≡ true → register_field rd < 32 → register_field rn < 32 → immshift.imm < operand_bits size → IsFormOf (alu_rr_imm_shift_form op size rd rn immshift)
-    go alu.Extr kind d n b = extraction_within (two_registers size rd rn rn) (registers_within size rd rn rn d n n) immshift.imm (bit_in size immshift.imm b) (bit_number size immshift.imm b)
-    go alu.Lsl kind d n b = shifts alu.Lsl d n b
-    go alu.Lsr kind d n b = shifts alu.Lsr d n b
-    go alu.Asr kind d n b = shifts alu.Asr d n b
-    go _ kind d n b = absurd cc
+pub alu_rr_imm_shift_is_form : (op : ALUOp) (size : OperandSize) (rd rn : Reg) (immshift : ImmShift) → is_shift op ≡ true → is_bit_of size immshift.imm ≡ true → IsFormOf (alu_rr_imm_shift_form op size rd rn immshift)
+unfolding alu_rr_imm_shift_form
+alu_rr_imm_shift_is_form alu.Extr size rd rn immshift kind bit =
+    let below = bit_below size immshift.imm bit in
+    extraction_within (two_registers size rd rn rn) (registers_within size rd rn rn) immshift.imm (bit_in size immshift.imm below) (bit_number size immshift.imm below)
+alu_rr_imm_shift_is_form alu.Lsl size rd rn immshift kind bit = shift_is_form alu.Lsl size rd rn immshift.imm (bit_below size immshift.imm bit)
+alu_rr_imm_shift_is_form alu.Lsr size rd rn immshift kind bit = shift_is_form alu.Lsr size rd rn immshift.imm (bit_below size immshift.imm bit)
+alu_rr_imm_shift_is_form alu.Asr size rd rn immshift kind bit = shift_is_form alu.Asr size rd rn immshift.imm (bit_below size immshift.imm bit)
+alu_rr_imm_shift_is_form _ size rd rn immshift kind bit = absurd cc
 
 -- ---- addresses
 
-pub residue_below : (m : ℕ) (value : ℤ) → 0 < m → residue m value < m
-residue_below m (pos n) some = omega arith
-residue_below m (negsuc n) some = omega arith
+low_below : (off : ℤ) → distance_low off < 2 ^ 2
+low_below off = omega arith
 
-near_below : (off : ℤ) → (residue (2 ^ 21) off % 4 < 4) × (residue (2 ^ 21) off / 4 < 2 ^ 19)
-near_below off = let small : residue (2 ^ 21) off < 2 ^ 21 = residue_below (2 ^ 21) off (lit< tt) in (omega (arith, small), omega (arith, small))
+high_below : (off : ℤ) → distance_high off < 2 ^ 19
+high_below off = let small : residue (2 ^ 21) off < 2 ^ 21 = residue_below (2 ^ 21) off (lit< tt) in omega (arith, small)
 
-pub adr_is_form : (rd : Reg) (off : ℤ) → is_register_or_zero Refused rd ≡ true → IsFormOf (adr_form rd off)
+pub adr_is_form : (rd : Reg) (off : ℤ) → IsFormOf (adr_form rd off)
 unfolding adr_form
-adr_is_form rd off result = ((lit< tt, ((near_below off).0, ((near_below off).1, (zero_below rd result, tt)))), refl)
+adr_is_form rd off = search (rules, field_below, low_below, high_below)
 
-pub adrp_is_form : (rd : Reg) (off : ℤ) → is_register_or_zero Refused rd ≡ true → IsFormOf (adrp_form rd off)
+pub adrp_is_form : (rd : Reg) (off : ℤ) → IsFormOf (adrp_form rd off)
 unfolding adrp_form
-adrp_is_form rd off result = ((lit< tt, ((near_below off).0, ((near_below off).1, (zero_below rd result, tt)))), refl)
+adrp_is_form rd off = search (rules, field_below, low_below, high_below)
+
+-- those of operations with an immediate
+pub ruleset immediate_forms = (alu_rr_imm12_is_form, alu_rr_imm_shift_is_form, mov_wide_is_form, mov_k_is_form, bitfield_move_is_form, bitfield_move_mod_is_form, adr_is_form, adrp_is_form)

@@ -1,5 +1,5 @@
 -- The cells of instructions and items without a fault are forms of their rows, or data.
-use Rattle.std.proofs.Common.{ℕ, ℤ, pos, suc, ◌-ℤ◌, ◌≡◌, ◌+◌, ◌*◌, ◌/◌, ◌%◌, ◌<◌, ◌^◌, Bool, true, false, List, [], ◌∷◌, ◌++◌, length, get_or, map, Option, None, Some, refl, sym, subst, lit<, arith}
+use Rattle.std.proofs.Common.{ℕ, ℤ, pos, suc, ◌-ℤ◌, ◌≡◌, ◌+◌, ◌*◌, ◌<◌, ◌^◌, Bool, true, false, List, [], ◌∷◌, ◌++◌, length, get_or, map, Option, None, Some, refl, sym, subst, arith, rules}
 use Rattle.std.specs.Prelude.{All, ◌&&◌, not, if◌then◌else◌}
 use Rattle.std.specs.List.{flat_map}
 use Rattle.std.specs.Ordering.{nat_cmp, int_eq}
@@ -14,7 +14,6 @@ use Rattle.a64_base.specs.declared.key.APIKey.{APIKey}
 use Rattle.a64_base.specs.declared.reg.Reg.{Reg}
 use Rattle.a64_base.specs.declared.size.OperandSize.TheVariants.{Size64}
 use Rattle.a64_base.specs.declared.target.BranchTarget.{BranchTarget}
-use Rattle.a64_base.specs.declared.target.BranchTarget.TheVariants.{Label}
 use Rattle.a64_ops.specs.declared.operator.ALUOp.TheVariants as alu
 use Rattle.a64_plan.specs.Plans.{plan_of}
 use Rattle.a64_inst.specs.declared.access.Access.{Access}
@@ -33,37 +32,40 @@ use Rattle.a64_inst.specs.Addresses.{is_numbered}
 use Rattle.a64_inst.specs.CallOperands.{are_call_defs, is_result_at}
 use Rattle.a64_inst.specs.Faults.{can_restore, has_plain_operands, has_other_operands, has_operands, has_other_mode, has_mode, has_scratch, inst_fault, is_restorable}
 use Rattle.a64_inst.specs.FinalModes.{FinalMode, SignedOffset, ScaledOffset, Other, final_mode, final_steps}
-use Rattle.a64_inst.specs.IntegerOperands.{are_adr_operands}
+use Rattle.a64_inst.specs.ControlOperands.{are_test_bit_operands}
+use Rattle.a64_inst.specs.IntegerOperands.{are_alu_rr_imm12_operands, are_alu_rr_imm_logic_operands, are_alu_rr_imm_shift_operands, are_alu_rrr_shift_operands, are_bit_rr_operands, are_mov_wide_operands, are_mov_k_operands, are_bitfield_move_operands, are_bitfield_move_mod_operands}
 use Rattle.a64_inst.specs.Lone.{is_lone}
 use Rattle.a64_inst.specs.MemoryOperands.{is_addend, needs_x17_beside, are_mode_parts, are_mode_operands, are_address_operands, are_access_operands, has_access_mode, is_data_register}
-use Rattle.a64_inst.specs.Operands.{is_register, is_register_or_zero, is_register_or_stack, is_same_register, is_near}
+use Rattle.a64_inst.specs.Operands.{is_register, is_register_or_zero, is_same_register}
 use Rattle.a64_inst.specs.declared.item.Item.{Item}
 use Rattle.a64_inst.specs.declared.item.Item.TheVariants.{Bind, Emit}
 use Rattle.a64_inst.proofs.Good.{operands_good}
 use Rattle.a64_rows.specs.Forms.{Form, IsFormOf}
-use Rattle.a64_enc_int.specs.Registers.{register_field}
 use Rattle.a64_emit.specs.declared.call.Callee.{Callee}
 use Rattle.a64_emit.specs.declared.call.Callee.TheVariants.{Symbol, Address}
 use Rattle.a64_label_use.specs.declared.label_use.LabelUse.{LabelUse}
 use Rattle.a64_label_use.specs.declared.label_use.LabelUse.TheVariants as uses
-use Rattle.a64_emit.specs.Cells.{Cell, Shape, OneWord, Several, Words, FormOf, Data, plain, trap_site, last_cell, branch, branches, data_cell, quiet, sum_shape, address_shape, access_shape, plain_shape, other_shape, shape_of, shape_cells, inst_cells, cells_of, pop_forms, call_cell, call_cells, patchable_cells, result_cells, lone_cell, restored_cell, leave_forms, return_cell, return_cells, keep, kept_by}
+use Rattle.a64_emit.specs.Cells.{Cell, Shape, OneWord, Several, Words, plain, last_cell, branch, branches, quiet, sum_shape, address_shape, access_shape, plain_shape, other_shape, shape_of, shape_cells, inst_cells, cells_of, pop_forms, call_cell, call_cells, patchable_cells, result_cells, lone_cell, restored_cell, leave_forms, return_cell, return_cells, keep, kept_by}
 use Rattle.a64_emit.specs.FormCells.{IsFormBody, IsFormCell, HasHalfword, RestoresHalfwords, HoldsHalfword}
 use Rattle.a64_emit.specs.Faults.{item_fault}
-use Rattle.a64_emit.specs.ControlForms.{jump_form, cond_br_form, trap_if_form, test_bit_and_branch_form, label_address_form, udf_word}
-use Rattle.a64_emit.specs.IntegerForms.{mov_form}
+use Rattle.a64_emit.specs.ControlForms.{jump_form, ret_form, brk_form}
+use Rattle.a64_emit.specs.IntegerForms.{mov_form, csneg_form, cset_form, csetm_form, ccmp_form, ccmp_imm_form, mov_to_nzcv_form, mov_from_nzcv_form}
 use Rattle.a64_emit.specs.MemoryForms.{step_forms, addend_register, offset_register, addend, addend_form, sum_form, sum_op}
-use Rattle.a64_emit.specs.Words.{IsCalled}
-use Rattle.a64_emit.proofs.Accesses.{mode_good, byte_size, are_address_parts, address_good, move_good, addend_operands, extend_good}
+use Rattle.a64_emit.proofs.Accesses.{mode_good, byte_size, addend_good}
 use Rattle.a64_emit.proofs.AccessForms.{HoldsOffset, final_holds, plan_forms, final_steps_forms, parts_are_form, access_is_form, access_steps_forms, pair_is_form}
 use Rattle.a64_emit.proofs.BranchForms as control
+use Rattle.a64_emit.proofs.BranchForms.{branch_forms}
 use Rattle.a64_emit.proofs.CallForms.{adjust_are_forms, call_is_form, leave_are_forms, return_is_form}
 use Rattle.a64_emit.proofs.CallLoads.{loading, loaded_cells}
 use Rattle.a64_emit.proofs.CallOperands.{call_results, return_restorable}
 use Rattle.a64_emit.proofs.ImmediateForms as immediate
+use Rattle.a64_emit.proofs.ImmediateForms.{immediate_forms}
 use Rattle.a64_emit.proofs.LogicForms.{alu_rr_imm_logic_within}
-use Rattle.a64_emit.proofs.Operands.{cond_br_parts, test_bit_parts, zero_below, stack_below, register_zero}
+use Rattle.a64_emit.proofs.OneWord.{field_widths}
+use Rattle.a64_emit.proofs.Operands.{parts}
 use Rattle.a64_emit.proofs.RegisterForms as register
-use Rattle.a64_emit.proofs.SequenceForms.{plain_forms, sequence_forms}
+use Rattle.a64_emit.proofs.RegisterForms.{register_forms}
+use Rattle.a64_emit.proofs.SequenceForms.{plain_forms, sequences}
 
 -- ---- shapes
 
@@ -93,105 +95,46 @@ keep_forms (Some m) (c ∷ cs) are = All-cons IsFormCell (record c { marks = rec
 
 -- ---- addresses
 
-module _ (rd rn : Reg) (numbered : is_register Refused rd ≡ true) (base : is_register_or_stack Refused rn ≡ true) where
+module _ (rd rn : Reg) where
   sum_forms : (offset : ℤ) → unsigned_abs offset < 2 ^ 64 → AreForms (sum_shape rd rn offset)
   sum_forms offset fits = go (int_eq offset (pos 0)) (is_same_register rd rn) (is_addend (unsigned_abs offset)) refl
     where
-      d : register_field rd < 32
-      d = zero_below rd (register_zero rd numbered)
-
       go : (none same small : Bool) → is_addend (unsigned_abs offset) ≡ small → AreForms (if none then (if same then Words [] else quiet [] (mov_form Size64 rd rn)) else if small then quiet [] (addend_form rd rn offset) else quiet (step_forms addend_register (plan_of (unsigned_abs offset))) (sum_form rd rn offset))
       go true true small e = All-nil IsFormCell
-      go true false small e = (All-nil IsFormOf, register.mov_is_form Size64 rd rn (move_good rd rn numbered base))
-      go false same true e = (All-nil IsFormOf, immediate.alu_rr_imm12_is_form (sum_op offset) Size64 rd rn (addend (unsigned_abs offset)) (addend_operands offset rd rn (addend (unsigned_abs offset)) numbered base e refl))
-      go false same false e =
-          (plan_forms addend_register (lit< tt) (unsigned_abs offset) fits, register.alu_rrr_within (sum_op offset) Size64 rd rn addend_register d (stack_below rn base) (lit< tt))
+      go true false small e = (All-nil IsFormOf, register.mov_is_form Size64 rd rn)
+      go false same true e = (All-nil IsFormOf, immediate.alu_rr_imm12_is_form (sum_op offset) Size64 rd rn (addend (unsigned_abs offset)) (addend_good (unsigned_abs offset) e))
+      go false same false e = (plan_forms addend_register (unsigned_abs offset) fits, register.alu_rrr_is_form (sum_op offset) Size64 rd rn addend_register)
 
-mode_forms : (rd : Reg) (before : List Form) (mode : FinalMode) → is_register Refused rd ≡ true → All IsFormOf before → are_address_parts mode ≡ true → HoldsOffset mode → AreForms (address_shape rd before mode)
-mode_forms rd before (SignedOffset rn offset) numbered are base holds = sum_forms rd rn numbered base offset holds
-mode_forms rd before (ScaledOffset rn offset ty) numbered are base holds = sum_forms rd rn numbered base (pos offset) holds.0
-mode_forms rd before (Other (modes.RegExtended rn rm extendop)) numbered are parts holds =
-    let (base, index) = and_parts (is_register_or_stack Refused rn) (is_register_or_zero Refused rm) parts in
-    (are, register.alu_rrr_extend_is_form alu.Add Size64 rd rn rm extendop (extend_good rd rn rm numbered base index))
-mode_forms rd before (Other _) numbered are parts holds = All-nil IsFormCell
+mode_forms : (rd : Reg) (before : List Form) (mode : FinalMode) → All IsFormOf before → HoldsOffset mode → AreForms (address_shape rd before mode)
+mode_forms rd before (SignedOffset rn offset) are holds = sum_forms rd rn offset holds
+mode_forms rd before (ScaledOffset rn offset ty) are holds = sum_forms rd rn (pos offset) holds.0
+mode_forms rd before (Other (modes.RegExtended rn rm extendop)) are holds = (are, register.alu_rrr_extend_is_form alu.Add Size64 rd rn rm extendop)
+mode_forms rd before (Other _) are holds = All-nil IsFormCell
 
 address_forms : (frame : FrameLayout) (rd : Reg) (mem : AMode) → are_address_operands frame Refused rd mem ≡ true → AreForms (address_shape rd (step_forms offset_register (final_steps frame I8 mem)) (final_mode frame I8 mem))
 unfolding are_address_operands are_mode_operands
 address_forms frame rd mem good =
-    let (numbered, rest) = and_parts (is_register Refused rd) (are_mode_operands frame Refused mem && not (needs_x17_beside 63 (final_mode frame I8 mem))) good in
+    let (_, rest) = and_parts (is_register Refused rd) (are_mode_operands frame Refused mem && not (needs_x17_beside 63 (final_mode frame I8 mem))) good in
     let (operands, _) = and_parts (are_mode_operands frame Refused mem) (not (needs_x17_beside 63 (final_mode frame I8 mem))) rest in
-    mode_forms rd (step_forms offset_register (final_steps frame I8 mem)) (final_mode frame I8 mem) numbered (final_steps_forms offset_register (lit< tt) frame I8 mem)
-    (address_good frame mem operands) (final_holds frame I8 mem byte_size (and_parts (are_mode_parts Refused mem) _ operands).0)
+    mode_forms rd (step_forms offset_register (final_steps frame I8 mem)) (final_mode frame I8 mem) (final_steps_forms offset_register frame I8 mem)
+    (final_holds frame I8 mem byte_size (and_parts (are_mode_parts Refused mem) _ operands).0)
 
 -- ---- branches
 
 branch_pair : (form : Form) (kind : LabelUse) (taken not_taken : BranchTarget) → IsFormOf form → All IsFormCell (branches form kind taken not_taken)
 branch_pair form kind taken not_taken is = two_cells (branch form kind taken) (branch (jump_form not_taken) uses.Branch26 not_taken) is (control.jump_is_form not_taken)
 
-near_result : (rd : Reg) (off : ℤ) → are_adr_operands Refused rd off ≡ true → is_register_or_zero Refused rd ≡ true
-unfolding are_adr_operands
-near_result rd off good = (and_parts (is_register_or_zero Refused rd) (is_near off) good).0
-
 -- ---- instructions that are no calls
+
+-- a form is one of its row by the widths of its fields, or by its own lemma where they are not enough
+ruleset inst_rules = (rules, parts, field_widths, register_forms, immediate_forms, alu_rr_imm_logic_within, branch_forms, sequences, pair_is_form, address_forms, All-nil, one_cell, two_cells, branch_pair)
 
 module _ (frame : FrameLayout) (flags : EmitFlags) where
   plain_shape_forms : (inst : Inst) → HasHalfword inst → has_plain_operands frame flags Refused inst ≡ true → AreForms (plain_shape frame flags inst)
-  plain_shape_forms insts.Nop0 fits good = All-nil IsFormCell
+  unfolding csneg_form cset_form csetm_form ccmp_form ccmp_imm_form mov_to_nzcv_form mov_from_nzcv_form ret_form brk_form
+      are_alu_rr_imm12_operands are_alu_rr_imm_logic_operands are_alu_rr_imm_shift_operands are_alu_rrr_shift_operands are_bit_rr_operands are_mov_wide_operands are_mov_k_operands are_bitfield_move_operands are_bitfield_move_mod_operands are_test_bit_operands
   plain_shape_forms insts.Nop4 fits good = control.nop4_is_form
-  plain_shape_forms (insts.AluRRR alu_op size rd rn rm) fits good = register.alu_rrr_is_form alu_op size rd rn rm good
-  plain_shape_forms (insts.AluRRRR alu_op size rd rn rm ra) fits good = register.alu_rrrr_is_form alu_op size rd rn rm ra good
-  plain_shape_forms (insts.AluRRImm12 alu_op size rd rn imm12) fits good = immediate.alu_rr_imm12_is_form alu_op size rd rn imm12 good
-  plain_shape_forms (insts.AluRRImmLogic alu_op size rd rn imml) fits good = alu_rr_imm_logic_within alu_op size rd rn imml good
-  plain_shape_forms (insts.AluRRImmShift alu_op size rd rn immshift) fits good = immediate.alu_rr_imm_shift_is_form alu_op size rd rn immshift good
-  plain_shape_forms (insts.AluRRRShift alu_op size rd rn rm shiftop) fits good = register.alu_rrr_shift_is_form alu_op size rd rn rm shiftop good
-  plain_shape_forms (insts.AluRRRExtend alu_op size rd rn rm extendop) fits good = register.alu_rrr_extend_is_form alu_op size rd rn rm extendop good
-  plain_shape_forms (insts.BitRR op size rd rn) fits good = register.bit_rr_is_form op size rd rn good
-  plain_shape_forms (insts.Mov size rd rm) fits good = register.mov_is_form size rd rm good
-  plain_shape_forms (insts.MovFromPReg rd rm) fits good = register.mov_from_preg_is_form rd rm good
-  plain_shape_forms (insts.MovToPReg rd rm) fits good = register.mov_to_preg_is_form rd rm good
-  plain_shape_forms (insts.MovWide op rd imm size) fits good = immediate.mov_wide_is_form op rd imm size good fits
-  plain_shape_forms (insts.MovK rd rn imm size) fits good = immediate.mov_k_is_form rd rn imm size good fits
-  plain_shape_forms (insts.CSel rd rn rm cond) fits good = register.csel_is_form rd rn rm cond good
-  plain_shape_forms (insts.CSNeg rd rn rm cond) fits good = register.csneg_is_form rd rn rm cond good
-  plain_shape_forms (insts.CSet rd cond) fits good = register.cset_is_form rd cond good
-  plain_shape_forms (insts.CSetm rd cond) fits good = register.csetm_is_form rd cond good
-  plain_shape_forms (insts.CCmp size rn rm nzcv cond) fits good = register.ccmp_is_form size rn rm nzcv cond good
-  plain_shape_forms (insts.CCmpImm size rn imm nzcv cond) fits good = register.ccmp_imm_is_form size rn imm nzcv cond good
-  plain_shape_forms (insts.Extend rd rn signed from_bits to_bits) fits good = register.extend_is_form rd rn signed from_bits to_bits good
-  plain_shape_forms (insts.BitfieldMove size bfm_op rd rn immr imms) fits good = immediate.bitfield_move_is_form size bfm_op rd rn immr imms good
-  plain_shape_forms (insts.BitfieldMoveMod size rd ri rn immr imms) fits good = immediate.bitfield_move_mod_is_form size rd ri rn immr imms good
-  plain_shape_forms (insts.MovToNZCV rn) fits good = control.mov_to_nzcv_is_form rn good
-  plain_shape_forms (insts.MovFromNZCV rd) fits good = control.mov_from_nzcv_is_form rd good
-  plain_shape_forms (insts.Adr rd off) fits good = immediate.adr_is_form rd off (near_result rd off good)
-  plain_shape_forms (insts.Adrp rd off) fits good = immediate.adrp_is_form rd off (near_result rd off good)
-  plain_shape_forms insts.Ret fits good = control.ret_is_form
-  plain_shape_forms (insts.Jump dest) fits good = one_cell (branch (jump_form dest) uses.Branch26 dest) (control.jump_is_form dest)
-  plain_shape_forms (insts.CondBr taken not_taken kind) fits good =
-      branch_pair (cond_br_form taken kind) uses.Branch19 taken not_taken (control.cond_br_is_form taken kind (cond_br_parts taken not_taken kind good).test)
-  plain_shape_forms (insts.TestBitAndBranch kind taken not_taken rn bit) fits good =
-      let parts = test_bit_parts taken not_taken rn bit good in
-      branch_pair (test_bit_and_branch_form kind taken rn bit) uses.Branch14 taken not_taken (control.test_bit_and_branch_is_form kind taken rn bit parts.register parts.below)
-  plain_shape_forms (insts.TrapIf kind trap_code) fits good = one_cell (last_cell (FormOf (trap_if_form kind)) (Some (trap_site trap_code)) None) (control.trap_if_is_form kind good)
-  plain_shape_forms (insts.EmitIsland needed_space) fits good = All-nil IsFormCell
-  plain_shape_forms (insts.IndirectBr rn targets) fits good = control.indirect_br_is_form rn good
-  plain_shape_forms insts.Brk fits good = control.brk_is_form
-  plain_shape_forms (insts.Udf trap_code) fits good = one_cell (last_cell (Data udf_word) None (Some trap_code)) tt
-  plain_shape_forms (insts.Word4 value) fits good = one_cell (data_cell value) tt
-  plain_shape_forms (insts.Word8 value) fits good = two_cells (data_cell (value % 2 ^ 32)) (data_cell (value / 2 ^ 32)) tt tt
-  plain_shape_forms (insts.LabelAddress dst label) fits good = one_cell (branch (label_address_form dst) uses.Adr21 (Label label)) (control.label_address_is_form dst good)
-  plain_shape_forms (insts.Args args) fits good = sequence_forms frame flags (insts.Args args) refl good
-  plain_shape_forms (insts.Rets rets) fits good = sequence_forms frame flags (insts.Rets rets) refl good
-  plain_shape_forms (insts.DummyUse reg) fits good = sequence_forms frame flags (insts.DummyUse reg) refl good
-  plain_shape_forms insts.SequencePoint fits good = sequence_forms frame flags insts.SequencePoint refl good
-  plain_shape_forms (insts.JTSequence default targets ridx rtmp1 rtmp2) fits good = sequence_forms frame flags (insts.JTSequence default targets ridx rtmp1 rtmp2) refl good
-  plain_shape_forms (insts.LoadExtNameGot rd name) fits good = sequence_forms frame flags (insts.LoadExtNameGot rd name) refl good
-  plain_shape_forms (insts.LoadExtNameNear rd name offset) fits good = sequence_forms frame flags (insts.LoadExtNameNear rd name offset) refl good
-  plain_shape_forms (insts.LoadExtNameFar rd name offset) fits good = sequence_forms frame flags (insts.LoadExtNameFar rd name offset) refl good
-  plain_shape_forms (insts.StackProbeLoop start end step) fits good = sequence_forms frame flags (insts.StackProbeLoop start end step) refl good
-  plain_shape_forms (insts.LoadP64 rt rt2 mem trap) fits good = (All-nil IsFormOf, pair_is_form 1 rt rt2 mem (lit< tt) good)
-  plain_shape_forms (insts.StoreP64 rt rt2 mem trap) fits good = (All-nil IsFormOf, pair_is_form 0 rt rt2 mem (lit< tt) good)
-  plain_shape_forms (insts.LoadAddr rd mem) fits good = address_forms frame rd mem good
-  plain_shape_forms _ fits good = absurd cc
+  plain_shape_forms _ fits good = search inst_rules
 
 module _ (frame : FrameLayout) where
   access_forms : (access : Access) → are_access_operands frame Refused access ≡ true → has_access_mode access.op access.mem ≡ true → AreForms (access_shape frame access)
@@ -204,11 +147,11 @@ module _ (frame : FrameLayout) where
   result_forms : (vreg : Reg) (location : RetLocation) → is_result_at Refused vreg location ≡ true → All IsFormCell (result_cells frame (record { vreg = vreg; location = location }))
   result_forms vreg (locations.Reg preg ty) good = All-nil IsFormCell
   result_forms vreg (locations.Stack offset ty) good =
-      let (has, register) = and_parts (type_has_load_form ty) (is_data_register Refused (load_op ty) vreg && not (is_numbered 16 vreg)) good in
+      let (has, _) = and_parts (type_has_load_form ty) (is_data_register Refused (load_op ty) vreg && not (is_numbered 16 vreg)) good in
       let load = loading vreg offset ty in
       subst (All IsFormCell) (sym (loaded_cells frame vreg offset ty has))
       (shape_forms (access_shape frame load)
-      (access_steps_forms frame load, parts_are_form frame load (and_parts (is_data_register Refused (load_op ty) vreg) (not (is_numbered 16 vreg)) register).0 refl refl refl))
+      (access_steps_forms frame load, parts_are_form frame load refl refl refl))
 
   results_forms : (defs : List CallRetPair) → are_call_defs Refused defs ≡ true → All IsFormCell (flat_map (result_cells frame) defs)
   results_forms [] good = All-nil IsFormCell
@@ -216,15 +159,15 @@ module _ (frame : FrameLayout) where
       let (first, others) = and_parts (is_result_at Refused pair.vreg pair.location) (are_call_defs Refused defs) good in
       All-append IsFormCell (result_cells frame pair) (flat_map (result_cells frame) defs) (result_forms pair.vreg pair.location first) (results_forms defs others)
 
-  call_forms : (callee : Callee) (defs : List CallRetPair) (pop : ℕ) → IsCalled callee → are_call_defs Refused defs ≡ true → All IsFormCell (call_cells frame callee defs pop)
-  call_forms callee defs pop called good =
-      All-cons IsFormCell (call_cell callee None) (map plain (pop_forms pop) ++ flat_map (result_cells frame) defs) (call_is_form callee called)
+  call_forms : (callee : Callee) (defs : List CallRetPair) (pop : ℕ) → are_call_defs Refused defs ≡ true → All IsFormCell (call_cells frame callee defs pop)
+  call_forms callee defs pop good =
+      All-cons IsFormCell (call_cell callee None) (map plain (pop_forms pop) ++ flat_map (result_cells frame) defs) (call_is_form callee)
       (All-append IsFormCell (map plain (pop_forms pop)) (flat_map (result_cells frame) defs) (plain_forms (pop_forms pop) (adjust_are_forms (pos 0 -ℤ pos pop))) (results_forms defs good))
 
-  symbol_forms : (callee : Callee) (patchable : Bool) (defs : List CallRetPair) (pop : ℕ) → IsCalled callee → are_call_defs Refused defs ≡ true → All IsFormCell (if patchable then patchable_cells callee pop else call_cells frame callee defs pop)
-  symbol_forms callee true defs pop called good =
-      All-cons IsFormCell (call_cell callee (Some (4 * (length (pop_forms pop) + 1)))) (map plain (pop_forms pop)) (call_is_form callee called) (plain_forms (pop_forms pop) (adjust_are_forms (pos 0 -ℤ pos pop)))
-  symbol_forms callee false defs pop called good = call_forms callee defs pop called good
+  symbol_forms : (callee : Callee) (patchable : Bool) (defs : List CallRetPair) (pop : ℕ) → are_call_defs Refused defs ≡ true → All IsFormCell (if patchable then patchable_cells callee pop else call_cells frame callee defs pop)
+  symbol_forms callee true defs pop good =
+      All-cons IsFormCell (call_cell callee (Some (4 * (length (pop_forms pop) + 1)))) (map plain (pop_forms pop)) (call_is_form callee) (plain_forms (pop_forms pop) (adjust_are_forms (pos 0 -ℤ pos pop)))
+  symbol_forms callee false defs pop good = call_forms callee defs pop good
 
   module _ (flags : EmitFlags) where
     -- what a frame restores
@@ -255,25 +198,24 @@ module _ (frame : FrameLayout) where
         let can = AllPass-from_list_all (can_restore frame flags Refused) frame.restore good in
         All-map IsFormCell (restored_cell frame flags) frame.restore (λ k d w. restored_form (get_or frame.restore k d) (fit k d w) (can k d w))
 
-    return_forms : (callee : Callee) (size : ℕ) (key : Option APIKey) (all : Bool) → IsCalled callee → RestoresHalfwords frame → is_restorable frame flags Refused ≡ true → All IsFormCell (return_cells frame flags callee size key all)
-    return_forms callee size key all called fit good =
+    return_forms : (callee : Callee) (size : ℕ) (key : Option APIKey) (all : Bool) → RestoresHalfwords frame → is_restorable frame flags Refused ≡ true → All IsFormCell (return_cells frame flags callee size key all)
+    return_forms callee size key all fit good =
         All-append IsFormCell (map (restored_cell frame flags) frame.restore ++ map plain (leave_forms frame size key all)) (return_cell callee ∷ [])
         (All-append IsFormCell (map (restored_cell frame flags) frame.restore) (map plain (leave_forms frame size key all)) (restored_forms fit good) (plain_forms (leave_forms frame size key all) (leave_are_forms frame size key all)))
-        (one_cell (return_cell callee) (return_is_form callee called))
+        (one_cell (return_cell callee) (return_is_form callee))
 
 -- ---- instructions
 
 module _ (frame : FrameLayout) (flags : EmitFlags) (fit : RestoresHalfwords frame) where
   other_forms : (inst : Inst) → HasHalfword inst → has_other_operands frame flags Refused inst ≡ true → AreForms (other_shape frame flags inst)
-  other_forms (insts.Call info) fits good = symbol_forms frame (Symbol info.dest) info.patchable info.defs info.callee_pop_size tt (call_results info.uses info.defs info.callee_pop_size good)
+  other_forms (insts.Call info) fits good = symbol_forms frame (Symbol info.dest) info.patchable info.defs info.callee_pop_size (call_results info.uses info.defs info.callee_pop_size good)
   other_forms (insts.CallInd info) fits good =
-      let (called, operands) = and_parts (is_register_or_zero Refused info.dest) _ good in
-      call_forms frame (Address info.dest) info.defs info.callee_pop_size called (call_results info.uses info.defs info.callee_pop_size operands)
+      call_forms frame (Address info.dest) info.defs info.callee_pop_size (call_results info.uses info.defs info.callee_pop_size (and_parts (is_register_or_zero Refused info.dest) _ good).1)
   other_forms (insts.ReturnCall info) fits good =
-      return_forms frame flags (Symbol info.dest) info.new_stack_arg_size info.key info.sign_return_address_all tt fit (return_restorable frame (is_restorable frame flags Refused) info.uses info.new_stack_arg_size good)
+      return_forms frame flags (Symbol info.dest) info.new_stack_arg_size info.key info.sign_return_address_all fit (return_restorable frame (is_restorable frame flags Refused) info.uses info.new_stack_arg_size good)
   other_forms (insts.ReturnCallInd info) fits good =
-      let (called, operands) = and_parts (is_register_or_zero Refused info.dest) _ good in
-      return_forms frame flags (Address info.dest) info.new_stack_arg_size info.key info.sign_return_address_all called fit (return_restorable frame (is_restorable frame flags Refused) info.uses info.new_stack_arg_size operands)
+      return_forms frame flags (Address info.dest) info.new_stack_arg_size info.key info.sign_return_address_all fit
+      (return_restorable frame (is_restorable frame flags Refused) info.uses info.new_stack_arg_size (and_parts (is_register_or_zero Refused info.dest) _ good).1)
   other_forms inst fits good = plain_shape_forms frame flags inst fits good
 
   -- those of an instruction whose operands are in their sets and whose mode exists

@@ -1,5 +1,5 @@
 -- The form of a logical operation with an immediate that has no fault of its own is a form of its row.
-use Rattle.std.proofs.Common.{◌≡◌, ◌+◌, ◌-◌, ◌<◌, true, false, refl, ap, ◌∙◌, arith}
+use Rattle.std.proofs.Common.{◌≡◌, ◌+◌, ◌-◌, ◌<◌, true, false, refl, ap, ◌∙◌, arith, rules}
 use Rattle.std.specs.Prelude.{◌&&◌, ◌==◌, nat_eq}
 use Rattle.std.proofs.lemmas.Bool.{and_parts, and_from, eqb-true}
 use Rattle.std.proofs.lemmas.Nat.{mod_below}
@@ -22,11 +22,9 @@ use Rattle.a64_rows.specs.Forms.{IsFormOf}
 use Rattle.a64_rows.specs.Limits.{is_bitmask, is_bitmask_of}
 use Rattle.a64_rows.specs.DataProcessing.{logic_imm}
 use Rattle.a64_enc_int.specs.Operators.{bit_of}
-use Rattle.a64_enc_int.specs.Registers.{register_field}
 use Rattle.a64_enc_int.proofs.Immediates.{logic_within}
 use Rattle.a64_emit.specs.IntegerForms.{logic_fields, taken, alu_rr_imm_logic_form}
-use Rattle.a64_emit.proofs.Operands.{zero_below, logic_below, sf_below}
-use Rattle.a64_emit.proofs.OneWord.{opc_below, bit_of_below}
+use Rattle.a64_emit.proofs.OneWord.{field_widths}
 
 same_size : (a b : OperandSize) → is_same_size a b ≡ true → a ≡ b
 same_size Size32 Size32 e = refl
@@ -44,8 +42,8 @@ record AreFields (size : OperandSize) (imm : ImmLogic) : Type 0 where
   s : imm.s < 64
   bitmask : is_bitmask_of (sf_of size) (bit_of imm.n) imm.r imm.s ≡ true
 
-fields_within : (op : ALUOp) (size : OperandSize) (rd rn : Reg) (imm : ImmLogic) → register_field rd < 32 → register_field rn < 32 → AreFields size imm → IsFormOf (logic_imm (logic_fields op size rd rn imm))
-fields_within op size rd rn imm d n are = ((sf_below size, (opc_below op, (bit_of_below imm.n, (are.r, (are.s, (n, (d, tt))))))), are.bitmask)
+fields_within : (op : ALUOp) (size : OperandSize) (rd rn : Reg) (imm : ImmLogic) → AreFields size imm → IsFormOf (logic_imm (logic_fields op size rd rn imm))
+fields_within op size rd rn imm are = search (rules, field_widths)
 
 lawful_fields : (size : OperandSize) (imm : ImmLogic) → imm.size ≡ size → IsImmLogic imm → AreFields size imm
 lawful_fields size imm same is = record { r = r_fits imm.size imm is; s = s_fits imm.size imm is; bitmask = logic_within size imm same is }
@@ -56,10 +54,10 @@ pub alu_rr_imm_logic_is_form : (op : ALUOp) (size : OperandSize) (rd rn : Reg) (
     → IsFormOf (logic_imm (logic_fields op size rd rn imm))
 unfolding are_alu_rr_imm_logic_operands
 alu_rr_imm_logic_is_form op size rd rn imml imm none is lawful =
-    let (result, others) = and_parts (is_logic_result Refused op rd) (is_register_or_zero Refused rn && is_logic_of size imml) none in
-    let (operand, of_size) = and_parts (is_register_or_zero Refused rn) (is_logic_of size imml) others in
+    let (_, others) = and_parts (is_logic_result Refused op rd) (is_register_or_zero Refused rn && is_logic_of size imml) none in
+    let (_, of_size) = and_parts (is_register_or_zero Refused rn) (is_logic_of size imml) others in
     let same : imm.size ≡ size = ap (λ (i : ImmLogic). i.size) is ∙ taken_size op imml ∙ same_size imml.size size (and_parts (is_same_size imml.size size) (is_imm_logic imml) of_size).0 in
-    fields_within op size rd rn imm (logic_below op rd result) (zero_below rn operand) (lawful_fields size imm same lawful)
+    fields_within op size rd rn imm (lawful_fields size imm same lawful)
 
 -- the triple of a run is that of the immediate of its number
 lawful_run : (run : Run) → IsRun run → IsImmLogic (logic_with Size64 (number run) run)
@@ -103,15 +101,13 @@ taken_fields alu.OrrNot size rd imm kind same e = inverted_fields size imm same 
 taken_fields alu.EorNot size rd imm kind same e = inverted_fields size imm same e
 taken_fields _ size rd imm kind same e = absurd cc
 
-pub alu_rr_imm_logic_within : (op : ALUOp) (size : OperandSize) (rd rn : Reg) (imml : ImmLogic) → are_alu_rr_imm_logic_operands Refused op size rd rn imml ≡ true → IsFormOf (alu_rr_imm_logic_form op size rd rn imml)
-unfolding are_alu_rr_imm_logic_operands alu_rr_imm_logic_form
-alu_rr_imm_logic_within op size rd rn imml good =
-    let (result, others) = and_parts (is_logic_result Refused op rd) (is_register_or_zero Refused rn && is_logic_of size imml) good in
-    let (operand, of_size) = and_parts (is_register_or_zero Refused rn) (is_logic_of size imml) others in
+pub alu_rr_imm_logic_within : (op : ALUOp) (size : OperandSize) (rd rn : Reg) (imml : ImmLogic) → is_logic_result Refused op rd ≡ true → is_logic_of size imml ≡ true → IsFormOf (alu_rr_imm_logic_form op size rd rn imml)
+unfolding alu_rr_imm_logic_form
+alu_rr_imm_logic_within op size rd rn imml result of_size =
     let (same, is) = and_parts (is_same_size imml.size size) (is_imm_logic imml) of_size in
-    fields_within op size rd rn (taken op imml) (logic_below op rd result) (zero_below rn operand) (taken_fields op size rd imml result (same_size imml.size size same) is)
+    fields_within op size rd rn (taken op imml) (taken_fields op size rd imml result (same_size imml.size size same) is)
 
 -- and of a lawful immediate an or
-pub orr_is_form : (rd rn : Reg) (imm : ImmLogic) → register_field rd < 32 → register_field rn < 32 → IsImmLogic imm → IsFormOf (alu_rr_imm_logic_form alu.Orr imm.size rd rn imm)
+pub orr_is_form : (rd rn : Reg) (imm : ImmLogic) → IsImmLogic imm → IsFormOf (alu_rr_imm_logic_form alu.Orr imm.size rd rn imm)
 unfolding alu_rr_imm_logic_form
-orr_is_form rd rn imm d n is = fields_within alu.Orr imm.size rd rn imm d n (lawful_fields imm.size imm refl is)
+orr_is_form rd rn imm is = fields_within alu.Orr imm.size rd rn imm (lawful_fields imm.size imm refl is)

@@ -1,30 +1,32 @@
 -- The form of an instruction of one word that has no fault of its own is a form of its row.
-use Rattle.std.proofs.Common.{ℕ, ◌≡◌, ◌<◌, ◌^◌, Bool, true, false, refl, lit<, arith, rules}
-use Rattle.std.specs.Prelude.{◌&&◌, ◌==◌, not}
-use Rattle.std.proofs.lemmas.Bool.{and_parts}
+use Rattle.std.proofs.Common.{ℕ, ◌≡◌, ◌<◌, ◌^◌, Bool, true, false, refl, arith, rules}
+use Rattle.std.specs.Prelude.{◌==◌, not}
 use Rattle.std.proofs.lemmas.Bool.Decides.{nat_tests}
+use Rattle.a64_base.specs.declared.cond.Cond.{Cond}
 use Rattle.a64_base.specs.declared.reg.Reg.{Reg}
 use Rattle.a64_base.specs.declared.shift.ExtendOp.{ExtendOp}
 use Rattle.a64_base.specs.declared.shift.ShiftOp.{ShiftOp}
 use Rattle.a64_base.specs.declared.shift.ShiftOp.TheVariants.{LSL, LSR, ASR, ROR}
 use Rattle.a64_base.specs.declared.size.OperandSize.{OperandSize}
+use Rattle.a64_base.specs.Conditions.{condition_bits}
 use Rattle.a64_base.specs.ShiftParts.{Shift}
 use Rattle.a64_base.specs.Shifts.{shift_bits, extend_bits}
+use Rattle.a64_imms.specs.declared.unsigned.UImm5.{UImm5}
+use Rattle.a64_imms.specs.Flags.{Flags, nzcv_bits}
+use Rattle.a64_imms.specs.Unsigned.{uimm5_value}
 use Rattle.a64_ops.specs.declared.operator.ALUOp.{ALUOp}
 use Rattle.a64_ops.specs.declared.operator.ALUOp.TheVariants as alu
 use Rattle.a64_ops.specs.declared.operator.ALUOp3.{ALUOp3}
-use Rattle.a64_ops.specs.declared.operator.ALUOp3.TheVariants.{MAdd, MSub, UMAddL, SMAddL}
-use Rattle.a64_inst.specs.declared.virtuals.VirtualRegisters.TheVariants.{Refused}
-use Rattle.a64_inst.specs.Operands.{is_register_or_zero}
+use Rattle.a64_ops.specs.declared.operator.ALUOp3.TheVariants.{MAdd}
 use Rattle.a64_inst.specs.IntegerOperands.{is_no_rotation, takes_shift}
 use Rattle.a64_rows.specs.Forms.{IsFormOf}
 use Rattle.a64_rows.specs.Limits.{is_bit_number}
-use Rattle.a64_rows.specs.DataProcessing.{add_sub_reg, logic_reg, add_sub_carry, mul_high}
+use Rattle.a64_rows.specs.DataProcessing.{add_sub_reg, logic_reg}
 use Rattle.a64_enc_int.specs.Operators.{bit_of}
-use Rattle.a64_enc_int.specs.Registers.{register_field}
+use Rattle.a64_enc_int.proofs.Registers.{field_below}
 use Rattle.a64_emit.specs.declared.word.integer.operator.TwoRegisters.{TwoRegisters}
-use Rattle.a64_emit.specs.IntegerForms.{op_of, s_of, opc_of, n_of, two_registers, no_shift, add_sub, logic, with_carry, high_product, alu_form, extraction, shifted_form, extended_form, product_form}
-use Rattle.a64_emit.proofs.Operands.{zero_below, sf_below}
+use Rattle.a64_emit.specs.IntegerForms.{op_of, s_of, opc_of, n_of, two_registers, no_shift, add_sub, logic, alu_form, extraction, shifted_form, extended_form, product_form}
+use Rattle.a64_emit.proofs.Operands.{sf_below}
 
 -- ---- operations on two registers
 
@@ -35,14 +37,8 @@ pub record AreWithin (r : TwoRegisters) : Type 0 where
   pub rn : r.rn < 32
   pub rd : r.rd < 32
 
-pub registers_within : (size : OperandSize) (rd rn rm : Reg) → register_field rd < 32 → register_field rn < 32 → register_field rm < 32 → AreWithin (two_registers size rd rn rm)
-registers_within size rd rn rm d n m = record { sf = sf_below size; rm = m; rn = n; rd = d }
-
-pub zeros_within : (size : OperandSize) (rd rn rm : Reg) → (is_register_or_zero Refused rd && (is_register_or_zero Refused rn && is_register_or_zero Refused rm)) ≡ true → AreWithin (two_registers size rd rn rm)
-zeros_within size rd rn rm e =
-    let (result, operands) = and_parts (is_register_or_zero Refused rd) (is_register_or_zero Refused rn && is_register_or_zero Refused rm) e in
-    let (first, second) = and_parts (is_register_or_zero Refused rn) (is_register_or_zero Refused rm) operands in
-    registers_within size rd rn rm (zero_below rd result) (zero_below rn first) (zero_below rm second)
+pub registers_within : (size : OperandSize) (rd rn rm : Reg) → AreWithin (two_registers size rd rn rm)
+registers_within size rd rn rm = record { sf = sf_below size; rm = field_below rm; rn = field_below rn; rd = field_below rd }
 
 -- a shift within the widths and limits of the rows that have one
 pub record IsShift (sf : ℕ) (shift : Shift) : Type 0 where
@@ -52,7 +48,7 @@ pub record IsShift (sf : ℕ) (shift : Shift) : Type 0 where
 pub no_shift_within : (sf : ℕ) → sf < 2 → IsShift sf no_shift
 no_shift_within sf h = record { amount = omega arith; bit = grind (arith, nat_tests) }
 
-shift_below : (op : ShiftOp) → shift_bits op < 2 ^ 2
+pub shift_below : (op : ShiftOp) → shift_bits op < 2 ^ 2
 shift_below op = grind arith
 
 no_rotation : (op : ShiftOp) → is_no_rotation op ≡ true → not (shift_bits op == 3) ≡ true
@@ -70,7 +66,7 @@ s_below op = grind arith
 pub opc_below : (op : ALUOp) → opc_of op < 4
 opc_below op = grind arith
 
-n_below : (op : ALUOp) → n_of op < 2
+pub n_below : (op : ALUOp) → n_of op < 2
 n_below op = grind arith
 
 pub bit_of_below : (bit : Bool) → bit_of bit < 2
@@ -79,6 +75,18 @@ bit_of_below false = omega arith
 
 pub extend_below : (extend : ExtendOp) → extend_bits extend < 2 ^ 3
 extend_below extend = grind arith
+
+pub condition_below : (cond : Cond) → condition_bits cond < 2 ^ 4
+condition_below cond = grind arith
+
+pub flags_below : (flags : Flags) → nzcv_bits flags < 2 ^ 4
+flags_below flags = grind arith
+
+pub imm5_below : (imm : UImm5) → uimm5_value imm < 32
+imm5_below imm = imm.below
+
+-- fields that are within their widths whatever the instruction
+pub ruleset field_widths = (field_below, sf_below, shift_below, op_below, s_below, opc_below, n_below, bit_of_below, extend_below, condition_below, flags_below, imm5_below)
 
 -- whether the row of an operator has the shift
 abbrev has_shift : ALUOp → ShiftOp → Bool
@@ -98,16 +106,10 @@ module _ (r : TwoRegisters) (w : AreWithin r) where
   logic_form_within op shift is = ((w.sf, (opc_below op, (shift_below shift.op, (n_below op, (w.rm, (is.amount, (w.rn, (w.rd, tt)))))))), is.bit)
 
   pub extended_within : (op : ALUOp) (extend : ExtendOp) → IsFormOf (extended_form op extend r)
-  extended_within op extend = ((w.sf, (op_below op, (s_below op, (w.rm, (extend_below extend, (w.rn, (w.rd, tt))))))), refl)
-
-  with_carry_within : (op : ALUOp) → IsFormOf (add_sub_carry (with_carry op r))
-  with_carry_within op = ((w.sf, (op_below op, (s_below op, (w.rm, (w.rn, (w.rd, tt)))))), refl)
-
-  high_product_within : (u : ℕ) → u < 2 → IsFormOf (mul_high (high_product u r))
-  high_product_within u h = ((h, (w.rm, (w.rn, (w.rd, tt)))), refl)
+  extended_within op extend = search (rules, field_widths)
 
   pub extraction_within : (lowest : ℕ) → lowest < 2 ^ 6 → is_bit_number r.sf lowest ≡ true → IsFormOf (extraction lowest r)
-  extraction_within lowest small bit = ((w.sf, (w.rm, (small, (w.rn, (w.rd, tt))))), bit)
+  extraction_within lowest small bit = search rules
 
   pub alu_within : (op : ALUOp) (shift : Shift) → IsShift r.sf shift → has_shift op shift.op ≡ true → IsFormOf (alu_form op shift r)
   alu_within alu.Add shift is has = add_sub_within alu.Add shift is has
@@ -121,18 +123,7 @@ module _ (r : TwoRegisters) (w : AreWithin r) where
   alu_within alu.AndNot shift is has = logic_form_within alu.AndNot shift is
   alu_within alu.OrrNot shift is has = logic_form_within alu.OrrNot shift is
   alu_within alu.EorNot shift is has = logic_form_within alu.EorNot shift is
-  alu_within alu.Adc shift is has = with_carry_within alu.Adc
-  alu_within alu.Sbc shift is has = with_carry_within alu.Sbc
-  alu_within alu.AdcS shift is has = with_carry_within alu.AdcS
-  alu_within alu.SbcS shift is has = with_carry_within alu.SbcS
-  alu_within alu.UDiv shift is has = search rules
-  alu_within alu.SDiv shift is has = search rules
-  alu_within alu.Lsl shift is has = search rules
-  alu_within alu.Lsr shift is has = search rules
-  alu_within alu.Asr shift is has = search rules
-  alu_within alu.Extr shift is has = search rules
-  alu_within alu.SMulH shift is has = high_product_within 0 (omega arith)
-  alu_within alu.UMulH shift is has = high_product_within 1 (omega arith)
+  alu_within _ shift is has = search rules
 
   -- of which the second is shifted, or an extraction
   pub shifted_within : (op : ALUOp) (size : OperandSize) (shift : Shift) → takes_shift op size shift.op ≡ true → IsShift r.sf shift → IsFormOf (shifted_form op shift r)
@@ -153,7 +144,5 @@ module _ (r : TwoRegisters) (w : AreWithin r) where
 -- ---- products
 
 pub product_within : (op : ALUOp3) (r : TwoRegisters) (ra : ℕ) → AreWithin r → ra < 32 → IsFormOf (product_form op ra r)
-product_within MAdd r ra w a = ((w.sf, (w.rm, (lit< tt, (a, (w.rn, (w.rd, tt)))))), refl)
-product_within MSub r ra w a = ((w.sf, (w.rm, (lit< tt, (a, (w.rn, (w.rd, tt)))))), refl)
-product_within UMAddL r ra w a = ((lit< tt, (w.rm, (a, (w.rn, (w.rd, tt))))), refl)
-product_within SMAddL r ra w a = ((lit< tt, (w.rm, (a, (w.rn, (w.rd, tt))))), refl)
+product_within MAdd r ra w a = search rules
+product_within _ r ra w a = search rules

@@ -1,7 +1,7 @@
 -- What is known of the operands of instructions without a fault.
-use Rattle.std.proofs.Common.{ℕ, ℤ, pos, negsuc, ◌≡◌, ◌+◌, ◌-◌, ◌<◌, ◌^◌, Bool, true, false, inl, inr, refl, sym, lit<, arith}
+use Rattle.std.proofs.Common.{ℕ, ℤ, pos, negsuc, ◌≡◌, ◌+◌, ◌-◌, ◌<◌, ◌^◌, Bool, true, false, inl, inr, refl, lit<, arith}
 use Rattle.std.specs.Prelude.{◌&&◌, ◌||◌, ◌==◌, not, nat_lt, nat_eq, if◌then◌else◌}
-use Rattle.std.proofs.lemmas.Bool.{and_parts, or_cases, cases_cond, both_ways, ltb-true}
+use Rattle.std.proofs.lemmas.Bool.{and_parts, or_cases, both_ways, ltb-true}
 use Rattle.std.proofs.lemmas.Bool.Decides.{nat_tests}
 use Rattle.std.proofs.lemmas.Int.{ints}
 use Rattle.a64_base.specs.declared.cond.CondBrKind.{CondBrKind}
@@ -31,6 +31,17 @@ use Rattle.a64_rows.specs.Limits.{is_bit_number}
 use Rattle.a64_rows.specs.DataProcessing.{bitfield}
 use Rattle.a64_enc_int.specs.Branches.{IsGeneralTest}
 use Rattle.a64_enc_int.specs.Registers.{IsReal, IsGeneral, register_field}
+use Rattle.a64_enc_int.proofs.Registers.{field_below}
+
+-- ---- the parts of a test that holds
+
+pub first_holds : (x y : Bool) → (x && y) ≡ true → x ≡ true
+first_holds x y e = (and_parts x y e).0
+
+pub second_holds : (x y : Bool) → (x && y) ≡ true → y ≡ true
+second_holds x y e = (and_parts x y e).1
+
+pub ruleset parts = (first_holds, second_holds)
 
 -- ---- registers of a test are general
 
@@ -73,41 +84,6 @@ logic_general alu.OrrNot rd e = stack_general rd e
 logic_general alu.EorNot rd e = stack_general rd e
 logic_general alu.AndS rd e = general rd e
 logic_general _ rd e = absurd cc
-
--- ---- and their fields have five bits
-
-zero_number : (class : RegClass) (n : ℕ) → (is_int class && nat_lt n 32) ≡ true → register_field (Real (record { number = n; class = class })) < 32
-zero_number Int n e = grind (arith, nat_tests)
-zero_number Float n e = absurd cc
-
-pub zero_below : (reg : Reg) → is_register_or_zero Refused reg ≡ true → register_field reg < 32
-zero_below (Real p) e = zero_number p.class p.number e
-zero_below (Virtual index class) e = absurd cc
-
-stack_number : (class : RegClass) (n : ℕ) → (is_int class && (nat_lt n 31 || nat_eq n 63)) ≡ true → register_field (Real (record { number = n; class = class })) < 32
-stack_number Int n e = grind (arith, nat_tests)
-stack_number Float n e = absurd cc
-
-pub stack_below : (reg : Reg) → is_register_or_stack Refused reg ≡ true → register_field reg < 32
-stack_below (Real p) e = stack_number p.class p.number e
-stack_below (Virtual index class) e = absurd cc
-
-pub add_sub_below : (op : ALUOp) (rd : Reg) → is_add_sub_result Refused op rd ≡ true → register_field rd < 32
-add_sub_below alu.Add rd e = stack_below rd e
-add_sub_below alu.Sub rd e = stack_below rd e
-add_sub_below alu.AddS rd e = zero_below rd e
-add_sub_below alu.SubS rd e = zero_below rd e
-add_sub_below _ rd e = absurd cc
-
-pub logic_below : (op : ALUOp) (rd : Reg) → is_logic_result Refused op rd ≡ true → register_field rd < 32
-logic_below alu.And rd e = stack_below rd e
-logic_below alu.Orr rd e = stack_below rd e
-logic_below alu.Eor rd e = stack_below rd e
-logic_below alu.AndNot rd e = stack_below rd e
-logic_below alu.OrrNot rd e = stack_below rd e
-logic_below alu.EorNot rd e = stack_below rd e
-logic_below alu.AndS rd e = zero_below rd e
-logic_below _ rd e = absurd cc
 
 -- ---- moves
 
@@ -231,15 +207,6 @@ extension_bit true from_bits to_bits Size64 e size_is = grind (arith, nat_tests)
 extension_bit false from_bits to_bits Size32 e size_is = grind (arith, nat_tests)
 extension_bit false from_bits to_bits Size64 e size_is = absurd cc
 
-pub extend_result_below : (signed : Bool) (from_bits to_bits : ℕ) (rd : Reg) → is_extend_result Refused signed from_bits to_bits rd ≡ true → register_field rd < 32
-extend_result_below signed from_bits to_bits rd e = elim (cases_cond (not signed && nat_eq from_bits 1) (is_register_or_stack Refused rd) (if not signed && (nat_eq from_bits 32 && nat_eq to_bits 64) then is_register Refused rd else is_register_or_zero Refused rd) true (sym e)) [
-  | inl bit ↦ stack_below rd (sym bit)
-  | inr others ↦ elim (cases_cond (not signed && (nat_eq from_bits 32 && nat_eq to_bits 64)) (is_register Refused rd) (is_register_or_zero Refused rd) true others) [
-    | inl word ↦ zero_below rd (register_zero rd (sym word))
-    | inr field ↦ zero_below rd (sym field)
-  ]
-]
-
 opc_number : (signed : Bool) (opc : ℕ) → opc ≡ (if signed then 0 else 2) → (opc < 2 ^ 2) × (not (opc == 3) ≡ true)
 opc_number true opc e = rw e (lit< tt, refl)
 opc_number false opc e = rw e (lit< tt, refl)
@@ -250,12 +217,11 @@ pub extension_is_form : (rd rn : Reg) (signed : Bool) (from_bits to_bits : ℕ) 
     → IsFormOf (bitfield (record { sf = sf_of size; opc = opc; immr = 0; imms = from_bits - 1; rn = register_field rn; rd = register_field rd }))
 unfolding are_extend_operands
 extension_is_form rd rn signed from_bits to_bits size opc e size_is opc_is =
-    let (extension, registers) = and_parts (is_extension signed from_bits to_bits) (is_extend_result Refused signed from_bits to_bits rd && is_register_or_zero Refused rn) e in
-    let (result, operand) = and_parts (is_extend_result Refused signed from_bits to_bits rd) (is_register_or_zero Refused rn) registers in
+    let (extension, _) = and_parts (is_extension signed from_bits to_bits) (is_extend_result Refused signed from_bits to_bits rd && is_register_or_zero Refused rn) e in
     let bit = extension_bit signed from_bits to_bits size extension size_is in
     let lowest : 0 < operand_bits size = omega (arith, bit) in
     let opc_good = opc_number signed opc opc_is in (
-      (sf_below size, (opc_good.0, (lit< tt, (bit_in size (from_bits - 1) bit, (zero_below rn operand, (extend_result_below signed from_bits to_bits rd result, tt)))))),
+      (sf_below size, (opc_good.0, (lit< tt, (bit_in size (from_bits - 1) bit, (field_below rn, (field_below rd, tt)))))),
       rw (opc_good.1, bit_number size 0 lowest, bit_number size (from_bits - 1) bit) refl,
     )
 

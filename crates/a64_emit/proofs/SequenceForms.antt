@@ -1,20 +1,16 @@
 -- The cells of sequences around tables, symbols and the stack that have no fault are forms of their rows, or data.
-use Rattle.std.proofs.Common.{ℕ, ℤ, pos, negsuc, ◌≡◌, ◌+◌, ◌-◌, ◌*◌, ◌<◌, ◌≤◌, ◌^◌, Bool, true, false, List, [], ◌∷◌, ◌++◌, length, map, Option, None, Some, inl, inr, refl, sym, subst, lit<, arith}
+use Rattle.std.proofs.Common.{ℕ, ℤ, pos, ◌≡◌, ◌+◌, ◌-◌, ◌*◌, ◌≤◌, ◌^◌, Bool, true, false, List, [], ◌∷◌, ◌++◌, length, map, Option, None, Some, inl, inr, refl, sym, subst, lit<, arith, rules}
 use Rattle.std.specs.Prelude.{All, ◌&&◌, if◌then◌else◌, option_map}
 use Rattle.std.proofs.lemmas.Bool.{cases_lt}
 use Rattle.std.proofs.lemmas.List.Elements.{All-nil, All-cons, All-append, All-map}
-use Rattle.a64_base.specs.declared.cond.Cond.TheVariants.{Gt, Lo}
-use Rattle.a64_base.specs.declared.cond.CondBrKind.TheVariants.{Cond}
+use Rattle.a64_base.specs.declared.cond.Cond.TheVariants.{Lo}
 use Rattle.a64_base.specs.declared.entity.ExternalName.{ExternalName}
 use Rattle.a64_base.specs.declared.entity.MachLabel.{MachLabel}
-use Rattle.a64_base.specs.declared.entity.Reloc.TheVariants.{Abs8, Aarch64AdrGotPage21, Aarch64Ld64GotLo12Nc, Aarch64AdrPrelPgHi21, Aarch64AddAbsLo12Nc}
 use Rattle.a64_base.specs.declared.reg.Reg.{Reg}
 use Rattle.a64_base.specs.declared.size.OperandSize.TheVariants.{Size64}
-use Rattle.a64_base.specs.declared.target.BranchTarget.TheVariants.{ResolvedOffset}
-use Rattle.a64_base.specs.Registers.{integer_register}
 use Rattle.a64_imms.specs.declared.imm12.Imm12.{Imm12}
-use Rattle.a64_ops.specs.declared.access.AccessOp.TheVariants.{SLoad32, Store32, ULoad64}
-use Rattle.a64_ops.specs.declared.operator.ALUOp.TheVariants.{Add, AddS, Sub}
+use Rattle.a64_ops.specs.declared.access.AccessOp.TheVariants.{SLoad32}
+use Rattle.a64_ops.specs.declared.operator.ALUOp.TheVariants.{Add}
 use Rattle.a64_imms.specs.declared.move_wide.MoveWideConst.{MoveWideConst}
 use Rattle.a64_imms.specs.Logic.{logic_of}
 use Rattle.a64_imms.specs.MoveWides.{wide_of}
@@ -25,36 +21,24 @@ use Rattle.a64_plan.specs.Plans.{alone_or, moves_size, moves_of, plan_of}
 use Rattle.a64_plan.specs.Shapes.{IsShape}
 use Rattle.a64_plan.proofs.Shortest.{plan_shortest}
 use Rattle.a64_inst.specs.declared.emission.EmitFlags.{EmitFlags}
-use Rattle.a64_inst.specs.declared.frame.FrameLayout.{FrameLayout}
-use Rattle.a64_inst.specs.declared.group.Group.TheVariants.{Sequence}
-use Rattle.a64_inst.specs.declared.inst.Inst.{Inst}
-use Rattle.a64_inst.specs.declared.inst.Inst.TheVariants as insts
 use Rattle.a64_inst.specs.declared.virtuals.VirtualRegisters.TheVariants.{Refused}
-use Rattle.a64_inst.specs.Faults.{has_plain_operands}
-use Rattle.a64_inst.specs.Groups.{group_of}
-use Rattle.a64_inst.specs.Operands.{is_register}
-use Rattle.a64_inst.specs.SequenceOperands.{are_table_operands, are_probe_operands}
+use Rattle.a64_inst.specs.SequenceOperands.{are_probe_operands}
 use Rattle.a64_rows.specs.Forms.{Form, IsFormOf}
-use Rattle.a64_enc_int.specs.Registers.{register_field}
-use Rattle.a64_emit.specs.Cells.{Data, FormOf, plain, last_cell, data_cell, reloc_cell, entry_site, table_labels, table_cells, barrier_forms, table_forms, table_jump, got_cells, near_cells, far_cells, probe_forms, plain_shape, shape_cells}
-use Rattle.a64_emit.specs.ControlForms.{csdb_form, jump_form, cond_br_form, indirect_br_form}
+use Rattle.a64_emit.specs.Cells.{Data, plain, last_cell, entry_site, table_labels, table_cells, barrier_forms, table_forms, table_jump, got_cells, near_cells, far_cells, probe_forms}
+use Rattle.a64_emit.specs.ControlForms.{csdb_form, indirect_br_form}
 use Rattle.a64_emit.specs.FormCells.{IsFormCell}
-use Rattle.a64_emit.specs.IntegerForms.{csel_form, adr_form, adrp_form, alu_rrr_form, alu_rr_imm12_form}
-use Rattle.a64_emit.specs.MemoryForms.{step_forms, indexed_form, unsigned_form, literal_form}
+use Rattle.a64_emit.specs.IntegerForms.{csel_form, adr_form, alu_rrr_form}
+use Rattle.a64_emit.specs.MemoryForms.{step_forms, indexed_form}
 use Rattle.a64_emit.proofs.AccessForms.{shape_forms, indexed_is_form, unsigned_is_form, literal_is_form}
-use Rattle.a64_emit.proofs.BranchForms.{jump_is_form, cond_br_is_form, indirect_br_is_form}
-use Rattle.a64_emit.proofs.ImmediateForms.{adr_is_form, adrp_is_form, alu_rr_imm12_is_form}
-use Rattle.a64_emit.proofs.Operands.{zero_below, register_zero}
-use Rattle.a64_emit.proofs.RegisterForms.{csel_is_form, alu_rrr_within}
-use Rattle.a64_emit.proofs.SequenceOperands.{IsTableJump, table_parts, choice_good, step_good, probe_parts}
+use Rattle.a64_emit.proofs.BranchForms.{branch_forms}
+use Rattle.a64_emit.proofs.ImmediateForms.{immediate_forms}
+use Rattle.a64_emit.proofs.RegisterForms.{csel_is_form, register_forms}
+use Rattle.a64_emit.proofs.SequenceOperands.{probe_parts}
 
 -- ---- lists of forms
 
 pub plain_forms : (forms : List Form) → All IsFormOf forms → All IsFormCell (map plain forms)
 plain_forms forms are = All-map IsFormCell plain forms are
-
-numbered_below : (reg : Reg) → is_register Refused reg ≡ true → register_field reg < 32
-numbered_below reg e = zero_below reg (register_zero reg e)
 
 -- ---- plans
 
@@ -83,100 +67,57 @@ plan_shape value = elim (cases_lt value (2 ^ 64)) [ inl low ↦ (plan_shortest v
 
 csdb_is_form : IsFormOf csdb_form
 unfolding csdb_form
-csdb_is_form = ((lit< tt, (lit< tt, tt)), refl)
+csdb_is_form = search rules
+
+-- the words of a list, each by itself
+ruleset lists = (All-nil, All-cons, register_forms, immediate_forms, branch_forms, csdb_is_form, indexed_is_form, unsigned_is_form, literal_is_form)
 
 barrier_are_forms : (flags : EmitFlags) → All IsFormOf (barrier_forms flags)
 barrier_are_forms flags = go (flags.enable_table_access_spectre_mitigation && flags.use_csdb)
   where
     go : (asked : Bool) → All IsFormOf (if asked then csdb_form ∷ [] else [])
-    go true = All-cons IsFormOf csdb_form [] csdb_is_form (All-nil IsFormOf)
-    go false = All-nil IsFormOf
+    go true = search (rules, lists)
+    go false = search (rules, lists)
 
 -- entries are data
 entries_are_forms : (k : ℕ) (labels : List MachLabel) → All IsFormCell (table_cells k labels)
 entries_are_forms k [] = All-nil IsFormCell
 entries_are_forms k (label ∷ labels) = All-cons IsFormCell (last_cell (Data (4 * k)) (Some (entry_site label)) None) (table_cells (k + 1) labels) tt (entries_are_forms (k + 1) labels)
 
-module _ (flags : EmitFlags) (ridx rtmp1 rtmp2 : Reg) (is : IsTableJump ridx rtmp1 rtmp2) where
+module _ (flags : EmitFlags) (ridx rtmp1 rtmp2 : Reg) where
   -- the words that jump to an entry
   abbrev entry_forms : List Form
   entry_forms = adr_form rtmp1 (pos 16) ∷ indexed_form SLoad32 rtmp2 rtmp1 rtmp2 2 1 ∷ alu_rrr_form Add Size64 rtmp1 rtmp1 rtmp2 ∷ indirect_br_form rtmp1 ∷ []
 
-  jump_forms : All IsFormOf entry_forms
-  jump_forms =
-      let table = numbered_below rtmp1 is.first in
-      let entry = numbered_below rtmp2 is.second in
-      All-cons IsFormOf (adr_form rtmp1 (pos 16)) (indexed_form SLoad32 rtmp2 rtmp1 rtmp2 2 1 ∷ alu_rrr_form Add Size64 rtmp1 rtmp1 rtmp2 ∷ indirect_br_form rtmp1 ∷ []) (adr_is_form rtmp1 (pos 16) (register_zero rtmp1 is.first))
-      (All-cons IsFormOf (indexed_form SLoad32 rtmp2 rtmp1 rtmp2 2 1) (alu_rrr_form Add Size64 rtmp1 rtmp1 rtmp2 ∷ indirect_br_form rtmp1 ∷ []) (indexed_is_form SLoad32 rtmp2 rtmp1 entry table rtmp2 2 1 entry (lit< tt) refl (lit< tt))
-      (All-cons IsFormOf (alu_rrr_form Add Size64 rtmp1 rtmp1 rtmp2) (indirect_br_form rtmp1 ∷ []) (alu_rrr_within Add Size64 rtmp1 rtmp1 rtmp2 table table entry)
-      (All-cons IsFormOf (indirect_br_form rtmp1) [] (indirect_br_is_form rtmp1 (register_zero rtmp1 is.first)) (All-nil IsFormOf))))
-
   before_table : (n : ℕ) → All IsFormOf (table_forms flags n ridx rtmp1 rtmp2)
   before_table n =
       All-append IsFormOf (step_forms rtmp2 (plan_of n) ++ csel_form rtmp2 ridx rtmp2 Lo ∷ barrier_forms flags) entry_forms
-      (All-append IsFormOf (step_forms rtmp2 (plan_of n)) (csel_form rtmp2 ridx rtmp2 Lo ∷ barrier_forms flags) (shape_forms rtmp2 (numbered_below rtmp2 is.second) (plan_of n) (plan_shape n))
-      (All-cons IsFormOf (csel_form rtmp2 ridx rtmp2 Lo) (barrier_forms flags) (csel_is_form rtmp2 ridx rtmp2 Lo (choice_good rtmp2 ridx is.second is.index)) (barrier_are_forms flags)))
-      jump_forms
+      (All-append IsFormOf (step_forms rtmp2 (plan_of n)) (csel_form rtmp2 ridx rtmp2 Lo ∷ barrier_forms flags) (shape_forms rtmp2 (plan_of n) (plan_shape n))
+      (All-cons IsFormOf (csel_form rtmp2 ridx rtmp2 Lo) (barrier_forms flags) (csel_is_form rtmp2 ridx rtmp2 Lo) (barrier_are_forms flags)))
+      (search (rules, lists))
 
 -- ---- each sequence
 
-pub table_are_forms : (flags : EmitFlags) (default : MachLabel) (targets : List MachLabel) (ridx rtmp1 rtmp2 : Reg) → are_table_operands Refused ridx rtmp1 rtmp2 ≡ true
+pub table_are_forms : (flags : EmitFlags) (default : MachLabel) (targets : List MachLabel) (ridx rtmp1 rtmp2 : Reg)
     → All IsFormCell (table_jump flags default targets ridx rtmp1 rtmp2)
-table_are_forms flags default targets ridx rtmp1 rtmp2 good =
+table_are_forms flags default targets ridx rtmp1 rtmp2 =
     All-append IsFormCell (map plain (table_forms flags (length targets) ridx rtmp1 rtmp2)) (table_cells 0 (table_labels default targets))
-    (plain_forms (table_forms flags (length targets) ridx rtmp1 rtmp2) (before_table flags ridx rtmp1 rtmp2 (table_parts ridx rtmp1 rtmp2 good) (length targets)))
+    (plain_forms (table_forms flags (length targets) ridx rtmp1 rtmp2) (before_table flags ridx rtmp1 rtmp2 (length targets)))
     (entries_are_forms 0 (table_labels default targets))
 
-module _ (rd : Reg) (name : ExternalName) (good : is_register Refused rd ≡ true) where
-  page_is_form : IsFormOf (adrp_form rd (pos 0))
-  page_is_form = adrp_is_form rd (pos 0) (register_zero rd good)
+pub got_are_forms : (rd : Reg) (name : ExternalName) → All IsFormCell (got_cells rd name)
+got_are_forms rd name = search (rules, lists)
 
-  pub got_are_forms : All IsFormCell (got_cells rd name)
-  got_are_forms =
-      All-cons IsFormCell (reloc_cell (FormOf (adrp_form rd (pos 0))) Aarch64AdrGotPage21 name (pos 0)) (reloc_cell (FormOf (unsigned_form ULoad64 rd rd 0)) Aarch64Ld64GotLo12Nc name (pos 0) ∷ []) page_is_form
-      (All-cons IsFormCell (reloc_cell (FormOf (unsigned_form ULoad64 rd rd 0)) Aarch64Ld64GotLo12Nc name (pos 0)) [] (unsigned_is_form ULoad64 rd rd (numbered_below rd good) (numbered_below rd good) 0 (lit< tt))
-      (All-nil IsFormCell))
+pub near_are_forms : (rd : Reg) (name : ExternalName) (offset : ℤ) → All IsFormCell (near_cells rd name offset)
+near_are_forms rd name offset = search (rules, lists)
 
-  pub near_are_forms : (offset : ℤ) → All IsFormCell (near_cells rd name offset)
-  near_are_forms offset =
-      All-cons IsFormCell (reloc_cell (FormOf (adrp_form rd (pos 0))) Aarch64AdrPrelPgHi21 name offset) (reloc_cell (FormOf (alu_rr_imm12_form Add Size64 rd rd (record { bits = 0; shift12 = false }))) Aarch64AddAbsLo12Nc name offset ∷ []) page_is_form
-      (All-cons IsFormCell (reloc_cell (FormOf (alu_rr_imm12_form Add Size64 rd rd (record { bits = 0; shift12 = false }))) Aarch64AddAbsLo12Nc name offset) []
-      (alu_rr_imm12_is_form Add Size64 rd rd (record { bits = 0; shift12 = false }) (step_good rd (record { bits = 0; shift12 = false }) good refl).0)
-      (All-nil IsFormCell))
-
-  pub far_are_forms : (offset : ℤ) → All IsFormCell (far_cells rd name offset)
-  far_are_forms offset =
-      All-cons IsFormCell (plain (literal_form ULoad64 rd 2)) (plain (jump_form (ResolvedOffset (pos 12))) ∷ reloc_cell (Data 0) Abs8 name offset ∷ data_cell 0 ∷ []) (literal_is_form ULoad64 rd 2 (numbered_below rd good) (lit< tt))
-      (All-cons IsFormCell (plain (jump_form (ResolvedOffset (pos 12)))) (reloc_cell (Data 0) Abs8 name offset ∷ data_cell 0 ∷ []) (jump_is_form (ResolvedOffset (pos 12)))
-      (All-cons IsFormCell (reloc_cell (Data 0) Abs8 name offset) (data_cell 0 ∷ []) tt
-      (All-cons IsFormCell (data_cell 0) [] tt (All-nil IsFormCell))))
-
--- the branches at the end of a loop
-abbrev probe_end : List Form
-probe_end = cond_br_form (ResolvedOffset (negsuc 11)) (Cond Gt) ∷ jump_form (ResolvedOffset (pos 4)) ∷ []
+pub far_are_forms : (rd : Reg) (name : ExternalName) (offset : ℤ) → All IsFormCell (far_cells rd name offset)
+far_are_forms rd name offset = search (rules, lists)
 
 pub probe_are_forms : (flags : EmitFlags) (start end : Reg) (step : Imm12) → are_probe_operands flags Refused start end step ≡ true → All IsFormCell (map plain (probe_forms start end step))
 probe_are_forms flags start end step good =
-    let is = probe_parts flags start end step good in
-    let offset = numbered_below start is.offset in
-    plain_forms (probe_forms start end step)
-    (All-cons IsFormOf (alu_rr_imm12_form Sub Size64 start start step) (indexed_form Store32 (integer_register 31) (integer_register 63) start 3 0 ∷ alu_rrr_form AddS Size64 (integer_register 31) start end ∷ probe_end) (alu_rr_imm12_is_form Sub Size64 start start step (step_good start step is.offset is.amount).1)
-    (All-cons IsFormOf (indexed_form Store32 (integer_register 31) (integer_register 63) start 3 0) (alu_rrr_form AddS Size64 (integer_register 31) start end ∷ probe_end) (indexed_is_form Store32 (integer_register 31) (integer_register 63) (lit< tt) (lit< tt) start 3 0 offset (lit< tt) refl (lit< tt))
-    (All-cons IsFormOf (alu_rrr_form AddS Size64 (integer_register 31) start end) probe_end (alu_rrr_within AddS Size64 (integer_register 31) start end (lit< tt) offset (zero_below end is.last))
-    (All-cons IsFormOf (cond_br_form (ResolvedOffset (negsuc 11)) (Cond Gt)) (jump_form (ResolvedOffset (pos 4)) ∷ []) (cond_br_is_form (ResolvedOffset (negsuc 11)) (Cond Gt) refl)
-    (All-cons IsFormOf (jump_form (ResolvedOffset (pos 4))) [] (jump_is_form (ResolvedOffset (pos 4))) (All-nil IsFormOf))))))
+    let amount = (probe_parts flags start end step good).amount in
+    plain_forms (probe_forms start end step) (search (rules, lists, amount) depth 8)
 
--- ---- instructions
-
-module _ (frame : FrameLayout) (flags : EmitFlags) where
-  pub sequence_forms : (inst : Inst) → group_of inst ≡ Sequence → has_plain_operands frame flags Refused inst ≡ true → All IsFormCell (shape_cells (plain_shape frame flags inst))
-  sequence_forms (insts.JTSequence default targets ridx rtmp1 rtmp2) group good = table_are_forms flags default targets ridx rtmp1 rtmp2 good
-  sequence_forms (insts.LoadExtNameGot rd name) group good = got_are_forms rd name good
-  sequence_forms (insts.LoadExtNameNear rd name offset) group good = near_are_forms rd name good offset
-  sequence_forms (insts.LoadExtNameFar rd name offset) group good = far_are_forms rd name good offset
-  sequence_forms (insts.StackProbeLoop start end step) group good = probe_are_forms flags start end step good
-  sequence_forms (insts.Args args) group good = All-nil IsFormCell
-  sequence_forms (insts.Rets rets) group good = All-nil IsFormCell
-  sequence_forms (insts.DummyUse reg) group good = All-nil IsFormCell
-  sequence_forms insts.SequencePoint group good = All-nil IsFormCell
-  sequence_forms _ group good = absurd cc
+-- those of the words of sequences
+pub ruleset sequences = (table_are_forms, got_are_forms, near_are_forms, far_are_forms, probe_are_forms)

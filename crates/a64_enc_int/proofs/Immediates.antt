@@ -44,7 +44,7 @@ logic_within Size32 imm same is =
 
 -- ---- offsets
 
-residue_below : (m : ℕ) (value : ℤ) → 0 < m → residue m value < m
+pub residue_below : (m : ℕ) (value : ℤ) → 0 < m → residue m value < m
 residue_below m (pos n) some = omega arith
 residue_below m (negsuc n) some = omega arith
 

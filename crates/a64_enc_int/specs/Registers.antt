@@ -1,5 +1,5 @@
 -- How a word names registers.
-use Rattle.std.specs.Prelude.{ℕ, ◌≡◌, ◌==◌, if◌then◌else◌}
+use Rattle.std.specs.Prelude.{ℕ, ◌≡◌, ◌%◌, ◌==◌, if◌then◌else◌}
 use Rattle.a64_base.specs.declared.reg.Reg.{Reg}
 use Rattle.a64_base.specs.declared.reg.Reg.TheVariants.{Real, Virtual}
 use Rattle.a64_base.specs.declared.reg.RegClass.{RegClass}
@@ -23,7 +23,7 @@ IsGeneral reg = IsOfClass Int reg
 abbrev pub data_class : ℕ → RegClass
 data_class vector = if vector == 1 then Float else Int
 
--- the field that names a register: its number, which is 31 for the stack pointer too
+-- the field that names a register: the lower five bits of its number, which are 31 for the stack pointer too
 abbrev pub register_field : Reg → ℕ
-register_field (Real p) = if p.number == 63 then 31 else p.number
+register_field (Real p) = p.number % 32
 register_field (Virtual index class) = 0
