@@ -24,7 +24,7 @@ use a64_emit::{LabelUse, MachInstEmit, asked_space};
 use a64_inst::{EmitInfo, EmitState, FrameLayout, Inst, Item};
 use std::alloc::{AllocError, Global};
 
-/// Emits an instruction at the end of a buffer; where it has words, an island comes behind them where the
+/// Emits an instruction at the end of a buffer, which is its place; where it has words, an island comes behind them where the
 /// next words need one, and gives veneers to all far uses where islands are forced. In quiet code none
 /// comes, nor at a place for one. The next words need no more than `widest` bytes, so that the rest is
 /// looked at only where an island is needed before so many.
@@ -36,6 +36,7 @@ use std::alloc::{AllocError, Global};
 fn put_inst(
     inst: &Inst,
     rest: &[Item],
+    place: u32,
     buffer: &mut MachBuffer<'_, LabelUse>,
     info: &EmitInfo,
     state: &mut EmitState,
@@ -43,6 +44,7 @@ fn put_inst(
     quiet: bool,
     widest: u32,
 ) -> Result<(), AllocError>
+    requires place { place ≡ end_of buffer.old }
     requires good { inst_fault state.old.frame info.now buffer.old.constants Refused inst.now ≡ None }
     requires may { MayMove (element_of state.old.frame info.now (Emit inst.now state.old.map)) (elements_of state.old.frame info.now rest.now) buffer.old }
     requires asked { quiet ≡ false → bounds.asked_of inst.now ≡ None }
@@ -51,13 +53,12 @@ fn put_inst(
     ensures buffer { OnOk result (Moves force (element_of state.old.frame info.now (Emit inst.now state.old.map)) (elements_of state.old.frame info.now rest.now) buffer.old buffer.new) }
     ensures frame { OnOk result (state.new.frame ≡ state.old.frame) }
 {
-    let start = buffer.cur_offset();
     inst.emit(buffer, info, state)?;
     let _end = buffer.cur_offset();
     if quiet || !buffer.island_needed(widest) {
         return Ok(());
     }
-    ask_behind(start, rest, buffer, info, state.frame_layout(), force)
+    ask_behind(place, rest, buffer, info, state.frame_layout(), force)
 }
 
 /// Writes an island behind the words that begin at `start`, a place in bytes from the start of the code,
@@ -91,7 +92,7 @@ fn ask_behind(
     }
 }
 
-/// Puts an item at the end of a buffer, and an island behind it where what follows needs one, or where it
+/// Puts an item at the end of a buffer, which is its place, and an island behind it where what follows needs one, or where it
 /// asks for one. In quiet code none is needed, nor forced. The next words need no more than `widest` bytes.
 ///
 /// # Errors
@@ -101,6 +102,7 @@ fn ask_behind(
 fn put_item(
     item: &Item,
     rest: &[Item],
+    place: u32,
     buffer: &mut MachBuffer<'_, LabelUse>,
     info: &EmitInfo,
     state: &mut EmitState,
@@ -108,6 +110,7 @@ fn put_item(
     quiet: bool,
     widest: u32,
 ) -> Result<(), AllocError>
+    requires place { place ≡ end_of buffer.old }
     requires good { item_fault state.old.frame info.now buffer.old.constants item.now ≡ None }
     requires may { MayMove (element_of state.old.frame info.now item.now) (elements_of state.old.frame info.now rest.now) buffer.old }
     requires wide { room_of (elements_of state.old.frame info.now rest.now) ≤ widest }
@@ -123,7 +126,7 @@ fn put_item(
                 return ask(buffer, space, force, force);
             }
             state.pre_safepoint(*map);
-            put_inst(inst, rest, buffer, info, state, force, quiet, widest)
+            put_inst(inst, rest, place, buffer, info, state, force, quiet, widest)
         }
     }
 }
@@ -166,6 +169,7 @@ pub fn put_items(
         put_item(
             &items[index],
             &items[index + 1..],
+            place,
             buffer,
             info,
             state,

@@ -38,7 +38,7 @@ ask_behind-requires c =
       short = λ moved. island_short No rest c.args.buffer.now cells c.emit.new.sink
           (subst (λ (x : Element). MayMove x rest c.args.buffer.now) (words_element frame c.args.info.now c.args.inst.now c.args.state.now.map none) c.requires.may)
           (put_cells (asked_of c.args.inst.now) cells c.args.buffer.now c.emit.new.sink none c.in_ok-emit.ensures.ok)
-          (λ e. moved (c.cur_offset-start.ensures.value ∙ sym e));
+          (λ e. moved (c.requires.place ∙ sym e));
     }
 
 pub returns-clause-buffer : goal.returns-clause-buffer
@@ -48,9 +48,9 @@ returns-clause-buffer c =
     let rest : List Element = elements_of frame c.args.info.now c.args.rest.now in
     let none : asked_of c.args.inst.now ≡ None = c.requires.asked c.if-quiet.false in
     both_ok c.ask_behind.result (λ without behind. subst (λ (x : Element). Moves c.args.force x rest c.args.buffer.now c.ask_behind.new.buffer) (sym (words_element frame c.args.info.now c.args.inst.now c.args.state.now.map none))
-    (words_put c.args.force rest c.args.buffer.now cells c.emit.new.sink c.ask_behind.new.buffer c.cur_offset-start.result
+    (words_put c.args.force rest c.args.buffer.now cells c.emit.new.sink c.ask_behind.new.buffer c.args.place
     (put_cells (asked_of c.args.inst.now) cells c.args.buffer.now c.emit.new.sink none c.in_ok-emit.ensures.ok)
-    c.cur_offset-start.ensures.value
+    c.requires.place
     without
     (λ moved. subst (λ (f : FrameLayout). AsksNext c.args.force (next_room (elements_of f c.args.info.now c.args.rest.now)) c.emit.new.sink c.ask_behind.new.buffer) (c.frame_layout.ensures ∙ ap (λ (s : State). s.frame) c.in_ok-emit.ensures.state) (behind moved))))
     c.ask_behind.ensures.without c.ask_behind.ensures.behind
