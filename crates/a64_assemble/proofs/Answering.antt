@@ -54,12 +54,12 @@ by_served constants place served all v (i, u, within, at, with') stop e =
     stops_from constants place served all i u within stop (ap (λ (x : Use LabelUse). x.stop) at ∙ (same ∙ e))
 
 -- what is made with an island stops by its pieces, or at its label's place
-module _ {distance : ℕ} {force : ForceVeneers} (m b' : Buffer LabelUse) (has : HasIsland label_kinds distance force m b') where
+module _ {distance : ℕ} {force : ForceVeneers} (m b' : Buffer LabelUse) (has : HasIsland label_kinds distance force true m b') where
   -- the jump over the island stays one
   over_stays : (k : ℕ) (d : Use LabelUse) → k ≡ length m.uses → k < length b'.uses → (get_or b'.uses k d).target ≡ IslandEnd
   over_stays k d e h =
       let begun : List (Use LabelUse) = m.uses ++ pieces.over_use label_kinds (end_of m) ∷ [] in
-      let more : List (ℕ × Target × LabelUse) = flat_map (pieces.piece_sites label_kinds m.constants) (pieces.pieces label_kinds m.constants (end_of (pieces.begun label_kinds m)) has.served) in
+      let more : List (ℕ × Target × LabelUse) = flat_map (pieces.piece_sites label_kinds m.constants) (pieces.pieces label_kinds m.constants (end_of (pieces.begun label_kinds true m)) has.served) in
       let inside : k < length begun = omega (arith, e, length-append m.uses (pieces.over_use label_kinds (end_of m) ∷ [])) in
       ap (λ (t : ℕ × Target × LabelUse). t.1)
       (sym (get_or-map pieces.site_of b'.uses k d (pieces.site_of d) h)
@@ -185,7 +185,7 @@ module _ (frame : FrameLayout) (flags : EmitFlags) (items : List Item) (force : 
                     let there : goal_of z.moment.labels (get_or z.written.uses k no_use).target ≡ Some t = subst (λ g. IfSome g (λ s. goal_of z.moment.labels (get_or z.written.uses k no_use).target ≡ Some s)) e goal in
                     inr (goal_stays z.moment b since_moment (use_at k).target stop (subst (λ x. goal_of z.moment.labels x ≡ Some stop) (sym same.target) (there ∙ ap (λ n. Some n) one)))
                 | inr piece ↦
-                    let x = by_served z.moment.constants (end_of (pieces.begun label_kinds z.moment)) z.has.served z.has.serves.stops (get_or z.written.uses k no_use) piece t e in
+                    let x = by_served z.moment.constants (end_of (pieces.begun label_kinds true z.moment)) z.has.served z.has.serves.stops (get_or z.written.uses k no_use) piece t e in
                     inl (omega (arith, x, one, far, z.at, ap (λ (i : ℕ × ℕ). i.0) host_is, length-append z.moment.words (0x14000000 ∷ [])))
               ]
 

@@ -254,12 +254,12 @@ module _ (frame : FrameLayout) (flags : EmitFlags) (items : List Item) (force : 
     m = z.moment
 
     abbrev begun_m : Buffer LabelUse
-    begun_m = pieces.begun label_kinds z.moment
+    begun_m = pieces.begun label_kinds true z.moment
 
     since_moment : IsLater m b
     since_moment = later_trans m z.written b z.has.later z.since
 
-    new_use : (v : Use LabelUse) → IsNewUse label_kinds m v → IsSome (pieces.constant_of v.target) → ⊥
+    new_use : (v : Use LabelUse) → IsNewUse label_kinds true m v → IsSome (pieces.constant_of v.target) → ⊥
     new_use v new c = elim new [
       | inl over ↦ false≢true (subst (λ t. IsSome (pieces.constant_of t)) over.0 c)
       | inr veneer ↦ no_constant v.target veneer.labelled c

@@ -16,6 +16,8 @@ use Rattle.a64_buffer.specs.declared.force.ForceVeneers.{ForceVeneers}
 use Rattle.a64_buffer.specs.Word.{outside, word_at}
 use Rattle.a64_buffer.specs.Buffer.{Buffer, end_of}
 use Rattle.a64_buffer.specs.Finished.{IsFinished}
+use Rattle.a64_buffer.specs.Sound.{HasJump}
+use Rattle.a64_buffer.proofs.Laters.{jump_stays}
 use Rattle.a64_emit.specs.declared.code.Code.{Code}
 use Rattle.a64_label_use.specs.declared.label_use.LabelUse.{LabelUse}
 use Rattle.a64_label_use.specs.declared.label_use.LabelUse.TheVariants as uses
@@ -27,6 +29,7 @@ use Rattle.a64_emit.specs.Leads.{JumpsTo}
 use Rattle.a64_emit.specs.Emission.{IsPut}
 use Rattle.a64_assemble.specs.Elements.{Element, Binding, Words, Asking, cells_in, hosts, element_of, elements_of, element_at}
 use Rattle.a64_assemble.specs.Stations.{IsIslandBehind, end_of_element}
+use Rattle.a64_assemble.specs.OpenUses.{WasAsked}
 use Rattle.a64_assemble.specs.Progress.{HasPut}
 use Rattle.a64_assemble.proofs.Arrivals.{IsOutput, end_is, pool_is, cell_stands}
 use Rattle.a64_assemble.proofs.Itemized.{binding_item}
@@ -62,9 +65,15 @@ module _ (frame : FrameLayout) (flags : EmitFlags) (items : List Item) (force : 
       let cells : get_or (map (cells_of frame flags) items) i [] ≡ cells_in (element_at xs i) = ap (λ css. get_or css i []) (sym (cell_lists frame flags items)) ∙ get_or-map cells_in xs i (Asking 0) [] within in
       omega (arith, station_is i, ap length cells)
 
+  -- each island was asked for with a jump
+  has_jump : (island : ℕ × ℕ) → WasAsked force xs (length xs) (out.places.items ++ end_of b ∷ []) b island → HasJump b.uses island
+  has_jump island z =
+      let (k, u, within, is, front) = jump_stays z.written b (end_of z.moment, end_of z.written) z.since (z.has.front refl) in
+      (k, u, within, is, (front.0 ∙ z.at, front.1))
+
   jumps : (island : ℕ × ℕ) → Contains b.islands island → JumpsTo out island.0 island.1
   jumps island c =
-      let j = f.jumps c.0 island c.1 in
+      let j = f.jumps c.0 island c.1 (has_jump (get_or b.islands c.0 island) (h.asked c.0 island c.1)) in
       subst (JumpsTo out island.0) (ap (λ (i : ℕ × ℕ). i.1) c.2)
       (subst (λ n. JumpsTo out n (get_or b.islands c.0 island).1) (ap (λ (i : ℕ × ℕ). i.0) c.2) (
         ap (λ bytes. outside (mask_for uses.Branch26) (word_at bytes (get_or b.islands c.0 island).0)) o.bytes ∙ j.word,

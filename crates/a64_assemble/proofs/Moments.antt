@@ -33,7 +33,7 @@ pub record Moment (force : ForceVeneers) (x : Element) (rest : List Element) (b 
   pub hosted : hosts x ≡ true
   pub distance : ℕ
   pub distance_is : ahead x rest ≡ Some distance
-  pub has : HasIsland label_kinds distance force moment b'
+  pub has : HasIsland label_kinds distance force true moment b'
 
 module _ (force : ForceVeneers) where
   words_moment : (cells : List Cell) (rest : List Element) (b b' : Buffer LabelUse) → PutsWords force cells rest b b' → (b'.islands ≡ b.islands) ⊎ Moment force (Words cells) rest b b'

@@ -27,7 +27,7 @@ use Rattle.a64_assemble.proofs.Moving.{made_low, made_high, made_site}
 abbrev pub IsStable : (Use LabelUse → Type 0) → Type 0
 IsStable P = (u v : Use LabelUse) → v.offset ≡ u.offset → v.target ≡ u.target → v.kind ≡ u.kind → P u → P v
 
-module _ (force : ForceVeneers) (P : Use LabelUse → Type 0) (stable : IsStable P) (given : (m : Buffer LabelUse) (v : Use LabelUse) → All P m.uses → IsNewUse label_kinds m v → P v) where
+module _ (force : ForceVeneers) (P : Use LabelUse → Type 0) (stable : IsStable P) (given : (m : Buffer LabelUse) (v : Use LabelUse) → All P m.uses → IsNewUse label_kinds true m v → P v) where
   all_asked : (x : ℕ) (f g : ForceVeneers) (m b' : Buffer LabelUse) → Asks x f g m b' → All P m.uses → All P b'.uses
   all_asked x f g m b' a all = elim a.outcome [
     | inr l ↦ subst (λ v. All P v.uses) (sym l.same) all
@@ -73,7 +73,7 @@ module _ (force : ForceVeneers) (xs : List Element) where
       (λ j d w. made (get_or (uses_from b.labels (end_of b) (cells_in (element_at xs k))) j d) (made_of b (cells_in (element_at xs k)) j d w))
       p all
     where
-      given : (m : Buffer LabelUse) (v : Use LabelUse) → All (λ u. IfSome (label_of u.target) (IsUsedIn xs)) m.uses → IsNewUse label_kinds m v → IfSome (label_of v.target) (IsUsedIn xs)
+      given : (m : Buffer LabelUse) (v : Use LabelUse) → All (λ u. IfSome (label_of u.target) (IsUsedIn xs)) m.uses → IsNewUse label_kinds true m v → IfSome (label_of v.target) (IsUsedIn xs)
       given m v all n = elim n [
         | inl end ↦ subst (λ t. IfSome (label_of t) (IsUsedIn xs)) (sym end.0) tt
         | inr g ↦ subst (λ t. IfSome (label_of t) (IsUsedIn xs)) (g.target v) (all g.parent v g.within)
@@ -134,7 +134,7 @@ module _ (force : ForceVeneers) (xs : List Element) where
           fars (Trap c) = refl
           fars IslandEnd = refl
 
-      given : (m : Buffer LabelUse) (v : Use LabelUse) → All (λ u. is_near (site_of u).1 ≡ true → StandsIn xs (k + 1) (places ++ (end_of b) ∷ [] ++ (end_of b') ∷ []) u) m.uses → IsNewUse label_kinds m v → is_near (site_of v).1 ≡ true → StandsIn xs (k + 1) (places ++ (end_of b) ∷ [] ++ (end_of b') ∷ []) v
+      given : (m : Buffer LabelUse) (v : Use LabelUse) → All (λ u. is_near (site_of u).1 ≡ true → StandsIn xs (k + 1) (places ++ (end_of b) ∷ [] ++ (end_of b') ∷ []) u) m.uses → IsNewUse label_kinds true m v → is_near (site_of v).1 ≡ true → StandsIn xs (k + 1) (places ++ (end_of b) ∷ [] ++ (end_of b') ∷ []) v
       given m v all n l = absurd (false≢true (sym (not_near v (elim n [
         | inl end ↦ inl end.0
         | inr g ↦ inr g.kind

@@ -184,7 +184,7 @@ short_kind IslandEnd kind c = elim c [ inl e ↦ absurd cc | inr e ↦ absurd cc
 
 -- ---- an island
 
-module _ (cells : List (ℕ × Cell)) (distance : ℕ) (force : ForceVeneers) (m b' : Buffer LabelUse) (has : HasIsland label_kinds distance force m b') (owned : All (IsOwned cells m) m.uses) where
+module _ (cells : List (ℕ × Cell)) (distance : ℕ) (force : ForceVeneers) (m b' : Buffer LabelUse) (has : HasIsland label_kinds distance force true m b') (owned : All (IsOwned cells m) m.uses) where
   same_cells : AreMore cells cells
   same_cells s h = h
 
@@ -226,7 +226,7 @@ module _ (cells : List (ℕ × Cell)) (distance : ℕ) (force : ForceVeneers) (m
       not_over t kind e c = false≢true (sym (ap (λ t. is_some (label_of t)) e) ∙ (short_kind t kind c).0)
 
   start : Buffer LabelUse
-  start = pieces.begun label_kinds m
+  start = pieces.begun label_kinds true m
 
   -- what an island gives
   new_owned : (k : ℕ) (d : Use LabelUse) → length m.uses < k → k < length b'.uses → IsOwned cells b' (get_or b'.uses k d)

@@ -49,7 +49,7 @@ one_more p q xs ys j d lo hi here h =
     let one : ones q (get_or (drop n ys) (j - n) d) ≡ 1 = ap (ones q) at ∙ ap (λ b. cond {A = ℕ} b 1 0) here in
     omega (arith, head, tail, one, sum_by-take-drop (ones q) ys n)
 
-module _ (force : ForceVeneers) (xs : List Element) (f : Buffer LabelUse) (k distance : ℕ) (m w : Buffer LabelUse) (whole : IsWhole label_kinds m) (has : HasIsland label_kinds distance force m w) (since : IsLater w f) (stops : All (λ u. wants (class label_kinds u) ≡ true → IsSome u.stop) f.uses) (bound : (n : ℕ) → is_bound_by (take (k + 1) xs) n ≡ true → IsSome (get m.labels n)) (only : (label place : ℕ) → get m.labels label ≡ Some place → is_bound_by (take (k + 1) xs) label ≡ true) where
+module _ (force : ForceVeneers) (xs : List Element) (f : Buffer LabelUse) (k distance : ℕ) (m w : Buffer LabelUse) (whole : IsWhole label_kinds m) (has : HasIsland label_kinds distance force true m w) (since : IsLater w f) (stops : All (λ u. wants (class label_kinds u) ≡ true → IsSome u.stop) f.uses) (bound : (n : ℕ) → is_bound_by (take (k + 1) xs) n ≡ true → IsSome (get m.labels n)) (only : (label place : ℕ) → get m.labels label ≡ Some place → is_bound_by (take (k + 1) xs) label ≡ true) where
   all_later : IsLater m f
   all_later = later_trans m w f has.later since
 
@@ -153,7 +153,7 @@ module _ (force : ForceVeneers) (xs : List Element) (f : Buffer LabelUse) (k dis
       let parts = open_parts xs f k (end_of m) (end_of m) v o in
       parts_open xs f k (end_of m) (end_of w) v (record { before = let long = has.long in omega (arith, parts.before, long); wanting = parts.wanting; from = parts.from; away = parts.away })
 
-  needs_far : (p : Buffer LabelUse) → IsBeforePromotion label_kinds m p → IsLater p w → (Fits label_kinds p distance → ⊥) → NeedsFar xs f k distance (end_of m, end_of w)
+  needs_far : (p : Buffer LabelUse) → IsBeforePromotion label_kinds true m p → IsLater p w → (Fits label_kinds p distance → ⊥) → NeedsFar xs f k distance (end_of m, end_of w)
   needs_far p is later never =
       let x = misfit (end_of p) p.uses distance never in
       let rest : IsLater p f = later_trans p w f later since in

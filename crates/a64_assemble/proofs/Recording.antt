@@ -140,9 +140,9 @@ module _ (cells : List (ℕ × Cell)) (m b b' : Buffer LabelUse) (same : b.traps
 
 -- ---- an island, words, an element
 
-pub island_traps : (cells : List (ℕ × Cell)) (distance : ℕ) (force : ForceVeneers) (m b' : Buffer LabelUse) → HasIsland label_kinds distance force m b' → HasTraps cells m → HasTraps cells b'
+pub island_traps : (cells : List (ℕ × Cell)) (distance : ℕ) (force : ForceVeneers) (m b' : Buffer LabelUse) → HasIsland label_kinds distance force true m b' → HasTraps cells m → HasTraps cells b'
 island_traps cells distance force m b' has h =
-    served_traps cells m (pieces.begun label_kinds m) b' refl (omega (arith, length-append m.words (0x14000000 ∷ []))) has.later m.labels m.constants has.served has.serves h
+    served_traps cells m (pieces.begun label_kinds true m) b' refl (omega (arith, length-append m.words (0x14000000 ∷ []))) has.later m.labels m.constants has.served has.serves h
 
 asked_traps : (cells : List (ℕ × Cell)) (x : ℕ) (f g : ForceVeneers) (m b' : Buffer LabelUse) → Asks x f g m b' → HasTraps cells m → HasTraps cells b'
 asked_traps cells x f g m b' a h = elim a.outcome [ inr l ↦ subst (HasTraps cells) (sym l.same) h | inl w ↦ island_traps cells x g m b' w.island h ]

@@ -103,7 +103,7 @@ cells_ahead b cells placed all k d h = elim (cases_lt k (length b.uses)) [
 
 -- ---- islands
 
-module _ (distance : ℕ) (force : ForceVeneers) (m b' : Buffer LabelUse) (has : HasIsland label_kinds distance force m b') where
+module _ (distance : ℕ) (force : ForceVeneers) (m b' : Buffer LabelUse) (has : HasIsland label_kinds distance force true m b') where
   abbrev island : ℕ × ℕ
   island = (end_of m, end_of b')
 

@@ -44,7 +44,7 @@ waiting_none x us h = nothing_sums (waiting_cost x) us (λ k d w. one (get_or us
     one u e = rw e (omega arith)
 
 -- behind an island no constant and no trap waits
-none_waits : (distance : ℕ) (force : ForceVeneers) (b b' : Buffer LabelUse) → HasIsland label_kinds distance force b b' → All (λ u. is_waiting u ≡ false) b'.uses
+none_waits : (distance : ℕ) (force : ForceVeneers) (b b' : Buffer LabelUse) → HasIsland label_kinds distance force true b b' → All (λ u. is_waiting u ≡ false) b'.uses
 none_waits distance force b b' has k d w = go (is_open label_kinds (get_or b'.uses k d)) refl
   where
     far : is_open label_kinds (get_or b'.uses k d) ≡ true → class label_kinds (get_or b'.uses k d) ≡ Far

@@ -1,5 +1,5 @@
 -- What an element does to a buffer that may write islands.
-use Rattle.std.specs.Prelude.{ℕ, ◌≡◌, ◌⊎◌, ◌+◌, ◌-◌, ◌^◌, ◌<◌, List, [], ◌∷◌, Option, None, Some}
+use Rattle.std.specs.Prelude.{ℕ, ◌≡◌, ◌⊎◌, ◌+◌, ◌-◌, ◌^◌, ◌<◌, true, List, [], ◌∷◌, Option, None, Some}
 use Rattle.std.specs.FinMap.{get}
 use Rattle.a64_buffer.specs.declared.force.ForceVeneers.{ForceVeneers}
 use Rattle.a64_buffer.specs.declared.force.ForceVeneers.TheVariants.{No, Yes}
@@ -17,7 +17,7 @@ use Rattle.a64_assemble.specs.Elements.{Element, Binding, Words, Asking, growth_
 -- setting says whether it gives veneers to all far uses by force
 pub record Writes (distance : ℕ) (asked force : ForceVeneers) (b b' : Buffer LabelUse) : Type 0 where
   pub cause : (Fits label_kinds b distance → ⊥) ⊎ ((asked ≡ Yes) × (Fits label_kinds b (2 ^ 32 - 1) → ⊥))
-  pub island : HasIsland label_kinds distance force b b'
+  pub island : HasIsland label_kinds distance force true b b'
 
 -- none was, since none was needed, nor asked for by force while some use waited
 pub record Leaves (distance : ℕ) (asked : ForceVeneers) (b b' : Buffer LabelUse) : Type 0 where

@@ -123,7 +123,7 @@ pub record WasAsked (force : ForceVeneers) (xs : List Element) (count : ℕ) (st
   pub distance_is : ahead (element_at xs after) (drop (after + 1) xs) ≡ Some distance
   pub written : Buffer LabelUse
   pub ends : end_of written ≡ island.1
-  pub has : HasIsland label_kinds distance force moment written
+  pub has : HasIsland label_kinds distance force true moment written
   pub since : IsLater written now
 
 -- no island was written at one of the first elements, where one is asked for, and no use was open there

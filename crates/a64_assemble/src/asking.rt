@@ -44,7 +44,7 @@ pub fn ask(
 {
     let _end = buffer.cur_offset();
     if is_asked(buffer, distance, asked) {
-        return buffer.emit_island(distance, force);
+        return buffer.emit_island(distance, force, true);
     }
     Ok(())
 }

@@ -110,7 +110,7 @@ module _ {K : Type 0} (r : Kinds K) (law : IsLawful r) where
       go None h = h
       go (Some label) h = h.0
 
-  pub island_easy : (distance count : ℕ) (force : ForceVeneers) (b b' : Buffer K) → HasIsland r distance force b b' → All (IsEasy r count) b.uses → All (IsEasy r count) b'.uses
+  pub island_easy : (distance count : ℕ) (force : ForceVeneers) (b b' : Buffer K) → HasIsland r distance force true b b' → All (IsEasy r count) b.uses → All (IsEasy r count) b'.uses
   island_easy distance count force b b' i easy k d w = elim (cases_lt k (length b.uses)) [
     | inl lt ↦
         let same = i.later.uses k d lt in

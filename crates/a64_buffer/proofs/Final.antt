@@ -14,7 +14,7 @@ use Rattle.a64_buffer.specs.Buffer.{Buffer, end_of, label_of, goal_of, is_within
 use Rattle.a64_buffer.specs.Areas.{InArea, Stands}
 use Rattle.a64_buffer.specs.Classes.{wants, label_class, class, class_of, is_open, owed}
 use Rattle.a64_buffer.specs.Later.{IsSameUse, IsLater}
-use Rattle.a64_buffer.specs.Sound.{IsPlaced, AreApart, IsJump, IsFar, IsCopy, IsStop, IsRightlyOpen, IsSound, IsWhole, IsIsland}
+use Rattle.a64_buffer.specs.Sound.{IsPlaced, AreApart, IsJump, IsFar, IsCopy, IsStop, IsRightlyOpen, HasJump, IsSound, IsWhole, IsOver, IsIsland}
 use Rattle.a64_buffer.specs.Islands.{IsVeneerUse}
 use Rattle.a64_buffer.specs.Steps.{Writes, MayWrite, everywhere}
 use Rattle.a64_buffer.specs.Leads.{FarAt, Arrives, JumpAt, LabelLeads, TargetLeads}
@@ -298,19 +298,22 @@ module _ {K : Type 0} (r : Kinds K) (law : IsLawful r) (b m : Buffer K) (whole :
         go None e = no_stop k d h (get_or m.uses k d).target refl e
         go (Some s) e = target_leads k d h (get_or m.uses k d).target s refl (stop_is k d s h e)
 
-    -- islands begin with their jumps
-    jumps_over : All (JumpsOver r bytes) b.islands
-    jumps_over k d h =
-        let i : IsIsland r m (get_or b.islands k d) = island_stays r b m (get_or b.islands k d) (later_keeps b m later) (whole.islands.each k d h) in
-        let e : Use K = record { offset = 0; target = IslandEnd; kind = r.jump; stop = None } in
-        let put : get_or m.words ((get_or m.uses i.index e).offset / 4) 0 ≡ r.jump_word = ap (λ n. get_or m.words (n / 4) 0) (i.offset_is e) ∙ i.word in
+    -- the jumps over islands lead to their ends
+    jumps_over : All (λ island. HasJump b.uses island → JumpsOver r bytes island) b.islands
+    jumps_over k d h (index, e, within, is, front) =
+        let i : IsIsland r m (get_or b.islands k d) = island_stays r b m k d h (later_keeps r b m whole.islands later) (whole.islands.each k d h) in
+        let same : IsSameUse (end_of b) e (get_or m.uses index e) = subst (λ (u : Use K). IsSameUse (end_of b) u (get_or m.uses index e)) is (later.uses index e within) in
+        let inside : index < length m.uses = omega (arith, within, later.count) in
+        let offset_is : (get_or m.uses index e).offset ≡ (get_or b.islands k d).0 = same.offset ∙ front.0 in
+        let over : IsOver r m (get_or b.islands k d) (get_or m.uses index e) = i.over index e inside (offset_is, same.target ∙ front.1) in
+        let put : get_or m.words ((get_or m.uses index e).offset / 4) 0 ≡ r.jump_word = ap (λ n. get_or m.words (n / 4) 0) offset_is ∙ over.word in
         record {
-          word = subst (λ n. outside (r.mask r.jump) (word_at bytes n) ≡ outside (r.mask r.jump) r.jump_word) (i.offset_is e)
-              (subst (λ kind. outside (r.mask kind) (word_at bytes (get_or m.uses i.index e).offset) ≡ outside (r.mask kind) r.jump_word) (i.kind_is e)
-              ((led i.index e i.within).rest ∙ ap (outside (r.mask (get_or m.uses i.index e).kind)) put));
-          goes = subst (λ n. GoesTo r r.jump r.jump_word (word_at bytes n) n (get_or b.islands k d).1) (i.offset_is e)
-              (subst (λ kind. GoesTo r kind r.jump_word (word_at bytes (get_or m.uses i.index e).offset) (get_or m.uses i.index e).offset (get_or b.islands k d).1) (i.kind_is e)
-              (subst (λ q. GoesTo r (get_or m.uses i.index e).kind q (word_at bytes (get_or m.uses i.index e).offset) (get_or m.uses i.index e).offset (get_or b.islands k d).1) put (goes i.index e (get_or b.islands k d).1 i.within (i.stop_is e))));
+          word = subst (λ n. outside (r.mask r.jump) (word_at bytes n) ≡ outside (r.mask r.jump) r.jump_word) (offset_is)
+              (subst (λ kind. outside (r.mask kind) (word_at bytes (get_or m.uses index e).offset) ≡ outside (r.mask kind) r.jump_word) (over.kind)
+              ((led index e inside).rest ∙ ap (outside (r.mask (get_or m.uses index e).kind)) put));
+          goes = subst (λ n. GoesTo r r.jump r.jump_word (word_at bytes n) n (get_or b.islands k d).1) (offset_is)
+              (subst (λ kind. GoesTo r kind r.jump_word (word_at bytes (get_or m.uses index e).offset) (get_or m.uses index e).offset (get_or b.islands k d).1) (over.kind)
+              (subst (λ q. GoesTo r (get_or m.uses index e).kind q (word_at bytes (get_or m.uses index e).offset) (get_or m.uses index e).offset (get_or b.islands k d).1) put (goes index e (get_or b.islands k d).1 inside (over.stop))));
         }
 
     pub finished : (code : Finished) → code.bytes.items ≡ bytes → Lists b.labels code.labels.items → code.pool ≡ end_of b → code.islands.items ≡ b.islands → code.traps.items ≡ m.traps → code.relocs.items ≡ b.records.relocs → code.calls.items ≡ b.records.calls → code.patchable.items ≡ b.records.patchable → code.maps.items ≡ b.records.maps → IsFinished r b code
@@ -332,7 +335,7 @@ module _ {K : Type 0} (r : Kinds K) (law : IsLawful r) (b m : Buffer K) (whole :
       serves = w.writing.serves;
       own_stops = own_later r (open_areas r law b) w.writing.served b m w.writing.serves later labels_are sound (stops_below r b b.islands whole.sound) whole.own_stops;
       final_sound = sound_beside r m m.islands m.records (open_areas r law b) areas sound closes;
-      jumps = subst (λ bs. All (JumpsOver r bs) b.islands) (sym bytes_are) jumps_over;
+      jumps = subst (λ bs. All (λ island. HasJump b.uses island → JumpsOver r bs island) b.islands) (sym bytes_are) jumps_over;
       labels = labels;
       islands = islands;
       pool = pool;

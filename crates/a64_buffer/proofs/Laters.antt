@@ -1,8 +1,8 @@
 -- Buffers later on.
-use Rattle.std.proofs.Common.{ℕ, ℤ, ◌≡◌, ◌≤◌, true, List, [], ◌∷◌, ◌++◌, length, get_or, None, Some, refl, sym, ap, ◌∙◌, arith, inl, inr}
+use Rattle.std.proofs.Common.{ℕ, ℤ, ◌≡◌, ◌<◌, ◌≤◌, true, List, [], ◌∷◌, ◌++◌, length, get_or, None, Some, refl, sym, ap, ◌∙◌, subst, arith, inl, inr}
 use Rattle.std.specs.Prelude.{◌&&◌, is_none}
 use Rattle.std.proofs.lemmas.Bool.{cases_lt}
-use Rattle.std.proofs.lemmas.List.{append-nil, append_assoc}
+use Rattle.std.proofs.lemmas.List.{append-nil, append_assoc, get_or_default}
 use Rattle.a64_base.specs.declared.entity.ExternalName.{ExternalName}
 use Rattle.a64_base.specs.declared.entity.Reloc.{Reloc}
 use Rattle.a64_base.specs.declared.entity.UserStackMap.{UserStackMap}
@@ -11,6 +11,7 @@ use Rattle.a64_buffer.specs.Kinds.{Kinds}
 use Rattle.a64_buffer.specs.Buffer.{Records, Buffer, end_of}
 use Rattle.a64_buffer.specs.Classes.{wants, class, class_of, is_open}
 use Rattle.a64_buffer.specs.Later.{IsSameUse, HasMore, HasMoreRecords, IsLaterFrom, IsLater}
+use Rattle.a64_buffer.specs.Sound.{HasJump}
 use Rattle.a64_buffer.proofs.Rooms.{open_wants, open_stop}
 use Rattle.a64_buffer.proofs.Traps.{same_traps, more_traps}
 
@@ -84,6 +85,14 @@ later_from_trans from p q a b c low high first' second' = record {
   traps = more_traps (end_of a) (end_of b) (end_of c) a.traps b.traps c.traps first'.end second'.end first'.traps second'.traps;
   records = more_records a.records b.records c.records first'.records second'.records;
 }
+
+-- a jump over an island stays
+pub jump_stays : {K : Type 0} (b b' : Buffer K) (island : ℕ × ℕ) → IsLater b b' → HasJump b.uses island → HasJump b'.uses island
+jump_stays b b' island l (k, u, h, e, front) =
+    let v = get_or b'.uses k u in
+    let same = subst (λ (w : Use _). IsSameUse (end_of b) w (get_or b'.uses k u)) e (l.uses k u h) in
+    let inside : k < length b'.uses = omega (arith, h, l.count) in
+    (k, v, inside, get_or_default b'.uses k v u inside, (same.offset ∙ front.0, same.target ∙ front.1))
 
 pub later_trans : {K : Type 0} (a b c : Buffer K) → IsLater a b → IsLater b c → IsLater a c
 later_trans a b c p q = later_from_trans (end_of a) (end_of a) (end_of b) a b c (omega arith) p.end p q

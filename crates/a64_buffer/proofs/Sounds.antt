@@ -82,7 +82,7 @@ module _ {K : Type 0} (r : Kinds K) where
       pub whole_put : end_of b + 4 * length added < 2 ^ 31 → Fits r b (4 * length added) → IsWhole r (record b { words = b.words ++ added })
       whole_put short fits = record {
         sound = added_sound r law b put b.islands (λ v. false) (end_of b) added [] [] whole.sound adds (λ k d h. absurd (omega arith)) (λ k d h e. absurd (false≢true e)) (omega (arith, put_end)) (λ k d h. absurd (omega arith)) (λ j k d lt h. absurd (omega arith)) (λ k d h. absurd (omega arith)) (λ k d h. absurd (omega arith)) (λ k d h. absurd (omega arith));
-        islands = islands_stay r b put (later_keeps b put put_later) refl whole.islands;
+        islands = islands_stay r b put (later_keeps r b put whole.islands put_later) refl whole.islands;
         fits = record { rooms = λ k d w o. let x = fits.rooms k d w o in omega (arith, put_end) };
         own_stops = whole.own_stops;
       }
@@ -102,7 +102,7 @@ module _ {K : Type 0} (r : Kinds K) where
       pub whole_trap : IsWhole r (record b { traps = b.traps ++ (end_of b, code) ∷ [] })
       whole_trap = record {
         sound = added_sound r law b trapped b.islands (λ v. false) (end_of b) [] [] ((end_of b, code) ∷ []) whole.sound adds_trap (λ k d h. absurd (omega arith)) (λ k d h e. absurd (false≢true e)) whole.sound.short (λ k d h. absurd (omega arith)) (λ j k d lt h. absurd (omega arith)) (λ k d h. absurd (omega arith)) (λ k d h. absurd (omega arith)) (λ k d h. absurd (omega arith));
-        islands = islands_stay r b trapped (later_keeps b trapped trap_later) refl whole.islands;
+        islands = islands_stay r b trapped (later_keeps r b trapped whole.islands trap_later) refl whole.islands;
         fits = record { rooms = λ k d w o. whole.fits.rooms k d w o };
         own_stops = whole.own_stops;
       }
@@ -113,7 +113,7 @@ module _ {K : Type 0} (r : Kinds K) where
       pub whole_records : IsWhole r (record b { records = records })
       whole_records = record {
         sound = sound_beside r b b.islands records b.islands b.islands whole.sound (λ p size h i. i);
-        islands = islands_stay r b (record b { records = records }) (record { end = omega arith; words = λ i h. refl; count = omega arith; uses = λ k d h. same_use (end_of b) (get_or b.uses k d) }) refl whole.islands;
+        islands = islands_stay r b (record b { records = records }) (record { end = omega arith; words = λ i h. refl; count = omega arith; uses = λ k d h. same_use (end_of b) (get_or b.uses k d); fresh = λ k d low high. absurd (omega arith) }) refl whole.islands;
         fits = record { rooms = λ k d w o. whole.fits.rooms k d w o };
         own_stops = whole.own_stops;
       }
@@ -130,8 +130,11 @@ module _ {K : Type 0} (r : Kinds K) where
       kept_use : (k : ℕ) (d : Use K) → k < length b.uses → get_or (b.uses ++ made_use r b.labels offset target kind ∷ []) k d ≡ get_or b.uses k d
       kept_use k d h = get_or_append_left b.uses (made_use r b.labels offset target kind ∷ []) d k h
 
-      used_keeps : Keeps b used
-      used_keeps = record { end = omega arith; words = λ i h. refl; count = omega (arith, length_push b.uses made); uses = λ k d h. subst (IsSameUse (end_of b) (get_or b.uses k d)) (sym (kept_use k d h)) (same_use (end_of b) (get_or b.uses k d)) }
+      used_same : (k : ℕ) (d : Use K) → k < length b.uses → IsSameUse (end_of b) (get_or b.uses k d) (get_or used.uses k d)
+      used_same k d h = subst (IsSameUse (end_of b) (get_or b.uses k d)) (sym (kept_use k d h)) (same_use (end_of b) (get_or b.uses k d))
+
+      used_keeps : IsOutside b.islands offset → Keeps b used
+      used_keeps outside = record { end = omega arith; words = λ i h. refl; count = omega (arith, length_push b.uses made); uses = used_same; fresh = λ k d low high. let at : length b.uses ≡ k = omega (arith, low, high, length_push b.uses made) in subst (λ (u : Use K). IsOutside b.islands u.offset) (sym (get_or_push b.uses made d k at)) outside }
 
       used_grows : IsOutside b.islands offset → Grows b used b.islands b.islands
       used_grows outside = record {
@@ -155,8 +158,8 @@ module _ {K : Type 0} (r : Kinds K) where
       used_later = record {
         end = omega arith;
         words = λ i h. refl;
-        count = used_keeps.count;
-        uses = used_keeps.uses;
+        count = omega (arith, length_push b.uses made);
+        uses = used_same;
         fresh = λ k d low high.
             let at : length b.uses ≡ k = omega (arith, low, high, length_push b.uses made) in
             omega (arith, ap (λ (v : Use K). v.offset) (get_or_push b.uses made d k at));
@@ -191,7 +194,7 @@ module _ {K : Type 0} (r : Kinds K) where
           bound = whole.sound.bound;
           stops = All-push (IsStoppedOrOpen r used b.islands) b.uses made (λ k d h. old (get_or b.uses k d) (get_or b.uses k d).stop (whole.sound.stops k d h)) (made_stop r used b.islands (λ label. aligned_label (get b.labels label) (whole.sound.bound label)) offset target kind);
         };
-        islands = islands_stay r b used used_keeps refl whole.islands;
+        islands = islands_stay r b used (used_keeps outside) refl whole.islands;
         fits = fits;
         own_stops = used_own;
       }
@@ -261,7 +264,7 @@ module _ {K : Type 0} (r : Kinds K) where
           later' false None t e f = absurd (let z : None ≡ Some t = f in cc)
 
       bind_keeps : Keeps b bound'
-      bind_keeps = record { end = omega arith; words = λ i h. refl; count = omega (arith, length-map b.uses (closed_at r label (end_of b))); uses = λ k d h. subst (IsSameUse (end_of b) (get_or b.uses k d)) (sym (closed_use k d h)) (closed_same (get_or b.uses k d)) }
+      bind_keeps = record { end = omega arith; words = λ i h. refl; count = omega (arith, length-map b.uses (closed_at r label (end_of b))); uses = λ k d h. subst (IsSameUse (end_of b) (get_or b.uses k d)) (sym (closed_use k d h)) (closed_same (get_or b.uses k d)); fresh = λ k d low high. absurd (omega (arith, low, high, length-map b.uses (closed_at r label (end_of b)))) }
 
       pub bind_later : IsLater b (record b { uses = map (closed_at r label (end_of b)) b.uses; labels = insert b.labels label (end_of b) })
       bind_later = record {

@@ -52,6 +52,7 @@ module _ {K : Type 0} (r : Kinds K) where
 
   pub writing_none : (limit : ℕ) (b : Buffer K) → MayWrite r b → IsWriting r limit b b
   writing_none limit b m = record {
+    idle = λ e. refl;
     served = [];
     serves = serves_none r b.labels b.constants b b refl refl refl (λ k d h o s. open_none r (get_or b.uses k d) o s);
     ahead = λ k d h. absurd (omega arith);
@@ -91,6 +92,7 @@ module _ {K : Type 0} (r : Kinds K) where
   writing_step limit b m b' c five w g lt last_far =
       let later : IsLater m b' = g.given.part.later in
       record {
+        idle = λ e. absurd (omega (arith, e, w.part.later.end, g.given.longer));
         served = w.served ++ g.next.served ∷ [];
         serves = serves_join r b.labels b.constants b m b' w.served (g.next.served ∷ []) w.serves next_serves w.part.later later (λ k d h l. (g.given.given k d h l).labelled)
             (λ j k d hj hk. let z : k ≡ 0 = omega arith in subst (λ n. ComesBefore r (get_or w.served j d) (get_or (g.next.served ∷ []) n d)) (sym z) (behind j d hj))

@@ -8,7 +8,7 @@ use Rattle.a64_buffer.specs.Kinds.{Kinds, GoesTo}
 use Rattle.a64_buffer.specs.Buffer.{Buffer, end_of, IsFree}
 use Rattle.a64_buffer.specs.Classes.{trap_words, weight_of, owed}
 use Rattle.a64_buffer.specs.Later.{IsLater}
-use Rattle.a64_buffer.specs.Sound.{HaveOwnStops, IsSound}
+use Rattle.a64_buffer.specs.Sound.{HasJump, HaveOwnStops, IsSound}
 use Rattle.a64_buffer.specs.Pieces.{Serves}
 use Rattle.a64_buffer.specs.Islands.{IsVeneerUse}
 use Rattle.a64_buffer.specs.Leads.{TargetLeads}
@@ -44,7 +44,7 @@ module _ {K : Type 0} (r : Kinds K) where
     pub serves : Serves r b.labels b.constants served b final
     pub own_stops : HaveOwnStops b.labels final.uses
     pub final_sound : IsSound r final (b.islands ++ (end_of b, end_of final) ∷ [])
-    pub jumps : All (JumpsOver code.bytes.items) b.islands
+    pub jumps : All (λ island. HasJump b.uses island → JumpsOver code.bytes.items island) b.islands
     pub labels : Lists b.labels code.labels.items
     pub islands : code.islands.items ≡ b.islands
     pub pool : code.pool ≡ end_of b

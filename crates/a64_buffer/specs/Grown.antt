@@ -1,5 +1,5 @@
 -- Buffers that a client fills step by step, with islands where they are needed.
-use Rattle.std.specs.Prelude.{ℕ, ◌≡◌, ◌⊎◌, ◌+◌, ◌^◌, ◌<◌, ◌≤◌, false, List, [], ◌∷◌, ◌++◌, All, None, IfSome, IsSome, IsSomeAnd}
+use Rattle.std.specs.Prelude.{ℕ, ◌≡◌, ◌⊎◌, ◌+◌, ◌^◌, ◌<◌, ◌≤◌, true, false, List, [], ◌∷◌, ◌++◌, All, None, IfSome, IsSome, IsSomeAnd}
 use Rattle.std.specs.Ordering.{nat_cmp}
 use Rattle.std.specs.FinMap.{FinMap, get}
 use Rattle.a64_buffer.specs.declared.site.Use.{Use}
@@ -18,7 +18,7 @@ AreThere count constants = (number : ℕ) → number < count → IsSomeAnd (get 
 module _ {K : Type 0} (r : Kinds K) where
   -- an island was written if one was needed before so many bytes, and else nothing changed
   abbrev pub MakesRoom : ℕ → Buffer K → Buffer K → Type 0
-  MakesRoom distance b b' = ((b' ≡ b) × Fits r b distance) ⊎ HasIsland r distance No b b'
+  MakesRoom distance b b' = ((b' ≡ b) × Fits r b distance) ⊎ HasIsland r distance No true b b'
 
   -- a word was added at the end, which is a use, behind an island where one was needed
   pub record AddsUse (word : ℕ) (target : Target) (kind : K) (b b' : Buffer K) : Type 0 where

@@ -1,5 +1,5 @@
 -- What stands in islands and in the pool, and in which order.
-use Rattle.std.specs.Prelude.{ℕ, ◌≡◌, ◌≢◌, ◌⊎◌, ◌+◌, ◌*◌, ◌-◌, ◌/◌, ◌%◌, ◌^◌, ◌<◌, ◌≤◌, true, false, List, [], ◌∷◌, ◌++◌, All, Any, map, length, slice_index_or, replicate, Option, None, Some, IfSome, IsSome}
+use Rattle.std.specs.Prelude.{ℕ, ◌≡◌, ◌≢◌, ◌⊎◌, ◌+◌, ◌*◌, ◌-◌, ◌/◌, ◌%◌, ◌^◌, ◌<◌, ◌≤◌, Bool, true, false, ◌||◌, nat_lt, if◌then◌else◌, List, [], ◌∷◌, ◌++◌, All, Any, map, length, slice_index_or, replicate, Option, None, Some, IfSome, IsSome}
 use Rattle.std.specs.Option.{unwrap_or}
 use Rattle.std.specs.List.{AllPairs, flat_map}
 use Rattle.std.specs.Ordering.{nat_cmp}
@@ -57,6 +57,14 @@ AtGoal labels u = IfSome u.stop (λ stop. goal_of labels u.target ≡ Some stop)
 abbrev pub IsAnswered : {K : Type 0} → FinMap nat_cmp ℕ → List (Use K) → Use K → Type 0
 IsAnswered labels served u = AtGoal labels u ⊎ Any (StopsWith u) served
 
+-- how many bytes the jump at the start of an island takes, where it has one
+abbrev pub front_size : Bool → ℕ
+front_size jump = if jump then 4 else 0
+
+-- the island from one place to another, which is none where it has neither a jump nor contents
+abbrev pub listed : Bool → ℕ → ℕ → List (ℕ × ℕ)
+listed jump begin end = if jump || nat_lt begin end then (begin, end) ∷ [] else []
+
 -- a use, but for its stop
 abbrev pub site_of : {K : Type 0} → Use K → ℕ × Target × K
 site_of u = (u.offset, u.target, u.kind)
@@ -70,9 +78,19 @@ module _ {K : Type 0} (r : Kinds K) where
   abbrev pub over_use : ℕ → Use K
   over_use place = record { offset = place; target = IslandEnd; kind = r.jump; stop = None }
 
-  -- an island is begun: its jump stands at the end
-  abbrev pub begun : Buffer K → Buffer K
-  begun b = record b { words = b.words ++ r.jump_word ∷ []; uses = b.uses ++ over_use (end_of b) ∷ [] }
+  -- the word of that jump and its use, where an island has one
+  abbrev pub front_words : Bool → List ℕ
+  front_words jump = if jump then r.jump_word ∷ [] else []
+
+  abbrev pub front_uses : Bool → ℕ → List (Use K)
+  front_uses jump place = if jump then over_use place ∷ [] else []
+
+  -- an island is begun: its jump stands at the end, where it has one
+  abbrev pub begun : Bool → Buffer K → Buffer K
+  begun jump b = record b {
+    words = b.words ++ front_words jump;
+    uses = b.uses ++ front_uses jump (end_of b);
+  }
 
   -- one use is served before another: it comes first in the order of islands, and no constant is
   -- copied twice

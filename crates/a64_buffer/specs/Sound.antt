@@ -1,5 +1,5 @@
 -- What is true of every buffer of code.
-use Rattle.std.specs.Prelude.{ℕ, ◌≡◌, ◌≢◌, ◌⊎◌, ◌+◌, ◌*◌, ◌/◌, ◌%◌, ◌^◌, ◌<◌, ◌≤◌, false, IsTrue, List, [], ◌∷◌, All, Contains, length, slice_index, slice_index_or, Some, IfSome, IsSome, IsSomeAnd, MatchOption}
+use Rattle.std.specs.Prelude.{ℕ, ◌≡◌, ◌≢◌, ◌⊎◌, ◌+◌, ◌*◌, ◌/◌, ◌%◌, ◌^◌, ◌<◌, ◌≤◌, false, IsTrue, List, [], ◌∷◌, All, Any, Contains, length, slice_index, slice_index_or, Some, IfSome, IsSome, IsSomeAnd, MatchOption}
 use Rattle.std.specs.Ordering.{nat_cmp}
 use Rattle.std.specs.FinMap.{FinMap, get}
 use Rattle.a64_base.specs.declared.entity.TrapCode.{TrapCode}
@@ -56,6 +56,14 @@ HaveOwnStops {K} labels uses =
     → (slice_index_or uses j d).stop ≡ Some stop → (slice_index_or uses k d).stop ≡ Some stop
     → MayShare labels stop (slice_index_or uses j d).target (slice_index_or uses k d).target
 
+-- a use is the jump at the start of an island
+abbrev pub IsFront : {K : Type 0} → ℕ × ℕ → Use K → Type 0
+IsFront island u = (u.offset ≡ island.0) × (u.target ≡ IslandEnd)
+
+-- an island begins with a jump over it
+abbrev pub HasJump : {K : Type 0} → List (Use K) → ℕ × ℕ → Type 0
+HasJump uses island = Any (IsFront island) uses
+
 -- a constant that a use loads is there
 abbrev pub IsKnown : FinMap nat_cmp (List ℕ) → Target → Type 0
 IsKnown constants (Label label) = Unit {0}
@@ -64,7 +72,7 @@ IsKnown constants (Trap code) = Unit {0}
 IsKnown constants IslandEnd = Unit {0}
 
 module _ {K : Type 0} (r : Kinds K) where
-  -- the uses of constants and traps are of urgency 2, and an island begins with a jump
+  -- the uses of constants and traps are of urgency 2, and over an island leads a jump
   abbrev pub IsKinded : Target → K → Type 0
   IsKinded (Label label) kind = Unit {0}
   IsKinded (Constant constant) kind = r.urgency kind ≡ 2
@@ -128,19 +136,21 @@ module _ {K : Type 0} (r : Kinds K) where
       pub bound : (label : ℕ) → IfSome (get b.labels label) (λ place. (place % 4 ≡ 0) × (place ≤ end_of b))
       pub stops : All IsStoppedOrOpen b.uses
 
-  -- an island of code that ends there: it begins with a jump to its end
+  -- the jump at the start of an island leads to its end
+  pub record IsOver (b : Buffer K) (island : ℕ × ℕ) (u : Use K) : Type 0 where
+    pub word : slice_index b.words (island.0 / 4) ≡ r.jump_word
+    pub kind : u.kind ≡ r.jump
+    pub stop : u.stop ≡ Some island.1
+
+  -- an island of code that ends there: it is not empty, and where it begins with a jump, that leads
+  -- to its end
   pub record IsIsland (b : Buffer K) (island : ℕ × ℕ) : Type 0 where
     pub aligned : island.0 % 4 ≡ 0
     pub long : island.0 + 4 ≤ island.1
     pub inside : island.1 ≤ end_of b
-    pub word : slice_index b.words (island.0 / 4) ≡ r.jump_word
-    pub index : ℕ
-    pub within : index < length b.uses
-    pub offset_is : (d : Use K) → (slice_index_or b.uses index d).offset ≡ island.0
-    pub kind_is : (d : Use K) → (slice_index_or b.uses index d).kind ≡ r.jump
-    pub stop_is : (d : Use K) → (slice_index_or b.uses index d).stop ≡ Some island.1
+    pub over : All (λ u. IsFront island u → IsOver b island u) b.uses
 
-  -- the islands of code: each begins with a jump to its end, and they stand one behind another
+  -- the islands of code, which stand one behind another
   pub record AreIslands (b : Buffer K) : Type 0 where
     pub each : All (IsIsland b) b.islands
     pub in_order : (j k : ℕ) → j < k → k < length b.islands → (slice_index_or b.islands j (0, 0)).1 ≤ (slice_index_or b.islands k (0, 0)).0

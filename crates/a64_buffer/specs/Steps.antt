@@ -19,7 +19,7 @@ use Rattle.a64_buffer.specs.declared.force.ForceVeneers.TheVariants.{No, Yes}
 use Rattle.a64_buffer.specs.Later.{IsLater}
 use Rattle.a64_buffer.specs.Space.{HasSpace}
 use Rattle.a64_buffer.specs.Sound.{seen, IsSound}
-use Rattle.a64_buffer.specs.Pieces.{padding, AtGoal, key_of, Serves}
+use Rattle.a64_buffer.specs.Pieces.{padding, listed, AtGoal, key_of, Serves}
 use Rattle.a64_buffer.specs.Islands.{IsVeneerUse, FarWaits}
 
 -- a use that stops at a place, where it passes a test
@@ -29,6 +29,10 @@ stopped test place u = record u { stop = if test u then Some place else u.stop }
 -- the use that stands at a place
 abbrev pub stands_at : {K : Type 0} → ℕ → Use K → Bool
 stands_at place u = nat_eq u.offset place
+
+-- the jump of an island that begins at a place, where it has one
+abbrev pub is_jump_at : {K : Type 0} → Bool → ℕ → Use K → Bool
+is_jump_at jump place u = jump && stands_at place u
 
 -- an open use of a constant
 abbrev pub is_load_of : ℕ → Target → Bool
@@ -55,8 +59,11 @@ abbrev pub AddsUse : {K : Type 0} → List (Use K) → List (Use K) → Use K �
 AddsUse us us' u = us' ≡ take (length us) us' ++ u ∷ []
 
 -- an island from a place on is ended
-abbrev pub ended : {K : Type 0} → ℕ → Buffer K → Buffer K
-ended start b = record b { uses = map (stopped (stands_at start) (end_of b)) b.uses; islands = b.islands ++ (start, end_of b) ∷ [] }
+abbrev pub ended : {K : Type 0} → Bool → ℕ → Buffer K → Buffer K
+ended jump start b = record b {
+  uses = map (stopped (is_jump_at jump start) (end_of b)) b.uses;
+  islands = b.islands ++ listed jump start (end_of b);
+}
 
 -- all code is one area
 abbrev pub everywhere : List (ℕ × ℕ)
@@ -97,7 +104,7 @@ module _ {K : Type 0} (r : Kinds K) where
   GivesClass Trapping u b b' = elim u.target [ Label label ↦ ⊥ | Constant constant ↦ ⊥ | Trap code ↦ GivesTrap u code b b' | IslandEnd ↦ ⊥ ]
   GivesClass Direct u b b' = ⊥
 
-  -- inside an island its jump stands already: each open use reaches what it gets, if the rest of the
+  -- inside an island its jump stands already, if it has one: each open use reaches what it gets, if the rest of the
   -- island begins so many bytes behind the end
   pub record Within (end : ℕ) (uses : List (Use K)) (more : ℕ) : Type 0 where
     pub rooms : All (λ u. is_open r u ≡ true → end + more + burden r (level_of (class r u)) uses ≤ u.offset + range_of r (level_of (class r u))) uses
@@ -152,6 +159,7 @@ module _ {K : Type 0} (r : Kinds K) where
   -- open uses were given what they waited for, one after another; what is open still comes behind them
   -- in the order of islands
   pub record IsWriting (limit : ℕ) (b b' : Buffer K) : Type 0 where
+    pub idle : end_of b' ≡ end_of b → b' ≡ b
     pub served : List (Use K)
     pub serves : Serves r b.labels b.constants served b b'
     pub ahead : All (λ u. All (λ v. is_open r v ≡ true → key_of r u < key_of r v) b'.uses) served

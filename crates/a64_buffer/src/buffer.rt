@@ -333,19 +333,25 @@ impl<'c, K: MachInstLabelUse> MachBuffer<'c, K> {
         self.parts.island_needed(distance)
     }
 
-    /// Writes an island at the end: a jump over it, a jump word for each open branch of urgency 1 or 2, a
-    /// copy of each constant that is waited for, and a word for each trap. Open branches of urgency 3 get
-    /// far veneers, all or none of them: where that is forced, or some would not reach so many bytes more.
+    /// Writes an island at the end: a jump over it, where that is asked for, a jump word for each open
+    /// branch of urgency 1 or 2, a copy of each constant that is waited for, and a word for each trap. Open
+    /// branches of urgency 3 get far veneers, all or none of them: where that is forced, or some would not
+    /// reach so many bytes more. Without a jump nothing may run into the island, and an empty one is none.
     ///
     /// # Errors
     ///
     /// Want of memory, and then nothing has changed.
-    pub fn emit_island(&mut self, distance: u32, force: ForceVeneers) -> Result<(), AllocError>
+    pub fn emit_island(
+        &mut self,
+        distance: u32,
+        force: ForceVeneers,
+        jump: bool,
+    ) -> Result<(), AllocError>
         requires short { end_of self.old + owed K.kinds self.old + 4 < 2 ^ 31 }
-        ensures ok { OnOk result (HasIsland K.kinds distance force self.old self.new) }
+        ensures ok { OnOk result (HasIsland K.kinds distance force jump self.old self.new) }
         ensures err { OnErr result (self.new ≡ self.old) }
     {
-        self.parts.emit_island(distance, force)
+        self.parts.emit_island(distance, force, jump)
     }
 
     /// The used label of least number that is not bound; `None` where all used labels are bound.

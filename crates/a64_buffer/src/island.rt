@@ -1,6 +1,6 @@
 //! Islands, and what gives open uses what they wait for.
 
-ghost use Rattle.std.specs.Prelude.{◌≡◌, ◌⊎◌, ◌+◌, ◌*◌, ◌^◌, ◌<◌, ◌≤◌, All, MatchBool, MatchOption, OnOk, OnErr, length, slice_index_or, vec_len, vec_capacity};
+ghost use Rattle.std.specs.Prelude.{◌≡◌, ◌⊎◌, ◌+◌, ◌*◌, ◌^◌, ◌<◌, ◌≤◌, All, MatchBool, MatchOption, OnOk, OnErr, map, true, length, slice_index_or, vec_len, vec_capacity};
 ghost use Rattle.a64_buffer.specs.Buffer.{end_of};
 ghost use Rattle.a64_buffer.specs.Classes as classes;
 ghost use Rattle.a64_buffer.specs.Classes.{veneer_uses, weight_of, owed, Fits};
@@ -21,7 +21,7 @@ impl<'c, K: MachInstLabelUse> Parts<'c, K> {
     ghost use Rattle.a64_buffer.specs.Chain.{constant_of, AreChained};
     ghost use Rattle.a64_buffer.specs.Queues.{HaveRoomFor, AllHold, AllLimits, AreBurdens, AreWaiting};
     ghost use Rattle.a64_buffer.specs.Space.{SameRoom, HasSpace, HasSpaceForMore};
-    ghost use Rattle.a64_buffer.specs.Steps.{AddsUse, IsNextOpen, IsReady, GivesAll, MayWrite, Writes, WritesFar, ended};
+    ghost use Rattle.a64_buffer.specs.Steps.{AddsUse, IsNextOpen, IsReady, GivesAll, MayWrite, Writes, WritesFar, stopped, is_jump_at, ended};
     ghost use Rattle.a64_buffer.specs.Pieces.{begun};
     ghost use Rattle.a64_buffer.specs.Islands.{HasIsland};
 
@@ -187,9 +187,9 @@ impl<'c, K: MachInstLabelUse> Parts<'c, K> {
         Ok(())
     }
 
-    /// Begins an island with a jump, whose end is not known yet. That waits for nothing, so it is in no
-    /// queue.
-    fn begin_island(&mut self)
+    /// Begins an island, with a jump where it is to have one, whose end is not known yet. That waits for
+    /// nothing, so it is in no queue.
+    fn begin_island(&mut self, jump: bool)
         requires short { end_of (seen self.old) + 4 < 2 ^ 31 }
         requires words { vec_len self.old.words < vec_capacity self.old.words }
         requires uses { vec_len self.old.uses < vec_capacity self.old.uses }
@@ -200,7 +200,7 @@ impl<'c, K: MachInstLabelUse> Parts<'c, K> {
         requires burdens { AreBurdens K.kinds self.old.uses.items self.old.burdens }
         requires queued { HaveRoomFor (weight_of K.kinds veneer_uses self.old.uses.items + 1) self.old.queues }
         requires few { self.old.burdens.third < 2 ^ 32 }
-        ensures begun { seen self.new ≡ begun K.kinds (seen self.old) }
+        ensures begun { seen self.new ≡ begun K.kinds jump (seen self.old) }
         ensures chained { AreChained self.new.uses.items self.new.earlier.items self.new.heads self.new.loads }
         ensures room { SameRoom self.old self.new }
         ensures hold { AllHold K.kinds self.new.uses.items self.new.queues }
@@ -209,6 +209,9 @@ impl<'c, K: MachInstLabelUse> Parts<'c, K> {
         ensures queued { HaveRoomFor (weight_of K.kinds veneer_uses self.new.uses.items) self.new.queues }
         ensures islands { self.new.islands ≡ self.old.islands }
     {
+        if !jump {
+            return;
+        }
         let offset = self.end();
         self.words.push_reserved(K::jump_word());
         self.push_use(Use {
@@ -219,25 +222,48 @@ impl<'c, K: MachInstLabelUse> Parts<'c, K> {
         });
     }
 
-    /// Ends an island, and lets its jump, the use at an index, lead there.
-    fn end_island(&mut self, index: usize, start: u32)
-        requires within { index < length self.old.uses.items }
-        requires target { (d : _) → constant_of (slice_index_or self.old.uses.items index d).target ≡ None }
-        requires start { (d : _) → (slice_index_or self.old.uses.items index d).offset ≡ start }
+    /// Lets the jump over an island, the use at an index, lead to its end, where the island has one.
+    #[inline(always)]
+    fn end_jump(&mut self, index: usize, start: u32, end: u32, jump: bool)
+        requires within { jump ≡ true → index < length self.old.uses.items }
+        requires target { jump ≡ true → (d : _) → constant_of (slice_index_or self.old.uses.items index d).target ≡ None }
+        requires start { jump ≡ true → (d : _) → (slice_index_or self.old.uses.items index d).offset ≡ start }
+        requires chained { AreChained self.old.uses.items self.old.earlier.items self.old.heads self.old.loads }
+        requires burdens { AreBurdens K.kinds self.old.uses.items self.old.burdens }
+        ensures uses { AreApart self.old.uses.items → self.new.uses.items ≡ map (stopped (is_jump_at jump start) end) self.old.uses.items }
+        ensures chained { AreChained self.new.uses.items self.new.earlier.items self.new.heads self.new.loads }
+        ensures burdens { AreBurdens K.kinds self.new.uses.items self.new.burdens }
+        ensures capacity { vec_capacity self.new.uses ≡ vec_capacity self.old.uses }
+        ensures rest { self.new ≡ record self.old { uses = self.new.uses; burdens = self.new.burdens } }
+    {
+        if !jump {
+            return;
+        }
+        let class = self.uses[index].waiting_class();
+        self.stop_at(index, end, class);
+    }
+
+    /// Ends an island: its jump, the use at an index, leads there, and it is listed, where it has a jump
+    /// or contents.
+    fn end_island(&mut self, index: usize, start: u32, jump: bool)
+        requires within { jump ≡ true → index < length self.old.uses.items }
+        requires target { jump ≡ true → (d : _) → constant_of (slice_index_or self.old.uses.items index d).target ≡ None }
+        requires start { jump ≡ true → (d : _) → (slice_index_or self.old.uses.items index d).offset ≡ start }
         requires short { end_of (seen self.old) < 2 ^ 31 }
         requires islands { vec_len self.old.islands < vec_capacity self.old.islands }
         requires chained { AreChained self.old.uses.items self.old.earlier.items self.old.heads self.old.loads }
         requires burdens { AreBurdens K.kinds self.old.uses.items self.old.burdens }
-        ensures ended { AreApart self.old.uses.items → seen self.new ≡ ended start (seen self.old) }
+        ensures ended { AreApart self.old.uses.items → seen self.new ≡ ended jump start (seen self.old) }
         ensures chained { AreChained self.new.uses.items self.new.earlier.items self.new.heads self.new.loads }
         ensures queues { self.new.queues ≡ self.old.queues }
         ensures burdens { AreBurdens K.kinds self.new.uses.items self.new.burdens }
         ensures capacity { vec_capacity self.new.uses ≡ vec_capacity self.old.uses }
     {
         let end = self.end();
-        let class = self.uses[index].waiting_class();
-        self.stop_at(index, end, class);
-        self.islands.push_reserved((start, end));
+        self.end_jump(index, start, end, jump);
+        if jump || start < end {
+            self.islands.push_reserved((start, end));
+        }
     }
 
     /// Whether the open uses of the longest range are given veneers: that is forced, or some would be
@@ -255,22 +281,27 @@ impl<'c, K: MachInstLabelUse> Parts<'c, K> {
         }
     }
 
-    /// Writes an island at the end: its jump at least.
-    pub fn emit_island(&mut self, distance: u32, force: ForceVeneers) -> Result<(), AllocError>
+    /// Writes an island at the end: its jump at least, where it is to have one.
+    pub fn emit_island(
+        &mut self,
+        distance: u32,
+        force: ForceVeneers,
+        jump: bool,
+    ) -> Result<(), AllocError>
         requires sound { AreSound K.kinds self.old }
         requires short { end_of (seen self.old) + owed K.kinds (seen self.old) + 4 < 2 ^ 31 }
         ensures sound { AreSound K.kinds self.new }
-        ensures ok { OnOk result (HasIsland K.kinds distance force (seen self.old) (seen self.new)) }
+        ensures ok { OnOk result (HasIsland K.kinds distance force jump (seen self.old) (seen self.new)) }
         ensures err { OnErr result (seen self.new ≡ seen self.old) }
     {
         self.reserve_all()?;
         self.reserve_veneers()?;
         let start = self.end();
         let index = self.uses.len();
-        self.begin_island();
+        self.begin_island(jump);
         self.write_until(4);
         self.promote(distance, force);
-        self.end_island(index, start);
+        self.end_island(index, start, jump);
         Ok(())
     }
 

@@ -1,5 +1,5 @@
 -- What emission does to a buffer.
-use Rattle.std.specs.Prelude.{ℕ, pos, ◌≡◌, ◌⊎◌, ◌+◌, ◌*◌, ◌/◌, ◌%◌, ◌^◌, ◌<◌, ◌≤◌, List, [], ◌∷◌, ◌++◌, map, take, length, slice_index, slice_index_or, Option, None, Some, IsSome, MatchOption}
+use Rattle.std.specs.Prelude.{ℕ, pos, ◌≡◌, ◌⊎◌, ◌+◌, ◌*◌, ◌/◌, ◌%◌, ◌^◌, ◌<◌, ◌≤◌, true, List, [], ◌∷◌, ◌++◌, map, take, length, slice_index, slice_index_or, Option, None, Some, IsSome, MatchOption}
 use Rattle.std.specs.Ordering.{nat_cmp}
 use Rattle.std.specs.FinMap.{FinMap, insert}
 use Rattle.a64_base.specs.declared.entity.MachLabel.{MachLabel}
@@ -108,7 +108,7 @@ pub record IsAppendedInPart (b b' : Buffer LabelUse) (cells : List Cell) : Type 
 abbrev pub IslandsIfNeeded : ℕ → Buffer LabelUse → Buffer LabelUse → Type 0
 IslandsIfNeeded space b b' =
     (classes.Fits label_kinds b space × (b' ≡ b))
-    ⊎ ((classes.Fits label_kinds b space → ⊥) × HasIsland label_kinds space No b b')
+    ⊎ ((classes.Fits label_kinds b space → ⊥) × HasIsland label_kinds space No true b b')
 
 -- cells were put at the end; or an island where one is needed, at a place for one
 abbrev pub Puts : Option ℕ → List Cell → Buffer LabelUse → Buffer LabelUse → Type 0

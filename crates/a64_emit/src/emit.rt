@@ -441,7 +441,7 @@ fn emit_asked(sink: &mut MachBuffer<'_, LabelUse>, space: u32) -> Result<(), All
     ensures err { OnErr result (sink.new ≡ sink.old) }
 {
     if sink.island_needed(space) {
-        sink.emit_island(space, ForceVeneers::No)
+        sink.emit_island(space, ForceVeneers::No, true)
     } else {
         Ok(())
     }

@@ -48,7 +48,7 @@ fn make_room(buffer: &mut MachBuffer<'_, LabelUse>) -> Result<(), AllocError>
     ensures { OnOk result (MakesRoom label_kinds 32 buffer.old buffer.new) }
 {
     if buffer.island_needed(ROOM) {
-        return buffer.emit_island(ROOM, ForceVeneers::No);
+        return buffer.emit_island(ROOM, ForceVeneers::No, true);
     }
     Ok(())
 }

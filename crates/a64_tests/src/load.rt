@@ -21,7 +21,7 @@ fn make_room<K: MachInstLabelUse>(
     ensures { OnOk result (MakesRoom K.kinds distance buffer.old buffer.new) }
 {
     if buffer.island_needed(distance) {
-        return buffer.emit_island(distance, ForceVeneers::No);
+        return buffer.emit_island(distance, ForceVeneers::No, true);
     }
     Ok(())
 }

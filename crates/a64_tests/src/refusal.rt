@@ -188,13 +188,13 @@ fn island<K: MachInstLabelUse>(buffer: &mut MachBuffer<'_, K>) -> Result<(), All
     requires { end_of buffer.old + owed K.kinds buffer.old + 4 < 2 ^ 31 }
 {
     let before = buffer.cur_offset();
-    if buffer.emit_island(0, ForceVeneers::Yes).is_ok() {
+    if buffer.emit_island(0, ForceVeneers::Yes, true).is_ok() {
         return Ok(());
     }
     if buffer.cur_offset() != before {
         return Err(AllocError);
     }
-    buffer.emit_island(0, ForceVeneers::Yes)
+    buffer.emit_island(0, ForceVeneers::Yes, true)
 }
 
 #[test]

@@ -6,23 +6,23 @@ use Rattle.a64_buffer.specs.Queues.{IsSameQueue, AllHold, AllLimits, AreBurdens}
 use Rattle.a64_buffer.specs.Islands.{HasIsland}
 use Rattle.a64_buffer.specs.Sound.{seen, IsWhole}
 use Rattle.a64_buffer.specs.Pieces.{over_use, begun}
-use Rattle.a64_buffer.specs.Steps.{MayWrite, Writes, stands_at, ended}
+use Rattle.a64_buffer.specs.Steps.{MayWrite, Writes, is_jump_at, ended}
 use Rattle.a64_buffer.proofs.Writing.{may_write_on}
 use Rattle.a64_buffer.proofs.Islands.{may_begin}
-use Rattle.a64_buffer.proofs.Emitting.{sound_m, at_m, ended_waits, island_made}
+use Rattle.a64_buffer.proofs.Emitting.{sound_m, over_m, ended_waits, island_made}
 use Rattle.a64_buffer.proofs.Queued.{stopped_closes, all_closed_hold, all_kept_limits, same_hold, same_limits}
 use Rattle.a64_buffer.proofs.parts.Parts.emit_island.Goals as goal
 
 pub write_until-requires-clause-may : goal.write_until-requires-clause-may
 write_until-requires-clause-may g c =
-    let begun_is = c.begin_island.ensures.begun ∙ ap (begun g.K.MachInstLabelUse.kinds) (ap (λ p. seen p) c.reserve_veneers.ensures.rest ∙ c.in_ok-reserve_all.ensures.rest) in
-    subst (MayWrite g.K.MachInstLabelUse.kinds) (sym begun_is) (may_begin g.K.MachInstLabelUse.kinds g.met.K.MachInstLabelUse.lawful (seen c.args.self.now) c.requires.sound.whole c.requires.short)
+    let begun_is = c.begin_island.ensures.begun ∙ ap (begun g.K.MachInstLabelUse.kinds c.args.jump) (ap (λ p. seen p) c.reserve_veneers.ensures.rest ∙ c.in_ok-reserve_all.ensures.rest) in
+    subst (MayWrite g.K.MachInstLabelUse.kinds) (sym begun_is) (may_begin g.K.MachInstLabelUse.kinds g.met.K.MachInstLabelUse.lawful c.args.jump (seen c.args.self.now) c.requires.sound.whole c.requires.short)
 
 pub promote-requires-clause-may : goal.promote-requires-clause-may
 promote-requires-clause-may g c =
-    let begun_is = c.begin_island.ensures.begun ∙ ap (begun g.K.MachInstLabelUse.kinds) (ap (λ p. seen p) c.reserve_veneers.ensures.rest ∙ c.in_ok-reserve_all.ensures.rest) in
+    let begun_is = c.begin_island.ensures.begun ∙ ap (begun g.K.MachInstLabelUse.kinds c.args.jump) (ap (λ p. seen p) c.reserve_veneers.ensures.rest ∙ c.in_ok-reserve_all.ensures.rest) in
     may_write_on g.K.MachInstLabelUse.kinds 4 (seen c.begin_island.new.self) (seen c.write_until.new.self)
-    (subst (MayWrite g.K.MachInstLabelUse.kinds) (sym begun_is) (may_begin g.K.MachInstLabelUse.kinds g.met.K.MachInstLabelUse.lawful (seen c.args.self.now) c.requires.sound.whole c.requires.short))
+    (subst (MayWrite g.K.MachInstLabelUse.kinds) (sym begun_is) (may_begin g.K.MachInstLabelUse.kinds g.met.K.MachInstLabelUse.lawful c.args.jump (seen c.args.self.now) c.requires.sound.whole c.requires.short))
     c.write_until.ensures.writes.writing
 
 pub reserve_veneers-requires : goal.reserve_veneers-requires
@@ -60,23 +60,23 @@ begin_island-requires-clause-queued g c =
     λ q. omega (arith, c.in_ok-reserve_veneers.ensures.ok q, weight)
 
 pub end_island-requires-clause-target : goal.end_island-requires-clause-target
-end_island-requires-clause-target g c = λ d.
+end_island-requires-clause-target g c = λ j d.
     let same : seen c.reserve_veneers.new.self ≡ seen c.args.self.now = ap (λ p. seen p) c.reserve_veneers.ensures.rest ∙ c.in_ok-reserve_all.ensures.rest in
-    let begun_is = c.begin_island.ensures.begun ∙ ap (begun g.K.MachInstLabelUse.kinds) same in
+    let begun_is = c.begin_island.ensures.begun ∙ ap (begun g.K.MachInstLabelUse.kinds c.args.jump) same in
     let near = subst (λ b. Writes g.K.MachInstLabelUse.kinds 4 b (seen c.write_until.new.self)) begun_is c.write_until.ensures.writes in
     let index : c.len-index.result ≡ length c.args.self.now.uses.items = omega (arith, c.len-index.ensures, ap (λ b. length b.uses) same) in
     let over : get_or c.promote.new.self.uses.items c.len-index.result d ≡ over_use g.K.MachInstLabelUse.kinds (end_of (seen c.args.self.now)) =
-    ap (λ k. get_or c.promote.new.self.uses.items k d) index ∙ at_m g.K.MachInstLabelUse.kinds g.met.K.MachInstLabelUse.lawful c.args.distance c.args.force (seen c.args.self.now) (seen c.write_until.new.self) (seen c.promote.new.self) c.requires.sound.whole c.requires.short near c.promote.ensures.promotes d in
+    ap (λ k. get_or c.promote.new.self.uses.items k d) index ∙ over_m g.K.MachInstLabelUse.kinds g.met.K.MachInstLabelUse.lawful c.args.distance c.args.force c.args.jump (seen c.args.self.now) (seen c.write_until.new.self) (seen c.promote.new.self) c.requires.sound.whole c.requires.short near c.promote.ensures.promotes j d in
     ap (λ u. constant_of u.target) over
 
 pub end_island-requires-clause-start : goal.end_island-requires-clause-start
-end_island-requires-clause-start g c = λ d.
+end_island-requires-clause-start g c = λ j d.
     let same : seen c.reserve_veneers.new.self ≡ seen c.args.self.now = ap (λ p. seen p) c.reserve_veneers.ensures.rest ∙ c.in_ok-reserve_all.ensures.rest in
-    let begun_is = c.begin_island.ensures.begun ∙ ap (begun g.K.MachInstLabelUse.kinds) same in
+    let begun_is = c.begin_island.ensures.begun ∙ ap (begun g.K.MachInstLabelUse.kinds c.args.jump) same in
     let near = subst (λ b. Writes g.K.MachInstLabelUse.kinds 4 b (seen c.write_until.new.self)) begun_is c.write_until.ensures.writes in
     let index : c.len-index.result ≡ length c.args.self.now.uses.items = omega (arith, c.len-index.ensures, ap (λ b. length b.uses) same) in
     let over : get_or c.promote.new.self.uses.items c.len-index.result d ≡ over_use g.K.MachInstLabelUse.kinds (end_of (seen c.args.self.now)) =
-    ap (λ k. get_or c.promote.new.self.uses.items k d) index ∙ at_m g.K.MachInstLabelUse.kinds g.met.K.MachInstLabelUse.lawful c.args.distance c.args.force (seen c.args.self.now) (seen c.write_until.new.self) (seen c.promote.new.self) c.requires.sound.whole c.requires.short near c.promote.ensures.promotes d in
+    ap (λ k. get_or c.promote.new.self.uses.items k d) index ∙ over_m g.K.MachInstLabelUse.kinds g.met.K.MachInstLabelUse.lawful c.args.distance c.args.force c.args.jump (seen c.args.self.now) (seen c.write_until.new.self) (seen c.promote.new.self) c.requires.sound.whole c.requires.short near c.promote.ensures.promotes j d in
     ap (λ u. u.offset) over ∙ sym (c.end-start.ensures ∙ ap end_of same)
 
 pub returns-clause-sound : goal.returns-clause-sound
@@ -84,14 +84,14 @@ returns-clause-sound g c =
     let r = g.K.MachInstLabelUse.kinds in
     let law = g.met.K.MachInstLabelUse.lawful in
     let same : seen c.reserve_veneers.new.self ≡ seen c.args.self.now = ap (λ p. seen p) c.reserve_veneers.ensures.rest ∙ c.in_ok-reserve_all.ensures.rest in
-    let begun_is = c.begin_island.ensures.begun ∙ ap (begun r) same in
+    let begun_is = c.begin_island.ensures.begun ∙ ap (begun r c.args.jump) same in
     let near = subst (λ b. Writes r 4 b (seen c.write_until.new.self)) begun_is c.write_until.ensures.writes in
-    let apart = (sound_m r law c.args.distance c.args.force (seen c.args.self.now) (seen c.write_until.new.self) (seen c.promote.new.self) c.requires.sound.whole c.requires.short near c.promote.ensures.promotes).apart in
-    let ended_is : seen c.end_island.new.self ≡ ended (end_of (seen c.args.self.now)) (seen c.promote.new.self) = c.end_island.ensures.ended apart ∙ ap (λ start. ended start (seen c.promote.new.self)) (c.end-start.ensures ∙ ap end_of same) in
-    let closes = stopped_closes r (stands_at (end_of (seen c.args.self.now))) (end_of (seen c.promote.new.self)) c.promote.new.self.uses.items in
-    let stays = ended_waits r law c.args.distance c.args.force (seen c.args.self.now) (seen c.write_until.new.self) (seen c.promote.new.self) c.requires.sound.whole c.requires.short near c.promote.ensures.promotes in
+    let apart = (sound_m r law c.args.distance c.args.force c.args.jump (seen c.args.self.now) (seen c.write_until.new.self) (seen c.promote.new.self) c.requires.sound.whole c.requires.short near c.promote.ensures.promotes).apart in
+    let ended_is : seen c.end_island.new.self ≡ ended c.args.jump (end_of (seen c.args.self.now)) (seen c.promote.new.self) = c.end_island.ensures.ended apart ∙ ap (λ start. ended c.args.jump start (seen c.promote.new.self)) (c.end-start.ensures ∙ ap end_of same) in
+    let closes = stopped_closes r (is_jump_at c.args.jump (end_of (seen c.args.self.now))) (end_of (seen c.promote.new.self)) c.promote.new.self.uses.items in
+    let stays = ended_waits r law c.args.distance c.args.force c.args.jump (seen c.args.self.now) (seen c.write_until.new.self) (seen c.promote.new.self) c.requires.sound.whole c.requires.short near c.promote.ensures.promotes in
     record {
-      whole = subst (IsWhole r) (sym ended_is) (island_made r law c.args.distance c.args.force (seen c.args.self.now) (seen c.write_until.new.self) (seen c.promote.new.self) c.requires.sound.whole c.requires.short near c.promote.ensures.promotes).whole;
+      whole = subst (IsWhole r) (sym ended_is) (island_made r law c.args.distance c.args.force c.args.jump (seen c.args.self.now) (seen c.write_until.new.self) (seen c.promote.new.self) c.requires.sound.whole c.requires.short near c.promote.ensures.promotes).whole;
       chained = c.end_island.ensures.chained;
       waiting = record {
         hold = subst (AllHold r c.end_island.new.self.uses.items) (sym c.end_island.ensures.queues)
@@ -105,8 +105,8 @@ returns-clause-sound g c =
 pub returns-clause-ok : goal.returns-clause-ok
 returns-clause-ok g c =
     let same : seen c.reserve_veneers.new.self ≡ seen c.args.self.now = ap (λ p. seen p) c.reserve_veneers.ensures.rest ∙ c.in_ok-reserve_all.ensures.rest in
-    let begun_is = c.begin_island.ensures.begun ∙ ap (begun g.K.MachInstLabelUse.kinds) same in
+    let begun_is = c.begin_island.ensures.begun ∙ ap (begun g.K.MachInstLabelUse.kinds c.args.jump) same in
     let near = subst (λ b. Writes g.K.MachInstLabelUse.kinds 4 b (seen c.write_until.new.self)) begun_is c.write_until.ensures.writes in
-    let apart = (sound_m g.K.MachInstLabelUse.kinds g.met.K.MachInstLabelUse.lawful c.args.distance c.args.force (seen c.args.self.now) (seen c.write_until.new.self) (seen c.promote.new.self) c.requires.sound.whole c.requires.short near c.promote.ensures.promotes).apart in
-    let ended_is = c.end_island.ensures.ended apart ∙ ap (λ start. ended start (seen c.promote.new.self)) (c.end-start.ensures ∙ ap end_of same) in
-    subst (HasIsland g.K.MachInstLabelUse.kinds c.args.distance c.args.force (seen c.args.self.now)) (sym ended_is) (island_made g.K.MachInstLabelUse.kinds g.met.K.MachInstLabelUse.lawful c.args.distance c.args.force (seen c.args.self.now) (seen c.write_until.new.self) (seen c.promote.new.self) c.requires.sound.whole c.requires.short near c.promote.ensures.promotes)
+    let apart = (sound_m g.K.MachInstLabelUse.kinds g.met.K.MachInstLabelUse.lawful c.args.distance c.args.force c.args.jump (seen c.args.self.now) (seen c.write_until.new.self) (seen c.promote.new.self) c.requires.sound.whole c.requires.short near c.promote.ensures.promotes).apart in
+    let ended_is = c.end_island.ensures.ended apart ∙ ap (λ start. ended c.args.jump start (seen c.promote.new.self)) (c.end-start.ensures ∙ ap end_of same) in
+    subst (HasIsland g.K.MachInstLabelUse.kinds c.args.distance c.args.force c.args.jump (seen c.args.self.now)) (sym ended_is) (island_made g.K.MachInstLabelUse.kinds g.met.K.MachInstLabelUse.lawful c.args.distance c.args.force c.args.jump (seen c.args.self.now) (seen c.write_until.new.self) (seen c.promote.new.self) c.requires.sound.whole c.requires.short near c.promote.ensures.promotes)
