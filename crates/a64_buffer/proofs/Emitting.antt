@@ -3,7 +3,7 @@ use Rattle.std.proofs.Common.{ℕ, ◌≡◌, ◌≢◌, ◌⊎◌, ◌+◌, ◌
 use Rattle.std.specs.Prelude.{IfSome, IsSome, IsSomeAnd, MatchOption, ◌&&◌, ◌||◌, nat_lt, is_none, sum_by}
 use Rattle.std.specs.FinMap.{get}
 use Rattle.std.proofs.lemmas.Bool.{cases_lt, cases_eq, false≢true, eqb-true, eq-eqb, ltb-true, ltb-false, le-ltb}
-use Rattle.std.proofs.lemmas.List.{length-append, append-nil, get_or_push, get_or-map, length-map}
+use Rattle.std.proofs.lemmas.List.{append-nil, get_or_push, get_or-map, length-map}
 use Rattle.std.proofs.lemmas.List.Elements.{All-map, All-append}
 use Rattle.std.proofs.lemmas.List.Sums.{sum_by-append, sum_by-cons}
 use Rattle.a64_buffer.specs.declared.site.Use.{Use}
@@ -32,7 +32,7 @@ use Rattle.a64_buffer.proofs.Writing.{part_none}
 use Rattle.a64_buffer.proofs.Traps.{no_traps}
 use Rattle.a64_buffer.proofs.Costs.{none_open}
 use Rattle.a64_buffer.proofs.Memory.{same_buffer}
-use Rattle.a64_buffer.proofs.Islands.{map_none, sound_beside, front_all, front_short, begun_end, begun_old, begun_new, begun_has, begun_none, begun_later, begun_sound, begun_sound_in, begun_weight, begun_within, open_areas, open_hold, close_areas, jump_reach, islands_more}
+use Rattle.a64_buffer.proofs.Islands.{map_none, sound_beside, front_all, front_short, begun_end, begun_old, begun_new, begun_has, begun_jumps, begun_none, begun_later, begun_sound, begun_sound_in, begun_weight, begun_within, open_areas, open_hold, close_areas, jump_reach, islands_more}
 
 -- ---- where a use stops
 
@@ -300,12 +300,8 @@ module _ {K : Type 0} (r : Kinds K) (law : IsLawful r) (distance : ℕ) (force :
   over_now k d low high =
       old_use r law m closed (open_areas r law b) (is_jump_at jump (end_of b)) (end_of m) [] [] [] sound_m adds k d (omega (arith, high, count_begun))
       ∙ (ap (stopped (is_jump_at jump (end_of b)) (end_of m)) (at_m k d low high)
-      ∙ (ap (λ t. stopped (is_jump_at t (end_of b)) (end_of m) over) (jumps jump refl)
+      ∙ (ap (λ t. stopped (is_jump_at t (end_of b)) (end_of m) over) (begun_jumps r jump b k low high)
       ∙ ap (λ t. record over { stop = cond t (Some (end_of m)) None }) (eq-eqb (end_of b) (end_of b) refl)))
-    where
-      jumps : (t : Bool) → jump ≡ t → jump ≡ true
-      jumps true e = e
-      jumps false e = absurd (omega (arith, low, high, length-append b.uses (front_uses r jump (end_of b)), ap (λ t. length (front_uses r t (end_of b))) e))
 
   -- the island is listed where it has a jump or contents
   abbrev is_listed : Bool
@@ -380,9 +376,9 @@ module _ {K : Type 0} (r : Kinds K) (law : IsLawful r) (distance : ℕ) (force :
         | inl lt ↦ record {
           word =
               let at : length b.words ≡ end_of b / 4 = omega arith in
-              let first' : end_of b / 4 < length (begun r jump b).words = omega (arith, begun_end r jump b, ap front_size (jumps k ge lt jump refl)) in
+              let first' : end_of b / 4 < length (begun r jump b).words = omega (arith, begun_end r jump b, ap front_size (begun_jumps r jump b k ge lt)) in
               (later_trans (begun r jump b) w b' near.writing.part.later w_later).words (end_of b / 4) first'
-              ∙ (ap (λ t. get_or (begun r t b).words (end_of b / 4) 0) (jumps k ge lt jump refl) ∙ get_or_push b.words r.jump_word 0 (end_of b / 4) at);
+              ∙ (ap (λ t. get_or (begun r t b).words (end_of b / 4) 0) (begun_jumps r jump b k ge lt) ∙ get_or_push b.words r.jump_word 0 (end_of b / 4) at);
           kind = ap (λ v. v.kind) (over_now k d ge lt);
           stop = ap (λ v. v.stop) (over_now k d ge lt);
         }
@@ -392,10 +388,6 @@ module _ {K : Type 0} (r : Kinds K) (law : IsLawful r) (distance : ℕ) (force :
       ]
     ];
   }
-    where
-      jumps : (k : ℕ) → length b.uses ≤ k → k < length (begun r jump b).uses → (t : Bool) → jump ≡ t → jump ≡ true
-      jumps k low high true e = e
-      jumps k low high false e = absurd (omega (arith, low, high, length-append b.uses (front_uses r jump (end_of b)), ap (λ t. length (front_uses r t (end_of b))) e))
 
   -- ---- what it leaves
 
@@ -420,13 +412,13 @@ module _ {K : Type 0} (r : Kinds K) (law : IsLawful r) (distance : ℕ) (force :
 
   given_now : (k : ℕ) (d : Use K) → length b.uses ≤ k → k < length (ended jump (end_of b) m).uses → IsNewUse r jump b (get_or (ended jump (end_of b) m).uses k d)
   given_now k d low high = elim (cases_lt k (length (begun r jump b).uses)) [
-    | inl lt ↦ over_new jump (get_or (ended jump (end_of b) m).uses k d) lt (ap (λ v. v.target) (over_now k d low lt), ap (λ v. v.offset) (over_now k d low lt))
+    | inl lt ↦ over_new jump (get_or (ended jump (end_of b) m).uses k d) (begun_jumps r jump b k low lt) (ap (λ v. v.target) (over_now k d low lt), ap (λ v. v.offset) (over_now k d low lt))
     | inr ge ↦ veneer_new jump (get_or (ended jump (end_of b) m).uses k d) (veneer_now k d ge high)
   ]
     where
-      over_new : (t : Bool) (v : Use K) → k < length (begun r t b).uses → (v.target ≡ IslandEnd) × (v.offset ≡ end_of b) → IsNewUse r t b v
-      over_new true v lt h = inl h
-      over_new false v lt h = absurd (omega (arith, low, lt, length-append b.uses []))
+      over_new : (t : Bool) (v : Use K) → t ≡ true → (v.target ≡ IslandEnd) × (v.offset ≡ end_of b) → IsNewUse r t b v
+      over_new true v j h = inl h
+      over_new false v j h = absurd (false≢true j)
 
       veneer_new : (t : Bool) (v : Use K) → IsVeneerUse r b v → IsNewUse r t b v
       veneer_new true v h = inr h

@@ -104,6 +104,14 @@ module _ {K : Type 0} where
     pub begun_has : (b : Buffer K) → jump ≡ true → length b.uses < length (begun r jump b).uses
     begun_has b e = subst (λ (t : Bool). length b.uses < length (begun r t b).uses) (sym e) (omega (arith, length_push b.uses (over_use r (end_of b))))
 
+    -- only a jump stands there
+    pub begun_jumps : (b : Buffer K) (k : ℕ) → length b.uses ≤ k → k < length (begun r jump b).uses → jump ≡ true
+    begun_jumps b k low = go jump
+      where
+        go : (t : Bool) → k < length (begun r t b).uses → t ≡ true
+        go true high = refl
+        go false high = absurd (omega (arith, low, high, length-append b.uses []))
+
   -- without a jump nothing is begun
   pub begun_none : (r : Kinds K) (b : Buffer K) → begun r false b ≡ b
   begun_none r b = same_buffer _ _ _ _ _ _ _ _ _ _ _ _ _ _ (append-nil b.words) (append-nil b.uses) refl refl refl refl refl

@@ -336,7 +336,8 @@ impl<'c, K: MachInstLabelUse> MachBuffer<'c, K> {
     /// Writes an island at the end: a jump over it, where that is asked for, a jump word for each open
     /// branch of urgency 1 or 2, a copy of each constant that is waited for, and a word for each trap. Open
     /// branches of urgency 3 get far veneers, all or none of them: where that is forced, or some would not
-    /// reach so many bytes more. Without a jump nothing may run into the island, and an empty one is none.
+    /// reach so many bytes more. Without a jump the island is for a place that nothing runs into: its
+    /// contents begin at once, and where nothing is open nothing is written or listed.
     ///
     /// # Errors
     ///

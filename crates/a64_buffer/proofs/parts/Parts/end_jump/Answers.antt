@@ -1,4 +1,4 @@
-use Rattle.std.proofs.Common.{◌≡◌, ◌∷◌, [], map, get_or, true, false, None, sym, ◌∙◌, ap}
+use Rattle.std.proofs.Common.{◌≡◌, map, true, false, None, sym, ◌∙◌, ap}
 use Rattle.a64_buffer.specs.declared.site.Target.TheVariants.{IslandEnd}
 use Rattle.a64_buffer.specs.declared.site.Use.{Use}
 use Rattle.a64_buffer.specs.Steps.{stopped, stands_at, is_jump_at}
