@@ -18,8 +18,9 @@ use Rattle.a64_buffer.specs.Classes.{third, level_of, range_of, wants, rank_of, 
 use Rattle.a64_buffer.specs.Later.{IsSameUse, IsLater, HasStopBelow}
 use Rattle.a64_buffer.specs.Constants.{IsConstant}
 use Rattle.a64_buffer.specs.Sound.{MayShare, HaveOwnStops, IsPlaced, IsKnown, IsCopy, IsStop, IsRightlyOpen, IsSound, IsWhole, IsIsland}
+use Rattle.a64_buffer.specs.Chain.{constant_of}
 use Rattle.a64_buffer.specs.Islands.{IsVeneerUse, IsNewUse, FarWaits, IsBeforePromotion, Promotes, LeavesFar, HasIsland}
-use Rattle.a64_buffer.specs.Steps.{stopped, is_jump_at, Adds, IsPart, HoldFrom, Writes, WritesFar, ended}
+use Rattle.a64_buffer.specs.Steps.{stopped, is_jump_at, StandsAt, Adds, IsPart, HoldFrom, Writes, WritesFar, ended}
 use Rattle.a64_buffer.specs.Pieces.{front_size, listed, over_use, front_uses, begun, ComesBefore, Serves}
 use Rattle.a64_buffer.proofs.Pays.{label_is}
 use Rattle.a64_buffer.proofs.Growth.{Grows, use_inside}
@@ -213,14 +214,17 @@ module _ {K : Type 0} (r : Kinds K) (law : IsLawful r) (distance : ℕ) (force :
   at_m : (k : ℕ) (d : Use K) → length b.uses ≤ k → k < length (begun r jump b).uses → get_or m.uses k d ≡ over
   at_m k d low high = last.direct k d (omega (arith, high, near.writing.part.later.count)) (ap (λ v. wants (class r v)) (at_w k d low high)) ∙ at_w k d low high
 
-  pub over_m : jump ≡ true → (d : Use K) → get_or m.uses (length b.uses) d ≡ over
+  over_m : jump ≡ true → (d : Use K) → get_or m.uses (length b.uses) d ≡ over
   over_m j d = at_m (length b.uses) d (omega arith) (begun_has r jump b j)
 
   count_begun : length (begun r jump b).uses ≤ length m.uses
   count_begun = omega (arith, near.writing.part.later.count, last.part.later.count)
 
-  pub count_m : jump ≡ true → length b.uses < length m.uses
+  count_m : jump ≡ true → length b.uses < length m.uses
   count_m j = omega (arith, count_begun, begun_has r jump b j)
+
+  pub stands_m : jump ≡ true → StandsAt (length b.uses) (end_of b) m.uses
+  stands_m j = record { within = count_m j; offset = λ d. ap (λ v. v.offset) (over_m j d); no_load = λ d. ap (λ v. constant_of v.target) (over_m j d) }
 
   ends : end_of m + owed r m ≤ end_of b + owed r b + front_size jump
   ends = omega (arith, last.part.owed, near.writing.part.owed, begun_end r jump b, begun_weight r jump b (cost third))

@@ -63,7 +63,7 @@ module _ {K : Type 0} (r : Kinds K) where
     pub outcome : LeavesFar distance force before b' ⊎ Promotes distance force before b'
 
   -- an island was written at the end, with a jump at its start where one was asked for; else nothing
-  -- stands before its contents, and where nothing was open, nothing was written
+  -- stands before its contents (`serves`), and where nothing was open nothing was written
   pub record HasIsland (distance : ℕ) (force : ForceVeneers) (jump : Bool) (b b' : Buffer K) : Type 0 where
     pub long : end_of b + front_size jump ≤ end_of b'
     pub islands : b'.islands ≡ b.islands ++ listed jump (end_of b) (end_of b')
@@ -72,7 +72,9 @@ module _ {K : Type 0} (r : Kinds K) where
     pub labels : b'.labels ≡ b.labels
     pub records : b'.records ≡ b.records
     pub later : IsLater b b'
-    pub given : (k : ℕ) (d : Use K) → length b.uses ≤ k → k < length b'.uses → IsNewUse jump b (slice_index_or b'.uses k d)
+    pub given :
+        (k : ℕ) (d : Use K) → length b.uses ≤ k → k < length b'.uses
+        → IsNewUse jump b (slice_index_or b'.uses k d)
     pub whole : IsWhole r b'
     pub fits : Fits r b' distance
     pub rooms : (more : ℕ) → Fits r b (more + 4) → Fits r b' more

@@ -1,5 +1,5 @@
 -- What gives open uses what they wait for, one after another.
-use Rattle.std.specs.Prelude.{ℕ, ◌≡◌, ◌⊎◌, ◌+◌, ◌*◌, ◌^◌, ◌<◌, ◌≤◌, Bool, true, false, ◌&&◌, nat_eq, if◌then◌else◌, List, [], ◌∷◌, ◌++◌, All, map, length, take, slice_index_or, replicate, Option, Some, is_none, MatchOption}
+use Rattle.std.specs.Prelude.{ℕ, ◌≡◌, ◌⊎◌, ◌+◌, ◌*◌, ◌^◌, ◌<◌, ◌≤◌, Bool, true, false, ◌&&◌, nat_eq, if◌then◌else◌, List, [], ◌∷◌, ◌++◌, All, map, length, take, slice_index_or, replicate, Option, None, Some, is_none, MatchOption}
 use Rattle.std.specs.FinMap.{get}
 use Rattle.a64_base.specs.declared.entity.TrapCode.{TrapCode}
 use Rattle.a64_buffer.specs.declared.site.Use.{Use}
@@ -9,7 +9,7 @@ use Rattle.a64_buffer.specs.Word.{words_of}
 use Rattle.a64_buffer.specs.Kinds.{Kinds}
 use Rattle.a64_buffer.specs.Buffer.{Buffer, end_of, made_use}
 use Rattle.a64_buffer.specs.Areas.{InArea}
-use Rattle.a64_buffer.specs.Chain.{AreChained}
+use Rattle.a64_buffer.specs.Chain.{constant_of, AreChained}
 use Rattle.a64_buffer.specs.declared.parts.Parts.{Parts}
 use Rattle.a64_buffer.specs.declared.class.Class.{Class}
 use Rattle.a64_buffer.specs.declared.class.Class.TheVariants.{Near, Middle, Load, Trapping, Far, Direct}
@@ -18,7 +18,7 @@ use Rattle.a64_buffer.specs.declared.force.ForceVeneers.{ForceVeneers}
 use Rattle.a64_buffer.specs.declared.force.ForceVeneers.TheVariants.{No, Yes}
 use Rattle.a64_buffer.specs.Later.{IsLater}
 use Rattle.a64_buffer.specs.Space.{HasSpace}
-use Rattle.a64_buffer.specs.Sound.{seen, IsSound}
+use Rattle.a64_buffer.specs.Sound.{seen, AreApart, IsSound}
 use Rattle.a64_buffer.specs.Pieces.{padding, listed, AtGoal, key_of, Serves}
 use Rattle.a64_buffer.specs.Islands.{IsVeneerUse, FarWaits}
 
@@ -33,6 +33,16 @@ stands_at place u = nat_eq u.offset place
 -- the jump of an island that begins at a place, where it has one
 abbrev pub is_jump_at : {K : Type 0} → Bool → ℕ → Use K → Bool
 is_jump_at jump place u = jump && stands_at place u
+
+-- the use at an index stands at a place, and loads no constant
+pub record StandsAt {K : Type 0} (index place : ℕ) (uses : List (Use K)) : Type 0 where
+  pub within : index < length uses
+  pub offset : (d : Use K) → (slice_index_or uses index d).offset ≡ place
+  pub no_load : (d : Use K) → constant_of (slice_index_or uses index d).target ≡ None
+
+-- the jump of an island that begins at a place, where it has one, stops at its end
+abbrev pub EndsJump : {K : Type 0} → Bool → ℕ → ℕ → List (Use K) → List (Use K) → Type 0
+EndsJump jump start end us us' = AreApart us → us' ≡ map (stopped (is_jump_at jump start) end) us
 
 -- an open use of a constant
 abbrev pub is_load_of : ℕ → Target → Bool
@@ -64,6 +74,10 @@ ended jump start b = record b {
   uses = map (stopped (is_jump_at jump start) (end_of b)) b.uses;
   islands = b.islands ++ listed jump start (end_of b);
 }
+
+-- and so is one in code whose uses stand apart
+abbrev pub EndsIsland : {K : Type 0} → Bool → ℕ → Buffer K → Buffer K → Type 0
+EndsIsland jump start b b' = AreApart b.uses → b' ≡ ended jump start b
 
 -- all code is one area
 abbrev pub everywhere : List (ℕ × ℕ)
@@ -104,8 +118,8 @@ module _ {K : Type 0} (r : Kinds K) where
   GivesClass Trapping u b b' = elim u.target [ Label label ↦ ⊥ | Constant constant ↦ ⊥ | Trap code ↦ GivesTrap u code b b' | IslandEnd ↦ ⊥ ]
   GivesClass Direct u b b' = ⊥
 
-  -- inside an island its jump stands already, if it has one: each open use reaches what it gets, if the rest of the
-  -- island begins so many bytes behind the end
+  -- inside an island its jump stands already, if it has one: each open use reaches what it gets, if
+  -- the rest of the island begins so many bytes behind the end
   pub record Within (end : ℕ) (uses : List (Use K)) (more : ℕ) : Type 0 where
     pub rooms : All (λ u. is_open r u ≡ true → end + more + burden r (level_of (class r u)) uses ≤ u.offset + range_of r (level_of (class r u))) uses
 

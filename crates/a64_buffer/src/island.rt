@@ -1,6 +1,6 @@
 //! Islands, and what gives open uses what they wait for.
 
-ghost use Rattle.std.specs.Prelude.{◌≡◌, ◌⊎◌, ◌+◌, ◌*◌, ◌^◌, ◌<◌, ◌≤◌, All, MatchBool, MatchOption, OnOk, OnErr, map, true, length, slice_index_or, vec_len, vec_capacity};
+ghost use Rattle.std.specs.Prelude.{◌≡◌, ◌⊎◌, ◌+◌, ◌*◌, ◌^◌, ◌<◌, ◌≤◌, All, MatchBool, MatchOption, OnOk, OnErr, true, length, slice_index_or, vec_len, vec_capacity};
 ghost use Rattle.a64_buffer.specs.Buffer.{end_of};
 ghost use Rattle.a64_buffer.specs.Classes as classes;
 ghost use Rattle.a64_buffer.specs.Classes.{veneer_uses, weight_of, owed, Fits};
@@ -21,7 +21,7 @@ impl<'c, K: MachInstLabelUse> Parts<'c, K> {
     ghost use Rattle.a64_buffer.specs.Chain.{constant_of, AreChained};
     ghost use Rattle.a64_buffer.specs.Queues.{HaveRoomFor, AllHold, AllLimits, AreBurdens, AreWaiting};
     ghost use Rattle.a64_buffer.specs.Space.{SameRoom, HasSpace, HasSpaceForMore};
-    ghost use Rattle.a64_buffer.specs.Steps.{AddsUse, IsNextOpen, IsReady, GivesAll, MayWrite, Writes, WritesFar, stopped, is_jump_at, ended};
+    ghost use Rattle.a64_buffer.specs.Steps.{AddsUse, IsNextOpen, IsReady, GivesAll, MayWrite, Writes, WritesFar, StandsAt, EndsJump, EndsIsland};
     ghost use Rattle.a64_buffer.specs.Pieces.{begun};
     ghost use Rattle.a64_buffer.specs.Islands.{HasIsland};
 
@@ -225,12 +225,10 @@ impl<'c, K: MachInstLabelUse> Parts<'c, K> {
     /// Lets the jump over an island, the use at an index, lead to its end, where the island has one.
     #[inline(always)]
     fn end_jump(&mut self, index: usize, start: u32, end: u32, jump: bool)
-        requires within { jump ≡ true → index < length self.old.uses.items }
-        requires target { jump ≡ true → (d : _) → constant_of (slice_index_or self.old.uses.items index d).target ≡ None }
-        requires start { jump ≡ true → (d : _) → (slice_index_or self.old.uses.items index d).offset ≡ start }
+        requires over { jump ≡ true → StandsAt index start self.old.uses.items }
         requires chained { AreChained self.old.uses.items self.old.earlier.items self.old.heads self.old.loads }
         requires burdens { AreBurdens K.kinds self.old.uses.items self.old.burdens }
-        ensures uses { AreApart self.old.uses.items → self.new.uses.items ≡ map (stopped (is_jump_at jump start) end) self.old.uses.items }
+        ensures uses { EndsJump jump start end self.old.uses.items self.new.uses.items }
         ensures chained { AreChained self.new.uses.items self.new.earlier.items self.new.heads self.new.loads }
         ensures burdens { AreBurdens K.kinds self.new.uses.items self.new.burdens }
         ensures capacity { vec_capacity self.new.uses ≡ vec_capacity self.old.uses }
@@ -246,14 +244,12 @@ impl<'c, K: MachInstLabelUse> Parts<'c, K> {
     /// Ends an island: its jump, the use at an index, leads there, and it is listed, where it has a jump
     /// or contents.
     fn end_island(&mut self, index: usize, start: u32, jump: bool)
-        requires within { jump ≡ true → index < length self.old.uses.items }
-        requires target { jump ≡ true → (d : _) → constant_of (slice_index_or self.old.uses.items index d).target ≡ None }
-        requires start { jump ≡ true → (d : _) → (slice_index_or self.old.uses.items index d).offset ≡ start }
+        requires over { jump ≡ true → StandsAt index start self.old.uses.items }
         requires short { end_of (seen self.old) < 2 ^ 31 }
         requires islands { vec_len self.old.islands < vec_capacity self.old.islands }
         requires chained { AreChained self.old.uses.items self.old.earlier.items self.old.heads self.old.loads }
         requires burdens { AreBurdens K.kinds self.old.uses.items self.old.burdens }
-        ensures ended { AreApart self.old.uses.items → seen self.new ≡ ended jump start (seen self.old) }
+        ensures ended { EndsIsland jump start (seen self.old) (seen self.new) }
         ensures chained { AreChained self.new.uses.items self.new.earlier.items self.new.heads self.new.loads }
         ensures queues { self.new.queues ≡ self.old.queues }
         ensures burdens { AreBurdens K.kinds self.new.uses.items self.new.burdens }

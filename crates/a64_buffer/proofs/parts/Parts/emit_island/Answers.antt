@@ -1,15 +1,14 @@
 use Rattle.std.proofs.Common.{◌≡◌, length, get_or, sym, ◌∙◌, ap, subst, arith}
 use Rattle.a64_buffer.specs.Buffer.{end_of}
 use Rattle.a64_buffer.specs.Classes.{veneer_uses, weight_of}
-use Rattle.a64_buffer.specs.Chain.{constant_of}
 use Rattle.a64_buffer.specs.Queues.{IsSameQueue, AllHold, AllLimits, AreBurdens}
 use Rattle.a64_buffer.specs.Islands.{HasIsland}
 use Rattle.a64_buffer.specs.Sound.{seen, IsWhole}
-use Rattle.a64_buffer.specs.Pieces.{over_use, begun}
-use Rattle.a64_buffer.specs.Steps.{MayWrite, Writes, is_jump_at, ended}
+use Rattle.a64_buffer.specs.Pieces.{begun}
+use Rattle.a64_buffer.specs.Steps.{MayWrite, Writes, is_jump_at, StandsAt, ended}
 use Rattle.a64_buffer.proofs.Writing.{may_write_on}
 use Rattle.a64_buffer.proofs.Islands.{may_begin}
-use Rattle.a64_buffer.proofs.Emitting.{sound_m, over_m, ended_waits, island_made}
+use Rattle.a64_buffer.proofs.Emitting.{sound_m, stands_m, ended_waits, island_made}
 use Rattle.a64_buffer.proofs.Queued.{stopped_closes, all_closed_hold, all_kept_limits, same_hold, same_limits}
 use Rattle.a64_buffer.proofs.parts.Parts.emit_island.Goals as goal
 
@@ -59,25 +58,18 @@ begin_island-requires-clause-queued g c =
     let weight : weight_of g.K.MachInstLabelUse.kinds veneer_uses c.reserve_veneers.new.self.uses.items ≡ weight_of g.K.MachInstLabelUse.kinds veneer_uses c.reserve_all.new.self.uses.items = ap (λ p. weight_of g.K.MachInstLabelUse.kinds veneer_uses p.uses.items) c.reserve_veneers.ensures.rest in
     λ q. omega (arith, c.in_ok-reserve_veneers.ensures.ok q, weight)
 
-pub end_island-requires-clause-target : goal.end_island-requires-clause-target
-end_island-requires-clause-target g c = λ j d.
+pub end_island-requires-clause-over : goal.end_island-requires-clause-over
+end_island-requires-clause-over g c = λ j.
+    let r = g.K.MachInstLabelUse.kinds in
+    let law = g.met.K.MachInstLabelUse.lawful in
     let same : seen c.reserve_veneers.new.self ≡ seen c.args.self.now = ap (λ p. seen p) c.reserve_veneers.ensures.rest ∙ c.in_ok-reserve_all.ensures.rest in
-    let begun_is = c.begin_island.ensures.begun ∙ ap (begun g.K.MachInstLabelUse.kinds c.args.jump) same in
-    let near = subst (λ b. Writes g.K.MachInstLabelUse.kinds 4 b (seen c.write_until.new.self)) begun_is c.write_until.ensures.writes in
-    let index : c.len-index.result ≡ length c.args.self.now.uses.items = omega (arith, c.len-index.ensures, ap (λ b. length b.uses) same) in
-    let over : get_or c.promote.new.self.uses.items c.len-index.result d ≡ over_use g.K.MachInstLabelUse.kinds (end_of (seen c.args.self.now)) =
-    ap (λ k. get_or c.promote.new.self.uses.items k d) index ∙ over_m g.K.MachInstLabelUse.kinds g.met.K.MachInstLabelUse.lawful c.args.distance c.args.force c.args.jump (seen c.args.self.now) (seen c.write_until.new.self) (seen c.promote.new.self) c.requires.sound.whole c.requires.short near c.promote.ensures.promotes j d in
-    ap (λ u. constant_of u.target) over
-
-pub end_island-requires-clause-start : goal.end_island-requires-clause-start
-end_island-requires-clause-start g c = λ j d.
-    let same : seen c.reserve_veneers.new.self ≡ seen c.args.self.now = ap (λ p. seen p) c.reserve_veneers.ensures.rest ∙ c.in_ok-reserve_all.ensures.rest in
-    let begun_is = c.begin_island.ensures.begun ∙ ap (begun g.K.MachInstLabelUse.kinds c.args.jump) same in
-    let near = subst (λ b. Writes g.K.MachInstLabelUse.kinds 4 b (seen c.write_until.new.self)) begun_is c.write_until.ensures.writes in
-    let index : c.len-index.result ≡ length c.args.self.now.uses.items = omega (arith, c.len-index.ensures, ap (λ b. length b.uses) same) in
-    let over : get_or c.promote.new.self.uses.items c.len-index.result d ≡ over_use g.K.MachInstLabelUse.kinds (end_of (seen c.args.self.now)) =
-    ap (λ k. get_or c.promote.new.self.uses.items k d) index ∙ over_m g.K.MachInstLabelUse.kinds g.met.K.MachInstLabelUse.lawful c.args.distance c.args.force c.args.jump (seen c.args.self.now) (seen c.write_until.new.self) (seen c.promote.new.self) c.requires.sound.whole c.requires.short near c.promote.ensures.promotes j d in
-    ap (λ u. u.offset) over ∙ sym (c.end-start.ensures ∙ ap end_of same)
+    let begun_is = c.begin_island.ensures.begun ∙ ap (begun r c.args.jump) same in
+    let near = subst (λ b. Writes r 4 b (seen c.write_until.new.self)) begun_is c.write_until.ensures.writes in
+    let index : length c.args.self.now.uses.items ≡ c.len-index.result = omega (arith, c.len-index.ensures, ap (λ b. length b.uses) same) in
+    let start : end_of (seen c.args.self.now) ≡ c.end-start.result = sym (c.end-start.ensures ∙ ap end_of same) in
+    subst (λ start. StandsAt c.len-index.result start c.promote.new.self.uses.items) start
+    (subst (λ index. StandsAt index (end_of (seen c.args.self.now)) c.promote.new.self.uses.items) index
+    (stands_m r law c.args.distance c.args.force c.args.jump (seen c.args.self.now) (seen c.write_until.new.self) (seen c.promote.new.self) c.requires.sound.whole c.requires.short near c.promote.ensures.promotes j))
 
 pub returns-clause-sound : goal.returns-clause-sound
 returns-clause-sound g c =

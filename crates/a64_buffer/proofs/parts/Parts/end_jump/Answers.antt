@@ -15,5 +15,5 @@ returns-clause-uses g c = λ apart.
     let d : Use g.row.K.Denot = record { offset = 0; target = IslandEnd; kind = g.K.MachInstLabelUse.kinds.jump; stop = None } in
     let one : c.args.jump ≡ true = c.if-not-jump.false in
     c.stop_at.ensures.uses d apart
-    ∙ (ap (λ start. map (stopped (stands_at start) c.args.end) c.args.self.now.uses.items) (c.requires.start one d)
+    ∙ (ap (λ start. map (stopped (stands_at start) c.args.end) c.args.self.now.uses.items) ((c.requires.over one).offset d)
     ∙ sym (ap (λ t. map (stopped (is_jump_at t c.args.start) c.args.end) c.args.self.now.uses.items) one))
