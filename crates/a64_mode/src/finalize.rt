@@ -56,18 +56,18 @@ pub fn mem_finalize(
         → IfOk result (λ final. (final.0.items ≡ []) × (final.1 ≡ held_mode for_code mem.now)) }
     ensures insts { IfSome (base_offset_of state.now.frame mem.now)
         (λ place. IfOk result (λ final.
-            final.0.items ≡ map (step_into (integer_register 16)) (steps_to access_ty place.offset))) }
+        final.0.items ≡ map (step_into (integer_register 16)) (steps_to access_ty place.offset))) }
     ensures mode { IfSome (base_offset_of state.now.frame mem.now)
         (λ place. IfOk result (λ final. StandsFor access_ty place final.1)) }
     // Once the steps of these instructions have run, the final mode's address is base plus offset.
     ensures address { IfSome (base_offset_of state.now.frame mem.now)
         (λ place. IfOk result (λ final.
-            Reaches access_ty place (steps_to access_ty place.offset) final.1)) }
+        Reaches access_ty place (steps_to access_ty place.offset) final.1)) }
     ensures faultless { IfOk result (λ final. HaveNoFault final.0.items) }
     // Both at once, for any mode.
     ensures steps { IfOk result
         (λ final. final.0.items
-            ≡ map (step_into (integer_register 16)) (final_steps state.now.frame access_ty mem.now)) }
+        ≡ map (step_into (integer_register 16)) (final_steps state.now.frame access_ty mem.now)) }
     ensures parts { IfOk result
         (λ final. parts_of final.1 ≡ mode_for for_code state.now.frame access_ty mem.now) }
 {
