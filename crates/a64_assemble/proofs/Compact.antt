@@ -123,7 +123,7 @@ module _ (frame : FrameLayout) (flags : EmitFlags) where
   element_compact (Bind label) = no_sites []
   element_compact (Emit inst kept) = go (asked_of inst)
     where
-      go : (o : Option ℕ) → IsCompact (elim o [ None ↦ Words (kept_cells frame flags inst kept) | Some space ↦ Asking space ])
+      go : (o : Option ℕ) → IsCompact (elim o [ None ↦ Words (inst_falls inst) (kept_cells frame flags inst kept) | Some space ↦ Asking space ])
       go None = kept_compact (kept_by inst kept) (inst_cells frame flags inst) (inst_compact inst)
       go (Some space) = no_sites []
 

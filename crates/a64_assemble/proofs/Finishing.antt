@@ -30,7 +30,7 @@ use Rattle.a64_assemble.proofs.Progress.{bounded_all}
 
 no_size : (x : Element) → is_asking x ≡ true → size_in x ≡ 0
 no_size (Binding l) e = refl
-no_size (Words cells) e = absurd (false≢true e)
+no_size (Words goes_on cells) e = absurd (false≢true e)
 no_size (Asking space) e = refl
 
 -- in finished code each use that may want something stops somewhere

@@ -38,7 +38,7 @@ use Rattle.a64_assemble.proofs.Placing.{cell_lists, all_cells_are}
 
 -- behind an item an island may stand where it has words or asks for one
 module _ (frame : FrameLayout) (flags : EmitFlags) where
-  some_cells_are : (cells : List Cell) (x : Option ℕ) → hosts (elim x [ None ↦ Words cells | Some space ↦ Asking space ]) ≡ true → (cells ≢ []) ⊎ IsSome x
+  some_cells_are : (cells : List Cell) (x : Option ℕ) → hosts (elim x [ None ↦ Words goes_on cells | Some space ↦ Asking space ]) ≡ true → (cells ≢ []) ⊎ IsSome x
   some_cells_are cells (Some space) e = inr refl
   some_cells_are [] None e = absurd (false≢true e)
   some_cells_are (c ∷ cs) None e = inl (λ n. cc)
@@ -115,7 +115,7 @@ module _ (frame : FrameLayout) (flags : EmitFlags) (items : List Item) (force : 
   has_host (Bind label) e = elim e [ inl words ↦ absurd (words refl) | inr asks ↦ absurd (false≢true asks) ]
   has_host (Emit inst kept) e = host (cells_of frame flags (Emit inst kept)) (asked (Emit inst kept)) e
     where
-      host : (cells : List Cell) (x : Option ℕ) → (cells ≢ []) ⊎ IsSome x → hosts (elim x [ None ↦ Words cells | Some space ↦ Asking space ]) ≡ true
+      host : (cells : List Cell) (x : Option ℕ) → (cells ≢ []) ⊎ IsSome x → hosts (elim x [ None ↦ Words goes_on cells | Some space ↦ Asking space ]) ≡ true
       host cells (Some space) e = refl
       host [] None e = elim e [ inl words ↦ absurd (words refl) | inr asks ↦ absurd (false≢true asks) ]
       host (c ∷ cs) None e = refl

@@ -36,11 +36,11 @@ pub record Moment (force : ForceVeneers) (x : Element) (rest : List Element) (b 
   pub has : HasIsland label_kinds distance force true moment b'
 
 module _ (force : ForceVeneers) where
-  words_moment : (cells : List Cell) (rest : List Element) (b b' : Buffer LabelUse) → PutsWords force cells rest b b' → (b'.islands ≡ b.islands) ⊎ Moment force (Words cells) rest b b'
-  words_moment [] rest b b' p = inl (ap (λ v. v.islands) p)
-  words_moment (c ∷ cs) rest b b' p = next (next_room rest) refl p
+  words_moment : (goes_on : Bool) (cells : List Cell) (rest : List Element) (b b' : Buffer LabelUse) → PutsWords force goes_on cells rest b b' → (b'.islands ≡ b.islands) ⊎ Moment force (Words goes_on cells) rest b b'
+  words_moment goes_on [] rest b b' p = inl (ap (λ v. v.islands) p)
+  words_moment goes_on (c ∷ cs) rest b b' p = next (next_room rest) refl p
     where
-      next : (o : Option ℕ) → next_room rest ≡ o → AsksNext force o (appended b (c ∷ cs)) b' → (b'.islands ≡ b.islands) ⊎ Moment force (Words (c ∷ cs)) rest b b'
+      next : (o : Option ℕ) → next_room rest ≡ o → AsksNext force goes_on o (appended b (c ∷ cs)) b' → (b'.islands ≡ b.islands) ⊎ Moment force (Words goes_on (c ∷ cs)) rest b b'
       next None o e = inl (ap (λ v. v.islands) e)
       next (Some d) o a = elim a.outcome [
         | inr l ↦ inl (ap (λ v. v.islands) l.same)
@@ -59,7 +59,7 @@ module _ (force : ForceVeneers) where
 
   pub move_moment : (x : Element) (rest : List Element) (b b' : Buffer LabelUse) → Moves force x rest b b' → (b'.islands ≡ b.islands) ⊎ Moment force x rest b b'
   move_moment (Binding label) rest b b' p = inl (ap (λ v. v.islands) p)
-  move_moment (Words cells) rest b b' p = words_moment cells rest b b' p
+  move_moment (Words goes_on cells) rest b b' p = words_moment goes_on cells rest b b' p
   move_moment (Asking space) rest b b' p = elim p.outcome [
     | inr l ↦ inl (ap (λ v. v.islands) l.same)
     | inl w ↦ inr (record {

@@ -305,10 +305,10 @@ module _ (cells : List (ℕ × Cell)) (distance : ℕ) (force : ForceVeneers) (m
 
 -- ---- element by element
 
-asked_owned : (cells : List (ℕ × Cell)) (x : ℕ) (f g : ForceVeneers) (m b' : Buffer LabelUse) → Asks x f g m b' → All (IsOwned cells m) m.uses → All (IsOwned cells b') b'.uses
+asked_owned : (cells : List (ℕ × Cell)) (x : ℕ) (f g : ForceVeneers) (m b' : Buffer LabelUse) → Asks x f g jump m b' → All (IsOwned cells m) m.uses → All (IsOwned cells b') b'.uses
 asked_owned cells x f g m b' a all = elim a.outcome [ inr l ↦ subst (λ v. All (IsOwned cells v) v.uses) (sym l.same) all | inl w ↦ island_owned cells x g m b' w.island all ]
 
-next_owned : (cells : List (ℕ × Cell)) (force : ForceVeneers) (o : Option ℕ) (m b' : Buffer LabelUse) → AsksNext force o m b' → All (IsOwned cells m) m.uses → All (IsOwned cells b') b'.uses
+next_owned : (cells : List (ℕ × Cell)) (force : ForceVeneers) (o : Option ℕ) (m b' : Buffer LabelUse) → AsksNext force goes_on o m b' → All (IsOwned cells m) m.uses → All (IsOwned cells b') b'.uses
 next_owned cells force None m b' e all = subst (λ v. All (IsOwned cells v) v.uses) (sym e) all
 next_owned cells force (Some x) m b' a all = asked_owned cells x No force m b' a all
 
@@ -326,16 +326,16 @@ module _ (before after : List (ℕ × Cell)) (more : AreMore before after) (b : 
         )
   ]
 
-  words_owned : (force : ForceVeneers) (cells : List Cell) (rest : List Element) (b' : Buffer LabelUse) → AreMore (placed (end_of b) cells) after → PutsWords force cells rest b b' → All (IsOwned after b') b'.uses
-  words_owned force [] rest b' stand p = subst (λ v. All (IsOwned after v) v.uses) (sym p) (λ k d h. owned_later before after b b more (later_none b) (λ i c. c) k d h (owned k d h))
-  words_owned force (c ∷ cs) rest b' stand p = next_owned after force (next_room rest) (appended b (c ∷ cs)) b' p (cells_owned (c ∷ cs) stand)
+  words_owned : (force : ForceVeneers) (goes_on : Bool) (cells : List Cell) (rest : List Element) (b' : Buffer LabelUse) → AreMore (placed (end_of b) cells) after → PutsWords force goes_on cells rest b b' → All (IsOwned after b') b'.uses
+  words_owned force goes_on [] rest b' stand p = subst (λ v. All (IsOwned after v) v.uses) (sym p) (λ k d h. owned_later before after b b more (later_none b) (λ i c. c) k d h (owned k d h))
+  words_owned force goes_on (c ∷ cs) rest b' stand p = next_owned after force (next_room rest) (appended b (c ∷ cs)) b' p (cells_owned (c ∷ cs) stand)
 
   element_owned : (force : ForceVeneers) (x : Element) (rest : List Element) (b' : Buffer LabelUse) → IsLater b b' → AreMore (placed (end_of b) (cells_in x)) after → Moves force x rest b b' → All (IsOwned after b') b'.uses
   element_owned force (Binding label) rest b' later stand p = λ k d h.
       let count : length b'.uses ≡ length b.uses = ap (λ (v : Buffer LabelUse). length v.uses) p ∙ length-map b.uses (closed_at label_kinds label (end_of b)) in
       let old : k < length b.uses = omega (arith, h, count) in
       owned_later before after b b' more later (λ i c. subst (λ (v : Buffer LabelUse). Contains v.islands i) (sym p) c) k d old (owned k d old)
-  element_owned force (Words cells) rest b' later stand p = words_owned force cells rest b' stand p
+  element_owned force (Words goes_on cells) rest b' later stand p = words_owned force goes_on cells rest b' stand p
   element_owned force (Asking space) rest b' later stand p = asked_owned after space force force b b' p (λ k d h. owned_later before after b b more (later_none b) (λ i c. c) k d h (owned k d h))
 
 pub owned_none : (xs : List Element) (b : Buffer LabelUse) → b.uses ≡ [] → AreOwned xs 0 [] b

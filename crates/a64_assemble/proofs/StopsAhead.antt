@@ -128,25 +128,25 @@ module _ (distance : ℕ) (force : ForceVeneers) (m b' : Buffer LabelUse) (has :
 
 -- ---- element by element
 
-asked_ahead : (x : ℕ) (f g : ForceVeneers) (m b' : Buffer LabelUse) → Asks x f g m b' → AllStopAhead m → AllStopAhead b'
+asked_ahead : (x : ℕ) (f g : ForceVeneers) (m b' : Buffer LabelUse) → Asks x f g jump m b' → AllStopAhead m → AllStopAhead b'
 asked_ahead x f g m b' a all = elim a.outcome [
   | inr l ↦ subst AllStopAhead (sym l.same) all
   | inl w ↦ island_ahead x g m b' w.island (λ k d h. (a.whole.sound.placed k d h).inside) all
 ]
 
-next_ahead : (force : ForceVeneers) (o : Option ℕ) (m b' : Buffer LabelUse) → AsksNext force o m b' → AllStopAhead m → AllStopAhead b'
+next_ahead : (force : ForceVeneers) (o : Option ℕ) (m b' : Buffer LabelUse) → AsksNext force goes_on o m b' → AllStopAhead m → AllStopAhead b'
 next_ahead force None m b' e all = subst AllStopAhead (sym e) all
 next_ahead force (Some x) m b' a all = asked_ahead x No force m b' a all
 
-words_ahead : (force : ForceVeneers) (cells : List Cell) (rest : List Element) (b b' : Buffer LabelUse) → AllPlaced b → PutsWords force cells rest b b' → AllStopAhead b → AllStopAhead b'
-words_ahead force [] rest b b' placed p all = subst AllStopAhead (sym p) all
-words_ahead force (c ∷ cs) rest b b' placed p all = next_ahead force (next_room rest) (appended b (c ∷ cs)) b' p (cells_ahead b (c ∷ cs) placed all)
+words_ahead : (force : ForceVeneers) (goes_on : Bool) (cells : List Cell) (rest : List Element) (b b' : Buffer LabelUse) → AllPlaced b → PutsWords force goes_on cells rest b b' → AllStopAhead b → AllStopAhead b'
+words_ahead force goes_on [] rest b b' placed p all = subst AllStopAhead (sym p) all
+words_ahead force goes_on (c ∷ cs) rest b b' placed p all = next_ahead force (next_room rest) (appended b (c ∷ cs)) b' p (cells_ahead b (c ∷ cs) placed all)
 
 pub ahead_step : (force : ForceVeneers) (x : Element) (rest : List Element) (b b' : Buffer LabelUse) → IsWhole label_kinds b → IsLater b b' → Moves force x rest b b' → AllStopAhead b → AllStopAhead b'
 ahead_step force (Binding label) rest b b' whole later p all = λ k d h.
     let count : length b'.uses ≡ length b.uses = ap (λ (v : Buffer LabelUse). length v.uses) p ∙ length-map b.uses (closed_at label_kinds label (end_of b)) in
     old_ahead b b' later (λ k d h. (whole.sound.placed k d h).inside) (λ place out. subst (λ (v : Buffer LabelUse). IsOutside v.islands place) p out) all k d (omega (arith, h, count))
-ahead_step force (Words cells) rest b b' whole later p all = words_ahead force cells rest b b' (λ k d h. (whole.sound.placed k d h).inside) p all
+ahead_step force (Words goes_on cells) rest b b' whole later p all = words_ahead force goes_on cells rest b b' (λ k d h. (whole.sound.placed k d h).inside) p all
 ahead_step force (Asking space) rest b b' whole later p all = asked_ahead space force force b b' p all
 
 pub ahead_none : (b : Buffer LabelUse) → b.uses ≡ [] → AllStopAhead b
