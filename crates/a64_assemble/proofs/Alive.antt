@@ -175,7 +175,7 @@ module _ (test : ℕ → Bool) (b : Buffer LabelUse) (l : ℕ) where
       )
 
 module _ (force : ForceVeneers) (test : ℕ → Bool) where
-  ask_alive : (x : ℕ) (f g : ForceVeneers) (m b' : Buffer LabelUse) → Asks x f g jump m b' → owed_to label_kinds test b' ≤ owed_to label_kinds test m
+  ask_alive : {jump : Bool} (x : ℕ) (f g : ForceVeneers) (m b' : Buffer LabelUse) → Asks x f g jump m b' → owed_to label_kinds test b' ≤ owed_to label_kinds test m
   ask_alive x f g m b' a = elim a.outcome [ inl w ↦ w.island.owed_to test | inr l ↦ subst (λ v. owed_to label_kinds test v ≤ owed_to label_kinds test m) (sym l.same) (omega arith) ]
 
   words_alive : (goes_on : Bool) (cells : List Cell) (rest : List Element) (b b' : Buffer LabelUse) → PutsWords force goes_on cells rest b b' → owed_to label_kinds test b' ≤ owed_to label_kinds test b + 28 * count_by (is_alive test []) (sites_of cells)

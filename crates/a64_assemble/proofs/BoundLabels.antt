@@ -71,7 +71,7 @@ unbound_yet xs k places b once within h (Asking space) is = tt
 
 pub labels_step : (force : ForceVeneers) (xs : List Element) (k : ℕ) (places : List ℕ) (b b' : Buffer LabelUse) → length places ≡ k → AreBoundOnce xs → k < length xs → HasLabels xs k places b.labels → (x : Element) (rest : List Element) → element_at xs k ≡ x → Moves force x rest b b' → HasLabels xs (k + 1) (places ++ end_of b ∷ []) b'.labels
 labels_step force xs k places b b' count once within h (Binding l) rest is p = subst (HasLabels xs (k + 1) (places ++ end_of b ∷ [])) (sym (move_labels force (Binding l) rest b b' p)) (labels_bind xs k places (end_of b) count b.labels l once within h is)
-labels_step force xs k places b b' count once within h (Words goes_on cells) rest is p = subst (HasLabels xs (k + 1) (places ++ end_of b ∷ [])) (sym (move_labels force (Words goes_on cells) rest b b' p)) (labels_other xs k places (end_of b) count b.labels h (λ l e. let z : Words cells ≡ Binding l = sym is ∙ e in cc))
+labels_step force xs k places b b' count once within h (Words goes_on cells) rest is p = subst (HasLabels xs (k + 1) (places ++ end_of b ∷ [])) (sym (move_labels force (Words goes_on cells) rest b b' p)) (labels_other xs k places (end_of b) count b.labels h (λ l e. let z : Words goes_on cells ≡ Binding l = sym is ∙ e in cc))
 labels_step force xs k places b b' count once within h (Asking space) rest is p = subst (HasLabels xs (k + 1) (places ++ end_of b ∷ [])) (sym (move_labels force (Asking space) rest b b' p)) (labels_other xs k places (end_of b) count b.labels h (λ l e. let z : Asking space ≡ Binding l = sym is ∙ e in cc))
 
 -- ---- labels that some of the elements bind

@@ -37,6 +37,7 @@ use Rattle.a64_assemble.specs.Elements.{Words, Asking, element_of, elements_of, 
 use Rattle.a64_emit.proofs.CallSites.{calls_sites}
 use Rattle.a64_emit.proofs.Several.{several_sites, address_sites}
 use Rattle.a64_emit.proofs.TableUses.{table_jump_sites}
+use Rattle.a64_emit.specs.Falls.{inst_falls}
 use Rattle.a64_rows.specs.Forms.{Form}
 
 -- a use of cells that is compact

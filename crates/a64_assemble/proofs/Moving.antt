@@ -1,5 +1,5 @@
 -- What one element leaves: room for what follows, length, labels, and all that was there.
-use Rattle.std.proofs.Common.{ℕ, zero, suc, ◌≡◌, ◌⊎◌, ◌+◌, ◌-◌, ◌*◌, ◌<◌, ◌≤◌, true, List, [], ◌∷◌, ◌++◌, length, get_or, map, Option, None, Some, refl, sym, ap, ◌∙◌, subst, arith, inl, inr}
+use Rattle.std.proofs.Common.{ℕ, zero, suc, ◌≡◌, ◌⊎◌, ◌+◌, ◌-◌, ◌*◌, ◌<◌, ◌≤◌, true, List, [], ◌∷◌, ◌++◌, length, get_or, map, Option, None, Some, refl, sym, ap, ◌∙◌, subst, arith, inl, inr, Bool}
 use Rattle.std.specs.Prelude.{All}
 use Rattle.std.specs.Option.{unwrap_or}
 use Rattle.std.specs.FinMap.{get, insert}
@@ -35,6 +35,8 @@ use Rattle.a64_emit.proofs.Holding.{same_holding, no_more}
 use Rattle.a64_assemble.proofs.Later.{made_from, new_from, longer}
 use Rattle.a64_assemble.proofs.Marked.{between}
 use Rattle.a64_assemble.proofs.Sites.{found_in}
+use Rattle.a64_buffer.proofs.Islands.{front_short}
+use Rattle.a64_assemble.proofs.Fronts.{island_ends, EndsAt}
 
 pub no_cell : Cell
 no_cell = record { body = Data 0; site = None; marks = no_marks }
@@ -146,7 +148,7 @@ bind_owed label b b' e = omega (arith, ap (λ (c : Buffer LabelUse). length c.wo
 
 -- ---- asking
 
-module _ (distance : ℕ) (asked force : ForceVeneers) (b b' : Buffer LabelUse) (a : Asks distance asked force b b') where
+module _ {jump : Bool} (distance : ℕ) (asked force : ForceVeneers) (b b' : Buffer LabelUse) (a : Asks distance asked force jump b b') where
   pub ask_fits : Fits label_kinds b' distance
   ask_fits = elim a.outcome [ inl w ↦ w.island.fits | inr l ↦ subst (λ c. Fits label_kinds c distance) (sym l.same) l.fits ]
 
@@ -154,7 +156,7 @@ module _ (distance : ℕ) (asked force : ForceVeneers) (b b' : Buffer LabelUse) 
   ask_rooms more h = elim a.outcome [ inl w ↦ w.island.rooms more h | inr l ↦ subst (λ c. Fits label_kinds c more) (sym l.same) (less_room label_kinds label_kinds_lawful (end_of b) b.uses (more + 4) more (omega arith) h) ]
 
   pub ask_owed : end_of b' + owed label_kinds b' ≤ end_of b + owed label_kinds b + 4
-  ask_owed = elim a.outcome [ inl w ↦ w.island.owed | inr l ↦ subst (λ c. end_of c + owed label_kinds c ≤ end_of b + owed label_kinds b + 4) (sym l.same) (omega arith) ]
+  ask_owed = elim a.outcome [ inl w ↦ omega (arith, w.island.owed, front_short label_kinds jump) | inr l ↦ subst (λ c. end_of c + owed label_kinds c ≤ end_of b + owed label_kinds b + 4) (sym l.same) (omega arith) ]
 
   pub ask_labels : b'.labels ≡ b.labels
   ask_labels = elim a.outcome [ inl w ↦ w.island.labels | inr l ↦ ap (λ c. c.labels) l.same ]
@@ -171,7 +173,7 @@ module _ (force : ForceVeneers) where
   own_room (c ∷ cs) o b some h = h
 
   -- the conditions of words
-  pub words_fit : (c : Cell) (cs : List Cell) (rest : List Element) (b : Buffer LabelUse) → MayMove (Words goes_on (c ∷ cs)) rest b → CellsFit b (c ∷ cs)
+  pub words_fit : {goes_on : Bool} (c : Cell) (cs : List Cell) (rest : List Element) (b : Buffer LabelUse) → MayMove (Words goes_on (c ∷ cs)) rest b → CellsFit b (c ∷ cs)
   words_fit c cs rest b may = put_room b (c ∷ cs) may.whole may.compact (omega arith) may.fits
 
   words_rooms : (goes_on : Bool) (cells : List Cell) (rest : List Element) (b b' : Buffer LabelUse) → MayMove (Words goes_on cells) rest b → PutsWords force goes_on cells rest b b' → Fits label_kinds b' (room_of rest)
@@ -232,13 +234,13 @@ module _ (force : ForceVeneers) where
 
   -- ---- what came before stays
 
-  pub next_later : (o : Option ℕ) (m b' : Buffer LabelUse) → AsksNext force goes_on o m b' → IsLater m b'
-  next_later None m b' e = subst (IsLater m) (sym e) (later_none m)
-  next_later (Some x) m b' a = ask_later x No force m b' a
+  pub next_later : (goes_on : Bool) (o : Option ℕ) (m b' : Buffer LabelUse) → AsksNext force goes_on o m b' → IsLater m b'
+  next_later goes_on None m b' e = subst (IsLater m) (sym e) (later_none m)
+  next_later goes_on (Some x) m b' a = ask_later x No force m b' a
 
   words_later : (goes_on : Bool) (cells : List Cell) (rest : List Element) (b b' : Buffer LabelUse) → PutsWords force goes_on cells rest b b' → IsLater b b'
   words_later goes_on [] rest b b' p = subst (IsLater b) (sym p) (later_none b)
-  words_later goes_on (c ∷ cs) rest b b' p = later_trans b (appended b (c ∷ cs)) b' (put_later b (c ∷ cs)) (next_later (next_room rest) (appended b (c ∷ cs)) b' p)
+  words_later goes_on (c ∷ cs) rest b b' p = later_trans b (appended b (c ∷ cs)) b' (put_later b (c ∷ cs)) (next_later goes_on (next_room rest) (appended b (c ∷ cs)) b' p)
 
   pub move_later : (x : Element) (rest : List Element) (b b' : Buffer LabelUse) → MayMove x rest b → Moves force x rest b b' → IsLater b b'
   move_later (Binding label) rest b b' may p = bind_later label b b' may.whole may.unbound p
@@ -251,13 +253,9 @@ module _ (force : ForceVeneers) where
 pub record Extends (x : Element) (b b' : Buffer LabelUse) : Type 0 where
   pub followed : ((end_of b' ≡ end_of b + size_in x) × (b'.islands ≡ b.islands)) ⊎ ((hosts x ≡ true) × (end_of b + size_in x + 4 ≤ end_of b') × (b'.islands ≡ b.islands ++ (end_of b + size_in x, end_of b') ∷ []))
 
--- the code, and the islands, once room was asked for behind code that ends there
-abbrev EndsAt : ℕ → List (ℕ × ℕ) → Buffer LabelUse → Type 0
-EndsAt end islands b' = ((end_of b' ≡ end) × (b'.islands ≡ islands)) ⊎ ((end + 4 ≤ end_of b') × (b'.islands ≡ islands ++ (end, end_of b') ∷ []))
-
 module _ (force : ForceVeneers) where
-  ask_at : (x : ℕ) (f g : ForceVeneers) (b b' : Buffer LabelUse) → Asks x f g jump b b' → EndsAt (end_of b) b.islands b'
-  ask_at x f g b b' a = elim a.outcome [ inl w ↦ inr (w.island.long, w.island.islands) | inr l ↦ inl (ap (λ v. end_of v) l.same, ap (λ v. v.islands) l.same) ]
+  ask_at : {jump : Bool} (x : ℕ) (f g : ForceVeneers) (b b' : Buffer LabelUse) → Asks x f g jump b b' → EndsAt (end_of b) b.islands b'
+  ask_at {jump = jump} x f g b b' a = elim a.outcome [ inl w ↦ island_ends jump b b' w.island | inr l ↦ inl (ap (λ v. end_of v) l.same, ap (λ v. v.islands) l.same) ]
 
   words_extends : (goes_on : Bool) (cells : List Cell) (rest : List Element) (b b' : Buffer LabelUse) → PutsWords force goes_on cells rest b b' → Extends (Words goes_on cells) b b'
   words_extends goes_on [] rest b b' p = record { followed = inl (omega (arith, ap (λ v. end_of v) p), ap (λ v. v.islands) p) }

@@ -14,6 +14,7 @@ use Rattle.a64_emit.specs.Cells.{Cell, cells_of, kept_cells}
 use Rattle.a64_emit.specs.Lights.{IsLight}
 use Rattle.a64_assemble.specs.Elements.{Element, Binding, Words, Asking, size_in, charge_in, space_in, growth_in, add_more, element_of, elements_of, whole_in, next_room}
 use Rattle.a64_assemble.proofs.Itemized.{cells_same}
+use Rattle.a64_emit.specs.Falls.{inst_falls}
 
 -- ---- one element
 
@@ -65,7 +66,7 @@ module _ (frame : FrameLayout) (flags : EmitFlags) where
       let is : element_of frame flags (Emit inst kept) ≡ Words (inst_falls inst) (kept_cells frame flags inst kept) = ap (λ o. elim o [ None ↦ Words (inst_falls inst) (kept_cells frame flags inst kept) | Some space ↦ Asking space ]) none in
       ap (λ x. charge_in x + space_in x) is ∙ empty (kept_cells frame flags inst kept) (sym (ap size_in is) ∙ s)
     where
-      empty : (cells : List Cell) → size_in (Words goes_on cells) ≡ 0 → charge_of cells + 0 ≡ 0
+      empty : (cells : List Cell) → size_in (Words (inst_falls inst) cells) ≡ 0 → charge_of cells + 0 ≡ 0
       empty [] s = refl
       empty (c ∷ cs) s = absurd (omega (arith, s))
 

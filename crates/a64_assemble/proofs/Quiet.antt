@@ -1,5 +1,5 @@
 -- Where all code is shorter than each range, no island is written.
-use Rattle.std.proofs.Common.{ℕ, ◌≡◌, ◌+◌, ◌-◌, ◌^◌, ◌≤◌, List, [], ◌∷◌, ◌++◌, map, All, get_or, Option, None, Some, refl, sym, ap, ◌∙◌, subst, arith, inl, inr}
+use Rattle.std.proofs.Common.{ℕ, ◌≡◌, ◌+◌, ◌-◌, ◌^◌, ◌≤◌, List, [], ◌∷◌, ◌++◌, map, All, get_or, Option, None, Some, refl, sym, ap, ◌∙◌, subst, arith, inl, inr, Bool}
 use Rattle.std.specs.Option.{unwrap_or}
 use Rattle.std.proofs.lemmas.List.Sums.{sum_by-cons}
 use Rattle.std.proofs.lemmas.List.Elements.{All-same, All-append, All-map}
@@ -52,7 +52,7 @@ module _ (force : ForceVeneers) (size : ℕ) where
       let f : No ≡ Yes = sym e ∙ forced in
       cc
 
-  quiet_asks : (m b' : Buffer LabelUse) (x : ℕ) (f g : ForceVeneers) → (f ≡ Yes → force ≡ Yes) → All (UseIsQuiet force size) m.uses → end_of m + owed label_kinds m + 4 + x ≤ size → Asks x f g jump m b' → b' ≡ m
+  quiet_asks : {jump : Bool} (m b' : Buffer LabelUse) (x : ℕ) (f g : ForceVeneers) → (f ≡ Yes → force ≡ Yes) → All (UseIsQuiet force size) m.uses → end_of m + owed label_kinds m + 4 + x ≤ size → Asks x f g jump m b' → b' ≡ m
   quiet_asks m b' x f g forced all le a = elim a.outcome [
     | inr l ↦ l.same
     | inl w ↦ elim w.cause [

@@ -1,5 +1,5 @@
 -- One item more is put, by its emission and an island behind it.
-use Rattle.std.proofs.Common.{ℕ, ◌≡◌, ◌≢◌, ◌+◌, ◌*◌, ◌^◌, ◌<◌, ◌≤◌, List, [], ◌∷◌, ◌++◌, length, Option, None, Some, refl, sym, ap, ◌∙◌, subst, arith, inl, inr, nat_cmp, Result, Ok, Err}
+use Rattle.std.proofs.Common.{ℕ, ◌≡◌, ◌≢◌, ◌+◌, ◌*◌, ◌^◌, ◌<◌, ◌≤◌, List, [], ◌∷◌, ◌++◌, length, Option, None, Some, refl, sym, ap, ◌∙◌, subst, arith, inl, inr, nat_cmp, Result, Ok, Err, Bool}
 use Rattle.std.specs.Prelude.{OnOk, IsSome}
 use Rattle.std.specs.FinMap.{FinMap}
 use Rattle.std.specs.Option.{unwrap_or}
@@ -32,6 +32,7 @@ use Rattle.a64_assemble.specs.Elements.{Element, Words, Asking, element_of, next
 use Rattle.a64_assemble.specs.Asks.{AsksNext, PutsWords, MayMove, Moves, HasNextRoom, NeedsNone}
 use Rattle.a64_assemble.proofs.Later.{longer}
 use Rattle.a64_assemble.proofs.Moving.{appended_none, words_fit, put_owed}
+use Rattle.a64_emit.specs.Falls.{inst_falls}
 
 -- what a success says, said otherwise
 pub on_ok : {T E A B : Type 0} → (r : Result T E) → (A → B) → OnOk r A → OnOk r B
@@ -51,15 +52,15 @@ put_cells None cells b b' e p = p
 put_cells (Some space) cells b b' e p = absurd cc
 
 module _ (force : ForceVeneers) (rest : List Element) (b : Buffer LabelUse) where
-  pub words_room : (cells : List Cell) → MayMove (Words goes_on cells) rest b → HasRoom b cells
+  pub words_room : {goes_on : Bool} (cells : List Cell) → MayMove (Words goes_on cells) rest b → HasRoom b cells
   words_room cells may = omega (arith, may.short)
 
-  pub cells_fit : (cells : List Cell) → MayMove (Words goes_on cells) rest b → CellsFit b cells
+  pub cells_fit : {goes_on : Bool} (cells : List Cell) → MayMove (Words goes_on cells) rest b → CellsFit b cells
   cells_fit [] may = subst (λ us. classes.HasRoom label_kinds (end_of b) us 0) (sym (append-nil b.uses)) may.whole.fits
   cells_fit (c ∷ cs) may = words_fit force c cs rest b may
 
   -- where the end moved, there are words, and room for an island behind them
-  pub island_short : (cells : List Cell) (m : Buffer LabelUse) → MayMove (Words goes_on cells) rest b → m ≡ appended b cells → end_of m ≢ end_of b → end_of m + owed label_kinds m + 4 < 2 ^ 31
+  pub island_short : {goes_on : Bool} (cells : List Cell) (m : Buffer LabelUse) → MayMove (Words goes_on cells) rest b → m ≡ appended b cells → end_of m ≢ end_of b → end_of m + owed label_kinds m + 4 < 2 ^ 31
   island_short [] m may e ne = absurd (ne (ap (λ (v : Buffer LabelUse). end_of v) (e ∙ appended_none b)))
   island_short (c ∷ cs) m may e ne = subst (λ (v : Buffer LabelUse). end_of v + owed label_kinds v + 4 < 2 ^ 31) (sym e) (let z = put_owed b (c ∷ cs) in omega (arith, z, may.short))
 
@@ -150,7 +151,7 @@ emit_moves flags force state inst rest b b' may none is_whole emitted = go (aske
     go : (o : Option ℕ) → asked_of inst ≡ o → Puts o (kept_cells state.frame flags inst state.map) b b' → Moves force (element_of state.frame flags (Emit inst state.map)) rest b b'
     go None e p =
         subst (λ (x : Element). Moves force x rest b b') (sym (words_element state.frame flags inst state.map e))
-        (quiet_put force rest b (kept_cells state.frame flags inst state.map) b' p is_whole (subst (λ (x : Element). NeedsNone force x rest b) (words_element state.frame flags inst state.map e) none))
+        (quiet_put force rest b (inst_falls inst) (kept_cells state.frame flags inst state.map) b' p is_whole (subst (λ (x : Element). NeedsNone force x rest b) (words_element state.frame flags inst state.map e) none))
     go (Some space) e p =
         let asks = subst (λ (x : Element). NeedsNone force x rest b) (asking_element state.frame flags inst state.map space e) none in
         subst (λ (x : Element). Moves force x rest b b') (sym (asking_element state.frame flags inst state.map space e)) (elim p [

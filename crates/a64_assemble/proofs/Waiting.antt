@@ -44,7 +44,7 @@ waiting_none x us h = nothing_sums (waiting_cost x) us (λ k d w. one (get_or us
     one u e = rw e (omega arith)
 
 -- behind an island no constant and no trap waits
-none_waits : (distance : ℕ) (force : ForceVeneers) (b b' : Buffer LabelUse) → HasIsland label_kinds distance force true b b' → All (λ u. is_waiting u ≡ false) b'.uses
+none_waits : {jump : Bool} (distance : ℕ) (force : ForceVeneers) (b b' : Buffer LabelUse) → HasIsland label_kinds distance force jump b b' → All (λ u. is_waiting u ≡ false) b'.uses
 none_waits distance force b b' has k d w = go (is_open label_kinds (get_or b'.uses k d)) refl
   where
     far : is_open label_kinds (get_or b'.uses k d) ≡ true → class label_kinds (get_or b'.uses k d) ≡ Far
@@ -107,7 +107,7 @@ waiting_map x l place [] = omega arith
 waiting_map x l place (u ∷ us) = omega (arith, sum_by-cons (waiting_cost x) u us, sum_by-cons (waiting_cost x) (closed_at label_kinds l place u) (map (closed_at label_kinds l place) us), waiting_closed x l place u, waiting_map x l place us)
 
 module _ (force : ForceVeneers) (x : ℕ) where
-  ask_waiting : (n : ℕ) (f g : ForceVeneers) (m b' : Buffer LabelUse) → Asks n f g jump m b' → waiting_from x b'.uses ≤ waiting_from x m.uses
+  ask_waiting : {jump : Bool} (n : ℕ) (f g : ForceVeneers) (m b' : Buffer LabelUse) → Asks n f g jump m b' → waiting_from x b'.uses ≤ waiting_from x m.uses
   ask_waiting n f g m b' a = elim a.outcome [ inl w ↦ omega (arith, waiting_none x b'.uses (none_waits n g m b' w.island)) | inr l ↦ subst (λ v. waiting_from x v.uses ≤ waiting_from x m.uses) (sym l.same) (omega arith) ]
 
   words_waiting : (goes_on : Bool) (cells : List Cell) (rest : List Element) (b b' : Buffer LabelUse) → PutsWords force goes_on cells rest b b' → waiting_from x b'.uses ≤ waiting_from x b.uses + 28 * count_by is_load (sites_of cells)
