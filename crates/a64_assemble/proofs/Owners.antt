@@ -5,7 +5,7 @@ use Rattle.std.specs.List.{flat_map}
 use Rattle.std.specs.Ordering.{nat_cmp}
 use Rattle.std.specs.FinMap.{FinMap}
 use Rattle.std.proofs.lemmas.Bool.{cases_lt, false≢true}
-use Rattle.std.proofs.lemmas.List.{length-append, length-map, length-take-le, take_more, map-append, get_or_append_left, get_or_push, get_or-append-add, get_or-map}
+use Rattle.std.proofs.lemmas.List.{length-append, length-map, length-take-le, take_more, map-append, get_or_append_left, get_or-append-add, get_or-map}
 use Rattle.std.proofs.lemmas.List.Elements.{Contains-append_left, Contains-append_right, Contains-push}
 use Rattle.a64_buffer.specs.declared.site.Use.{Use}
 use Rattle.a64_buffer.specs.declared.site.Target.{Target}

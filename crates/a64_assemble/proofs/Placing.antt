@@ -1,9 +1,9 @@
 -- The uses that finished code has by its bytes are those that the buffer knows.
-use Rattle.std.proofs.Common.{ℕ, zero, suc, pos, ◌≡◌, ◌⊎◌, ◌+◌, ◌-◌, ◌*◌, ◌/◌, ◌<◌, ◌≤◌, true, false, List, [], ◌∷◌, ◌++◌, All, length, get_or, map, take, Option, None, Some, refl, sym, ap, ◌∙◌, subst, arith, inl, inr}
+use Rattle.std.proofs.Common.{ℕ, pos, ◌≡◌, ◌⊎◌, ◌+◌, ◌*◌, ◌/◌, ◌<◌, ◌≤◌, true, false, List, [], ◌∷◌, ◌++◌, All, length, get_or, map, take, Option, None, Some, refl, sym, ap, ◌∙◌, subst, arith, inl, inr}
 use Rattle.std.specs.Prelude.{Contains, IsSome, IfSome, MatchOption, is_some}
 use Rattle.std.specs.FinMap.{get}
 use Rattle.std.proofs.lemmas.Bool.{cases_lt, cases_eq, false≢true, cases_Bool}
-use Rattle.std.proofs.lemmas.List.{length-append, get_or_append_left, get_or_default, take_all, length-map}
+use Rattle.std.proofs.lemmas.List.{length-append, get_or_append_left, get_or_default, length-map}
 use Rattle.a64_base.specs.declared.entity.MachLabel.{MachLabel}
 use Rattle.a64_inst.specs.declared.emission.EmitFlags.{EmitFlags}
 use Rattle.a64_inst.specs.declared.frame.FrameLayout.{FrameLayout}
@@ -31,14 +31,14 @@ use Rattle.a64_emit.specs.Emission.{site_of, HasUse, IsPut}
 use Rattle.a64_emit.specs.Contents.{site_class, IsCellUse}
 use Rattle.a64_emit.specs.Leads.{areas, StopsAt}
 use Rattle.a64_assemble.specs.Elements.{Element, cells_in, elements_of, falls_in, element_of, element_at}
-use Rattle.a64_assemble.specs.Stations.{IsLaid, end_of_element, IsIslandBehind}
+use Rattle.a64_assemble.specs.Stations.{IsIslandBehind}
 use Rattle.a64_assemble.specs.Progress.{HasPut}
 use Rattle.a64_assemble.specs.Owners.{IsGivenJump, AreOwned}
 use Rattle.a64_assemble.specs.Placement.{IsLabelAt, IsVeneerWord, IsWanting}
 use Rattle.a64_assemble.proofs.Arrivals.{no_use, IsOutput, pool_is, use_settled, word_free, old_site}
 use Rattle.a64_assemble.proofs.Finishing.{all_stop}
 use Rattle.a64_assemble.proofs.Fronts.{falls_within, falls_is}
-use Rattle.a64_assemble.proofs.Stationed.{not_inside, not_within, islands_apart}
+use Rattle.a64_assemble.proofs.Stationed.{not_inside, not_within}
 use Rattle.a64_assemble.proofs.Islanded.{has_jump, island_behind}
 use Rattle.a64_assemble.proofs.Itemized.{all_cells_are}
 use Rattle.a64_assemble.proofs.FieldKinds.{wanting_kind}

@@ -70,7 +70,9 @@ module _ (frame : FrameLayout) (flags : EmitFlags) (items : List Item) (constant
     pub after : ℕ
     pub within : after < length items
     pub stands : IsIslandAfter frame flags items code after island
-    pub holds : HoldsPieces island.0 (island.0 + front_size (falls_at items after)) island.1 (λ u. IsOpenIn frame flags items code after island.0 island.1 u × IsLateOrFar after u)
+    pub holds :
+        HoldsPieces island.0 (island.0 + front_size (falls_at items after)) island.1
+        (λ u. IsOpenIn frame flags items code after island.0 island.1 u × IsLateOrFar after u)
 
   -- the pool holds pieces, and a veneer only for a use that is out of reach of its label
   abbrev pub IsFilledPool : Type 0

@@ -62,10 +62,11 @@ fn put_inst(
     ask_behind(inst, place, rest, buffer, info, state.frame_layout(), force)
 }
 
-/// Writes an island behind the words of an instruction, which begin at `start`, a place in bytes from the start
-/// of the code, where the next words need one. An island that comes gives veneers to all far uses where `force`
-/// says so, else by need, and begins with a jump where execution may go on behind the instruction. None comes where no word was put behind `start`, nor where no words follow. Stands out
-/// of line, since few instructions come so near to what an open use reaches.
+/// Writes an island behind the words of an instruction, which begin at `start`, a place in bytes from the
+/// start of the code, where the next words need one. An island that comes gives veneers to all far uses
+/// where `force` says so, else by need, and begins with a jump where execution may go on behind the
+/// instruction. None comes where no word was put behind `start`, nor where no words follow. Stands out of
+/// line, since few instructions come so near to what an open use reaches.
 ///
 /// # Errors
 ///
@@ -83,7 +84,9 @@ fn ask_behind(
     requires whole { whole_in (elements_of frame.now info.now rest.now) < 2 ^ 31 }
     requires short { start ≢ end_of buffer.old → end_of buffer.old + owed label_kinds buffer.old + 4 < 2 ^ 31 }
     ensures without { OnOk result (start ≡ end_of buffer.old → buffer.new ≡ buffer.old) }
-    ensures behind { OnOk result (start ≢ end_of buffer.old → AsksNext force (inst_falls inst.now) (elements.next_room (elements_of frame.now info.now rest.now)) buffer.old buffer.new) }
+    ensures behind { OnOk result (start ≢ end_of buffer.old →
+        AsksNext force (inst_falls inst.now)
+        (elements.next_room (elements_of frame.now info.now rest.now)) buffer.old buffer.new) }
 {
     if buffer.cur_offset() == start {
         return Ok(());

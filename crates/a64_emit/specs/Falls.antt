@@ -1,18 +1,24 @@
 -- Behind which items execution may go on.
 use Rattle.std.specs.Prelude.{ℕ, Bool, true, false, ◌||◌, List, slice_get, None, Some, is_none}
 use Rattle.a64_base.specs.Target.{label_of}
+use Rattle.a64_base.specs.declared.target.BranchTarget.{BranchTarget}
 use Rattle.a64_inst.specs.declared.inst.Inst.{Inst}
 use Rattle.a64_inst.specs.declared.inst.Inst.TheVariants as insts
 use Rattle.a64_inst.specs.declared.item.Item.{Item}
 use Rattle.a64_inst.specs.declared.item.Item.TheVariants.{Bind, Emit}
 
--- execution may go on behind an instruction, but behind one that always goes to a label, to an address in a
--- register or to another function, or that is none and traps. A distance may lead right behind its branch, and a
--- debugger may go on behind `Brk`.
+-- a branch goes to no label but a distance, which may lead right behind it
+abbrev pub is_distance : BranchTarget → Bool
+is_distance dest = is_none (label_of dest)
+
+-- execution may go on behind an instruction, but behind one that always goes to a label, to an
+-- address in a register or to another function, or that is none and traps; a debugger may go on
+-- behind `Brk`
 abbrev pub inst_falls : Inst → Bool
-inst_falls (insts.Jump dest) = is_none (label_of dest)
-inst_falls (insts.CondBr taken not_taken kind) = is_none (label_of taken) || is_none (label_of not_taken)
-inst_falls (insts.TestBitAndBranch kind taken not_taken rn bit) = is_none (label_of taken) || is_none (label_of not_taken)
+inst_falls (insts.Jump dest) = is_distance dest
+inst_falls (insts.CondBr taken not_taken kind) = is_distance taken || is_distance not_taken
+inst_falls (insts.TestBitAndBranch kind taken not_taken rn bit) =
+    is_distance taken || is_distance not_taken
 inst_falls insts.Ret = false
 inst_falls (insts.IndirectBr rn targets) = false
 inst_falls (insts.JTSequence default targets ridx rtmp1 rtmp2) = false

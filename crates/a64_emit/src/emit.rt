@@ -318,7 +318,7 @@ fn emit_test_bit_and_branch(
         (sink.new ≡ appended sink.old (put_test_bit kind taken.now not_taken.now rn.now bit)) }
     ensures err { OnErr result
         (IsAppendedInPart sink.old sink.new
-            (put_test_bit kind taken.now not_taken.now rn.now bit)) }
+        (put_test_bit kind taken.now not_taken.now rn.now bit)) }
 {
     let word = test_bit_and_branch_word(kind, *taken, *rn, bit);
     emit_conditional(sink, word, LabelUse::Branch14, taken, not_taken)

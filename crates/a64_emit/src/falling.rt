@@ -13,10 +13,14 @@ pub fn falls(inst: &Inst) -> bool
     match inst {
         Inst::Jump { dest } => dest.as_label().is_none(),
         Inst::CondBr {
-            taken, not_taken, ..
+            taken,
+            not_taken,
+            ..
         }
         | Inst::TestBitAndBranch {
-            taken, not_taken, ..
+            taken,
+            not_taken,
+            ..
         } => taken.as_label().is_none() || not_taken.as_label().is_none(),
         Inst::Ret
         | Inst::IndirectBr { .. }

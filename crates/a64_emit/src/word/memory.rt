@@ -106,7 +106,7 @@ pub fn held_memory_word(inst: &Inst, frame: &FrameLayout, _info: &EmitInfo) -> O
     requires mode { has_mode inst.now ≡ true }
     ensures { IfSome result (λ last.
         AreSeveral [] last.word (option_map literal_use last.target) last.trap
-            (shape_of frame.now _info.now inst.now)) }
+        (shape_of frame.now _info.now inst.now)) }
 {
     let access = inst.access_ref()?;
     // The word of a literal is made from where the register stands. The other modes get a copy of it.

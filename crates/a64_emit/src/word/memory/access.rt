@@ -113,9 +113,7 @@ pub fn held_word(op: AccessOp, rt: Reg, mode: &AMode) -> u32
         AMode::UnsignedOffset { rn, uimm12 } => unsigned_word(op, rt, rn, uimm12),
         AMode::RegReg { rn, rm } => indexed_word(op, rt, rn, rm, ExtendOp::UXTX, false),
         AMode::RegScaled { rn, rm } => indexed_word(op, rt, rn, rm, ExtendOp::UXTX, true),
-        AMode::RegExtended { rn, rm, extendop } => {
-            indexed_word(op, rt, rn, rm, extendop, false)
-        }
+        AMode::RegExtended { rn, rm, extendop } => { indexed_word(op, rt, rn, rm, extendop, false) }
         AMode::RegScaledExtended { rn, rm, extendop } => {
             indexed_word(op, rt, rn, rm, extendop, true)
         }
