@@ -175,17 +175,17 @@ module _ (test : ℕ → Bool) (b : Buffer LabelUse) (l : ℕ) where
       )
 
 module _ (force : ForceVeneers) (test : ℕ → Bool) where
-  ask_alive : (x : ℕ) (f g : ForceVeneers) (m b' : Buffer LabelUse) → Asks x f g m b' → owed_to label_kinds test b' ≤ owed_to label_kinds test m
+  ask_alive : {jump : Bool} (x : ℕ) (f g : ForceVeneers) (m b' : Buffer LabelUse) → Asks x f g jump m b' → owed_to label_kinds test b' ≤ owed_to label_kinds test m
   ask_alive x f g m b' a = elim a.outcome [ inl w ↦ w.island.owed_to test | inr l ↦ subst (λ v. owed_to label_kinds test v ≤ owed_to label_kinds test m) (sym l.same) (omega arith) ]
 
-  words_alive : (cells : List Cell) (rest : List Element) (b b' : Buffer LabelUse) → PutsWords force cells rest b b' → owed_to label_kinds test b' ≤ owed_to label_kinds test b + 28 * count_by (is_alive test []) (sites_of cells)
-  words_alive [] rest b b' p = subst (λ v. owed_to label_kinds test v ≤ owed_to label_kinds test b + 28 * 0) (sym p) (omega arith)
-  words_alive (c ∷ cs) rest b b' p = next (next_room rest) p
+  words_alive : (goes_on : Bool) (cells : List Cell) (rest : List Element) (b b' : Buffer LabelUse) → PutsWords force goes_on cells rest b b' → owed_to label_kinds test b' ≤ owed_to label_kinds test b + 28 * count_by (is_alive test []) (sites_of cells)
+  words_alive goes_on [] rest b b' p = subst (λ v. owed_to label_kinds test v ≤ owed_to label_kinds test b + 28 * 0) (sym p) (omega arith)
+  words_alive goes_on (c ∷ cs) rest b b' p = next (next_room rest) p
     where
       middle : owed_to label_kinds test (appended b (c ∷ cs)) ≤ owed_to label_kinds test b + 28 * count_by (is_alive test []) (sites_of (c ∷ cs))
       middle = omega (arith, sum_by-append (weigh_label label_kinds test) b.uses (uses_from b.labels (end_of b) (c ∷ cs)), owed_made test b.labels (end_of b) (c ∷ cs))
 
-      next : (o : Option ℕ) → AsksNext force o (appended b (c ∷ cs)) b' → owed_to label_kinds test b' ≤ owed_to label_kinds test b + 28 * count_by (is_alive test []) (sites_of (c ∷ cs))
+      next : (o : Option ℕ) → AsksNext force goes_on o (appended b (c ∷ cs)) b' → owed_to label_kinds test b' ≤ owed_to label_kinds test b + 28 * count_by (is_alive test []) (sites_of (c ∷ cs))
       next None e = subst (λ v. owed_to label_kinds test v ≤ owed_to label_kinds test b + 28 * count_by (is_alive test []) (sites_of (c ∷ cs))) (sym e) middle
       next (Some x) a = omega (arith, middle, ask_alive x No force (appended b (c ∷ cs)) b' a)
 
@@ -195,7 +195,7 @@ module _ (force : ForceVeneers) (test : ℕ → Bool) where
   pub alive_step : (xs : List Element) (x : Element) (rest : List Element) (b b' : Buffer LabelUse) → IsWhole label_kinds b → ((test : ℕ → Bool) → owed_to label_kinds test b ≤ 28 * alive test xs) → Moves force x rest b b' → owed_to label_kinds test b' ≤ 28 * alive test (xs ++ x ∷ [])
   alive_step xs (Binding l) rest b b' whole h p =
       omega (arith, ap (owed_to label_kinds test) p, closed_owed_all test b l b.uses (λ k d w. (whole.sound.placed k d w).inside) whole.sound.kinded (λ k d w o. let z = whole.fits.rooms k d w o in omega (arith, z)), h (λ n. test n && not (nat_eq l n)), alive_push test xs (Binding l))
-  alive_step xs (Words cells) rest b b' whole h p =
-      omega (arith, words_alive cells rest b b' p, h test, alive_mono test (λ n. test n && true) (λ n. and_true (test n)) xs, alive_push test xs (Words cells))
+  alive_step xs (Words goes_on cells) rest b b' whole h p =
+      omega (arith, words_alive goes_on cells rest b b' p, h test, alive_mono test (λ n. test n && true) (λ n. and_true (test n)) xs, alive_push test xs (Words goes_on cells))
   alive_step xs (Asking space) rest b b' whole h p =
       omega (arith, ask_alive space force force b b' p, h test, alive_mono test (λ n. test n && true) (λ n. and_true (test n)) xs, alive_push test xs (Asking space))

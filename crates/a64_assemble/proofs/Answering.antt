@@ -1,11 +1,10 @@
 -- Whatever stops in an island or in the pool of finished code stops by a piece of it, or at its label's place.
-use Rattle.std.proofs.Common.{ℕ, ◌≡◌, ◌⊎◌, ◌<◌, ◌≤◌, true, List, [], ◌∷◌, ◌++◌, length, get_or, map, take, Option, None, Some, refl, sym, ap, ◌∙◌, subst, arith, inl, inr}
+use Rattle.std.proofs.Common.{ℕ, ◌≡◌, ◌⊎◌, ◌<◌, ◌≤◌, true, List, [], ◌∷◌, ◌++◌, length, get_or, map, take, Option, None, Some, refl, sym, ap, ◌∙◌, subst, arith, inl, inr, Bool}
 use Rattle.std.specs.Prelude.{All, Any, Contains, IfSome, IsSome, ◌&&◌, is_none}
-use Rattle.std.specs.List.{flat_map}
 use Rattle.std.specs.Ordering.{nat_cmp}
 use Rattle.std.specs.FinMap.{FinMap}
-use Rattle.std.proofs.lemmas.Bool.{cases_lt, cases_eq, false≢true}
-use Rattle.std.proofs.lemmas.List.{length-append, length-map, get_or-map, get_or_append_left, get_or_push, get_or_default}
+use Rattle.std.proofs.lemmas.Bool.{cases_lt, false≢true}
+use Rattle.std.proofs.lemmas.List.{length-map, get_or-map, get_or_append_left, get_or_default}
 use Rattle.a64_inst.specs.declared.emission.EmitFlags.{EmitFlags}
 use Rattle.a64_inst.specs.declared.frame.FrameLayout.{FrameLayout}
 use Rattle.a64_inst.specs.declared.item.Item.{Item}
@@ -23,6 +22,7 @@ use Rattle.a64_buffer.specs.Later.{IsSameUse, IsLater}
 use Rattle.a64_buffer.specs.Pieces as pieces
 use Rattle.a64_buffer.specs.Pieces.{IsAnswered, IsServed, StopsWith, StopsAtPiece}
 use Rattle.a64_buffer.proofs.Emitting.{stops_below}
+use Rattle.a64_buffer.proofs.Islands.{begun_end}
 use Rattle.a64_buffer.proofs.Laters.{later_trans}
 use Rattle.a64_emit.specs.declared.code.Code.{Code}
 use Rattle.a64_label_use.specs.declared.label_use.LabelUse.{LabelUse}
@@ -33,7 +33,7 @@ use Rattle.a64_emit.specs.Layout.{standing}
 use Rattle.a64_emit.specs.Emission.{site_of}
 use Rattle.a64_emit.specs.Contents.{IsCellUse, site_class}
 use Rattle.a64_emit.specs.Leads.{StopsAt}
-use Rattle.a64_assemble.specs.Elements.{Element, Asking, cells_in, element_of, elements_of, element_at}
+use Rattle.a64_assemble.specs.Elements.{Element, Asking, cells_in, element_of, elements_of, element_at, falls_in}
 use Rattle.a64_assemble.specs.OpenUses.{WasAsked}
 use Rattle.a64_assemble.specs.Progress.{HasPut}
 use Rattle.a64_assemble.specs.Owners.{IsGivenJump, AreOwned}
@@ -41,8 +41,11 @@ use Rattle.a64_assemble.specs.OwnStops.{AllStopAhead}
 use Rattle.a64_assemble.specs.Fillings.{StopsBetween, StopsBy}
 use Rattle.a64_assemble.proofs.Arrivals.{no_use, IsOutput, old_site}
 use Rattle.a64_assemble.proofs.Areas.{stops_from, IsWritten, FinalServed, final_served}
+use Rattle.a64_assemble.proofs.Fronts.{over_stays}
 use Rattle.a64_assemble.proofs.Needing.{some_same}
-use Rattle.a64_assemble.proofs.Placing.{cell_lists, word_outside, whole_behind, cell_in, label_at, says_stop, stop_said, IsFinalUse, wanting_final}
+use Rattle.a64_assemble.proofs.Itemized.{cell_lists}
+use Rattle.a64_assemble.proofs.Stationed.{word_outside, whole_behind}
+use Rattle.a64_assemble.proofs.Placing.{cell_in, label_at, says_stop, stop_said, IsFinalUse, wanting_final}
 use Rattle.a64_assemble.proofs.Rising.{standing_in}
 use Rattle.a64_assemble.proofs.StopsAhead.{goal_stays}
 
@@ -54,24 +57,11 @@ by_served constants place served all v (i, u, within, at, with') stop e =
     stops_from constants place served all i u within stop (ap (λ (x : Use LabelUse). x.stop) at ∙ (same ∙ e))
 
 -- what is made with an island stops by its pieces, or at its label's place
-module _ {distance : ℕ} {force : ForceVeneers} (m b' : Buffer LabelUse) (has : HasIsland label_kinds distance force true m b') where
-  -- the jump over the island stays one
-  over_stays : (k : ℕ) (d : Use LabelUse) → k ≡ length m.uses → k < length b'.uses → (get_or b'.uses k d).target ≡ IslandEnd
-  over_stays k d e h =
-      let begun : List (Use LabelUse) = m.uses ++ pieces.over_use label_kinds (end_of m) ∷ [] in
-      let more : List (ℕ × Target × LabelUse) = flat_map (pieces.piece_sites label_kinds m.constants) (pieces.pieces label_kinds m.constants (end_of (pieces.begun label_kinds true m)) has.served) in
-      let inside : k < length begun = omega (arith, e, length-append m.uses (pieces.over_use label_kinds (end_of m) ∷ [])) in
-      ap (λ (t : ℕ × Target × LabelUse). t.1)
-      (sym (get_or-map pieces.site_of b'.uses k d (pieces.site_of d) h)
-      ∙ (ap (λ ss. get_or ss k (pieces.site_of d)) has.serves.uses_are
-      ∙ (get_or_append_left (map pieces.site_of begun) more (pieces.site_of d) k (omega (arith, inside, length-map begun (pieces.site_of {K = LabelUse})))
-      ∙ (get_or-map pieces.site_of begun k d (pieces.site_of d) inside
-      ∙ ap pieces.site_of (get_or_push m.uses (pieces.over_use label_kinds (end_of m)) d k (sym e))))))
-
+module _ {distance : ℕ} {force : ForceVeneers} {jump : Bool} (m b' : Buffer LabelUse) (has : HasIsland label_kinds distance force jump m b') where
   pub island_answered : (k : ℕ) (d : Use LabelUse) → length m.uses ≤ k → k < length b'.uses → wants (class label_kinds (get_or b'.uses k d)) ≡ true → IsAnswered m.labels has.served (get_or b'.uses k d)
-  island_answered k d low high want = elim (cases_eq k (length m.uses)) [
-    | inl first ↦ absurd (false≢true (sym (ap (λ t. wants (class_of label_kinds t (get_or b'.uses k d).kind)) (over_stays k d first high)) ∙ want))
-    | inr ne ↦ has.serves.new_answered k d (omega (arith, low, ne, length-append m.uses (pieces.over_use label_kinds (end_of m) ∷ []))) high
+  island_answered k d low high want = elim (cases_lt k (length (pieces.begun label_kinds jump m).uses)) [
+    | inl first ↦ absurd (false≢true (sym (ap (λ (t : ℕ × Target × LabelUse). wants (class_of label_kinds t.1 t.2)) (over_stays m b' has k d low first high)) ∙ want))
+    | inr behind ↦ has.serves.new_answered k d behind high
   ]
 
 module _ (frame : FrameLayout) (flags : EmitFlags) (items : List Item) (force : ForceVeneers) (b : Buffer LabelUse) (code : Finished) (f : IsFinished label_kinds b code) (out : Code) (o : IsOutput code out) (h : HasPut force (elements_of frame flags items) (length (elements_of frame flags items)) out.places.items b) (owned : AreOwned (elements_of frame flags items) (length (elements_of frame flags items)) out.places.items b) where
@@ -161,7 +151,7 @@ module _ (frame : FrameLayout) (flags : EmitFlags) (items : List Item) (force : 
           low : length z.moment.uses ≤ k
           low = elim (cases_lt k (length z.moment.uses)) [
             | inr ge ↦ ge
-            | inl lt ↦ absurd (let x = (z.whole.sound.placed k no_use lt).inside in let y = j.behind in omega (arith, x, y, (since_moment.uses k no_use lt).offset, z.at, ap (λ (i : ℕ × ℕ). i.0) host_is))
+            | inl lt ↦ absurd (let x = (z.whole.sound.placed k no_use lt).inside in let y = j.from in omega (arith, x, y, (since_moment.uses k no_use lt).offset, z.at, ap (λ (i : ℕ × ℕ). i.0) host_is))
           ]
 
           high : k < length z.written.uses
@@ -177,7 +167,7 @@ module _ (frame : FrameLayout) (flags : EmitFlags) (items : List Item) (force : 
           want_there = ap (λ t. wants (class_of label_kinds t (get_or z.written.uses k no_use).kind)) (sym same.target) ∙ (ap (λ q. wants (class_of label_kinds (use_at k).target q)) (sym same.kind) ∙ want)
 
           told : (g : Option ℕ) → (get_or z.written.uses k no_use).stop ≡ g → Behind k stop
-          told None e = inl (let x = same.later stop e stop_is in let y = j.before in let w = j.behind in omega (arith, x, y, w, far, z.ends, ap (λ (i : ℕ × ℕ). i.1) host_is))
+          told None e = inl (let x = same.later stop e stop_is in let y = j.before in let w = j.from in omega (arith, x, y, w, far, z.ends, ap (λ (i : ℕ × ℕ). i.1) host_is))
           told (Some t) e =
               let one : t ≡ stop = some_same (sym (same.kept t e) ∙ stop_is) in
               elim (island_answered z.moment z.written z.has k no_use low high want_there) [
@@ -185,8 +175,9 @@ module _ (frame : FrameLayout) (flags : EmitFlags) (items : List Item) (force : 
                     let there : goal_of z.moment.labels (get_or z.written.uses k no_use).target ≡ Some t = subst (λ g. IfSome g (λ s. goal_of z.moment.labels (get_or z.written.uses k no_use).target ≡ Some s)) e goal in
                     inr (goal_stays z.moment b since_moment (use_at k).target stop (subst (λ x. goal_of z.moment.labels x ≡ Some stop) (sym same.target) (there ∙ ap (λ n. Some n) one)))
                 | inr piece ↦
-                    let x = by_served z.moment.constants (end_of (pieces.begun label_kinds true z.moment)) z.has.served z.has.serves.stops (get_or z.written.uses k no_use) piece t e in
-                    inl (omega (arith, x, one, far, z.at, ap (λ (i : ℕ × ℕ). i.0) host_is, length-append z.moment.words (0x14000000 ∷ [])))
+                    let jump : Bool = falls_in (element_at (elements_of frame flags items) z.after) in
+                    let x = by_served z.moment.constants (end_of (pieces.begun label_kinds jump z.moment)) z.has.served z.has.serves.stops (get_or z.written.uses k no_use) piece t e in
+                    inl (omega (arith, x, one, far, z.at, ap (λ (i : ℕ × ℕ). i.0) host_is, begun_end label_kinds jump z.moment))
               ]
 
       pub use_behind : (k stop : ℕ) → k < length f.final.uses → wants (class label_kinds (use_at k)) ≡ true → island.1 ≤ (use_at k).offset → (use_at k).stop ≡ Some stop → Behind k stop

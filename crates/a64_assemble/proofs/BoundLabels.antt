@@ -66,12 +66,12 @@ unbound_yet xs k places b once within h (Binding l) is = none (get b.labels l) r
     none : (o : Option ℕ) → get b.labels l ≡ o → o ≡ None
     none None e = refl
     none (Some p) e = let z = h.only l p e in absurd (omega (arith, z.1, once z.0 k l (omega (arith, z.1)) within z.2 is))
-unbound_yet xs k places b once within h (Words cells) is = tt
+unbound_yet xs k places b once within h (Words goes_on cells) is = tt
 unbound_yet xs k places b once within h (Asking space) is = tt
 
 pub labels_step : (force : ForceVeneers) (xs : List Element) (k : ℕ) (places : List ℕ) (b b' : Buffer LabelUse) → length places ≡ k → AreBoundOnce xs → k < length xs → HasLabels xs k places b.labels → (x : Element) (rest : List Element) → element_at xs k ≡ x → Moves force x rest b b' → HasLabels xs (k + 1) (places ++ end_of b ∷ []) b'.labels
 labels_step force xs k places b b' count once within h (Binding l) rest is p = subst (HasLabels xs (k + 1) (places ++ end_of b ∷ [])) (sym (move_labels force (Binding l) rest b b' p)) (labels_bind xs k places (end_of b) count b.labels l once within h is)
-labels_step force xs k places b b' count once within h (Words cells) rest is p = subst (HasLabels xs (k + 1) (places ++ end_of b ∷ [])) (sym (move_labels force (Words cells) rest b b' p)) (labels_other xs k places (end_of b) count b.labels h (λ l e. let z : Words cells ≡ Binding l = sym is ∙ e in cc))
+labels_step force xs k places b b' count once within h (Words goes_on cells) rest is p = subst (HasLabels xs (k + 1) (places ++ end_of b ∷ [])) (sym (move_labels force (Words goes_on cells) rest b b' p)) (labels_other xs k places (end_of b) count b.labels h (λ l e. let z : Words goes_on cells ≡ Binding l = sym is ∙ e in cc))
 labels_step force xs k places b b' count once within h (Asking space) rest is p = subst (HasLabels xs (k + 1) (places ++ end_of b ∷ [])) (sym (move_labels force (Asking space) rest b b' p)) (labels_other xs k places (end_of b) count b.labels h (λ l e. let z : Asking space ≡ Binding l = sym is ∙ e in cc))
 
 -- ---- labels that some of the elements bind
@@ -82,7 +82,7 @@ or_cases false b e = inr e
 
 binds_is : (x : Element) (n : ℕ) → binds_number n x ≡ true → x ≡ Binding n
 binds_is (Binding l) n e = ap (λ n. Binding n) (eqb-true l n e)
-binds_is (Words cells) n e = absurd (false≢true e)
+binds_is (Words goes_on cells) n e = absurd (false≢true e)
 binds_is (Asking space) n e = absurd (false≢true e)
 
 pub bound_by_is : (xs : List Element) (n : ℕ) → is_bound_by xs n ≡ true → (i : ℕ) × (i < length xs) × (element_at xs i ≡ Binding n)

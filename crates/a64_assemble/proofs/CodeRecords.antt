@@ -35,7 +35,7 @@ use Rattle.a64_assemble.specs.Owners.{AreOwned}
 use Rattle.a64_assemble.specs.CellRecords.{AreRecorded}
 use Rattle.a64_assemble.specs.TrapRecords.{IsStoppedTrap, HasTraps}
 use Rattle.a64_assemble.proofs.Leading.{standing_targets, trap_kind, code_no_end, all_put}
-use Rattle.a64_assemble.proofs.Placing.{all_cells_are}
+use Rattle.a64_assemble.proofs.Itemized.{all_cells_are}
 use Rattle.a64_assemble.proofs.Recording.{served_traps}
 
 module _ (frame : FrameLayout) (flags : EmitFlags) (items : List Item) (force : ForceVeneers) (b : Buffer LabelUse) (code : Finished) (f : IsFinished label_kinds b code) (out : Code) (o : IsOutput code out) (h : HasPut force (elements_of frame flags items) (length (elements_of frame flags items)) out.places.items b) (owned : AreOwned (elements_of frame flags items) (length (elements_of frame flags items)) out.places.items b) (recorded : AreRecorded (elements_of frame flags items) (length (elements_of frame flags items)) out.places.items b) where

@@ -37,6 +37,7 @@ use Rattle.a64_assemble.specs.Elements.{Words, Asking, element_of, elements_of, 
 use Rattle.a64_emit.proofs.CallSites.{calls_sites}
 use Rattle.a64_emit.proofs.Several.{several_sites, address_sites}
 use Rattle.a64_emit.proofs.TableUses.{table_jump_sites}
+use Rattle.a64_emit.specs.Falls.{inst_falls}
 use Rattle.a64_rows.specs.Forms.{Form}
 
 -- a use of cells that is compact
@@ -123,7 +124,7 @@ module _ (frame : FrameLayout) (flags : EmitFlags) where
   element_compact (Bind label) = no_sites []
   element_compact (Emit inst kept) = go (asked_of inst)
     where
-      go : (o : Option ℕ) → IsCompact (elim o [ None ↦ Words (kept_cells frame flags inst kept) | Some space ↦ Asking space ])
+      go : (o : Option ℕ) → IsCompact (elim o [ None ↦ Words (inst_falls inst) (kept_cells frame flags inst kept) | Some space ↦ Asking space ])
       go None = kept_compact (kept_by inst kept) (inst_cells frame flags inst) (inst_compact inst)
       go (Some space) = no_sites []
 

@@ -1,11 +1,11 @@
 -- The islands and the pool of finished code hold what uses wait for, and nothing else.
-use Rattle.std.proofs.Common.{ℕ, ◌≡◌, ◌⊎◌, ◌+◌, ◌-◌, ◌*◌, ◌/◌, ◌%◌, ◌<◌, ◌≤◌, suc, zero, true, false, List, [], ◌∷◌, ◌++◌, length, get_or, map, take, Option, None, Some, refl, sym, ap, ◌∙◌, subst, arith, inl, inr}
+use Rattle.std.proofs.Common.{ℕ, ◌≡◌, ◌⊎◌, ◌+◌, ◌-◌, ◌*◌, ◌/◌, ◌<◌, ◌≤◌, true, false, List, [], ◌∷◌, ◌++◌, length, get_or, map, take, Option, None, Some, refl, sym, ap, ◌∙◌, subst, arith, inl, inr, Bool}
 use Rattle.std.specs.Prelude.{All, Contains, IfSome, IsSome, MatchOption, ◌&&◌, nat_le, slice_get}
 use Rattle.std.specs.List.{flat_map}
 use Rattle.std.specs.FinMap.{get}
 use Rattle.std.proofs.lemmas.Bool.{cases_lt, false≢true, le-leb}
-use Rattle.std.proofs.lemmas.List.{length-append, length-map, length-take-le, get_or-map, get_or-take, get_or_append_left, get_or-append-add, get_or_default}
-use Rattle.std.proofs.lemmas.List.Elements.{All-append, All-same}
+use Rattle.std.proofs.lemmas.List.{length-append, length-map, length-take-le, get_or-map, get_or-take, get_or-append-add, get_or_default}
+use Rattle.std.proofs.lemmas.List.Elements.{All-same}
 use Rattle.std.proofs.lemmas.Option.{slice_get-get_or, slice_get_within}
 use Rattle.a64_base.specs.declared.entity.MachLabel.{MachLabel}
 use Rattle.a64_inst.specs.declared.emission.EmitFlags.{EmitFlags}
@@ -26,7 +26,7 @@ use Rattle.a64_buffer.specs.Islands.{IsNewUse}
 use Rattle.a64_buffer.specs.Kinds.{IsWithin}
 use Rattle.a64_buffer.specs.Later.{IsLater}
 use Rattle.a64_buffer.specs.Pieces as pieces
-use Rattle.a64_buffer.specs.Pieces.{Serves, IsServed}
+use Rattle.a64_buffer.specs.Pieces.{Serves, IsServed, front_size}
 use Rattle.a64_buffer.specs.Sound.{IsStop, IsRightlyOpen}
 use Rattle.a64_buffer.specs.Finished.{IsFinished}
 use Rattle.a64_buffer.proofs.Emitting.{stops_below}
@@ -42,7 +42,7 @@ use Rattle.a64_emit.specs.Emission.{site_of}
 use Rattle.a64_emit.specs.Contents.{IsCellUse, IsFarOff}
 use Rattle.a64_emit.specs.Leads.{areas, StopsAt}
 use Rattle.a64_assemble.proofs.Arrivals.{no_use, IsOutput, old_site, use_settled, end_is, pool_is}
-use Rattle.a64_assemble.specs.Elements.{Element, Binding, Asking, cells_in, element_of, elements_of, element_at}
+use Rattle.a64_assemble.specs.Elements.{Element, Binding, Asking, cells_in, element_of, elements_of, element_at, falls_in, is_bound_by}
 use Rattle.a64_assemble.specs.OpenUses.{WasAsked}
 use Rattle.a64_assemble.specs.Progress.{HasPut}
 use Rattle.a64_assemble.specs.Owners.{AreOwned}
@@ -52,11 +52,15 @@ use Rattle.a64_assemble.specs.Fillings.{IsLateOrFar, HoldsPieces, IsFilledIsland
 use Rattle.a64_assemble.proofs.Areas.{stops_from, IsWritten, FinalServed, final_served, old_wanting, holds_pieces}
 use Rattle.a64_assemble.proofs.Answering.{island_answered, use_behind, answers}
 use Rattle.a64_assemble.proofs.BoundLabels.{bound_at}
-use Rattle.a64_assemble.proofs.Itemized.{binding_item}
+use Rattle.a64_assemble.proofs.Itemized.{all_cells_are, binding_item}
 use Rattle.a64_assemble.proofs.Islanded.{island_after}
 use Rattle.a64_assemble.proofs.Needing.{some_same}
 use Rattle.a64_assemble.proofs.Owners.{IsPieceJump, piece_jump, short_kind}
-use Rattle.a64_assemble.proofs.Placing.{all_cells_are, label_is, says_stop, not_inside}
+use Rattle.a64_assemble.proofs.Placing.{label_is, says_stop}
+use Rattle.a64_assemble.proofs.Fronts.{given_use, falls_is}
+use Rattle.a64_assemble.proofs.Opens.{some_place}
+use Rattle.a64_buffer.proofs.Islands.{begun_end, begun_old, begun_new, begun_jumps}
+use Rattle.a64_emit.specs.Falls.{falls_at}
 
 pub no_constant : (t : Target) → IsSome (label_of t) → IsSome (pieces.constant_of t) → ⊥
 no_constant (Label l) s c = false≢true c
@@ -194,8 +198,8 @@ module _ (frame : FrameLayout) (flags : EmitFlags) (items : List Item) (force : 
           short = kinds.1;
           use' = subst (λ t. IsCellUse cells ((use_at q.index).offset, record { kind = (use_at q.index).kind; target = t })) target (short_cell q.index q.within short);
           stops = says_stop frame flags items force b code f out o h owned q.index q.within want_user (use_at k).offset stop;
-          not_over = λ island listed begins says.
-              let known : Contains b.islands island = subst (λ is. Contains is island) (o.islands ∙ f.islands) listed in
+          not_over = λ island after there falls begins.
+              let known : Contains b.islands island = subst (λ is. Contains is island) (o.islands ∙ f.islands) there.listed in
               let below : island.1 ≤ end_of b = subst (λ (i : ℕ × ℕ). i.1 ≤ end_of b) known.2 (h.laid.below known.0 island known.1) in
               let tall : island.0 + 4 ≤ island.1 = subst (λ (i : ℕ × ℕ). i.0 + 4 ≤ i.1) known.2 (h.laid.once known.0 island known.1).stands.long in
               omega (arith, below, tall, begins, j.place_is);
@@ -253,8 +257,11 @@ module _ (frame : FrameLayout) (flags : EmitFlags) (items : List Item) (force : 
     abbrev m : Buffer LabelUse
     m = z.moment
 
+    abbrev front : Bool
+    front = falls_in (element_at (elements_of frame flags items) z.after)
+
     abbrev begun_m : Buffer LabelUse
-    begun_m = pieces.begun label_kinds true z.moment
+    begun_m = pieces.begun label_kinds front z.moment
 
     since_moment : IsLater m b
     since_moment = later_trans m z.written b z.has.later z.since
@@ -265,8 +272,8 @@ module _ (frame : FrameLayout) (flags : EmitFlags) (items : List Item) (force : 
       | inr veneer ↦ no_constant v.target veneer.labelled c
     ]
 
-    begun_end : end_of begun_m ≡ end_of m + 4
-    begun_end = omega (arith, length-append m.words (0x14000000 ∷ []))
+    begun_long : end_of begun_m ≡ end_of m + front_size front
+    begun_long = begun_end label_kinds front m
 
     pub island_written : IsWritten b.constants m begun_m z.written f.final z.has.served
     island_written = record {
@@ -274,12 +281,13 @@ module _ (frame : FrameLayout) (flags : EmitFlags) (items : List Item) (force : 
       known = later_trans m b f.final since_moment f.later;
       later = later_trans z.written b f.final z.since f.later;
       sound = z.whole.sound;
-      count = omega (arith, length-append m.uses (pieces.over_use label_kinds (end_of m) ∷ []));
-      started = λ k d lt. get_or_append_left m.uses (pieces.over_use label_kinds (end_of m) ∷ []) d k lt;
-      low = All-append (λ (u : Use LabelUse). u.offset < end_of begun_m) m.uses (pieces.over_use label_kinds (end_of m) ∷ [])
-          (λ k d lt. let x = (z.whole.sound.placed k d lt).inside in omega (arith, x, begun_end))
-          (λ k d lt. one k d lt);
-      new = λ k d ge lt c. new_use (get_or z.written.uses k d) (z.has.given k d ge lt) c;
+      count = omega (arith, length-append m.uses (pieces.front_uses label_kinds front (end_of m)));
+      started = λ k d lt. begun_old label_kinds front m k d lt;
+      low = λ k d lt. elim (cases_lt k (length m.uses)) [
+        | inl old ↦ (let x = (z.whole.sound.placed k d old).inside in omega (arith, x, begun_long, ap (λ (u : Use LabelUse). u.offset) (begun_old label_kinds front m k d old)))
+        | inr new ↦ (let jumps = begun_jumps label_kinds front m k new lt in omega (arith, begun_long, ap front_size jumps, ap (λ (u : Use LabelUse). u.offset) (begun_new label_kinds front m k d new lt)))
+      ];
+      new = λ k d ge lt c. new_use (get_or z.written.uses k d) (given_use front m (get_or z.written.uses k d) (z.has.given k d ge lt)) c;
       made = λ k d ge lt want. island_answered m z.written z.has k d ge lt want;
       behind = λ k stop ge lt want e.
           let fresh = (later_trans z.written b f.final z.since f.later).fresh k no_use ge lt in
@@ -288,10 +296,6 @@ module _ (frame : FrameLayout) (flags : EmitFlags) (items : List Item) (force : 
             | inr goal ↦ inr (subst (λ labels. goal_of labels (use_at k).target ≡ Some stop) (sym f.labels_kept) goal)
           ];
     }
-      where
-        one : (k : ℕ) (d : Use LabelUse) → k < 1 → (get_or (pieces.over_use label_kinds (end_of m) ∷ []) k d).offset < end_of begun_m
-        one zero d lt = omega (arith, begun_end)
-        one (suc k) d lt = absurd (omega (arith, lt))
 
     served_old : (u : Use LabelUse) (q : IsServed label_kinds m.labels begun_m z.written u) → q.index < length b.uses
     served_old u q = omega (arith, q.within, z.since.count)
@@ -343,28 +347,44 @@ module _ (frame : FrameLayout) (flags : EmitFlags) (items : List Item) (force : 
         want : wants (class label_kinds (use_at s.index)) ≡ true
         want = ap (λ (t : ℕ × Site). wants (class_of label_kinds t.1.target t.1.kind)) s.is ∙ q.wants_one
 
-        low : (stop : ℕ) → u.stop ≡ Some stop → island.0 < stop
-        low stop e = let x = stops_from m.constants (end_of begun_m) z.has.served z.has.serves.stops k no_use l stop e in omega (arith, x, begun_end, z.at)
+        low : (stop : ℕ) → u.stop ≡ Some stop → island.0 ≤ stop
+        low stop e = let x = stops_from m.constants (end_of begun_m) z.has.served z.has.serves.stops k no_use l stop e in omega (arith, x, begun_long, z.at)
 
-        no_label : (label : ℕ) (stop : ℕ) → get m.labels label ≡ Some stop → island.0 < stop → ⊥
-        no_label label stop e less =
-            let x : (stop % 4 ≡ 0) × (stop ≤ end_of m) = subst (λ g. IfSome g (λ place. (place % 4 ≡ 0) × (place ≤ end_of m))) e (z.whole.sound.bound label) in
-            omega (arith, x.1, less, z.at)
+        -- where its label was bound by then, it does not reach that
+        not_at_label : (stop : ℕ) → u.stop ≡ Some stop → goal_of m.labels u.target ≡ Some stop → ⊥
+        not_at_label stop e goal =
+            let stopped = subst (λ (v : Use LabelUse). MatchOption v.stop (IsRightlyOpen label_kinds z.written z.written.islands v.target v.kind v.offset) (IsStop label_kinds z.written z.written.islands v.target v.kind v.offset)) (q.is no_use) (z.has.whole.sound.stops q.index no_use q.within) in
+            let there : IsStop label_kinds z.written z.written.islands u.target u.kind u.offset stop = subst (λ g. MatchOption g (IsRightlyOpen label_kinds z.written z.written.islands u.target u.kind u.offset) (IsStop label_kinds z.written z.written.islands u.target u.kind u.offset)) e stopped in
+            let far : is_within label_kinds u.kind u.offset stop ≡ false = subst (λ g. IfSome g (λ place. is_within label_kinds u.kind u.offset place ≡ false)) goal q.far_off in
+            false≢true (sym far ∙ reaches u.kind u.offset stop there.within)
 
         inside : (stop : ℕ) → u.stop ≡ Some stop → stop < island.1
-        inside stop e = within u.target q.wants_one (subst (λ g. IfSome g (λ x. (x < end_of z.written) ⊎ (goal_of z.written.labels u.target ≡ Some x) ⊎ (u.target ≡ IslandEnd))) e
-            (subst (λ (v : Use LabelUse). IfSome v.stop (λ x. (x < end_of z.written) ⊎ (goal_of z.written.labels v.target ≡ Some x) ⊎ (v.target ≡ IslandEnd))) (q.is no_use) (stops_below label_kinds z.written z.written.islands z.has.whole.sound q.index no_use q.within)))
-          where
-            below : stop < end_of z.written → stop < island.1
-            below lt = omega (arith, lt, z.ends)
+        inside stop e =
+            let settled = subst (λ (v : Use LabelUse). IfSome v.stop (λ x. (x < end_of z.written) ⊎ (goal_of z.written.labels v.target ≡ Some x) ⊎ (v.target ≡ IslandEnd))) (q.is no_use) (stops_below label_kinds z.written z.written.islands z.has.whole.sound q.index no_use q.within) in
+            elim (subst (λ g. IfSome g (λ x. (x < end_of z.written) ⊎ (goal_of z.written.labels u.target ≡ Some x) ⊎ (u.target ≡ IslandEnd))) e settled) [
+              | inl lt ↦ omega (arith, lt, z.ends)
+              | inr more ↦ elim more [
+                | inl goal ↦ absurd (not_at_label stop e (subst (λ labels. goal_of labels u.target ≡ Some stop) z.has.labels goal))
+                | inr end ↦ absurd (false≢true (sym (ap (λ t. wants (class_of label_kinds t u.kind)) end) ∙ q.wants_one))
+              ]
+            ]
 
-            within : (t : Target) → wants (class_of label_kinds t u.kind) ≡ true → (stop < end_of z.written) ⊎ (goal_of z.written.labels t ≡ Some stop) ⊎ (t ≡ IslandEnd) → stop < island.1
-            within t w (inl lt) = below lt
-            within (Label label) w (inr (inl goal)) = absurd (no_label label.0 stop (ap (λ labels. get labels label.0) (sym z.has.labels) ∙ goal) (low stop e))
-            within (Constant n) w (inr (inl goal)) = absurd cc
-            within (Trap x) w (inr (inl goal)) = absurd cc
-            within IslandEnd w (inr (inl goal)) = absurd (false≢true w)
-            within t w (inr (inr end)) = absurd (false≢true (sym (ap (λ t. wants (class_of label_kinds t u.kind)) end) ∙ w))
+        -- nor does it stop at its label's place, if that was bound by then
+        bound_goal : (label : MachLabel) (i stop : ℕ) → u.target ≡ Label label → i ≤ z.after → slice_get items i ≡ Some (Bind label) → slice_get out.places.items i ≡ Some stop → goal_of m.labels u.target ≡ Some stop
+        bound_goal label i stop target early item place =
+            let d : Item = Bind label in
+            let within = slice_get_within items i (Bind label) item in
+            let there : get_or items i d ≡ Bind label = some_same (sym (slice_get-get_or items i d within) ∙ item) in
+            let element : element_at xs i ≡ Binding label.0 = get_or-map (element_of frame flags) items i d (Asking 0) within ∙ ap (element_of frame flags) there in
+            let inside : i < length xs = omega (arith, within, length-map items (element_of frame flags)) in
+            let by : is_bound_by (take (z.after + 1) xs) label.0 ≡ true =
+            bound_at (take (z.after + 1) xs) i label.0 (omega (arith, early, length-take-le (z.after + 1) xs (omega (arith, z.within))))
+            (get_or-take (z.after + 1) xs i (Asking 0) (omega (arith, early)) ∙ element) in
+            let placed = slice_get_within out.places.items i stop place in
+            let here : get_or out.places.items i 0 ≡ stop = some_same (sym (slice_get-get_or out.places.items i 0 placed) ∙ place) in
+            let g = some_place (get m.labels label.0) (z.bound label.0 by) in
+            let same : g.0 ≡ stop = some_same (sym (since_moment.labels label.0 g.0 g.1) ∙ h.labels.bound i label.0 inside element) ∙ here in
+            ap (goal_of m.labels) target ∙ (g.1 ∙ ap (λ n. Some n) same)
 
         at : (g : Option ℕ) → u.stop ≡ g → IsSome g → IsOpenIn frame flags items out z.after island.0 island.1 (site_of u)
         at None e some = absurd (false≢true some)
@@ -376,14 +396,7 @@ module _ (frame : FrameLayout) (flags : EmitFlags) (items : List Item) (force : 
           stop = stop;
           stops = subst (λ (t : ℕ × Site). StopsAt out t.1.kind 0 t.0 stop) s.is (says_stop frame flags items force b code f out o h owned s.index s.within want stop (s.stop_kept stop e));
           from = let x = low stop e in omega (arith, x);
-          away = λ label i target early item place.
-              let count : length xs ≡ length items = length-map items (element_of frame flags) in
-              let placed = slice_get_within out.places.items i stop place in
-              let here : get_or out.places.items i 0 ≡ stop = some_same (sym (slice_get-get_or out.places.items i 0 placed) ∙ place) in
-              let station : get_or (out.places.items ++ end_of b ∷ []) i 0 ≡ get_or out.places.items i 0 = get_or_append_left out.places.items (end_of b ∷ []) 0 i placed in
-              let first = low stop e in
-              let last = inside stop e in
-              not_inside xs (length xs) out.places.items b.islands (end_of b) h.laid island listed i (omega (arith, placed, h.laid.each_placed)) (omega (arith, first, station, here)) (omega (arith, last, station, here));
+          away = λ label i target early item place. not_at_label stop e (bound_goal label i stop target early item place);
         }
 
     abbrev May : ℕ × Site → Type 0
@@ -398,8 +411,9 @@ module _ (frame : FrameLayout) (flags : EmitFlags) (items : List Item) (force : 
           stands = island_after frame flags items force b code f out o h z.after island z.within listed z.stands;
           holds =
               let begin : end_of m ≡ island.0 = z.at in
-              let start : end_of begun_m ≡ island.0 + 4 = omega (arith, begun_end, begin) in
-              subst (λ n. HoldsPieces frame flags items b.constants out n (island.0 + 4) island.1 May) begin
+              let falls : front ≡ falls_at items z.after = falls_is frame flags items z.after (omega (arith, inside, length-map items (element_of frame flags))) in
+              let start : end_of begun_m ≡ island.0 + front_size (falls_at items z.after) = omega (arith, begun_long, begin, ap front_size falls) in
+              subst (λ n. HoldsPieces frame flags items b.constants out n (island.0 + front_size (falls_at items z.after)) island.1 May) begin
               (subst (λ n. HoldsPieces frame flags items b.constants out (end_of m) n island.1 May) start
               (subst (λ n. HoldsPieces frame flags items b.constants out (end_of m) (end_of begun_m) n May) z.ends
               (holds_pieces frame flags items force b code f out o h owned are m begun_m z.written z.has.served island_written May

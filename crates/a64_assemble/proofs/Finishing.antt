@@ -1,8 +1,9 @@
 -- What the finished code of elements is: laid, short, and with islands only where they may stand.
-use Rattle.std.proofs.Common.{ℕ, ◌≡◌, ◌+◌, ◌<◌, ◌≤◌, true, List, [], ◌∷◌, ◌++◌, All, length, get_or, map, take, Option, None, Some, refl, sym, ap, ◌∙◌, subst, arith, inl, inr}
+use Rattle.std.proofs.Common.{ℕ, ◌≡◌, ◌+◌, ◌<◌, ◌≤◌, true, List, [], ◌∷◌, ◌++◌, All, length, get_or, map, take, Option, None, Some, refl, sym, ap, ◌∙◌, subst, arith, inl, inr, false}
 use Rattle.std.specs.Prelude.{Contains, IsSome, MatchOption}
+use Rattle.std.proofs.lemmas.Option.{same_Some}
 use Rattle.std.proofs.lemmas.Bool.{false≢true}
-use Rattle.std.proofs.lemmas.List.{get_or_append_left}
+use Rattle.std.proofs.lemmas.List.{get_or_append_left, get_or-take, length-take-le}
 use Rattle.std.proofs.lemmas.List.Elements.{All-same}
 use Rattle.a64_buffer.specs.declared.finish.Finished.{Finished}
 use Rattle.a64_buffer.specs.declared.force.ForceVeneers.{ForceVeneers}
@@ -18,19 +19,22 @@ use Rattle.a64_label_use.specs.declared.label_use.LabelUse.{LabelUse}
 use Rattle.a64_label_use.specs.LabelUses.{label_kinds}
 use Rattle.a64_emit.specs.Layout.{standing}
 use Rattle.a64_emit.specs.Emission.{IsPut}
-use Rattle.a64_assemble.specs.Elements.{Element, Binding, Words, Asking, cells_in, size_in, whole_in, is_asking, element_at}
+use Rattle.a64_assemble.specs.Elements.{Element, Binding, Words, Asking, cells_in, size_in, whole_in, is_asking, element_at, falls_in}
 use Rattle.a64_assemble.specs.Stations.{IsIslandBehind, IsLaid, end_of_element}
-use Rattle.a64_assemble.specs.OpenUses.{SomeOpenAt, IsCaused}
+use Rattle.a64_assemble.specs.OpenUses.{SomeOpenAt, IsCaused, WasAsked}
 use Rattle.a64_assemble.specs.Progress.{AreGood, AreQuiet, HasPut}
 use Rattle.a64_assemble.proofs.Later.{put_later}
 use Rattle.a64_assemble.proofs.Standings.{still}
 use Rattle.a64_assemble.proofs.Forcing.{none_open}
-use Rattle.a64_assemble.proofs.Promoting.{is_caused}
+use Rattle.a64_assemble.proofs.Promoting.{AreBefore, is_caused}
+use Rattle.a64_assemble.proofs.BoundLabels.{bound_by_is}
+use Rattle.a64_assemble.proofs.Stationed.{rises, has_size}
 use Rattle.a64_assemble.proofs.Progress.{bounded_all}
+use Rattle.a64_buffer.specs.Later.{IsLater}
 
 no_size : (x : Element) → is_asking x ≡ true → size_in x ≡ 0
 no_size (Binding l) e = refl
-no_size (Words cells) e = absurd (false≢true e)
+no_size (Words goes_on cells) e = absurd (false≢true e)
 no_size (Asking space) e = refl
 
 -- in finished code each use that may want something stops somewhere
@@ -56,12 +60,26 @@ module _ (force : ForceVeneers) (xs : List Element) (good : AreGood xs) (places 
   pub cells_final : All (IsPut f.final) (standing (map cells_in (take (length xs) xs)) places)
   cells_final i d w = put_later b f.final (still b f.final f.later) (get_or (standing (map cells_in (take (length xs) xs)) places) i d) (h.cells i d w)
 
+  -- where execution does not go on behind an island's element, no label is bound to its end
+  bound_before : (island : ℕ × ℕ) (z : WasAsked force xs (length xs) (places ++ end_of b ∷ []) b island) → falls_in (element_at xs z.after) ≡ false → AreBefore z.moment
+  bound_before island z stops label place at =
+      let by = bound_by_is (take (z.after + 1) xs) label (z.only label place at) in
+      let few = length-take-le (z.after + 1) xs (omega (arith, z.within)) in
+      let early : by.0 < z.after + 1 = omega (arith, by.1, few) in
+      let inside : by.0 < length xs = omega (arith, early, z.within) in
+      let element : element_at xs by.0 ≡ Binding label = sym (get_or-take (z.after + 1) xs by.0 (Asking 0) early) ∙ by.2 in
+      let later : IsLater z.moment b = later_trans z.moment z.written b z.has.later z.since in
+      let same : place ≡ get_or places by.0 0 = same_Some _ _ (sym (later.labels label place at) ∙ h.labels.bound by.0 label inside element) in
+      let station : get_or (places ++ end_of b ∷ []) by.0 0 ≡ get_or places by.0 0 = get_or_append_left places (end_of b ∷ []) 0 by.0 (omega (arith, inside, h.laid.each_placed)) in
+      let order = rises xs (length xs) places b.islands (end_of b) h.laid by.0 z.after (omega (arith, early)) (omega (arith, z.within)) in
+      omega (arith, same, station, order, z.at, z.stands.begins, has_size (element_at xs z.after) z.stands.hosted stops)
+
   -- each island is needed where it stands, or forced
   pub code_caused : All (IsCaused xs f.final force (places ++ code.pool ∷ [])) code.islands.items
   code_caused =
       subst (λ end. All (IsCaused xs f.final force (places ++ end ∷ [])) code.islands.items) (sym f.pool)
       (All-same (IsCaused xs f.final force (places ++ end_of b ∷ [])) code.islands.items b.islands f.islands
-      (λ i d w. is_caused force xs (places ++ end_of b ∷ []) b f.final (get_or b.islands i d) f.later (all_stop b code f) (h.asked i d w)))
+      (λ i d w. is_caused force xs (places ++ end_of b ∷ []) b f.final (get_or b.islands i d) f.later (all_stop b code f) (h.asked i d w) (bound_before (get_or b.islands i d) (h.asked i d w))))
 
   -- quiet input has none
   pub code_quiet : AreQuiet force xs → code.islands.items ≡ []

@@ -47,7 +47,7 @@ module _ (force : ForceVeneers) (xs : List Element) (k : ℕ) (places : List ℕ
 
   this_forced : (x : Element) (rest : List Element) → force ≡ Yes → HasLabels xs k places b.labels → is_asking x ≡ true → Moves force x rest b b' → (get_or (places ++ (end_of b) ∷ [] ++ (end_of b') ∷ []) k 0 + 4 ≤ get_or (places ++ (end_of b) ∷ [] ++ (end_of b') ∷ []) (k + 1) 0) ⊎ WasLeft xs (places ++ (end_of b) ∷ [] ++ (end_of b') ∷ []) b' k
   this_forced (Binding label) rest f labels is p = absurd (false≢true is)
-  this_forced (Words cells) rest f labels is p = absurd (false≢true is)
+  this_forced (Words goes_on cells) rest f labels is p = absurd (false≢true is)
   this_forced (Asking space) rest f labels is p = elim p.outcome [
     | inl w ↦ inl (let long = w.island.long in omega (arith, here, last, long))
     | inr l ↦ inr (record {

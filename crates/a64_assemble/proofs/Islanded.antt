@@ -1,11 +1,11 @@
 -- Items stand in finished code with islands between them.
-use Rattle.std.proofs.Common.{ℕ, ◌≡◌, ◌≢◌, ◌⊎◌, ◌+◌, ◌<◌, pos, ◌+ℤ◌, true, List, [], ◌∷◌, ◌++◌, All, length, get_or, map, Option, None, Some, refl, sym, ap, ◌∙◌, subst, arith, inl, inr}
+use Rattle.std.proofs.Common.{ℕ, ◌≡◌, ◌≢◌, ◌⊎◌, ◌+◌, ◌<◌, pos, ◌+ℤ◌, Bool, true, List, [], ◌∷◌, ◌++◌, All, length, get_or, map, Option, None, Some, refl, sym, ap, ◌∙◌, subst, arith, inl, inr}
 use Rattle.std.specs.Prelude.{Contains, IsSome, option_and_then, ◌↔◌}
 use Rattle.std.specs.List.Sorted.{IsStrictlyIncreasing}
 use Rattle.std.proofs.lemmas.Bool.{false≢true}
 use Rattle.std.proofs.lemmas.List.{length-map, get_or-map, get_or_default}
 use Rattle.std.proofs.lemmas.List.Elements.{All-same}
-use Rattle.std.proofs.lemmas.Option.{slice_get-get_or, slice_get_within}
+use Rattle.std.proofs.lemmas.Option.{same_Some, slice_get-get_or, slice_get_within}
 use Rattle.a64_base.specs.declared.entity.MachLabel.{MachLabel}
 use Rattle.a64_inst.specs.declared.emission.EmitFlags.{EmitFlags}
 use Rattle.a64_inst.specs.declared.frame.FrameLayout.{FrameLayout}
@@ -24,28 +24,27 @@ use Rattle.a64_label_use.specs.declared.label_use.LabelUse.TheVariants as uses
 use Rattle.a64_label_use.specs.LabelUses.{label_kinds, mask_for, distance_in}
 use Rattle.a64_emit.specs.Cells.{Cell, cells_of}
 use Rattle.a64_emit.specs.Bounds.{asked}
+use Rattle.a64_emit.specs.Falls.{inst_falls}
 use Rattle.a64_emit.specs.Layout.{standing, Stands, IsBoundAt, IsIslandAfter, IsFollowed, StandsOnce, Laid, end_of_item}
 use Rattle.a64_emit.specs.Leads.{JumpsTo}
 use Rattle.a64_emit.specs.Emission.{IsPut}
-use Rattle.a64_assemble.specs.Elements.{Element, Binding, Words, Asking, cells_in, hosts, element_of, elements_of, element_at}
+use Rattle.a64_assemble.specs.Elements.{Element, Binding, Words, Asking, cells_in, hosts, falls_in, element_of, elements_of, element_at}
 use Rattle.a64_assemble.specs.Stations.{IsIslandBehind, end_of_element}
-use Rattle.a64_assemble.specs.OpenUses.{WasAsked}
 use Rattle.a64_assemble.specs.Progress.{HasPut}
 use Rattle.a64_assemble.proofs.Arrivals.{IsOutput, end_is, pool_is, cell_stands}
-use Rattle.a64_assemble.proofs.Itemized.{binding_item}
-use Rattle.a64_assemble.proofs.Needing.{some_same}
-use Rattle.a64_assemble.proofs.Placing.{cell_lists, all_cells_are}
+use Rattle.a64_assemble.proofs.Itemized.{binding_item, cell_lists, all_cells_are}
+use Rattle.a64_assemble.proofs.Fronts.{falls_is}
 
 -- behind an item an island may stand where it has words or asks for one
 module _ (frame : FrameLayout) (flags : EmitFlags) where
-  some_cells_are : (cells : List Cell) (x : Option ℕ) → hosts (elim x [ None ↦ Words cells | Some space ↦ Asking space ]) ≡ true → (cells ≢ []) ⊎ IsSome x
-  some_cells_are cells (Some space) e = inr refl
-  some_cells_are [] None e = absurd (false≢true e)
-  some_cells_are (c ∷ cs) None e = inl (λ n. cc)
+  some_cells_are : (goes_on : Bool) (cells : List Cell) (x : Option ℕ) → hosts (elim x [ None ↦ Words goes_on cells | Some space ↦ Asking space ]) ≡ true → (cells ≢ []) ⊎ IsSome x
+  some_cells_are goes_on cells (Some space) e = inr refl
+  some_cells_are goes_on [] None e = absurd (false≢true e)
+  some_cells_are goes_on (c ∷ cs) None e = inl (λ n. cc)
 
   may_host : (x : Item) → hosts (element_of frame flags x) ≡ true → (cells_of frame flags x ≢ []) ⊎ IsSome (asked x)
   may_host (Bind label) e = absurd (false≢true e)
-  may_host (Emit inst kept) e = some_cells_are (cells_of frame flags (Emit inst kept)) (asked (Emit inst kept)) e
+  may_host (Emit inst kept) e = some_cells_are (inst_falls inst) (cells_of frame flags (Emit inst kept)) (asked (Emit inst kept)) e
 
 module _ (frame : FrameLayout) (flags : EmitFlags) (items : List Item) (force : ForceVeneers) (b : Buffer LabelUse) (code : Finished) (f : IsFinished label_kinds b code) (out : Code) (o : IsOutput code out) (h : HasPut force (elements_of frame flags items) (length (elements_of frame flags items)) out.places.items b) where
   abbrev xs : List Element
@@ -65,15 +64,24 @@ module _ (frame : FrameLayout) (flags : EmitFlags) (items : List Item) (force : 
       let cells : get_or (map (cells_of frame flags) items) i [] ≡ cells_in (element_at xs i) = ap (λ css. get_or css i []) (sym (cell_lists frame flags items)) ∙ get_or-map cells_in xs i (Asking 0) [] within in
       omega (arith, station_is i, ap length cells)
 
-  -- each island was asked for with a jump
-  has_jump : (island : ℕ × ℕ) → WasAsked force xs (length xs) (out.places.items ++ end_of b ∷ []) b island → HasJump b.uses island
-  has_jump island z =
-      let (k, u, within, is, front) = jump_stays z.written b (end_of z.moment, end_of z.written) z.since (z.has.front refl) in
-      (k, u, within, is, (front.0 ∙ z.at, front.1))
+  -- the element behind which an island was asked for is the one behind which it stands
+  asked_there : (i : ℕ) (island : ℕ × ℕ) → i < length xs → (c : Contains b.islands island) → IsIslandBehind xs (out.places.items ++ end_of b ∷ []) i island → (h.asked c.0 island c.1).after ≡ i
+  asked_there i island within c s =
+      let z = h.asked c.0 island c.1 in
+      let one = h.laid.once c.0 island c.1 in
+      one.once z.after z.within z.stands ∙ sym (one.once i within (subst (IsIslandBehind xs (out.places.items ++ end_of b ∷ []) i) (sym c.2) s))
 
-  jumps : (island : ℕ × ℕ) → Contains b.islands island → JumpsTo out island.0 island.1
-  jumps island c =
-      let j = f.jumps c.0 island c.1 (has_jump (get_or b.islands c.0 island) (h.asked c.0 island c.1)) in
+  -- where execution goes on behind an element, the island there was asked for with a jump
+  pub has_jump : (i : ℕ) (island : ℕ × ℕ) → i < length xs → Contains b.islands island → IsIslandBehind xs (out.places.items ++ end_of b ∷ []) i island → falls_in (element_at xs i) ≡ true → HasJump b.uses island
+  has_jump i island within c s goes_on =
+      let z = h.asked c.0 island c.1 in
+      let falls : falls_in (element_at xs z.after) ≡ true = ap (λ k. falls_in (element_at xs k)) (asked_there i island within c s) ∙ goes_on in
+      let (k, u, inside, is, front) = jump_stays z.written b (end_of z.moment, end_of z.written) z.since (z.has.front falls) in
+      (k, u, inside, is, (front.0 ∙ z.at ∙ ap (λ (x : ℕ × ℕ). x.0) c.2, front.1))
+
+  jumps : (i : ℕ) (island : ℕ × ℕ) → i < length xs → (c : Contains b.islands island) → IsIslandBehind xs (out.places.items ++ end_of b ∷ []) i island → falls_in (element_at xs i) ≡ true → JumpsTo out island.0 island.1
+  jumps i island within c s goes_on =
+      let j = f.jumps c.0 island c.1 (subst (HasJump b.uses) (sym c.2) (has_jump i island within c s goes_on)) in
       subst (JumpsTo out island.0) (ap (λ (i : ℕ × ℕ). i.1) c.2)
       (subst (λ n. JumpsTo out n (get_or b.islands c.0 island).1) (ap (λ (i : ℕ × ℕ). i.0) c.2) (
         ap (λ bytes. outside (mask_for uses.Branch26) (word_at bytes (get_or b.islands c.0 island).0)) o.bytes ∙ j.word,
@@ -98,7 +106,7 @@ module _ (frame : FrameLayout) (flags : EmitFlags) (items : List Item) (force : 
           | inl words ↦ inl (λ none. words (sym (get_or-map (cells_of frame flags) items i d [] inside) ∙ none))
           | inr asks ↦ inr (subst (λ x. IsSome (option_and_then asked x)) (sym (slice_get-get_or items i d inside)) asks)
         ];
-        jumped = jumps island c;
+        jumped = λ goes_on. jumps i island within c s (falls_is frame flags items i inside ∙ goes_on);
       }
 
   pub followed : (i : ℕ) → i < length items → IsFollowed frame flags items out i
@@ -115,13 +123,13 @@ module _ (frame : FrameLayout) (flags : EmitFlags) (items : List Item) (force : 
   has_host (Bind label) e = elim e [ inl words ↦ absurd (words refl) | inr asks ↦ absurd (false≢true asks) ]
   has_host (Emit inst kept) e = host (cells_of frame flags (Emit inst kept)) (asked (Emit inst kept)) e
     where
-      host : (cells : List Cell) (x : Option ℕ) → (cells ≢ []) ⊎ IsSome x → hosts (elim x [ None ↦ Words cells | Some space ↦ Asking space ]) ≡ true
+      host : (cells : List Cell) (x : Option ℕ) → (cells ≢ []) ⊎ IsSome x → hosts (elim x [ None ↦ Words (inst_falls inst) cells | Some space ↦ Asking space ]) ≡ true
       host cells (Some space) e = refl
       host [] None e = elim e [ inl words ↦ absurd (words refl) | inr asks ↦ absurd (false≢true asks) ]
       host (c ∷ cs) None e = refl
 
   -- an island behind an item is one behind its element
-  island_behind : (i : ℕ) (island : ℕ × ℕ) → i < length xs → IsIslandAfter frame flags items out i island → IsIslandBehind xs (out.places.items ++ end_of b ∷ []) i island
+  pub island_behind : (i : ℕ) (island : ℕ × ℕ) → i < length xs → IsIslandAfter frame flags items out i island → IsIslandBehind xs (out.places.items ++ end_of b ∷ []) i island
   island_behind i island within a =
       let d : Item = Bind (record { 0 = 0 }) in
       let inside : i < length items = omega (arith, within, count_is) in
@@ -163,10 +171,10 @@ module _ (frame : FrameLayout) (flags : EmitFlags) (items : List Item) (force : 
     λ bound.
         let d : Item = Bind label in
         let inside = slice_get_within items bound.0 (Bind label) bound.1 in
-        let there : get_or items bound.0 d ≡ Bind label = some_same (sym (slice_get-get_or items bound.0 d inside) ∙ bound.1) in
+        let there : get_or items bound.0 d ≡ Bind label = same_Some _ _ (sym (slice_get-get_or items bound.0 d inside) ∙ bound.1) in
         let element : element_at xs bound.0 ≡ Binding label.0 = get_or-map (element_of frame flags) items bound.0 d (Asking 0) inside ∙ ap (element_of frame flags) there in
         let placed = slice_get_within out.places.items bound.0 place bound.2 in
-        let at : get_or out.places.items bound.0 0 ≡ place = some_same (sym (slice_get-get_or out.places.items bound.0 0 placed) ∙ bound.2) in
+        let at : get_or out.places.items bound.0 0 ≡ place = same_Some _ _ (sym (slice_get-get_or out.places.items bound.0 0 placed) ∙ bound.2) in
         subst (λ (ls : List (MachLabel × ℕ)). Contains ls (label, place)) (sym o.labels)
         ((f.labels.listed label place).1 (h.labels.bound bound.0 label.0 (omega (arith, inside, count_is)) element ∙ ap (λ n. Some n) at)),
   )

@@ -4,7 +4,7 @@ use Rattle.std.specs.Prelude.{◌&&◌, ◌||◌, nat_eq, nat_lt, min, max, Cont
 use Rattle.std.specs.List.{list_any, slice_get}
 use Rattle.std.specs.Option.{option_map_or}
 use Rattle.std.proofs.lemmas.Bool.{cases_lt, cases_eq, false≢true, ltb-true}
-use Rattle.std.proofs.lemmas.List.{drop-map, get_or-map, length-map, get_or-take, get_or_default, length-take-le}
+use Rattle.std.proofs.lemmas.List.{drop-map, get_or-map, length-map, get_or-take, get_or_default, length-take-le, take_all}
 use Rattle.std.proofs.lemmas.List.Sums.{sum_by-cons}
 use Rattle.std.proofs.lemmas.List.Elements.{filter_map-append, Contains-append_left, Contains-append_right}
 use Rattle.std.proofs.lemmas.Option.{slice_get-get_or, slice_get_within}
@@ -38,6 +38,7 @@ use Rattle.a64_assemble.proofs.Checked.{not_bound_before, among_bindings, uses_b
 use Rattle.a64_assemble.proofs.Reached.{none_far, within_reach}
 use Rattle.a64_assemble.proofs.Sites.{found_in}
 use Rattle.a64_assemble.proofs.Spans.{has_binding, first_binding}
+use Rattle.a64_emit.specs.Layout.{standing}
 
 -- ---- lists
 
@@ -283,3 +284,13 @@ module _ (frame : FrameLayout) (flags : EmitFlags) where
       least_le (x ∷ xs) (suc k) w =
           let z = least_le xs k (omega arith) in
           (min x z.0, ap (lesser (Some x)) z.1, omega (arith, z.2))
+
+-- ---- their cells
+
+module _ (frame : FrameLayout) (flags : EmitFlags) where
+  pub cell_lists : (items : List Item) → map cells_in (elements_of frame flags items) ≡ map (cells_of frame flags) items
+  cell_lists [] = refl
+  cell_lists (x ∷ items) = ap (λ cs. cs ∷ map cells_in (elements_of frame flags items)) (cells_same frame flags x) ∙ ap (λ css. cells_of frame flags x ∷ css) (cell_lists items)
+
+  pub all_cells_are : (items : List Item) (places : List ℕ) → standing (map cells_in (take (length (elements_of frame flags items)) (elements_of frame flags items))) places ≡ standing (map (cells_of frame flags) items) places
+  all_cells_are items places = ap (λ xs. standing (map cells_in xs) places) (take_all (length (elements_of frame flags items)) (elements_of frame flags items) (omega arith)) ∙ ap (λ css. standing css places) (cell_lists items)

@@ -32,7 +32,7 @@ use Rattle.a64_emit.proofs.Targets.{IsCodeTarget, IsCodeSite, inst_targets}
 use Rattle.a64_assemble.proofs.FieldKinds.{one_stop}
 use Rattle.a64_assemble.specs.Elements.{Asking, cells_in, elements_of, element_of, element_at}
 use Rattle.a64_assemble.specs.Progress.{HasPut}
-use Rattle.a64_assemble.proofs.Placing.{cell_lists, all_cells_are}
+use Rattle.a64_assemble.proofs.Itemized.{cell_lists, all_cells_are}
 
 -- ---- the uses that cells have
 

@@ -16,8 +16,10 @@ pub mod Marked
 pub mod Recorded
 pub mod FieldKinds
 pub mod PieceTraps
+pub mod Fronts
 pub mod Moving
 pub mod Laying
+pub mod Stationed
 pub mod BoundLabels
 pub mod Standings
 pub mod Moments

@@ -1,5 +1,5 @@
 -- Why islands are asked for, element by element.
-use Rattle.std.proofs.Common.{ℕ, ◌≡◌, ◌⊎◌, ◌+◌, ◌<◌, ◌≤◌, true, List, [], ◌∷◌, ◌++◌, All, length, get_or, drop, Option, None, Some, refl, sym, ap, ◌∙◌, subst, arith, inl, inr}
+use Rattle.std.proofs.Common.{ℕ, ◌≡◌, ◌⊎◌, ◌+◌, ◌<◌, ◌≤◌, Bool, true, List, [], ◌∷◌, ◌++◌, All, length, get_or, drop, Option, None, Some, refl, sym, ap, ◌∙◌, subst, arith, inl, inr}
 use Rattle.std.specs.Prelude.{IsSome}
 use Rattle.std.specs.FinMap.{get}
 use Rattle.std.proofs.lemmas.List.{get_or_push, get_or_append_left, length_push}
@@ -15,12 +15,13 @@ use Rattle.a64_label_use.specs.declared.label_use.LabelUse.{LabelUse}
 use Rattle.a64_label_use.specs.LabelUses.{label_kinds}
 use Rattle.a64_emit.specs.Cells.{Cell}
 use Rattle.a64_emit.specs.Emission.{appended}
-use Rattle.a64_assemble.specs.Elements.{Element, Binding, Words, Asking, size_in, hosts, next_room, ahead, element_at}
+use Rattle.a64_assemble.specs.Elements.{Element, Binding, Words, Asking, size_in, hosts, falls_in, next_room, ahead, element_at}
 use Rattle.a64_assemble.specs.Asks.{AsksNext, PutsWords, Moves}
 use Rattle.a64_assemble.specs.Stations.{HasLabels}
 use Rattle.a64_assemble.specs.OpenUses.{Cause, WasAsked}
 use Rattle.a64_assemble.proofs.BoundLabels.{bound_in_labels, bound_by_labels}
 use Rattle.a64_assemble.proofs.Laying.{island_same}
+use Rattle.a64_assemble.proofs.Fronts.{island_ends}
 use Rattle.a64_assemble.proofs.Later.{longer}
 
 -- an element wrote an island in this moment
@@ -30,36 +31,41 @@ pub record Moment (force : ForceVeneers) (x : Element) (rest : List Element) (b 
   pub whole : IsWhole label_kinds moment
   pub cause : Cause force x rest moment
   pub islands : b'.islands ≡ b.islands ++ (end_of moment, end_of b') ∷ []
+  pub long : end_of moment + 4 ≤ end_of b'
   pub hosted : hosts x ≡ true
   pub distance : ℕ
   pub distance_is : ahead x rest ≡ Some distance
-  pub has : HasIsland label_kinds distance force true moment b'
+  pub has : HasIsland label_kinds distance force (falls_in x) moment b'
 
 module _ (force : ForceVeneers) where
-  words_moment : (cells : List Cell) (rest : List Element) (b b' : Buffer LabelUse) → PutsWords force cells rest b b' → (b'.islands ≡ b.islands) ⊎ Moment force (Words cells) rest b b'
-  words_moment [] rest b b' p = inl (ap (λ v. v.islands) p)
-  words_moment (c ∷ cs) rest b b' p = next (next_room rest) refl p
+  words_moment : (goes_on : Bool) (cells : List Cell) (rest : List Element) (b b' : Buffer LabelUse) → PutsWords force goes_on cells rest b b' → (b'.islands ≡ b.islands) ⊎ Moment force (Words goes_on cells) rest b b'
+  words_moment goes_on [] rest b b' p = inl (ap (λ v. v.islands) p)
+  words_moment goes_on (c ∷ cs) rest b b' p = next (next_room rest) refl p
     where
-      next : (o : Option ℕ) → next_room rest ≡ o → AsksNext force o (appended b (c ∷ cs)) b' → (b'.islands ≡ b.islands) ⊎ Moment force (Words (c ∷ cs)) rest b b'
+      next : (o : Option ℕ) → next_room rest ≡ o → AsksNext force goes_on o (appended b (c ∷ cs)) b' → (b'.islands ≡ b.islands) ⊎ Moment force (Words goes_on (c ∷ cs)) rest b b'
       next None o e = inl (ap (λ v. v.islands) e)
       next (Some d) o a = elim a.outcome [
         | inr l ↦ inl (ap (λ v. v.islands) l.same)
-        | inl w ↦ inr (record {
-          moment = appended b (c ∷ cs);
-          at = longer b (c ∷ cs);
-          whole = a.whole;
-          cause = elim w.cause [ inl need ↦ inl (d, o, need) | inr forced ↦ absurd (let z : No ≡ Yes = forced.0 in cc) ];
-          islands = w.island.islands;
-          hosted = refl;
-          distance = d;
-          distance_is = o;
-          has = w.island;
-        })
+        | inl w ↦ elim (island_ends goes_on (appended b (c ∷ cs)) b' w.island) [
+          | inl none ↦ inl none.1
+          | inr one ↦ inr (record {
+            moment = appended b (c ∷ cs);
+            at = longer b (c ∷ cs);
+            whole = a.whole;
+            cause = elim w.cause [ inl need ↦ inl (d, o, need) | inr forced ↦ absurd (let z : No ≡ Yes = forced.0 in cc) ];
+            islands = one.1;
+            long = one.0;
+            hosted = refl;
+            distance = d;
+            distance_is = o;
+            has = w.island;
+          })
+        ]
       ]
 
   pub move_moment : (x : Element) (rest : List Element) (b b' : Buffer LabelUse) → Moves force x rest b b' → (b'.islands ≡ b.islands) ⊎ Moment force x rest b b'
   move_moment (Binding label) rest b b' p = inl (ap (λ v. v.islands) p)
-  move_moment (Words cells) rest b b' p = words_moment cells rest b b' p
+  move_moment (Words goes_on cells) rest b b' p = words_moment goes_on cells rest b b' p
   move_moment (Asking space) rest b b' p = elim p.outcome [
     | inr l ↦ inl (ap (λ v. v.islands) l.same)
     | inl w ↦ inr (record {
@@ -68,6 +74,7 @@ module _ (force : ForceVeneers) where
       whole = p.whole;
       cause = elim w.cause [ inl need ↦ inl (space, refl, need) | inr forced ↦ inr (refl, forced.0, forced.1) ];
       islands = w.island.islands;
+      long = w.island.long;
       hosted = refl;
       distance = space;
       distance_is = refl;
@@ -108,7 +115,7 @@ module _ (force : ForceVeneers) (xs : List Element) (k : ℕ) (places : List ℕ
           stands = record {
             begins = let at = m.at in omega (arith, at, here);
             ends = sym last;
-            long = m.has.long;
+            long = m.long;
             hosted = m.hosted;
           };
           moment = m.moment;

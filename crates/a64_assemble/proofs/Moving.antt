@@ -1,5 +1,5 @@
 -- What one element leaves: room for what follows, length, labels, and all that was there.
-use Rattle.std.proofs.Common.{ℕ, zero, suc, ◌≡◌, ◌⊎◌, ◌+◌, ◌-◌, ◌*◌, ◌<◌, ◌≤◌, true, List, [], ◌∷◌, ◌++◌, length, get_or, map, Option, None, Some, refl, sym, ap, ◌∙◌, subst, arith, inl, inr}
+use Rattle.std.proofs.Common.{ℕ, zero, suc, ◌≡◌, ◌⊎◌, ◌+◌, ◌-◌, ◌*◌, ◌<◌, ◌≤◌, true, List, [], ◌∷◌, ◌++◌, length, get_or, map, Option, None, Some, refl, sym, ap, ◌∙◌, subst, arith, inl, inr, Bool}
 use Rattle.std.specs.Prelude.{All}
 use Rattle.std.specs.Option.{unwrap_or}
 use Rattle.std.specs.FinMap.{get, insert}
@@ -35,6 +35,8 @@ use Rattle.a64_emit.proofs.Holding.{same_holding, no_more}
 use Rattle.a64_assemble.proofs.Later.{made_from, new_from, longer}
 use Rattle.a64_assemble.proofs.Marked.{between}
 use Rattle.a64_assemble.proofs.Sites.{found_in}
+use Rattle.a64_buffer.proofs.Islands.{front_short}
+use Rattle.a64_assemble.proofs.Fronts.{island_ends, EndsAt}
 
 pub no_cell : Cell
 no_cell = record { body = Data 0; site = None; marks = no_marks }
@@ -146,7 +148,7 @@ bind_owed label b b' e = omega (arith, ap (λ (c : Buffer LabelUse). length c.wo
 
 -- ---- asking
 
-module _ (distance : ℕ) (asked force : ForceVeneers) (b b' : Buffer LabelUse) (a : Asks distance asked force b b') where
+module _ {jump : Bool} (distance : ℕ) (asked force : ForceVeneers) (b b' : Buffer LabelUse) (a : Asks distance asked force jump b b') where
   pub ask_fits : Fits label_kinds b' distance
   ask_fits = elim a.outcome [ inl w ↦ w.island.fits | inr l ↦ subst (λ c. Fits label_kinds c distance) (sym l.same) l.fits ]
 
@@ -154,7 +156,7 @@ module _ (distance : ℕ) (asked force : ForceVeneers) (b b' : Buffer LabelUse) 
   ask_rooms more h = elim a.outcome [ inl w ↦ w.island.rooms more h | inr l ↦ subst (λ c. Fits label_kinds c more) (sym l.same) (less_room label_kinds label_kinds_lawful (end_of b) b.uses (more + 4) more (omega arith) h) ]
 
   pub ask_owed : end_of b' + owed label_kinds b' ≤ end_of b + owed label_kinds b + 4
-  ask_owed = elim a.outcome [ inl w ↦ w.island.owed | inr l ↦ subst (λ c. end_of c + owed label_kinds c ≤ end_of b + owed label_kinds b + 4) (sym l.same) (omega arith) ]
+  ask_owed = elim a.outcome [ inl w ↦ omega (arith, w.island.owed, front_short label_kinds jump) | inr l ↦ subst (λ c. end_of c + owed label_kinds c ≤ end_of b + owed label_kinds b + 4) (sym l.same) (omega arith) ]
 
   pub ask_labels : b'.labels ≡ b.labels
   ask_labels = elim a.outcome [ inl w ↦ w.island.labels | inr l ↦ ap (λ c. c.labels) l.same ]
@@ -171,78 +173,78 @@ module _ (force : ForceVeneers) where
   own_room (c ∷ cs) o b some h = h
 
   -- the conditions of words
-  pub words_fit : (c : Cell) (cs : List Cell) (rest : List Element) (b : Buffer LabelUse) → MayMove (Words (c ∷ cs)) rest b → CellsFit b (c ∷ cs)
+  pub words_fit : {goes_on : Bool} (c : Cell) (cs : List Cell) (rest : List Element) (b : Buffer LabelUse) → MayMove (Words goes_on (c ∷ cs)) rest b → CellsFit b (c ∷ cs)
   words_fit c cs rest b may = put_room b (c ∷ cs) may.whole may.compact (omega arith) may.fits
 
-  words_rooms : (cells : List Cell) (rest : List Element) (b b' : Buffer LabelUse) → MayMove (Words cells) rest b → PutsWords force cells rest b b' → Fits label_kinds b' (room_of rest)
-  words_rooms [] rest b b' may p = subst (λ v. Fits label_kinds v (room_of rest)) (sym p) may.fits
-  words_rooms (c ∷ cs) rest b b' may p = next (next_room rest) p
+  words_rooms : (goes_on : Bool) (cells : List Cell) (rest : List Element) (b b' : Buffer LabelUse) → MayMove (Words goes_on cells) rest b → PutsWords force goes_on cells rest b b' → Fits label_kinds b' (room_of rest)
+  words_rooms goes_on [] rest b b' may p = subst (λ v. Fits label_kinds v (room_of rest)) (sym p) may.fits
+  words_rooms goes_on (c ∷ cs) rest b b' may p = next (next_room rest) p
     where
       middle : Fits label_kinds (appended b (c ∷ cs)) 0
       middle = put_fits b (c ∷ cs) (words_fit c cs rest b may)
 
-      next : (o : Option ℕ) → AsksNext force o (appended b (c ∷ cs)) b' → Fits label_kinds b' (unwrap_or o 0)
+      next : (o : Option ℕ) → AsksNext force goes_on o (appended b (c ∷ cs)) b' → Fits label_kinds b' (unwrap_or o 0)
       next None e = subst (λ v. Fits label_kinds v 0) (sym e) middle
       next (Some x) a = ask_fits x No force (appended b (c ∷ cs)) b' a
 
-  asked_rooms : (o : Option ℕ) (x : ℕ) (b b' : Buffer LabelUse) → Fits label_kinds b (unwrap_or (add_more 4 o) 0) → Asks x force force b b' → Fits label_kinds b' (unwrap_or o 0)
+  asked_rooms : (o : Option ℕ) (x : ℕ) (b b' : Buffer LabelUse) → Fits label_kinds b (unwrap_or (add_more 4 o) 0) → Asks x force force true b b' → Fits label_kinds b' (unwrap_or o 0)
   asked_rooms None x b b' h a = less_room label_kinds label_kinds_lawful (end_of b') b'.uses x 0 (omega arith) (ask_fits x force force b b' a)
   asked_rooms (Some n) x b b' h a = ask_rooms x force force b b' a n h
 
   pub move_rooms : (x : Element) (rest : List Element) (b b' : Buffer LabelUse) → MayMove x rest b → Moves force x rest b b' → Fits label_kinds b' (room_of rest)
   move_rooms (Binding label) rest b b' may p = bind_fits label b b' may.whole may.unbound p (room_of rest) may.fits
-  move_rooms (Words cells) rest b b' may p = words_rooms cells rest b b' may p
+  move_rooms (Words goes_on cells) rest b b' may p = words_rooms goes_on cells rest b b' may p
   move_rooms (Asking space) rest b b' may p = asked_rooms (next_room rest) space b b' may.fits p
 
   -- ---- length
 
-  words_owed : (cells : List Cell) (rest : List Element) (b b' : Buffer LabelUse) → PutsWords force cells rest b b' → end_of b' + owed label_kinds b' ≤ end_of b + owed label_kinds b + size_of cells + charge_of cells
-  words_owed [] rest b b' p = subst (λ v. end_of v + owed label_kinds v ≤ end_of b + owed label_kinds b + 0 + 0) (sym p) (omega arith)
-  words_owed (c ∷ cs) rest b b' p = next (next_room rest) p
+  words_owed : (goes_on : Bool) (cells : List Cell) (rest : List Element) (b b' : Buffer LabelUse) → PutsWords force goes_on cells rest b b' → end_of b' + owed label_kinds b' ≤ end_of b + owed label_kinds b + size_of cells + charge_of cells
+  words_owed goes_on [] rest b b' p = subst (λ v. end_of v + owed label_kinds v ≤ end_of b + owed label_kinds b + 0 + 0) (sym p) (omega arith)
+  words_owed goes_on (c ∷ cs) rest b b' p = next (next_room rest) p
     where
-      next : (o : Option ℕ) → AsksNext force o (appended b (c ∷ cs)) b' → end_of b' + owed label_kinds b' ≤ end_of b + owed label_kinds b + size_of (c ∷ cs) + charge_of (c ∷ cs)
+      next : (o : Option ℕ) → AsksNext force goes_on o (appended b (c ∷ cs)) b' → end_of b' + owed label_kinds b' ≤ end_of b + owed label_kinds b + size_of (c ∷ cs) + charge_of (c ∷ cs)
       next None e = subst (λ v. end_of v + owed label_kinds v ≤ end_of b + owed label_kinds b + size_of (c ∷ cs) + charge_of (c ∷ cs)) (sym e) (let z = put_owed b (c ∷ cs) in omega (arith, z))
       next (Some x) a = omega (arith, put_owed b (c ∷ cs), ask_owed x No force (appended b (c ∷ cs)) b' a)
 
   pub move_owed : (x : Element) (rest : List Element) (b b' : Buffer LabelUse) → Moves force x rest b b' → end_of b' + owed label_kinds b' ≤ end_of b + owed label_kinds b + growth_in x
   move_owed (Binding label) rest b b' p = omega (arith, bind_owed label b b' p)
-  move_owed (Words cells) rest b b' p = omega (arith, words_owed cells rest b b' p)
+  move_owed (Words goes_on cells) rest b b' p = omega (arith, words_owed goes_on cells rest b b' p)
   move_owed (Asking space) rest b b' p = omega (arith, ask_owed space force force b b' p)
 
   -- ---- labels
 
-  words_labels : (cells : List Cell) (rest : List Element) (b b' : Buffer LabelUse) → PutsWords force cells rest b b' → b'.labels ≡ b.labels
-  words_labels [] rest b b' p = ap (λ v. v.labels) p
-  words_labels (c ∷ cs) rest b b' p = next (next_room rest) p
+  words_labels : (goes_on : Bool) (cells : List Cell) (rest : List Element) (b b' : Buffer LabelUse) → PutsWords force goes_on cells rest b b' → b'.labels ≡ b.labels
+  words_labels goes_on [] rest b b' p = ap (λ v. v.labels) p
+  words_labels goes_on (c ∷ cs) rest b b' p = next (next_room rest) p
     where
-      next : (o : Option ℕ) → AsksNext force o (appended b (c ∷ cs)) b' → b'.labels ≡ b.labels
+      next : (o : Option ℕ) → AsksNext force goes_on o (appended b (c ∷ cs)) b' → b'.labels ≡ b.labels
       next None e = ap (λ v. v.labels) e
       next (Some x) a = ask_labels x No force (appended b (c ∷ cs)) b' a
 
   -- the labels that an element leaves
   abbrev pub HasBound : Element → Buffer LabelUse → Buffer LabelUse → Type 0
   HasBound (Binding label) b b' = b'.labels ≡ insert b.labels label (end_of b)
-  HasBound (Words cells) b b' = b'.labels ≡ b.labels
+  HasBound (Words goes_on cells) b b' = b'.labels ≡ b.labels
   HasBound (Asking space) b b' = b'.labels ≡ b.labels
 
   pub move_labels : (x : Element) (rest : List Element) (b b' : Buffer LabelUse) → Moves force x rest b b' → HasBound x b b'
   move_labels (Binding label) rest b b' p = ap (λ v. v.labels) p
-  move_labels (Words cells) rest b b' p = words_labels cells rest b b' p
+  move_labels (Words goes_on cells) rest b b' p = words_labels goes_on cells rest b b' p
   move_labels (Asking space) rest b b' p = ask_labels space force force b b' p
 
   -- ---- what came before stays
 
-  pub next_later : (o : Option ℕ) (m b' : Buffer LabelUse) → AsksNext force o m b' → IsLater m b'
-  next_later None m b' e = subst (IsLater m) (sym e) (later_none m)
-  next_later (Some x) m b' a = ask_later x No force m b' a
+  pub next_later : (goes_on : Bool) (o : Option ℕ) (m b' : Buffer LabelUse) → AsksNext force goes_on o m b' → IsLater m b'
+  next_later goes_on None m b' e = subst (IsLater m) (sym e) (later_none m)
+  next_later goes_on (Some x) m b' a = ask_later x No force m b' a
 
-  words_later : (cells : List Cell) (rest : List Element) (b b' : Buffer LabelUse) → PutsWords force cells rest b b' → IsLater b b'
-  words_later [] rest b b' p = subst (IsLater b) (sym p) (later_none b)
-  words_later (c ∷ cs) rest b b' p = later_trans b (appended b (c ∷ cs)) b' (put_later b (c ∷ cs)) (next_later (next_room rest) (appended b (c ∷ cs)) b' p)
+  words_later : (goes_on : Bool) (cells : List Cell) (rest : List Element) (b b' : Buffer LabelUse) → PutsWords force goes_on cells rest b b' → IsLater b b'
+  words_later goes_on [] rest b b' p = subst (IsLater b) (sym p) (later_none b)
+  words_later goes_on (c ∷ cs) rest b b' p = later_trans b (appended b (c ∷ cs)) b' (put_later b (c ∷ cs)) (next_later goes_on (next_room rest) (appended b (c ∷ cs)) b' p)
 
   pub move_later : (x : Element) (rest : List Element) (b b' : Buffer LabelUse) → MayMove x rest b → Moves force x rest b b' → IsLater b b'
   move_later (Binding label) rest b b' may p = bind_later label b b' may.whole may.unbound p
-  move_later (Words cells) rest b b' may p = words_later cells rest b b' p
+  move_later (Words goes_on cells) rest b b' may p = words_later goes_on cells rest b b' p
   move_later (Asking space) rest b b' may p = ask_later space force force b b' p
 
 -- ---- order
@@ -251,19 +253,15 @@ module _ (force : ForceVeneers) where
 pub record Extends (x : Element) (b b' : Buffer LabelUse) : Type 0 where
   pub followed : ((end_of b' ≡ end_of b + size_in x) × (b'.islands ≡ b.islands)) ⊎ ((hosts x ≡ true) × (end_of b + size_in x + 4 ≤ end_of b') × (b'.islands ≡ b.islands ++ (end_of b + size_in x, end_of b') ∷ []))
 
--- the code, and the islands, once room was asked for behind code that ends there
-abbrev EndsAt : ℕ → List (ℕ × ℕ) → Buffer LabelUse → Type 0
-EndsAt end islands b' = ((end_of b' ≡ end) × (b'.islands ≡ islands)) ⊎ ((end + 4 ≤ end_of b') × (b'.islands ≡ islands ++ (end, end_of b') ∷ []))
-
 module _ (force : ForceVeneers) where
-  ask_at : (x : ℕ) (f g : ForceVeneers) (b b' : Buffer LabelUse) → Asks x f g b b' → EndsAt (end_of b) b.islands b'
-  ask_at x f g b b' a = elim a.outcome [ inl w ↦ inr (w.island.long, w.island.islands) | inr l ↦ inl (ap (λ v. end_of v) l.same, ap (λ v. v.islands) l.same) ]
+  ask_at : {jump : Bool} (x : ℕ) (f g : ForceVeneers) (b b' : Buffer LabelUse) → Asks x f g jump b b' → EndsAt (end_of b) b.islands b'
+  ask_at {jump = jump} x f g b b' a = elim a.outcome [ inl w ↦ island_ends jump b b' w.island | inr l ↦ inl (ap (λ v. end_of v) l.same, ap (λ v. v.islands) l.same) ]
 
-  words_extends : (cells : List Cell) (rest : List Element) (b b' : Buffer LabelUse) → PutsWords force cells rest b b' → Extends (Words cells) b b'
-  words_extends [] rest b b' p = record { followed = inl (omega (arith, ap (λ v. end_of v) p), ap (λ v. v.islands) p) }
-  words_extends (c ∷ cs) rest b b' p = next (next_room rest) p
+  words_extends : (goes_on : Bool) (cells : List Cell) (rest : List Element) (b b' : Buffer LabelUse) → PutsWords force goes_on cells rest b b' → Extends (Words goes_on cells) b b'
+  words_extends goes_on [] rest b b' p = record { followed = inl (omega (arith, ap (λ v. end_of v) p), ap (λ v. v.islands) p) }
+  words_extends goes_on (c ∷ cs) rest b b' p = next (next_room rest) p
     where
-      next : (o : Option ℕ) → AsksNext force o (appended b (c ∷ cs)) b' → Extends (Words (c ∷ cs)) b b'
+      next : (o : Option ℕ) → AsksNext force goes_on o (appended b (c ∷ cs)) b' → Extends (Words goes_on (c ∷ cs)) b b'
       next None e = record { followed = inl (ap (λ v. end_of v) e ∙ longer b (c ∷ cs), ap (λ v. v.islands) e) }
       next (Some x) a = elim (ask_at x No force (appended b (c ∷ cs)) b' a) [
         | inl same ↦ record { followed = inl (same.0 ∙ longer b (c ∷ cs), same.1) }
@@ -272,7 +270,7 @@ module _ (force : ForceVeneers) where
 
   pub move_extends : (x : Element) (rest : List Element) (b b' : Buffer LabelUse) → Moves force x rest b b' → Extends x b b'
   move_extends (Binding label) rest b b' p = record { followed = inl (omega (arith, ap (λ (v : Buffer LabelUse). length v.words) p), ap (λ v. v.islands) p) }
-  move_extends (Words cells) rest b b' p = words_extends cells rest b b' p
+  move_extends (Words goes_on cells) rest b b' p = words_extends goes_on cells rest b b' p
   move_extends (Asking space) rest b b' p = record {
     followed = elim (ask_at space force force b b' p) [
       | inl same ↦ inl (omega (arith, same.0), same.1)

@@ -14,34 +14,35 @@ use Rattle.a64_emit.specs.Cells.{Cell, cells_of, kept_cells}
 use Rattle.a64_emit.specs.Lights.{IsLight}
 use Rattle.a64_assemble.specs.Elements.{Element, Binding, Words, Asking, size_in, charge_in, space_in, growth_in, add_more, element_of, elements_of, whole_in, next_room}
 use Rattle.a64_assemble.proofs.Itemized.{cells_same}
+use Rattle.a64_emit.specs.Falls.{inst_falls}
 
 -- ---- one element
 
 -- one without words that asks for no island is passed over
 passed_by : (x : Element) (rest : List Element) → size_in x ≡ 0 → charge_in x + space_in x ≡ 0 → next_room (x ∷ rest) ≡ next_room rest
 passed_by (Binding label) rest s e = refl
-passed_by (Words []) rest s e = refl
-passed_by (Words (c ∷ cs)) rest s e = absurd (omega (arith, s))
+passed_by (Words goes_on []) rest s e = refl
+passed_by (Words goes_on (c ∷ cs)) rest s e = absurd (omega (arith, s))
 passed_by (Asking space) rest s e = absurd (omega (arith, e))
 
 -- a place for an island counts
 counted : (x : Element) (rest : List Element) → size_in x ≡ 0 → charge_in x + space_in x ≢ 0 → next_room (x ∷ rest) ≡ add_more 4 (next_room rest)
 counted (Binding label) rest s ne = absurd (ne refl)
-counted (Words []) rest s ne = absurd (ne refl)
-counted (Words (c ∷ cs)) rest s ne = absurd (omega (arith, s))
+counted (Words goes_on []) rest s ne = absurd (ne refl)
+counted (Words goes_on (c ∷ cs)) rest s ne = absurd (omega (arith, s))
 counted (Asking space) rest s ne = refl
 
 -- and words end the walk
 found : (x : Element) (rest : List Element) → size_in x ≢ 0 → next_room (x ∷ rest) ≡ Some (size_in x + (charge_in x + space_in x) - 4)
 found (Binding label) rest ne = absurd (ne refl)
-found (Words []) rest ne = absurd (ne refl)
-found (Words (c ∷ cs)) rest ne = ap (λ n. Some n) (omega arith)
+found (Words goes_on []) rest ne = absurd (ne refl)
+found (Words goes_on (c ∷ cs)) rest ne = ap (λ n. Some n) (omega arith)
 found (Asking space) rest ne = absurd (ne refl)
 
 charged : (x : Element) → size_in x ≢ 0 → 4 ≤ charge_in x + space_in x
 charged (Binding label) ne = absurd (ne refl)
-charged (Words []) ne = absurd (ne refl)
-charged (Words (c ∷ cs)) ne = omega arith
+charged (Words goes_on []) ne = absurd (ne refl)
+charged (Words goes_on (c ∷ cs)) ne = omega arith
 charged (Asking space) ne = absurd (ne refl)
 
 more_again : (o : Option ℕ) (m n : ℕ) → add_more m (add_more n o) ≡ add_more (m + n) o
@@ -62,10 +63,10 @@ module _ (frame : FrameLayout) (flags : EmitFlags) where
   sized : (x : Item) → asked x ≡ None → size_in (element_of frame flags x) ≡ 0 → charge_in (element_of frame flags x) + space_in (element_of frame flags x) ≡ 0
   sized (Bind label) none s = refl
   sized (Emit inst kept) none s =
-      let is : element_of frame flags (Emit inst kept) ≡ Words (kept_cells frame flags inst kept) = ap (λ o. elim o [ None ↦ Words (kept_cells frame flags inst kept) | Some space ↦ Asking space ]) none in
+      let is : element_of frame flags (Emit inst kept) ≡ Words (inst_falls inst) (kept_cells frame flags inst kept) = ap (λ o. elim o [ None ↦ Words (inst_falls inst) (kept_cells frame flags inst kept) | Some space ↦ Asking space ]) none in
       ap (λ x. charge_in x + space_in x) is ∙ empty (kept_cells frame flags inst kept) (sym (ap size_in is) ∙ s)
     where
-      empty : (cells : List Cell) → size_in (Words cells) ≡ 0 → charge_of cells + 0 ≡ 0
+      empty : (cells : List Cell) → size_in (Words (inst_falls inst) cells) ≡ 0 → charge_of cells + 0 ≡ 0
       empty [] s = refl
       empty (c ∷ cs) s = absurd (omega (arith, s))
 
@@ -115,8 +116,8 @@ module _ (frame : FrameLayout) (flags : EmitFlags) where
       where
         four : (x : Element) → size_in x ≡ 0 → charge_in x + space_in x ≢ 0 → 4 ≤ charge_in x + space_in x
         four (Binding label) s ne = absurd (ne refl)
-        four (Words []) s ne = absurd (ne refl)
-        four (Words (c ∷ cs)) s ne = omega arith
+        four (Words goes_on []) s ne = absurd (ne refl)
+        four (Words goes_on (c ∷ cs)) s ne = omega arith
         four (Asking space) s ne = omega arith
 
   -- the numbers of an item that is not too large

@@ -1,5 +1,5 @@
 -- Which element a use is of.
-use Rattle.std.proofs.Common.{ℕ, ◌≡◌, ◌+◌, ◌<◌, ◌≤◌, ◌⊎◌, true, false, List, [], ◌∷◌, ◌++◌, map, All, length, get_or, Option, None, Some, refl, sym, ap, ◌∙◌, subst, arith, inl, inr}
+use Rattle.std.proofs.Common.{ℕ, ◌≡◌, ◌+◌, ◌<◌, ◌≤◌, ◌⊎◌, true, false, List, [], ◌∷◌, ◌++◌, map, All, length, get_or, Option, None, Some, refl, sym, ap, ◌∙◌, subst, arith, inl, inr, Bool}
 use Rattle.std.specs.Prelude.{Contains, IfSome}
 use Rattle.std.proofs.lemmas.Bool.{cases_lt, false≢true}
 use Rattle.std.proofs.lemmas.List.{get_or_append_left, length_push, get_or_push, get_or_default}
@@ -22,35 +22,36 @@ use Rattle.a64_assemble.specs.Elements.{Element, Binding, Words, Asking, cells_i
 use Rattle.a64_assemble.specs.Asks.{Asks, AsksNext, PutsWords, Moves}
 use Rattle.a64_assemble.specs.Progress.{IsUsedIn, StandsIn}
 use Rattle.a64_assemble.proofs.Moving.{made_low, made_high, made_site}
+use Rattle.a64_assemble.proofs.Fronts.{given_use}
 
 -- a fact of a use that depends on its place and its site
 abbrev pub IsStable : (Use LabelUse → Type 0) → Type 0
 IsStable P = (u v : Use LabelUse) → v.offset ≡ u.offset → v.target ≡ u.target → v.kind ≡ u.kind → P u → P v
 
 module _ (force : ForceVeneers) (P : Use LabelUse → Type 0) (stable : IsStable P) (given : (m : Buffer LabelUse) (v : Use LabelUse) → All P m.uses → IsNewUse label_kinds true m v → P v) where
-  all_asked : (x : ℕ) (f g : ForceVeneers) (m b' : Buffer LabelUse) → Asks x f g m b' → All P m.uses → All P b'.uses
-  all_asked x f g m b' a all = elim a.outcome [
+  all_asked : {jump : Bool} (x : ℕ) (f g : ForceVeneers) (m b' : Buffer LabelUse) → Asks x f g jump m b' → All P m.uses → All P b'.uses
+  all_asked {jump = jump} x f g m b' a all = elim a.outcome [
     | inr l ↦ subst (λ v. All P v.uses) (sym l.same) all
     | inl w ↦ λ k d h. elim (cases_lt k (length m.uses)) [
       | inl lt ↦ let s : IsSameUse (end_of m) (get_or m.uses k d) (get_or b'.uses k d) = w.island.later.uses k d lt in stable (get_or m.uses k d) (get_or b'.uses k d) s.offset s.target s.kind (all k d lt)
-      | inr ge ↦ given m (get_or b'.uses k d) all (w.island.given k d ge h)
+      | inr ge ↦ given m (get_or b'.uses k d) all (given_use jump m (get_or b'.uses k d) (w.island.given k d ge h))
     ]
   ]
 
-  all_words : (cells : List Cell) (rest : List Element) (b b' : Buffer LabelUse) → All P (uses_from b.labels (end_of b) cells) → PutsWords force cells rest b b' → All P b.uses → All P b'.uses
-  all_words [] rest b b' made p all = subst (λ v. All P v.uses) (sym p) all
-  all_words (c ∷ cs) rest b b' made p all = next (next_room rest) p
+  all_words : (goes_on : Bool) (cells : List Cell) (rest : List Element) (b b' : Buffer LabelUse) → All P (uses_from b.labels (end_of b) cells) → PutsWords force goes_on cells rest b b' → All P b.uses → All P b'.uses
+  all_words goes_on [] rest b b' made p all = subst (λ v. All P v.uses) (sym p) all
+  all_words goes_on (c ∷ cs) rest b b' made p all = next (next_room rest) p
     where
       middle : All P (appended b (c ∷ cs)).uses
       middle = All-append P b.uses (uses_from b.labels (end_of b) (c ∷ cs)) all made
 
-      next : (o : Option ℕ) → AsksNext force o (appended b (c ∷ cs)) b' → All P b'.uses
+      next : (o : Option ℕ) → AsksNext force goes_on o (appended b (c ∷ cs)) b' → All P b'.uses
       next None e = subst (λ v. All P v.uses) (sym e) middle
       next (Some x) a = all_asked x No force (appended b (c ∷ cs)) b' a middle
 
   all_step : (x : Element) (rest : List Element) (b b' : Buffer LabelUse) → All P (uses_from b.labels (end_of b) (cells_in x)) → Moves force x rest b b' → All P b.uses → All P b'.uses
   all_step (Binding label) rest b b' made p all = All-same P b'.uses (map (closed_at label_kinds label (end_of b)) b.uses) (ap (λ v. v.uses) p) (All-map P (closed_at label_kinds label (end_of b)) b.uses (λ k d h. stable (get_or b.uses k d) (closed_at label_kinds label (end_of b) (get_or b.uses k d)) refl refl refl (all k d h)))
-  all_step (Words cells) rest b b' made p all = all_words cells rest b b' made p all
+  all_step (Words goes_on cells) rest b b' made p all = all_words goes_on cells rest b b' made p all
   all_step (Asking space) rest b b' made p all = all_asked space force force b b' p all
 
 -- a list contains what stands in it

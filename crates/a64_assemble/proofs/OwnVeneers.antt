@@ -32,7 +32,7 @@ use Rattle.a64_emit.specs.Layout.{standing}
 use Rattle.a64_emit.specs.Emission.{site_of}
 use Rattle.a64_emit.specs.Contents.{site_class}
 use Rattle.a64_emit.specs.Leads.{StopsAt}
-use Rattle.a64_assemble.specs.Elements.{Element, elements_of}
+use Rattle.a64_assemble.specs.Elements.{Element, elements_of, falls_in, element_at}
 use Rattle.a64_assemble.specs.Progress.{HasPut}
 use Rattle.a64_assemble.specs.Owners.{AreOwned}
 use Rattle.a64_assemble.specs.OwnStops.{AllStopAhead, IsStopOf, StopAhead, HaveOwnVeneers}
@@ -218,7 +218,7 @@ module _ (frame : FrameLayout) (flags : EmitFlags) (items : List Item) (force : 
         let is : get_or all_areas area.index (0, 0) ≡ island = get_or_append_left b.islands ((end_of b, end_of f.final) ∷ []) (0, 0) area.index inside in
         let listed : Contains b.islands island = (area.index, inside, get_or_default b.islands area.index island (0, 0) inside) in
         let z = h.asked area.index (0, 0) inside in
-        one_at_label z.moment (pieces.begun label_kinds true z.moment) z.written z.has.served (island_written frame flags items force b code f out o h owned are all_bound ahead island listed z)
+        one_at_label z.moment (pieces.begun label_kinds (falls_in (element_at xs z.after)) z.moment) z.written z.has.served (island_written frame flags items force b code f out o h owned are all_bound ahead island listed z)
         u v stop n p ne lu lv
         (omega (arith, area.begins, ap (λ (i : ℕ × ℕ). i.0) is, z.at))
         (omega (arith, area.ends, ap (λ (i : ℕ × ℕ). i.1) is, z.ends))

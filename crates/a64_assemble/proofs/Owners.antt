@@ -1,11 +1,11 @@
 -- Each use that may want something of an island is a cell's, or a jump word that a shorter branch was given.
-use Rattle.std.proofs.Common.{ℕ, zero, suc, ◌≡◌, ◌⊎◌, ◌+◌, ◌-◌, ◌*◌, ◌/◌, ◌<◌, true, List, [], ◌∷◌, ◌++◌, All, length, get_or, map, take, drop, Option, None, Some, refl, sym, ap, ◌∙◌, subst, arith, inl, inr}
+use Rattle.std.proofs.Common.{ℕ, zero, suc, ◌≡◌, ◌⊎◌, ◌+◌, ◌-◌, ◌*◌, ◌/◌, ◌<◌, ◌≤◌, true, List, [], ◌∷◌, ◌++◌, All, length, get_or, map, take, drop, Option, None, Some, refl, sym, ap, ◌∙◌, subst, arith, inl, inr, Bool}
 use Rattle.std.specs.Prelude.{Contains, IsSome, is_some}
 use Rattle.std.specs.List.{flat_map}
 use Rattle.std.specs.Ordering.{nat_cmp}
 use Rattle.std.specs.FinMap.{FinMap}
 use Rattle.std.proofs.lemmas.Bool.{cases_lt, false≢true}
-use Rattle.std.proofs.lemmas.List.{length-append, length-map, length-take-le, take_more, map-append, get_or_append_left, get_or_push, get_or-append-add, get_or-map}
+use Rattle.std.proofs.lemmas.List.{length-append, length-map, length-take-le, take_more, map-append, get_or_append_left, get_or-append-add, get_or-map}
 use Rattle.std.proofs.lemmas.List.Elements.{Contains-append_left, Contains-append_right, Contains-push}
 use Rattle.a64_buffer.specs.declared.site.Use.{Use}
 use Rattle.a64_buffer.specs.declared.site.Target.{Target}
@@ -30,11 +30,14 @@ use Rattle.a64_emit.specs.Contents.{IsCellUse}
 use Rattle.a64_assemble.specs.Elements.{Element, Binding, Words, Asking, cells_in, next_room, element_at}
 use Rattle.a64_assemble.specs.Asks.{Asks, AsksNext, PutsWords, Moves}
 use Rattle.a64_assemble.specs.Owners.{IsOwned, AreOwned}
+use Rattle.a64_assemble.proofs.Fronts.{given_use, island_ends, over_stays}
 use Rattle.a64_assemble.proofs.Later.{new_from}
 use Rattle.a64_assemble.proofs.Moving.{no_cell, put_later}
 use Rattle.a64_assemble.proofs.Rising.{placed_has}
 use Rattle.a64_assemble.proofs.Sites.{standing-push}
 use Rattle.a64_assemble.proofs.Standings.{still}
+use Rattle.a64_buffer.proofs.Islands.{begun_end}
+use Rattle.a64_buffer.specs.Pieces.{front_size}
 
 -- ---- what stays
 
@@ -62,7 +65,7 @@ module _ (cells cells' : List (ℕ × Cell)) (b b' : Buffer LabelUse) (more : Ar
           word = ap (λ n. get_or b'.words (n / 4) 0) at ∙ (later.words ((get_or b.uses k d).offset / 4) (omega (arith, j.inside)) ∙ j.word);
           island = j.island;
           listed = islands j.island j.listed;
-          behind = omega (arith, j.behind, at);
+          from = omega (arith, j.from, at);
           before = omega (arith, j.before, at);
           parent = j.parent;
           within = omega (arith, j.within, later.count);
@@ -184,15 +187,22 @@ short_kind IslandEnd kind c = elim c [ inl e ↦ absurd cc | inr e ↦ absurd cc
 
 -- ---- an island
 
-module _ (cells : List (ℕ × Cell)) (distance : ℕ) (force : ForceVeneers) (m b' : Buffer LabelUse) (has : HasIsland label_kinds distance force true m b') (owned : All (IsOwned cells m) m.uses) where
+module _ {jump : Bool} (cells : List (ℕ × Cell)) (distance : ℕ) (force : ForceVeneers) (m b' : Buffer LabelUse) (has : HasIsland label_kinds distance force jump m b') (owned : All (IsOwned cells m) m.uses) where
   same_cells : AreMore cells cells
   same_cells s h = h
 
   more_islands : AreMore m.islands b'.islands
-  more_islands i h = subst (λ is. Contains is i) (sym has.islands) (Contains-append_left m.islands ((end_of m, end_of b') ∷ []) i h)
+  more_islands i h = elim (island_ends jump m b' has) [
+    | inl none ↦ subst (λ is. Contains is i) (sym none.1) h
+    | inr one ↦ subst (λ is. Contains is i) (sym one.1) (Contains-append_left m.islands ((end_of m, end_of b') ∷ []) i h)
+  ]
 
-  this_island : Contains b'.islands (end_of m, end_of b')
-  this_island = subst (λ is. Contains is (end_of m, end_of b')) (sym has.islands) (Contains-push m.islands (end_of m, end_of b'))
+  -- what has words is listed
+  this_island : (place : ℕ) → end_of m ≤ place → place < end_of b' → Contains b'.islands (end_of m, end_of b')
+  this_island place low high = elim (island_ends jump m b' has) [
+    | inl none ↦ absurd (omega (arith, low, high, none.0))
+    | inr one ↦ subst (λ is. Contains is (end_of m, end_of b')) (sym one.1) (Contains-push m.islands (end_of m, end_of b'))
+  ]
 
   -- a use of a shorter urgency is not new, and a cell's
   served_cell : (k : ℕ) (d : Use LabelUse) → k < length b'.uses → (class label_kinds (get_or b'.uses k d) ≡ Near) ⊎ (class label_kinds (get_or b'.uses k d) ≡ Middle) → IsCellUse cells (site_of (get_or b'.uses k d))
@@ -204,7 +214,7 @@ module _ (cells : List (ℕ × Cell)) (distance : ℕ) (force : ForceVeneers) (m
           | inl c ↦ cell_later cells cells m b' same_cells has.later more_islands k d old c
           | inr j ↦ absurd (not_jump (get_or b'.uses k d).target (get_or b'.uses k d).kind ((has.later.uses k d old).kind ∙ j.kind) short)
         ]
-    | inr new ↦ elim (has.given k d new h) [
+    | inr new ↦ elim (given_use jump m (get_or b'.uses k d) (has.given k d new h)) [
       | inl over ↦ absurd (not_over (get_or b'.uses k d).target (get_or b'.uses k d).kind over.0 short)
       | inr v ↦ elim v.kind [
         | inl jump ↦ absurd (not_jump (get_or b'.uses k d).target (get_or b'.uses k d).kind jump short)
@@ -225,17 +235,20 @@ module _ (cells : List (ℕ × Cell)) (distance : ℕ) (force : ForceVeneers) (m
       not_over : (t : Target) (kind : LabelUse) → t ≡ IslandEnd → (class_of label_kinds t kind ≡ Near) ⊎ (class_of label_kinds t kind ≡ Middle) → ⊥
       not_over t kind e c = false≢true (sym (ap (λ t. is_some (label_of t)) e) ∙ (short_kind t kind c).0)
 
-  start : Buffer LabelUse
-  start = pieces.begun label_kinds true m
+  abbrev start : Buffer LabelUse
+  start = pieces.begun label_kinds jump m
+
+  started : length m.uses ≤ length start.uses
+  started = omega (arith, length-append m.uses (pieces.front_uses label_kinds jump (end_of m)))
 
   -- what an island gives
-  new_owned : (k : ℕ) (d : Use LabelUse) → length m.uses < k → k < length b'.uses → IsOwned cells b' (get_or b'.uses k d)
+  new_owned : (k : ℕ) (d : Use LabelUse) → length start.uses ≤ k → k < length b'.uses → IsOwned cells b' (get_or b'.uses k d)
   new_owned k d low high want =
       let constants : FinMap nat_cmp (List ℕ) = m.constants in
-      let from : ℕ = 4 * length (m.words ++ 0x14000000 ∷ []) in
-      let front : List Told = map pieces.site_of (m.uses ++ pieces.over_use label_kinds (end_of m) ∷ []) in
+      let from : ℕ = end_of start in
+      let front : List Told = map pieces.site_of start.uses in
       let told : Told = (0, IslandEnd, uses.Branch26) in
-      let long : length front ≡ length m.uses + 1 = omega (arith, length-map (m.uses ++ pieces.over_use label_kinds (end_of m) ∷ []) (pieces.site_of {K = LabelUse}), length-append m.uses (pieces.over_use label_kinds (end_of m) ∷ [])) in
+      let long : length front ≡ length start.uses = length-map start.uses (pieces.site_of {K = LabelUse}) in
       let all = length-append front (piece_sites constants from has.served) in
       let count : length b'.uses ≡ length front + length (piece_sites constants from has.served) = sym (length-map b'.uses (pieces.site_of {K = LabelUse})) ∙ (ap length has.serves.uses_are ∙ all) in
       let back : length front + (k - length front) ≡ k = omega (arith, long, low) in
@@ -247,8 +260,8 @@ module _ (cells : List (ℕ × Cell)) (distance : ℕ) (force : ForceVeneers) (m
       let j : IsPieceJump constants from has.served (pieces.site_of (get_or b'.uses k d)) = subst (IsPieceJump constants from has.served) here (piece_jump constants from has.served has.serves.stops (k - length front) told (omega (arith, back, count, high)) wanting) in
       let q = has.serves.waited j.served d j.within in
       let is : get_or b'.uses q.index d ≡ get_or has.served j.served d = q.is d in
-      let end_is : end_of b' ≡ from + 4 * length (piece_words constants from has.served) = omega (arith, ap length has.serves.words, length-append (m.words ++ 0x14000000 ∷ []) (piece_words constants from has.served)) in
-      let starts : from ≡ end_of m + 4 = omega (arith, length-append m.words (0x14000000 ∷ [])) in
+      let end_is : end_of b' ≡ from + 4 * length (piece_words constants from has.served) = omega (arith, ap length has.serves.words, length-append start.words (piece_words constants from has.served)) in
+      let starts : from ≡ end_of m + front_size jump = begun_end label_kinds jump m in
       let short = j.class_is d in
       let cell = served_cell q.index d q.within (subst (λ (u : Use LabelUse). (class label_kinds u ≡ Near) ⊎ (class label_kinds u ≡ Middle)) (sym is) short) in
       let kinds = short_kind (get_or has.served j.served d).target (get_or has.served j.served d).kind short in
@@ -257,11 +270,11 @@ module _ (cells : List (ℕ × Cell)) (distance : ℕ) (force : ForceVeneers) (m
         labelled = subst (λ t. IsSome (label_of t)) (j.target d) kinds.0;
         inside = omega (arith, j.place_is, j.inside, end_is);
         word =
-            let at : (get_or b'.uses k d).offset / 4 ≡ length (m.words ++ 0x14000000 ∷ []) + j.number = omega (arith, j.place_is) in
-            ap (λ n. get_or b'.words n 0) at ∙ (ap (λ ws. get_or ws (length (m.words ++ 0x14000000 ∷ []) + j.number) 0) has.serves.words ∙ (get_or-append-add (m.words ++ 0x14000000 ∷ []) (piece_words constants from has.served) j.number 0 ∙ j.word));
+            let at : (get_or b'.uses k d).offset / 4 ≡ length start.words + j.number = omega (arith, j.place_is) in
+            ap (λ n. get_or b'.words n 0) at ∙ (ap (λ ws. get_or ws (length start.words + j.number) 0) has.serves.words ∙ (get_or-append-add start.words (piece_words constants from has.served) j.number 0 ∙ j.word));
         island = (end_of m, end_of b');
-        listed = this_island;
-        behind = omega (arith, j.place_is, starts);
+        listed = this_island (get_or b'.uses k d).offset (omega (arith, j.place_is, starts)) (omega (arith, j.place_is, j.inside, end_is));
+        from = omega (arith, j.place_is, starts);
         before = omega (arith, j.place_is, j.inside, end_is);
         parent = q.index;
         within = q.within;
@@ -271,46 +284,27 @@ module _ (cells : List (ℕ × Cell)) (distance : ℕ) (force : ForceVeneers) (m
         stops = λ e. ap (λ (u : Use LabelUse). u.stop) (q.is e ∙ sym (q.is d) ∙ is) ∙ j.stops d;
       })
 
-  over_owned : (d : Use LabelUse) → length m.uses < length b'.uses → IsOwned cells b' (get_or b'.uses (length m.uses) d)
-  over_owned d h want = elim (has.given (length m.uses) d (omega arith) h) [
-    | inl over ↦ absurd (false≢true (sym (ap (λ t. wants (class_of label_kinds t (get_or b'.uses (length m.uses) d).kind)) over.0) ∙ want))
-    | inr v ↦ absurd (one (get_or b'.uses (length m.uses) d).target (ap (λ (t : Told). t.1) site) v.labelled)
-  ]
-    where
-      front : List (Use LabelUse)
-      front = m.uses ++ pieces.over_use label_kinds (end_of m) ∷ []
-
-      one : (t : Target) → t ≡ IslandEnd → IsSome (label_of t) → ⊥
-      one t e s = false≢true (sym (ap (λ t. is_some (label_of t)) e) ∙ s)
-
-      site : pieces.site_of (get_or b'.uses (length m.uses) d) ≡ (end_of m, IslandEnd, uses.Branch26)
-      site =
-          let us : List (Use LabelUse) = m.uses ++ pieces.over_use label_kinds (end_of m) ∷ [] in
-          let d' : Told = (0, IslandEnd, uses.Branch26) in
-          let rest : List Told = piece_sites m.constants (4 * length (m.words ++ 0x14000000 ∷ [])) has.served in
-          let long : length us ≡ length m.uses + 1 = length-append m.uses (pieces.over_use label_kinds (end_of m) ∷ []) in
-          sym (get_or-map pieces.site_of b'.uses (length m.uses) d d' h)
-          ∙ (ap (λ ss. get_or ss (length m.uses) d') has.serves.uses_are
-          ∙ (get_or_append_left (map pieces.site_of us) rest d' (length m.uses) (omega (arith, long, length-map us (pieces.site_of {K = LabelUse})))
-          ∙ (get_or-map pieces.site_of us (length m.uses) d d' (omega (arith, long)) ∙ ap pieces.site_of (get_or_push m.uses (pieces.over_use label_kinds (end_of m)) d (length m.uses) refl))))
+  -- the jump over it wants nothing
+  over_owned : (k : ℕ) (d : Use LabelUse) → length m.uses ≤ k → k < length start.uses → k < length b'.uses → IsOwned cells b' (get_or b'.uses k d)
+  over_owned k d low inside h want = absurd (false≢true (sym (ap (λ (t : Told). wants (class_of label_kinds t.1 t.2)) (over_stays m b' has k d low inside h)) ∙ want))
 
   pub island_owned : All (IsOwned cells b') b'.uses
   island_owned k d h = elim (cases_lt k (length m.uses)) [
     | inl old ↦ owned_later cells cells m b' same_cells has.later more_islands k d old (owned k d old)
-    | inr new ↦ elim (cases_lt (length m.uses) k) [
-      | inl behind ↦ new_owned k d behind h
-      | inr at ↦ let e : length m.uses ≡ k = omega (arith, new, at) in subst (λ n. IsOwned cells b' (get_or b'.uses n d)) e (over_owned d (omega (arith, e, h)))
+    | inr new ↦ elim (cases_lt k (length start.uses)) [
+      | inl front ↦ over_owned k d new front h
+      | inr behind ↦ new_owned k d behind h
     ]
   ]
 
 -- ---- element by element
 
-asked_owned : (cells : List (ℕ × Cell)) (x : ℕ) (f g : ForceVeneers) (m b' : Buffer LabelUse) → Asks x f g m b' → All (IsOwned cells m) m.uses → All (IsOwned cells b') b'.uses
+asked_owned : {jump : Bool} (cells : List (ℕ × Cell)) (x : ℕ) (f g : ForceVeneers) (m b' : Buffer LabelUse) → Asks x f g jump m b' → All (IsOwned cells m) m.uses → All (IsOwned cells b') b'.uses
 asked_owned cells x f g m b' a all = elim a.outcome [ inr l ↦ subst (λ v. All (IsOwned cells v) v.uses) (sym l.same) all | inl w ↦ island_owned cells x g m b' w.island all ]
 
-next_owned : (cells : List (ℕ × Cell)) (force : ForceVeneers) (o : Option ℕ) (m b' : Buffer LabelUse) → AsksNext force o m b' → All (IsOwned cells m) m.uses → All (IsOwned cells b') b'.uses
-next_owned cells force None m b' e all = subst (λ v. All (IsOwned cells v) v.uses) (sym e) all
-next_owned cells force (Some x) m b' a all = asked_owned cells x No force m b' a all
+next_owned : (cells : List (ℕ × Cell)) (force : ForceVeneers) (goes_on : Bool) (o : Option ℕ) (m b' : Buffer LabelUse) → AsksNext force goes_on o m b' → All (IsOwned cells m) m.uses → All (IsOwned cells b') b'.uses
+next_owned cells force goes_on None m b' e all = subst (λ v. All (IsOwned cells v) v.uses) (sym e) all
+next_owned cells force goes_on (Some x) m b' a all = asked_owned cells x No force m b' a all
 
 module _ (before after : List (ℕ × Cell)) (more : AreMore before after) (b : Buffer LabelUse) (owned : All (IsOwned before b) b.uses) where
   cells_owned : (cells : List Cell) → AreMore (placed (end_of b) cells) after → All (IsOwned after (appended b cells)) (appended b cells).uses
@@ -326,16 +320,16 @@ module _ (before after : List (ℕ × Cell)) (more : AreMore before after) (b : 
         )
   ]
 
-  words_owned : (force : ForceVeneers) (cells : List Cell) (rest : List Element) (b' : Buffer LabelUse) → AreMore (placed (end_of b) cells) after → PutsWords force cells rest b b' → All (IsOwned after b') b'.uses
-  words_owned force [] rest b' stand p = subst (λ v. All (IsOwned after v) v.uses) (sym p) (λ k d h. owned_later before after b b more (later_none b) (λ i c. c) k d h (owned k d h))
-  words_owned force (c ∷ cs) rest b' stand p = next_owned after force (next_room rest) (appended b (c ∷ cs)) b' p (cells_owned (c ∷ cs) stand)
+  words_owned : (force : ForceVeneers) (goes_on : Bool) (cells : List Cell) (rest : List Element) (b' : Buffer LabelUse) → AreMore (placed (end_of b) cells) after → PutsWords force goes_on cells rest b b' → All (IsOwned after b') b'.uses
+  words_owned force goes_on [] rest b' stand p = subst (λ v. All (IsOwned after v) v.uses) (sym p) (λ k d h. owned_later before after b b more (later_none b) (λ i c. c) k d h (owned k d h))
+  words_owned force goes_on (c ∷ cs) rest b' stand p = next_owned after force goes_on (next_room rest) (appended b (c ∷ cs)) b' p (cells_owned (c ∷ cs) stand)
 
   element_owned : (force : ForceVeneers) (x : Element) (rest : List Element) (b' : Buffer LabelUse) → IsLater b b' → AreMore (placed (end_of b) (cells_in x)) after → Moves force x rest b b' → All (IsOwned after b') b'.uses
   element_owned force (Binding label) rest b' later stand p = λ k d h.
       let count : length b'.uses ≡ length b.uses = ap (λ (v : Buffer LabelUse). length v.uses) p ∙ length-map b.uses (closed_at label_kinds label (end_of b)) in
       let old : k < length b.uses = omega (arith, h, count) in
       owned_later before after b b' more later (λ i c. subst (λ (v : Buffer LabelUse). Contains v.islands i) (sym p) c) k d old (owned k d old)
-  element_owned force (Words cells) rest b' later stand p = words_owned force cells rest b' stand p
+  element_owned force (Words goes_on cells) rest b' later stand p = words_owned force goes_on cells rest b' stand p
   element_owned force (Asking space) rest b' later stand p = asked_owned after space force force b b' p (λ k d h. owned_later before after b b more (later_none b) (λ i c. c) k d h (owned k d h))
 
 pub owned_none : (xs : List Element) (b : Buffer LabelUse) → b.uses ≡ [] → AreOwned xs 0 [] b

@@ -1,9 +1,9 @@
 -- The uses that finished code has by its bytes are those that the buffer knows.
-use Rattle.std.proofs.Common.{ℕ, zero, suc, pos, ◌≡◌, ◌⊎◌, ◌+◌, ◌-◌, ◌*◌, ◌/◌, ◌<◌, ◌≤◌, true, false, List, [], ◌∷◌, ◌++◌, All, length, get_or, map, take, Option, None, Some, refl, sym, ap, ◌∙◌, subst, arith, inl, inr}
-use Rattle.std.specs.Prelude.{Contains, IsSome, IfSome, MatchOption}
+use Rattle.std.proofs.Common.{ℕ, pos, ◌≡◌, ◌⊎◌, ◌+◌, ◌*◌, ◌/◌, ◌<◌, ◌≤◌, true, false, List, [], ◌∷◌, ◌++◌, All, length, get_or, map, take, Option, None, Some, refl, sym, ap, ◌∙◌, subst, arith, inl, inr}
+use Rattle.std.specs.Prelude.{Contains, IsSome, IfSome, MatchOption, is_some}
 use Rattle.std.specs.FinMap.{get}
-use Rattle.std.proofs.lemmas.Bool.{cases_lt, cases_eq, false≢true}
-use Rattle.std.proofs.lemmas.List.{length-append, get_or_append_left, get_or_default, take_all}
+use Rattle.std.proofs.lemmas.Bool.{cases_lt, cases_eq, false≢true, cases_Bool}
+use Rattle.std.proofs.lemmas.List.{length-append, get_or_append_left, get_or_default, length-map}
 use Rattle.a64_base.specs.declared.entity.MachLabel.{MachLabel}
 use Rattle.a64_inst.specs.declared.emission.EmitFlags.{EmitFlags}
 use Rattle.a64_inst.specs.declared.frame.FrameLayout.{FrameLayout}
@@ -18,7 +18,7 @@ use Rattle.a64_buffer.specs.Word.{outside, word_at}
 use Rattle.a64_buffer.specs.Kinds.{GoesTo}
 use Rattle.a64_buffer.specs.Buffer.{Buffer, end_of, label_of, goal_of, IsFree}
 use Rattle.a64_buffer.specs.Classes.{wants, class, class_of}
-use Rattle.a64_buffer.specs.Sound.{IsJump, IsFar, IsStop, IsRightlyOpen, LeadsOn}
+use Rattle.a64_buffer.specs.Sound.{IsJump, IsFar, IsStop, IsRightlyOpen, LeadsOn, HasJump}
 use Rattle.a64_buffer.specs.Finished.{IsFinished}
 use Rattle.a64_emit.specs.declared.code.Code.{Code}
 use Rattle.a64_label_use.specs.declared.label_use.LabelUse.{LabelUse}
@@ -30,14 +30,17 @@ use Rattle.a64_emit.specs.Layout.{standing}
 use Rattle.a64_emit.specs.Emission.{site_of, HasUse, IsPut}
 use Rattle.a64_emit.specs.Contents.{site_class, IsCellUse}
 use Rattle.a64_emit.specs.Leads.{areas, StopsAt}
-use Rattle.a64_assemble.specs.Elements.{Element, cells_in, elements_of}
-use Rattle.a64_assemble.specs.Stations.{IsLaid, end_of_element}
+use Rattle.a64_assemble.specs.Elements.{Element, cells_in, elements_of, falls_in, element_of, element_at}
+use Rattle.a64_assemble.specs.Stations.{IsIslandBehind}
 use Rattle.a64_assemble.specs.Progress.{HasPut}
 use Rattle.a64_assemble.specs.Owners.{IsGivenJump, AreOwned}
 use Rattle.a64_assemble.specs.Placement.{IsLabelAt, IsVeneerWord, IsWanting}
 use Rattle.a64_assemble.proofs.Arrivals.{no_use, IsOutput, pool_is, use_settled, word_free, old_site}
 use Rattle.a64_assemble.proofs.Finishing.{all_stop}
-use Rattle.a64_assemble.proofs.Itemized.{cells_same}
+use Rattle.a64_assemble.proofs.Fronts.{falls_within, falls_is}
+use Rattle.a64_assemble.proofs.Stationed.{not_inside, not_within}
+use Rattle.a64_assemble.proofs.Islanded.{has_jump, island_behind}
+use Rattle.a64_assemble.proofs.Itemized.{all_cells_are}
 use Rattle.a64_assemble.proofs.FieldKinds.{wanting_kind}
 
 -- ---- where a word leads
@@ -72,78 +75,7 @@ short_wants (Constant c) kind s e = absurd (false≢true s)
 short_wants (Trap c) kind s e = absurd (false≢true s)
 short_wants IslandEnd kind s e = absurd (false≢true s)
 
--- ---- stations
-
-module _ (xs : List Element) (count : ℕ) (places : List ℕ) (islands : List (ℕ × ℕ)) (end : ℕ) (laid : IsLaid xs count places islands end) where
-  abbrev station : ℕ → ℕ
-  station i = get_or (places ++ end ∷ []) i 0
-
-  next_station : (i : ℕ) → i < count → station i ≤ station (i + 1)
-  next_station i h = elim (laid.next i h) [ inl flat ↦ omega (arith, flat) | inr island ↦ (let long = island.1.long in omega (arith, long)) ]
-
-  -- what follows an element stands at its end or behind it
-  element_before : (i : ℕ) → i < count → end_of_element xs (places ++ end ∷ []) i ≤ station (i + 1)
-  element_before i h = elim (laid.next i h) [ inl flat ↦ omega (arith, flat) | inr island ↦ (let long = island.1.long in omega (arith, long)) ]
-
-  stations_rise : (n i : ℕ) → i + n ≤ count → station i ≤ station (i + n)
-  stations_rise zero i h = let e : i ≡ i + 0 = omega arith in subst (λ j. station i ≤ station j) e (omega arith)
-  stations_rise (suc n) i h =
-      let e : i + n + 1 ≡ i + suc n = omega arith in
-      subst (λ j. station i ≤ station j) e (let a = stations_rise n i (omega (arith, h)) in let b = next_station (i + n) (omega (arith, h)) in omega (arith, a, b))
-
-  rises : (i j : ℕ) → i ≤ j → j ≤ count → station i ≤ station j
-  rises i j le h = let e : i + (j - i) ≡ j = omega (arith, le) in subst (λ k. station i ≤ station k) e (stations_rise (j - i) i (omega (arith, le, h)))
-
-  -- no element stands inside of an island
-  pub not_inside : (island : ℕ × ℕ) → Contains islands island → (i : ℕ) → i < count → island.0 < station i → station i < island.1 → ⊥
-  not_inside island listed i h low high =
-      let once = subst (λ (x : ℕ × ℕ). (after : ℕ) × (after < count) × (x.0 ≡ end_of_element xs (places ++ end ∷ []) after) × (x.1 ≡ station (after + 1))) listed.2 (let z = laid.once listed.0 island listed.1 in (z.after, z.within, z.stands.begins, z.stands.ends)) in
-      elim (cases_lt once.0 i) [
-        | inl behind ↦ (let a = rises (once.0 + 1) i (omega (arith, behind)) (omega (arith, h)) in omega (arith, a, once.3, high))
-        | inr before ↦ (let a = rises i once.0 (omega (arith, before)) (let w = once.1 in omega (arith, w)) in omega (arith, a, once.2, low))
-      ]
-
-  -- nor does a word of one
-  pub word_outside : (island : ℕ × ℕ) → Contains islands island → (i place : ℕ) → i < count → station i ≤ place → place < end_of_element xs (places ++ end ∷ []) i → (place < island.0) ⊎ (island.1 ≤ place)
-  word_outside island listed i place h low high =
-      let once = subst (λ (x : ℕ × ℕ). (after : ℕ) × (after < count) × (x.0 ≡ end_of_element xs (places ++ end ∷ []) after) × (x.1 ≡ station (after + 1))) listed.2 (let z = laid.once listed.0 island listed.1 in (z.after, z.within, z.stands.begins, z.stands.ends)) in
-      elim (cases_lt once.0 i) [
-        | inl behind ↦ inr (let a = rises (once.0 + 1) i (omega (arith, behind)) (omega (arith, h)) in omega (arith, a, once.3, low))
-        | inr before ↦ elim (cases_eq i once.0) [
-          | inl same ↦ inl (omega (arith, once.2, high, ap (end_of_element xs (places ++ end ∷ [])) same))
-          | inr ne ↦ inl (let a = rises (i + 1) once.0 (omega (arith, before, ne)) (let w = once.1 in omega (arith, w)) in let b = element_before i h in omega (arith, a, b, once.2, high))
-        ]
-      ]
-
-  -- an island does not begin inside of another
-  pub islands_apart : (x y : ℕ × ℕ) → Contains islands x → Contains islands y → x.0 < y.0 → y.0 < x.1 → ⊥
-  islands_apart x y cx cy low high = elim (cases_lt cx.0 cy.0) [
-    | inl lt ↦ (let a = laid.apart cx.0 cy.0 x lt cy.1 in omega (arith, a, ap (λ (i : ℕ × ℕ). i.1) cx.2, ap (λ (i : ℕ × ℕ). i.0) (get_or_default islands cy.0 x y cy.1 ∙ cy.2), high))
-    | inr ge ↦ elim (cases_eq cx.0 cy.0) [
-      | inl e ↦ (let same : x ≡ y = sym cx.2 ∙ (ap (λ n. get_or islands n x) e ∙ (get_or_default islands cy.0 x y cy.1 ∙ cy.2)) in omega (arith, ap (λ (i : ℕ × ℕ). i.0) same, low))
-      | inr ne ↦ (let a = laid.apart cy.0 cx.0 x (omega (arith, ge, ne)) cx.1 in let long : y.0 ≤ y.1 = subst (λ (i : ℕ × ℕ). i.0 ≤ i.1) cy.2 (let z = (laid.once cy.0 y cy.1).stands.long in omega (arith, z)) in omega (arith, a, long, ap (λ (i : ℕ × ℕ). i.0) cx.2, ap (λ (i : ℕ × ℕ). i.1) (get_or_default islands cy.0 x y cy.1 ∙ cy.2), low))
-    ]
-  ]
-
-  -- an island that holds a place behind another stands behind that
-  pub whole_behind : (x y : ℕ × ℕ) → Contains islands x → Contains islands y → (place : ℕ) → x.1 ≤ place → place < y.1 → x.1 ≤ y.0
-  whole_behind x y cx cy place low high = elim (cases_lt cx.0 cy.0) [
-    | inl lt ↦ (let a = laid.apart cx.0 cy.0 x lt cy.1 in omega (arith, a, ap (λ (i : ℕ × ℕ). i.1) cx.2, ap (λ (i : ℕ × ℕ). i.0) (get_or_default islands cy.0 x y cy.1 ∙ cy.2)))
-    | inr ge ↦ elim (cases_eq cx.0 cy.0) [
-      | inl e ↦ absurd (let same : x ≡ y = sym cx.2 ∙ (ap (λ n. get_or islands n x) e ∙ (get_or_default islands cy.0 x y cy.1 ∙ cy.2)) in omega (arith, ap (λ (i : ℕ × ℕ). i.1) same, low, high))
-      | inr ne ↦ absurd (let a = laid.apart cy.0 cx.0 x (omega (arith, ge, ne)) cx.1 in let long : x.0 ≤ x.1 = subst (λ (i : ℕ × ℕ). i.0 ≤ i.1) cx.2 (let z = (laid.once cx.0 x cx.1).stands.long in omega (arith, z)) in omega (arith, a, long, ap (λ (i : ℕ × ℕ). i.0) cx.2, ap (λ (i : ℕ × ℕ). i.1) (get_or_default islands cy.0 x y cy.1 ∙ cy.2), low, high))
-    ]
-  ]
-
 -- ---- uses by bytes
-
-module _ (frame : FrameLayout) (flags : EmitFlags) where
-  pub cell_lists : (items : List Item) → map cells_in (elements_of frame flags items) ≡ map (cells_of frame flags) items
-  cell_lists [] = refl
-  cell_lists (x ∷ items) = ap (λ cs. cs ∷ map cells_in (elements_of frame flags items)) (cells_same frame flags x) ∙ ap (λ css. cells_of frame flags x ∷ css) (cell_lists items)
-
-  pub all_cells_are : (items : List Item) (places : List ℕ) → standing (map cells_in (take (length (elements_of frame flags items)) (elements_of frame flags items))) places ≡ standing (map (cells_of frame flags) items) places
-  all_cells_are items places = ap (λ xs. standing (map cells_in xs) places) (take_all (length (elements_of frame flags items)) (elements_of frame flags items) (omega arith)) ∙ ap (λ css. standing css places) (cell_lists items)
 
 module _ (frame : FrameLayout) (flags : EmitFlags) (items : List Item) (force : ForceVeneers) (b : Buffer LabelUse) (code : Finished) (f : IsFinished label_kinds b code) (out : Code) (o : IsOutput code out) (h : HasPut force (elements_of frame flags items) (length (elements_of frame flags items)) out.places.items b) (owned : AreOwned (elements_of frame flags items) (length (elements_of frame flags items)) out.places.items b) where
   abbrev xs : List Element
@@ -206,15 +138,35 @@ module _ (frame : FrameLayout) (flags : EmitFlags) (items : List Item) (force : 
       go (Trap c) at = absurd at
       go IslandEnd at = absurd at
 
-  -- no label stands in an island, but at its begin
-  no_label_inside : (island : ℕ × ℕ) → Contains b.islands island → (t : Target) (place : ℕ) → goal_of b.labels t ≡ Some place → island.0 < place → place < island.1 → ⊥
-  no_label_inside island listed (Label label) place e low high =
+  -- no label stands in an island, but at the begin of one with a jump
+  no_label_inside : (island : ℕ × ℕ) → Contains b.islands island → (t : Target) (place : ℕ) → goal_of b.labels t ≡ Some place → (HasJump b.uses island → island.0 < place) → island.0 ≤ place → place < island.1 → ⊥
+  no_label_inside island listed (Label label) place e behind low high =
+      let z = h.laid.once listed.0 island listed.1 in
+      let stands = subst (IsIslandBehind xs (out.places.items ++ end_of b ∷ []) z.after) listed.2 z.stands in
       let only = h.labels.only label.0 place e in
       let at : get_or (out.places.items ++ end_of b ∷ []) only.0 0 ≡ place = get_or_append_left out.places.items (end_of b ∷ []) 0 only.0 (let w = only.1 in omega (arith, w, h.laid.each_placed)) ∙ only.3 in
-      not_inside xs (length xs) out.places.items b.islands (end_of b) h.laid island listed only.0 only.1 (omega (arith, low, at)) (omega (arith, high, at))
-  no_label_inside island listed (Constant n) place e low high = let z : None ≡ Some place = e in cc
-  no_label_inside island listed (Trap c) place e low high = let z : None ≡ Some place = e in cc
-  no_label_inside island listed IslandEnd place e low high = let z : None ≡ Some place = e in cc
+      elim (cases_Bool (falls_in (element_at xs z.after))) [
+        | inl goes_on ↦
+            let less = behind (has_jump frame flags items force b code f out o h z.after island z.within listed stands goes_on) in
+            not_inside xs (length xs) out.places.items b.islands (end_of b) h.laid island listed only.0 only.1 (omega (arith, less, at)) (omega (arith, high, at))
+        | inr stops ↦ not_within xs (length xs) out.places.items b.islands (end_of b) h.laid island z.after z.within stands stops only.0 only.1 (omega (arith, low, at)) (omega (arith, high, at))
+      ]
+  no_label_inside island listed (Constant n) place e behind low high = let z : None ≡ Some place = e in cc
+  no_label_inside island listed (Trap c) place e behind low high = let z : None ≡ Some place = e in cc
+  no_label_inside island listed IslandEnd place e behind low high = let z : None ≡ Some place = e in cc
+
+  -- a use of a label is not the jump over an island
+  not_jump : (k : ℕ) (d : Use LabelUse) → k < length b.uses → IsSome (label_of (get_or b.uses k d).target) → (island : ℕ × ℕ) → (get_or b.uses k d).offset ≡ island.0 → HasJump b.uses island → ⊥
+  not_jump k d w labelled island at (i, u, inside, is, front) =
+      let same : get_or b.uses i d ≡ u = get_or_default b.uses i d u inside ∙ is in
+      let place : (get_or b.uses i d).offset ≡ (get_or b.uses k d).offset = ap (λ (v : Use LabelUse). v.offset) same ∙ (front.0 ∙ sym at) in
+      elim (cases_eq i k) [
+        | inl e ↦ false≢true (sym (ap (λ t. is_some (label_of t)) (ap (λ n. (get_or b.uses n d).target) (sym e) ∙ (ap (λ (v : Use LabelUse). v.target) same ∙ front.1))) ∙ labelled)
+        | inr ne ↦ elim (cases_lt i k) [
+          | inl lt ↦ f.sound.apart i k d lt w place
+          | inr ge ↦ f.sound.apart k i d (omega (arith, ge, ne)) inside (sym place)
+        ]
+      ]
 
   -- ---- a use that the buffer knows stands in the bytes
 
@@ -236,7 +188,7 @@ module _ (frame : FrameLayout) (flags : EmitFlags) (items : List Item) (force : 
       let jump : (use_at k).kind ≡ uses.Branch26 = same.kind ∙ j.kind in
       let put : get_or f.final.words ((use_at k).offset / 4) 0 ≡ 0x14000000 = ap (λ n. get_or f.final.words (n / 4) 0) at ∙ (f.later.words ((get_or b.uses k no_use).offset / 4) (let x = j.inside in omega (arith, x)) ∙ j.word) in
       record {
-        area = subst (λ n. InArea (areas out) n 4) (sym at) (listed_area j.island (get_or b.uses k no_use).offset j.listed (let x = j.behind in omega (arith, x)) j.before);
+        area = subst (λ n. InArea (areas out) n 4) (sym at) (listed_area j.island (get_or b.uses k no_use).offset j.listed j.from j.before);
         word = subst (λ kind. outside (mask_for kind) (word_at out.bytes.items (use_at k).offset) ≡ outside (mask_for kind) (get_or f.final.words ((use_at k).offset / 4) 0)) jump settled.rest ∙ ap (outside (mask_for uses.Branch26)) put;
         labelled = subst (λ t. IsSome (label_of t)) target labelled;
         user = (use_at j.parent).offset;
@@ -244,8 +196,20 @@ module _ (frame : FrameLayout) (flags : EmitFlags) (items : List Item) (force : 
         short = short;
         use' = subst (λ t. IsCellUse cells ((use_at j.parent).offset, record { kind = (use_at j.parent).kind; target = t })) target (cell_in j.parent no_use j.within (j.owned no_use));
         stops = says_stop j.parent (final_within j.parent j.within) want (use_at k).offset there;
-        not_over = λ island listed begins says. islands_apart xs (length xs) out.places.items b.islands (end_of b) h.laid j.island island j.listed (subst (λ is. Contains is island) islands_are listed) (let x = j.behind in omega (arith, x, at, begins)) (let x = j.before in omega (arith, x, at, begins));
-        away = λ there. no_label_inside j.island j.listed (use_at k).target (use_at k).offset (label_is ((use_at j.parent).offset, record { kind = (use_at j.parent).kind; target = (use_at k).target }) (use_at k).offset there) (let x = j.behind in omega (arith, x, at)) (let x = j.before in omega (arith, x, at));
+        not_over = λ island i there falls begins.
+            let known : Contains b.islands island = subst (λ is. Contains is island) islands_are there.listed in
+            let inside : i < length items = falls_within items i falls in
+            let within : i < length xs = omega (arith, inside, length-map items (element_of frame flags)) in
+            let stands = island_behind frame flags items force b code f out o h i island within there in
+            let jump = has_jump frame flags items force b code f out o h i island within known stands (falls_is frame flags items i inside ∙ falls) in
+            not_jump k no_use w j.labelled island (sym at ∙ begins) jump;
+        away = λ there.
+            no_label_inside j.island j.listed (use_at k).target (use_at k).offset (label_is ((use_at j.parent).offset, record { kind = (use_at j.parent).kind; target = (use_at k).target }) (use_at k).offset there)
+            (λ jump. elim (cases_eq j.island.0 (get_or b.uses k no_use).offset) [
+              | inl e ↦ absurd (not_jump k no_use w j.labelled j.island (sym e) jump)
+              | inr ne ↦ (let x = j.from in omega (arith, x, at, ne))
+            ])
+            (let x = j.from in omega (arith, x, at)) (let x = j.before in omega (arith, x, at));
       }
     where
       listed_area : (island : ℕ × ℕ) (place : ℕ) → Contains b.islands island → island.0 ≤ place → place + 4 ≤ island.1 → InArea (areas out) place 4

@@ -17,10 +17,12 @@ use Rattle.a64_buffer.proofs.Laters.{later_trans, was_open}
 use Rattle.a64_buffer.proofs.Rooms.{open_wants, open_stop, few_bytes}
 use Rattle.a64_label_use.specs.declared.label_use.LabelUse.{LabelUse}
 use Rattle.a64_label_use.specs.LabelUses.{label_kinds}
-use Rattle.a64_assemble.specs.Elements.{Element, is_bound_by}
+use Rattle.a64_assemble.specs.Elements.{Element, is_bound_by, falls_in, element_at}
 use Rattle.a64_assemble.specs.OpenUses.{stops_from, is_open_in, is_open_at, SomeOpenAt, Needs, NeedsFar, StopsIn, IsLate, Holds, IsCaused, WasAsked}
 use Rattle.a64_assemble.proofs.Opens.{OpenParts, open_parts, parts_open, from_stop, from_to, counts_le, burden_open, misfit, at_bound, at_label, stop_at, some_place, goal_is, still_open, needs_from, some_from}
 use Rattle.a64_assemble.proofs.Forcing.{StopsAtGoal, at_goal, below_or_goal, stop_there}
+use Rattle.a64_buffer.proofs.Islands.{front_short}
+use Rattle.a64_buffer.specs.Pieces.{front_size}
 
 -- ---- counts
 
@@ -49,7 +51,11 @@ one_more p q xs ys j d lo hi here h =
     let one : ones q (get_or (drop n ys) (j - n) d) ≡ 1 = ap (ones q) at ∙ ap (λ b. cond {A = ℕ} b 1 0) here in
     omega (arith, head, tail, one, sum_by-take-drop (ones q) ys n)
 
-module _ (force : ForceVeneers) (xs : List Element) (f : Buffer LabelUse) (k distance : ℕ) (m w : Buffer LabelUse) (whole : IsWhole label_kinds m) (has : HasIsland label_kinds distance force true m w) (since : IsLater w f) (stops : All (λ u. wants (class label_kinds u) ≡ true → IsSome u.stop) f.uses) (bound : (n : ℕ) → is_bound_by (take (k + 1) xs) n ≡ true → IsSome (get m.labels n)) (only : (label place : ℕ) → get m.labels label ≡ Some place → is_bound_by (take (k + 1) xs) label ≡ true) where
+-- no label is bound to the end
+abbrev pub AreBefore : Buffer LabelUse → Type 0
+AreBefore m = (label place : ℕ) → get m.labels label ≡ Some place → place < end_of m
+
+module _ (force : ForceVeneers) (xs : List Element) (f : Buffer LabelUse) (k distance : ℕ) (jump : Bool) (m w : Buffer LabelUse) (whole : IsWhole label_kinds m) (has : HasIsland label_kinds distance force jump m w) (since : IsLater w f) (stops : All (λ u. wants (class label_kinds u) ≡ true → IsSome u.stop) f.uses) (bound : (n : ℕ) → is_bound_by (take (k + 1) xs) n ≡ true → IsSome (get m.labels n)) (only : (label place : ℕ) → get m.labels label ≡ Some place → is_bound_by (take (k + 1) xs) label ≡ true) (earlier : jump ≡ false → AreBefore m) where
   all_later : IsLater m f
   all_later = later_trans m w f has.later since
 
@@ -153,7 +159,7 @@ module _ (force : ForceVeneers) (xs : List Element) (f : Buffer LabelUse) (k dis
       let parts = open_parts xs f k (end_of m) (end_of m) v o in
       parts_open xs f k (end_of m) (end_of w) v (record { before = let long = has.long in omega (arith, parts.before, long); wanting = parts.wanting; from = parts.from; away = parts.away })
 
-  needs_far : (p : Buffer LabelUse) → IsBeforePromotion label_kinds true m p → IsLater p w → (Fits label_kinds p distance → ⊥) → NeedsFar xs f k distance (end_of m, end_of w)
+  needs_far : (p : Buffer LabelUse) → IsBeforePromotion label_kinds jump m p → IsLater p w → (Fits label_kinds p distance → ⊥) → NeedsFar xs f k distance (end_of m, end_of w)
   needs_far p is later never =
       let x = misfit (end_of p) p.uses distance never in
       let rest : IsLater p f = later_trans p w f later since in
@@ -167,9 +173,14 @@ module _ (force : ForceVeneers) (xs : List Element) (f : Buffer LabelUse) (k dis
             let same : IsSameUse (end_of p) (get_or p.uses x.index d) (get_or f.uses x.index d) = rest.uses x.index d x.within in
             let far : class label_kinds u ≡ Far = is.only_far x.index d x.within (x.opened d) in
             let late : u.offset + range_of label_kinds third < end_of p + distance + 4 + burden label_kinds third p.uses = subst (λ l. u.offset + range_of label_kinds l < end_of p + distance + 4 + burden label_kinds l p.uses) (ap level_of far) (x.late d) in
-            omega (arith, late, same.offset, is.owed, many x.index d x.within (x.opened d) far);
+            omega (arith, late, same.offset, is.owed, front_short label_kinds jump, many x.index d x.within (x.opened d) far);
       }
     where
+      -- no label is bound both by then and behind what stands in front
+      not_there : (label place : ℕ) → get m.labels label ≡ Some place → end_of p ≤ place → place ≤ end_of m → (t : Bool) → jump ≡ t → ⊥
+      not_there label place at from low true e = omega (arith, from, low, is.long, ap front_size e)
+      not_there label place at from low false e = omega (arith, from, is.long, earlier e label place at)
+
       opened : (j : ℕ) (d : Use LabelUse) → j < length p.uses → is_open label_kinds (get_or p.uses j d) ≡ true → is_open_in xs f k (end_of m) (end_of w) (get_or f.uses j d) ≡ true
       opened j d lt o =
           let u : Use LabelUse = get_or p.uses j d in
@@ -188,7 +199,7 @@ module _ (force : ForceVeneers) (xs : List Element) (f : Buffer LabelUse) (k dis
                 let at : v.stop ≡ Some g.0 = stop_at (get f.labels z.0) v.stop g.0 (all_later.labels z.0 g.0 g.1) z.2.at in
                 let from : end_of p ≤ g.0 = same.later g.0 none at in
                 let low = subst (λ o. IfSome o (λ place. (place % 4 ≡ 0) × (place ≤ end_of m))) g.1 (whole.sound.bound z.0) in
-                omega (arith, from, low.1, is.long);
+                not_there z.0 g.0 g.1 from low.1 jump refl;
           })
 
       many : (j : ℕ) (d : Use LabelUse) → j < length p.uses → is_open label_kinds (get_or p.uses j d) ≡ true → class label_kinds (get_or p.uses j d) ≡ Far → burden label_kinds third m.uses + 4 ≤ 28 * count_by (is_open_in xs f k (end_of m) (end_of w)) f.uses
@@ -239,8 +250,8 @@ module _ (force : ForceVeneers) (xs : List Element) (f : Buffer LabelUse) (k dis
       ] refl
 
 -- an island that was asked for is caused, told from the finished code
-pub is_caused : (force : ForceVeneers) (xs : List Element) (stations : List ℕ) (b f : Buffer LabelUse) (island : ℕ × ℕ) → IsLater b f → All (λ u. wants (class label_kinds u) ≡ true → IsSome u.stop) f.uses → WasAsked force xs (length xs) stations b island → IsCaused xs f force stations island
-is_caused force xs stations b f island then' stops z =
+pub is_caused : (force : ForceVeneers) (xs : List Element) (stations : List ℕ) (b f : Buffer LabelUse) (island : ℕ × ℕ) → IsLater b f → All (λ u. wants (class label_kinds u) ≡ true → IsSome u.stop) f.uses → (z : WasAsked force xs (length xs) stations b island) → (falls_in (element_at xs z.after) ≡ false → AreBefore z.moment) → IsCaused xs f force stations island
+is_caused force xs stations b f island then' stops z before =
     let m : Buffer LabelUse = z.moment in
     let since : IsLater z.written f = later_trans z.written b f z.since then' in
     let later : IsLater m f = later_trans m z.written f z.has.later since in
@@ -255,9 +266,9 @@ is_caused force xs stations b f island then' stops z =
         | inr forced ↦ inr (forced.0, forced.1, subst (λ a. SomeOpenAt xs f z.after a) z.at (some_from xs m f z.after z.whole later z.bound stops (2 ^ 32 - 1) forced.2))
       ];
       holds = subst (λ b. Holds xs f force z.after z.distance (island.0, b)) z.ends (subst (λ a. Holds xs f force z.after z.distance (a, end_of z.written)) z.at
-          (holds force xs f z.after z.distance m z.written z.whole z.has since stops z.bound z.only));
+          (holds force xs f z.after z.distance (falls_in (element_at xs z.after)) m z.written z.whole z.has since stops z.bound z.only before));
       served = z.has.served;
-      late = served_late force xs f z.after z.distance m z.written z.whole z.has since stops z.bound z.only;
+      late = served_late force xs f z.after z.distance (falls_in (element_at xs z.after)) m z.written z.whole z.has since stops z.bound z.only before;
     }
   where
     same_some : (s t : ℕ) → ◌≡◌ {A = Option ℕ} (Some s) (Some t) → s ≡ t

@@ -1,5 +1,5 @@
 -- Where all code is shorter than each range, no island is written.
-use Rattle.std.proofs.Common.{ℕ, ◌≡◌, ◌+◌, ◌-◌, ◌^◌, ◌≤◌, List, [], ◌∷◌, ◌++◌, map, All, get_or, Option, None, Some, refl, sym, ap, ◌∙◌, subst, arith, inl, inr}
+use Rattle.std.proofs.Common.{ℕ, ◌≡◌, ◌+◌, ◌-◌, ◌^◌, ◌≤◌, List, [], ◌∷◌, ◌++◌, map, All, get_or, Option, None, Some, refl, sym, ap, ◌∙◌, subst, arith, inl, inr, Bool}
 use Rattle.std.specs.Option.{unwrap_or}
 use Rattle.std.proofs.lemmas.List.Sums.{sum_by-cons}
 use Rattle.std.proofs.lemmas.List.Elements.{All-same, All-append, All-map}
@@ -35,7 +35,7 @@ add_le (Some m) n h = omega arith
 pub room_le : (xs : List Element) → room_of xs ≤ whole_in xs
 room_le [] = omega arith
 room_le (Binding label ∷ xs) = omega (arith, sum_by-cons (λ x. growth_in x + space_in x) (Binding label) xs, room_le xs)
-room_le (Words cells ∷ xs) = omega (arith, sum_by-cons (λ x. growth_in x + space_in x) (Words cells) xs, room_le_words cells (next_room xs) (whole_in xs) (room_le xs))
+room_le (Words goes_on cells ∷ xs) = omega (arith, sum_by-cons (λ x. growth_in x + space_in x) (Words goes_on cells) xs, room_le_words cells (next_room xs) (whole_in xs) (room_le xs))
 room_le (Asking space ∷ xs) = omega (arith, sum_by-cons (λ x. growth_in x + space_in x) (Asking space) xs, add_le (next_room xs) (whole_in xs) (room_le xs))
 
 module _ (force : ForceVeneers) (size : ℕ) where
@@ -52,7 +52,7 @@ module _ (force : ForceVeneers) (size : ℕ) where
       let f : No ≡ Yes = sym e ∙ forced in
       cc
 
-  quiet_asks : (m b' : Buffer LabelUse) (x : ℕ) (f g : ForceVeneers) → (f ≡ Yes → force ≡ Yes) → All (UseIsQuiet force size) m.uses → end_of m + owed label_kinds m + 4 + x ≤ size → Asks x f g m b' → b' ≡ m
+  quiet_asks : {jump : Bool} (m b' : Buffer LabelUse) (x : ℕ) (f g : ForceVeneers) → (f ≡ Yes → force ≡ Yes) → All (UseIsQuiet force size) m.uses → end_of m + owed label_kinds m + 4 + x ≤ size → Asks x f g jump m b' → b' ≡ m
   quiet_asks m b' x f g forced all le a = elim a.outcome [
     | inr l ↦ l.same
     | inl w ↦ elim w.cause [
@@ -64,9 +64,9 @@ module _ (force : ForceVeneers) (size : ℕ) where
   abbrev pub StaysQuiet : Buffer LabelUse → Buffer LabelUse → Type 0
   StaysQuiet b b' = (b'.islands ≡ b.islands) × All (UseIsQuiet force size) b'.uses
 
-  quiet_words : (cells : List Cell) (rest : List Element) (b b' : Buffer LabelUse) → All (SiteIsQuiet force size) (sites_of cells) → All (UseIsQuiet force size) b.uses → end_of b + owed label_kinds b + size_of cells + charge_of cells + room_of rest ≤ size → PutsWords force cells rest b b' → StaysQuiet b b'
-  quiet_words [] rest b b' quiet all le p = (ap (λ v. v.islands) p, subst (λ v. All (UseIsQuiet force size) v.uses) (sym p) all)
-  quiet_words (c ∷ cs) rest b b' quiet all le p = next (next_room rest) refl p
+  quiet_words : (goes_on : Bool) (cells : List Cell) (rest : List Element) (b b' : Buffer LabelUse) → All (SiteIsQuiet force size) (sites_of cells) → All (UseIsQuiet force size) b.uses → end_of b + owed label_kinds b + size_of cells + charge_of cells + room_of rest ≤ size → PutsWords force goes_on cells rest b b' → StaysQuiet b b'
+  quiet_words goes_on [] rest b b' quiet all le p = (ap (λ v. v.islands) p, subst (λ v. All (UseIsQuiet force size) v.uses) (sym p) all)
+  quiet_words goes_on (c ∷ cs) rest b b' quiet all le p = next (next_room rest) refl p
     where
       middle : All (UseIsQuiet force size) (b.uses ++ uses_from b.labels (end_of b) (c ∷ cs))
       middle = All-append (UseIsQuiet force size) b.uses (uses_from b.labels (end_of b) (c ∷ cs)) all (made_site b (c ∷ cs) (SiteIsQuiet force size) quiet)
@@ -74,13 +74,13 @@ module _ (force : ForceVeneers) (size : ℕ) where
       same : b' ≡ appended b (c ∷ cs) → StaysQuiet b b'
       same e = (ap (λ v. v.islands) e, subst (λ v. All (UseIsQuiet force size) v.uses) (sym e) middle)
 
-      next : (o : Option ℕ) → next_room rest ≡ o → AsksNext force o (appended b (c ∷ cs)) b' → StaysQuiet b b'
+      next : (o : Option ℕ) → next_room rest ≡ o → AsksNext force goes_on o (appended b (c ∷ cs)) b' → StaysQuiet b b'
       next None o e = same e
       next (Some x) o a = same (quiet_asks (appended b (c ∷ cs)) b' x No force (λ e. let z : No ≡ Yes = e in cc) middle (omega (arith, le, put_owed b (c ∷ cs), ap (λ o. unwrap_or o 0) o)) a)
 
   pub quiet_step : (x : Element) (rest : List Element) (b b' : Buffer LabelUse) → IsQuietElement force size x → All (UseIsQuiet force size) b.uses → end_of b + owed label_kinds b + growth_in x + space_in x + room_of rest ≤ size → Moves force x rest b b' → StaysQuiet b b'
   quiet_step (Binding label) rest b b' quiet all le p = (ap (λ v. v.islands) p, All-same (UseIsQuiet force size) b'.uses (map (closed_at label_kinds label (end_of b)) b.uses) (ap (λ v. v.uses) p) (All-map (UseIsQuiet force size) (closed_at label_kinds label (end_of b)) b.uses all))
-  quiet_step (Words cells) rest b b' quiet all le p = quiet_words cells rest b b' quiet all (omega (arith, le)) p
+  quiet_step (Words goes_on cells) rest b b' quiet all le p = quiet_words goes_on cells rest b b' quiet all (omega (arith, le)) p
   quiet_step (Asking space) rest b b' quiet all le p =
       let e : b' ≡ b = quiet_asks b b' space force force (λ e. e) all (omega (arith, le)) p in
       (ap (λ v. v.islands) e, subst (λ v. All (UseIsQuiet force size) v.uses) (sym e) all)
@@ -88,8 +88,8 @@ module _ (force : ForceVeneers) (size : ℕ) where
   -- behind an element's words there is room for what follows
   pub quiet_next : (x : Element) (rest : List Element) (b : Buffer LabelUse) → IsQuietElement force size x → All (UseIsQuiet force size) b.uses → end_of b + owed label_kinds b + growth_in x + space_in x + room_of rest ≤ size → NeedsNone force x rest b
   quiet_next (Binding label) rest b quiet all le = tt
-  quiet_next (Words []) rest b quiet all le = tt
-  quiet_next (Words (c ∷ cs)) rest b quiet all le = λ distance e.
+  quiet_next (Words goes_on []) rest b quiet all le = tt
+  quiet_next (Words goes_on (c ∷ cs)) rest b quiet all le = λ distance e.
       quiet_fits (appended b (c ∷ cs)) distance
       (All-append (UseIsQuiet force size) b.uses (uses_from b.labels (end_of b) (c ∷ cs)) all (made_site b (c ∷ cs) (SiteIsQuiet force size) quiet))
       (omega (arith, le, put_owed b (c ∷ cs), ap (λ o. unwrap_or o 0) e))

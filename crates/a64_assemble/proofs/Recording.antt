@@ -1,5 +1,5 @@
 -- What is recorded as elements are put, with islands between them.
-use Rattle.std.proofs.Common.{ℕ, ◌≡◌, ◌⊎◌, ◌+◌, ◌*◌, ◌<◌, ◌≤◌, true, suc, zero, List, [], ◌∷◌, ◌++◌, length, get_or, map, take, drop, Option, None, Some, refl, sym, ap, ◌∙◌, subst, arith, inl, inr}
+use Rattle.std.proofs.Common.{ℕ, ◌≡◌, ◌⊎◌, ◌+◌, ◌*◌, ◌<◌, ◌≤◌, suc, zero, List, [], ◌∷◌, ◌++◌, length, get_or, map, take, drop, Option, None, Some, refl, sym, ap, ◌∙◌, subst, arith, inl, inr, Bool}
 use Rattle.std.specs.Prelude.{All, Contains}
 use Rattle.std.specs.List.{flat_map}
 use Rattle.std.specs.Ordering.{nat_cmp}
@@ -36,6 +36,7 @@ use Rattle.a64_assemble.specs.Asks.{Asks, AsksNext, PutsWords, Moves}
 use Rattle.a64_assemble.specs.CellRecords.{HasRecorded, AreRecorded}
 use Rattle.a64_assemble.specs.TrapRecords.{IsStoppedTrap, HasTraps}
 use Rattle.a64_assemble.proofs.Moving.{put_later}
+use Rattle.a64_buffer.proofs.Islands.{begun_end}
 
 -- ---- what stays
 
@@ -140,16 +141,16 @@ module _ (cells : List (ℕ × Cell)) (m b b' : Buffer LabelUse) (same : b.traps
 
 -- ---- an island, words, an element
 
-pub island_traps : (cells : List (ℕ × Cell)) (distance : ℕ) (force : ForceVeneers) (m b' : Buffer LabelUse) → HasIsland label_kinds distance force true m b' → HasTraps cells m → HasTraps cells b'
-island_traps cells distance force m b' has h =
-    served_traps cells m (pieces.begun label_kinds true m) b' refl (omega (arith, length-append m.words (0x14000000 ∷ []))) has.later m.labels m.constants has.served has.serves h
+pub island_traps : {jump : Bool} (cells : List (ℕ × Cell)) (distance : ℕ) (force : ForceVeneers) (m b' : Buffer LabelUse) → HasIsland label_kinds distance force jump m b' → HasTraps cells m → HasTraps cells b'
+island_traps {jump = jump} cells distance force m b' has h =
+    served_traps cells m (pieces.begun label_kinds jump m) b' refl (omega (arith, begun_end label_kinds jump m)) has.later m.labels m.constants has.served has.serves h
 
-asked_traps : (cells : List (ℕ × Cell)) (x : ℕ) (f g : ForceVeneers) (m b' : Buffer LabelUse) → Asks x f g m b' → HasTraps cells m → HasTraps cells b'
+asked_traps : {jump : Bool} (cells : List (ℕ × Cell)) (x : ℕ) (f g : ForceVeneers) (m b' : Buffer LabelUse) → Asks x f g jump m b' → HasTraps cells m → HasTraps cells b'
 asked_traps cells x f g m b' a h = elim a.outcome [ inr l ↦ subst (HasTraps cells) (sym l.same) h | inl w ↦ island_traps cells x g m b' w.island h ]
 
-next_traps : (cells : List (ℕ × Cell)) (force : ForceVeneers) (o : Option ℕ) (m b' : Buffer LabelUse) → AsksNext force o m b' → HasTraps cells m → HasTraps cells b'
-next_traps cells force None m b' e h = subst (HasTraps cells) (sym e) h
-next_traps cells force (Some x) m b' a h = asked_traps cells x No force m b' a h
+next_traps : (cells : List (ℕ × Cell)) (force : ForceVeneers) (goes_on : Bool) (o : Option ℕ) (m b' : Buffer LabelUse) → AsksNext force goes_on o m b' → HasTraps cells m → HasTraps cells b'
+next_traps cells force goes_on None m b' e h = subst (HasTraps cells) (sym e) h
+next_traps cells force goes_on (Some x) m b' a h = asked_traps cells x No force m b' a h
 
 module _ (old : List (ℕ × Cell)) (b : Buffer LabelUse) (h : HasTraps old b) where
   module _ (cells : List Cell) where
@@ -176,23 +177,23 @@ module _ (old : List (ℕ × Cell)) (b : Buffer LabelUse) (h : HasTraps old b) w
   none_more : HasTraps (old ++ []) b
   none_more = subst (λ cs. HasTraps cs b) (sym (append-nil old)) h
 
-  words_traps : (force : ForceVeneers) (cells : List Cell) (rest : List Element) (b' : Buffer LabelUse) → PutsWords force cells rest b b' → HasTraps (old ++ placed (end_of b) cells) b'
-  words_traps force [] rest b' p = subst (HasTraps (old ++ [])) (sym p) none_more
-  words_traps force (c ∷ cs) rest b' p = next_traps (old ++ placed (end_of b) (c ∷ cs)) force (next_room rest) (appended b (c ∷ cs)) b' p (cells_traps (c ∷ cs))
+  words_traps : (force : ForceVeneers) (goes_on : Bool) (cells : List Cell) (rest : List Element) (b' : Buffer LabelUse) → PutsWords force goes_on cells rest b b' → HasTraps (old ++ placed (end_of b) cells) b'
+  words_traps force goes_on [] rest b' p = subst (HasTraps (old ++ [])) (sym p) none_more
+  words_traps force goes_on (c ∷ cs) rest b' p = next_traps (old ++ placed (end_of b) (c ∷ cs)) force goes_on (next_room rest) (appended b (c ∷ cs)) b' p (cells_traps (c ∷ cs))
 
   element_traps : (force : ForceVeneers) (x : Element) (rest : List Element) (b' : Buffer LabelUse) → IsLater b b' → Moves force x rest b b' → HasTraps (old ++ placed (end_of b) (cells_in x)) b'
   element_traps force (Binding label) rest b' later p = traps_kept (old ++ []) b b' later (ap (λ (v : Buffer LabelUse). v.traps) p) none_more
-  element_traps force (Words cells) rest b' later p = words_traps force cells rest b' p
+  element_traps force (Words goes_on cells) rest b' later p = words_traps force goes_on cells rest b' p
   element_traps force (Asking space) rest b' later p = asked_traps (old ++ []) space force force b b' p none_more
 
 -- ---- what is recorded beside traps: islands and bindings leave it
 
-asked_records : (x : ℕ) (f g : ForceVeneers) (m b' : Buffer LabelUse) → Asks x f g m b' → b'.records ≡ m.records
+asked_records : {jump : Bool} (x : ℕ) (f g : ForceVeneers) (m b' : Buffer LabelUse) → Asks x f g jump m b' → b'.records ≡ m.records
 asked_records x f g m b' a = elim a.outcome [ inr l ↦ ap (λ (v : Buffer LabelUse). v.records) l.same | inl w ↦ w.island.records ]
 
-next_records : (force : ForceVeneers) (o : Option ℕ) (m b' : Buffer LabelUse) → AsksNext force o m b' → b'.records ≡ m.records
-next_records force None m b' e = ap (λ (v : Buffer LabelUse). v.records) e
-next_records force (Some x) m b' a = asked_records x No force m b' a
+next_records : (force : ForceVeneers) (goes_on : Bool) (o : Option ℕ) (m b' : Buffer LabelUse) → AsksNext force goes_on o m b' → b'.records ≡ m.records
+next_records force goes_on None m b' e = ap (λ (v : Buffer LabelUse). v.records) e
+next_records force goes_on (Some x) m b' a = asked_records x No force m b' a
 
 -- what some cells record, and others behind them, is what all of them do
 records_append : (old new : List (ℕ × Cell)) → more_records (records_in old) (records_in new) ≡ records_in (old ++ new)
@@ -208,13 +209,13 @@ module _ (old : List (ℕ × Cell)) (b : Buffer LabelUse) (h : b.records ≡ rec
   no_new_records : b.records ≡ records_in (old ++ [])
   no_new_records = h ∙ ap records_in (sym (append-nil old))
 
-  words_records : (force : ForceVeneers) (cells : List Cell) (rest : List Element) (b' : Buffer LabelUse) → PutsWords force cells rest b b' → b'.records ≡ records_in (old ++ placed (end_of b) cells)
-  words_records force [] rest b' p = ap (λ (v : Buffer LabelUse). v.records) p ∙ no_new_records
-  words_records force (c ∷ cs) rest b' p = next_records force (next_room rest) (appended b (c ∷ cs)) b' p ∙ cells_records (c ∷ cs)
+  words_records : (force : ForceVeneers) (goes_on : Bool) (cells : List Cell) (rest : List Element) (b' : Buffer LabelUse) → PutsWords force goes_on cells rest b b' → b'.records ≡ records_in (old ++ placed (end_of b) cells)
+  words_records force goes_on [] rest b' p = ap (λ (v : Buffer LabelUse). v.records) p ∙ no_new_records
+  words_records force goes_on (c ∷ cs) rest b' p = next_records force goes_on (next_room rest) (appended b (c ∷ cs)) b' p ∙ cells_records (c ∷ cs)
 
   element_records : (force : ForceVeneers) (x : Element) (rest : List Element) (b' : Buffer LabelUse) → Moves force x rest b b' → b'.records ≡ records_in (old ++ placed (end_of b) (cells_in x))
   element_records force (Binding label) rest b' p = ap (λ (v : Buffer LabelUse). v.records) p ∙ no_new_records
-  element_records force (Words cells) rest b' p = words_records force cells rest b' p
+  element_records force (Words goes_on cells) rest b' p = words_records force goes_on cells rest b' p
   element_records force (Asking space) rest b' p = asked_records space force force b b' p ∙ no_new_records
 
 -- ---- element by element

@@ -1,5 +1,5 @@
 -- The cells of elements stay where they were put, also behind islands.
-use Rattle.std.proofs.Common.{ℕ, ◌≡◌, ◌+◌, ◌<◌, List, [], ◌∷◌, ◌++◌, length, get_or, map, take, sym, ap, ◌∙◌, subst, arith}
+use Rattle.std.proofs.Common.{ℕ, ◌≡◌, ◌+◌, ◌<◌, List, [], ◌∷◌, ◌++◌, length, get_or, map, take, sym, ap, ◌∙◌, subst, arith, Bool}
 use Rattle.std.specs.Prelude.{All}
 use Rattle.std.proofs.lemmas.List.{take_more, length-map, length-take-le, map-append}
 use Rattle.std.proofs.lemmas.List.Elements.{All-append}
@@ -28,13 +28,13 @@ still b b' l = record {
 
 module _ (force : ForceVeneers) where
   -- an element's own cells stand from the end on
-  words_stand : (cells : List Cell) (rest : List Element) (b b' : Buffer LabelUse) → All (λ u. u.offset < end_of b) b.uses → PutsWords force cells rest b b' → All (IsPut b') (placed (end_of b) cells)
-  words_stand [] rest b b' before p = λ k d w. absurd (omega arith)
-  words_stand (c ∷ cs) rest b b' before p = λ k d w. put_later (appended b (c ∷ cs)) b' (still (appended b (c ∷ cs)) b' (next_later force (next_room rest) (appended b (c ∷ cs)) b' p)) (get_or (placed (end_of b) (c ∷ cs)) k d) (all_put b (c ∷ cs) before k d w)
+  words_stand : (goes_on : Bool) (cells : List Cell) (rest : List Element) (b b' : Buffer LabelUse) → All (λ u. u.offset < end_of b) b.uses → PutsWords force goes_on cells rest b b' → All (IsPut b') (placed (end_of b) cells)
+  words_stand goes_on [] rest b b' before p = λ k d w. absurd (omega arith)
+  words_stand goes_on (c ∷ cs) rest b b' before p = λ k d w. put_later (appended b (c ∷ cs)) b' (still (appended b (c ∷ cs)) b' (next_later force goes_on (next_room rest) (appended b (c ∷ cs)) b' p)) (get_or (placed (end_of b) (c ∷ cs)) k d) (all_put b (c ∷ cs) before k d w)
 
   own_stand : (x : Element) (rest : List Element) (b b' : Buffer LabelUse) → All (λ u. u.offset < end_of b) b.uses → Moves force x rest b b' → All (IsPut b') (placed (end_of b) (cells_in x))
   own_stand (Binding label) rest b b' before p = λ k d w. absurd (omega arith)
-  own_stand (Words cells) rest b b' before p = words_stand cells rest b b' before p
+  own_stand (Words goes_on cells) rest b b' before p = words_stand goes_on cells rest b b' before p
   own_stand (Asking space) rest b b' before p = λ k d w. absurd (omega arith)
 
   module _ (xs : List Element) (k : ℕ) (places : List ℕ) (b b' : Buffer LabelUse) (count : length places ≡ k) (within : k < length xs) where

@@ -1,5 +1,5 @@
 -- One item more is put, by its emission and an island behind it.
-use Rattle.std.proofs.Common.{ℕ, ◌≡◌, ◌≢◌, ◌+◌, ◌*◌, ◌^◌, ◌<◌, ◌≤◌, List, [], ◌∷◌, ◌++◌, length, Option, None, Some, refl, sym, ap, ◌∙◌, subst, arith, inl, inr, nat_cmp, Result, Ok, Err}
+use Rattle.std.proofs.Common.{ℕ, ◌≡◌, ◌≢◌, ◌+◌, ◌*◌, ◌^◌, ◌<◌, ◌≤◌, List, [], ◌∷◌, ◌++◌, length, Option, None, Some, refl, sym, ap, ◌∙◌, subst, arith, inl, inr, nat_cmp, Result, Ok, Err, Bool}
 use Rattle.std.specs.Prelude.{OnOk, IsSome}
 use Rattle.std.specs.FinMap.{FinMap}
 use Rattle.std.specs.Option.{unwrap_or}
@@ -32,6 +32,7 @@ use Rattle.a64_assemble.specs.Elements.{Element, Words, Asking, element_of, next
 use Rattle.a64_assemble.specs.Asks.{AsksNext, PutsWords, MayMove, Moves, HasNextRoom, NeedsNone}
 use Rattle.a64_assemble.proofs.Later.{longer}
 use Rattle.a64_assemble.proofs.Moving.{appended_none, words_fit, put_owed}
+use Rattle.a64_emit.specs.Falls.{inst_falls}
 
 -- what a success says, said otherwise
 pub on_ok : {T E A B : Type 0} → (r : Result T E) → (A → B) → OnOk r A → OnOk r B
@@ -51,33 +52,33 @@ put_cells None cells b b' e p = p
 put_cells (Some space) cells b b' e p = absurd cc
 
 module _ (force : ForceVeneers) (rest : List Element) (b : Buffer LabelUse) where
-  pub words_room : (cells : List Cell) → MayMove (Words cells) rest b → HasRoom b cells
+  pub words_room : {goes_on : Bool} (cells : List Cell) → MayMove (Words goes_on cells) rest b → HasRoom b cells
   words_room cells may = omega (arith, may.short)
 
-  pub cells_fit : (cells : List Cell) → MayMove (Words cells) rest b → CellsFit b cells
+  pub cells_fit : {goes_on : Bool} (cells : List Cell) → MayMove (Words goes_on cells) rest b → CellsFit b cells
   cells_fit [] may = subst (λ us. classes.HasRoom label_kinds (end_of b) us 0) (sym (append-nil b.uses)) may.whole.fits
   cells_fit (c ∷ cs) may = words_fit force c cs rest b may
 
   -- where the end moved, there are words, and room for an island behind them
-  pub island_short : (cells : List Cell) (m : Buffer LabelUse) → MayMove (Words cells) rest b → m ≡ appended b cells → end_of m ≢ end_of b → end_of m + owed label_kinds m + 4 < 2 ^ 31
+  pub island_short : {goes_on : Bool} (cells : List Cell) (m : Buffer LabelUse) → MayMove (Words goes_on cells) rest b → m ≡ appended b cells → end_of m ≢ end_of b → end_of m + owed label_kinds m + 4 < 2 ^ 31
   island_short [] m may e ne = absurd (ne (ap (λ (v : Buffer LabelUse). end_of v) (e ∙ appended_none b)))
   island_short (c ∷ cs) m may e ne = subst (λ (v : Buffer LabelUse). end_of v + owed label_kinds v + 4 < 2 ^ 31) (sym e) (let z = put_owed b (c ∷ cs) in omega (arith, z, may.short))
 
   -- where the end moved, there are words, and the room was asked for that is needed next; else nothing came
-  pub words_put : (cells : List Cell) (m b' : Buffer LabelUse) (start : ℕ) → m ≡ appended b cells → start ≡ end_of b → (start ≡ end_of m → b' ≡ m) → (start ≢ end_of m → AsksNext force (next_room rest) m b') → PutsWords force cells rest b b'
-  words_put [] m b' start e at without behind =
+  pub words_put : (goes_on : Bool) (cells : List Cell) (m b' : Buffer LabelUse) (start : ℕ) → m ≡ appended b cells → start ≡ end_of b → (start ≡ end_of m → b' ≡ m) → (start ≢ end_of m → AsksNext force goes_on (next_room rest) m b') → PutsWords force goes_on cells rest b b'
+  words_put goes_on [] m b' start e at without behind =
       let same : m ≡ b = e ∙ appended_none b in
       without (at ∙ sym (ap (λ (v : Buffer LabelUse). end_of v) same)) ∙ same
-  words_put (c ∷ cs) m b' start e at without behind =
-      subst (λ (v : Buffer LabelUse). AsksNext force (next_room rest) v b') e
+  words_put goes_on (c ∷ cs) m b' start e at without behind =
+      subst (λ (v : Buffer LabelUse). AsksNext force goes_on (next_room rest) v b') e
       (behind (λ same. omega (arith, at, same, ap (λ (v : Buffer LabelUse). end_of v) e, longer b (c ∷ cs))))
 
   -- words behind which there is room for what follows ask for no island
-  pub quiet_put : (cells : List Cell) (m : Buffer LabelUse) → m ≡ appended b cells → IsWhole label_kinds m → HasNextRoom cells rest b → PutsWords force cells rest b m
-  quiet_put [] m e whole room = e ∙ appended_none b
-  quiet_put (c ∷ cs) m e whole room = next (next_room rest) refl
+  pub quiet_put : (goes_on : Bool) (cells : List Cell) (m : Buffer LabelUse) → m ≡ appended b cells → IsWhole label_kinds m → HasNextRoom cells rest b → PutsWords force goes_on cells rest b m
+  quiet_put goes_on [] m e whole room = e ∙ appended_none b
+  quiet_put goes_on (c ∷ cs) m e whole room = next (next_room rest) refl
     where
-      next : (o : Option ℕ) → next_room rest ≡ o → AsksNext force o (appended b (c ∷ cs)) m
+      next : (o : Option ℕ) → next_room rest ≡ o → AsksNext force goes_on o (appended b (c ∷ cs)) m
       next None is = e
       next (Some distance) is = record {
         whole = subst (IsWhole label_kinds) e whole;
@@ -105,11 +106,11 @@ module _ (b : Buffer LabelUse) where
 
 module _ (frame : FrameLayout) (flags : EmitFlags) where
   -- an instruction is its words, or asks for an island
-  pub words_element : (inst : Inst) (kept : Option UserStackMap) → asked_of inst ≡ None → element_of frame flags (Emit inst kept) ≡ Words (kept_cells frame flags inst kept)
-  words_element inst kept e = ap (λ (o : Option ℕ). elim o [ None ↦ Words (kept_cells frame flags inst kept) | Some space ↦ Asking space ]) e
+  pub words_element : (inst : Inst) (kept : Option UserStackMap) → asked_of inst ≡ None → element_of frame flags (Emit inst kept) ≡ Words (inst_falls inst) (kept_cells frame flags inst kept)
+  words_element inst kept e = ap (λ (o : Option ℕ). elim o [ None ↦ Words (inst_falls inst) (kept_cells frame flags inst kept) | Some space ↦ Asking space ]) e
 
   pub asking_element : (inst : Inst) (kept : Option UserStackMap) (space : ℕ) → asked_of inst ≡ Some space → element_of frame flags (Emit inst kept) ≡ Asking space
-  asking_element inst kept space e = ap (λ (o : Option ℕ). elim o [ None ↦ Words (kept_cells frame flags inst kept) | Some space ↦ Asking space ]) e
+  asking_element inst kept space e = ap (λ (o : Option ℕ). elim o [ None ↦ Words (inst_falls inst) (kept_cells frame flags inst kept) | Some space ↦ Asking space ]) e
 
   -- what an item needs is what the emission of its instruction needs, whatever map is kept
   pub emit_ready : (constants : FinMap nat_cmp (List ℕ)) (inst : Inst) (kept : Option UserStackMap) (rest : List Element) (b : Buffer LabelUse) → b.constants ≡ constants → inst_fault frame flags constants Refused inst ≡ None → MayMove (element_of frame flags (Emit inst kept)) rest b → IsReady b frame flags inst
@@ -120,7 +121,7 @@ module _ (frame : FrameLayout) (flags : EmitFlags) where
 
       go : (o : Option ℕ) → asked_of inst ≡ o → IsReady b frame flags inst
       go None e =
-          let words : MayMove (Words (kept_cells frame flags inst kept)) rest b = subst (λ (x : Element). MayMove x rest b) (words_element inst kept e) may in
+          let words : MayMove (Words (inst_falls inst) (kept_cells frame flags inst kept)) rest b = subst (λ (x : Element). MayMove x rest b) (words_element inst kept e) may in
           record {
             room = kept_room b (kept_by inst kept) (inst_cells frame flags inst) (words_room No rest b (kept_cells frame flags inst kept) words);
             island = λ asks. absurd (false≢true (subst (λ (o : Option ℕ). IsSome o) e asks));
@@ -150,7 +151,7 @@ emit_moves flags force state inst rest b b' may none is_whole emitted = go (aske
     go : (o : Option ℕ) → asked_of inst ≡ o → Puts o (kept_cells state.frame flags inst state.map) b b' → Moves force (element_of state.frame flags (Emit inst state.map)) rest b b'
     go None e p =
         subst (λ (x : Element). Moves force x rest b b') (sym (words_element state.frame flags inst state.map e))
-        (quiet_put force rest b (kept_cells state.frame flags inst state.map) b' p is_whole (subst (λ (x : Element). NeedsNone force x rest b) (words_element state.frame flags inst state.map e) none))
+        (quiet_put force rest b (inst_falls inst) (kept_cells state.frame flags inst state.map) b' p is_whole (subst (λ (x : Element). NeedsNone force x rest b) (words_element state.frame flags inst state.map e) none))
     go (Some space) e p =
         let asks = subst (λ (x : Element). NeedsNone force x rest b) (asking_element state.frame flags inst state.map space e) none in
         subst (λ (x : Element). Moves force x rest b b') (sym (asking_element state.frame flags inst state.map space e)) (elim p [

@@ -23,6 +23,7 @@ use Rattle.a64_assemble.specs.Elements.{Element, Binding, Words, Asking, next_ro
 use Rattle.a64_assemble.specs.Asks.{Asks, AsksNext, PutsWords, Moves}
 use Rattle.a64_assemble.specs.OwnStops.{StopsAhead, AllStopAhead}
 use Rattle.a64_assemble.proofs.Moving.{put_later}
+use Rattle.a64_assemble.proofs.Fronts.{island_ends}
 
 some_same : {X : Type 0} {x y : X} → Some x ≡ Some y → x ≡ y
 some_same e = cc
@@ -103,15 +104,30 @@ cells_ahead b cells placed all k d h = elim (cases_lt k (length b.uses)) [
 
 -- ---- islands
 
-module _ (distance : ℕ) (force : ForceVeneers) (m b' : Buffer LabelUse) (has : HasIsland label_kinds distance force true m b') where
+module _ {jump : Bool} (distance : ℕ) (force : ForceVeneers) (m b' : Buffer LabelUse) (has : HasIsland label_kinds distance force jump m b') where
   abbrev island : ℕ × ℕ
   island = (end_of m, end_of b')
 
-  outside_both : (place : ℕ) → IsOutside b'.islands place → IsOutside (m.islands ++ island ∷ []) place
-  outside_both place out = subst (λ is. IsOutside is place) has.islands out
+  -- a place outside of the islands is outside of those of before, and of this one, where it has words
+  outside_old : (place : ℕ) → IsOutside (m.islands ++ island ∷ []) place → IsOutside m.islands place
+  outside_old place out i d w = subst (λ a. (place < a.0) ⊎ (a.1 ≤ place)) (get_or_append_left m.islands (island ∷ []) d i w) (out i d (omega (arith, w, length-append m.islands (island ∷ []))))
+
+  outside_new : (place : ℕ) → IsOutside (m.islands ++ island ∷ []) place → (place < island.0) ⊎ (island.1 ≤ place)
+  outside_new place out =
+      subst (λ a. (place < a.0) ⊎ (a.1 ≤ place)) (get_or_push m.islands island (0, 0) (length m.islands) refl)
+      (out (length m.islands) (0, 0) (omega (arith, length-append m.islands (island ∷ []))))
 
   fewer : (place : ℕ) → IsOutside b'.islands place → IsOutside m.islands place
-  fewer place out i d w = subst (λ a. (place < a.0) ⊎ (a.1 ≤ place)) (get_or_append_left m.islands (island ∷ []) d i w) (outside_both place out i d (omega (arith, w, length-append m.islands (island ∷ []))))
+  fewer place out = elim (island_ends jump m b' has) [
+    | inl none ↦ subst (λ is. IsOutside is place) none.1 out
+    | inr one ↦ outside_old place (subst (λ is. IsOutside is place) one.1 out)
+  ]
+
+  apart : (place : ℕ) → IsOutside b'.islands place → (place < island.0) ⊎ (island.1 ≤ place)
+  apart place out = elim (island_ends jump m b' has) [
+    | inl none ↦ elim (cases_lt place island.0) [ inl lt ↦ inl lt | inr ge ↦ inr (omega (arith, ge, none.0)) ]
+    | inr one ↦ outside_new place (subst (λ is. IsOutside is place) one.1 out)
+  ]
 
   -- the uses that an island adds stand in it
   island_ahead : AllPlaced m → AllStopAhead m → AllStopAhead b'
@@ -120,33 +136,30 @@ module _ (distance : ℕ) (force : ForceVeneers) (m b' : Buffer LabelUse) (has :
     | inr new ↦ λ out.
         let low = has.later.fresh k d new h in
         let high = (has.whole.sound.placed k d h).inside in
-        let last : ((get_or b'.uses k d).offset < island.0) ⊎ (island.1 ≤ (get_or b'.uses k d).offset) =
-        subst (λ a. ((get_or b'.uses k d).offset < a.0) ⊎ (a.1 ≤ (get_or b'.uses k d).offset)) (get_or_push m.islands island (0, 0) (length m.islands) refl)
-        (outside_both (get_or b'.uses k d).offset out (length m.islands) (0, 0) (omega (arith, length-append m.islands (island ∷ [])))) in
-        elim last [ inl lt ↦ absurd (omega (arith, lt, low)) | inr ge ↦ absurd (omega (arith, ge, high)) ]
+        elim (apart (get_or b'.uses k d).offset out) [ inl lt ↦ absurd (omega (arith, lt, low)) | inr ge ↦ absurd (omega (arith, ge, high)) ]
   ]
 
 -- ---- element by element
 
-asked_ahead : (x : ℕ) (f g : ForceVeneers) (m b' : Buffer LabelUse) → Asks x f g m b' → AllStopAhead m → AllStopAhead b'
+asked_ahead : {jump : Bool} (x : ℕ) (f g : ForceVeneers) (m b' : Buffer LabelUse) → Asks x f g jump m b' → AllStopAhead m → AllStopAhead b'
 asked_ahead x f g m b' a all = elim a.outcome [
   | inr l ↦ subst AllStopAhead (sym l.same) all
   | inl w ↦ island_ahead x g m b' w.island (λ k d h. (a.whole.sound.placed k d h).inside) all
 ]
 
-next_ahead : (force : ForceVeneers) (o : Option ℕ) (m b' : Buffer LabelUse) → AsksNext force o m b' → AllStopAhead m → AllStopAhead b'
-next_ahead force None m b' e all = subst AllStopAhead (sym e) all
-next_ahead force (Some x) m b' a all = asked_ahead x No force m b' a all
+next_ahead : (force : ForceVeneers) (goes_on : Bool) (o : Option ℕ) (m b' : Buffer LabelUse) → AsksNext force goes_on o m b' → AllStopAhead m → AllStopAhead b'
+next_ahead force goes_on None m b' e all = subst AllStopAhead (sym e) all
+next_ahead force goes_on (Some x) m b' a all = asked_ahead x No force m b' a all
 
-words_ahead : (force : ForceVeneers) (cells : List Cell) (rest : List Element) (b b' : Buffer LabelUse) → AllPlaced b → PutsWords force cells rest b b' → AllStopAhead b → AllStopAhead b'
-words_ahead force [] rest b b' placed p all = subst AllStopAhead (sym p) all
-words_ahead force (c ∷ cs) rest b b' placed p all = next_ahead force (next_room rest) (appended b (c ∷ cs)) b' p (cells_ahead b (c ∷ cs) placed all)
+words_ahead : (force : ForceVeneers) (goes_on : Bool) (cells : List Cell) (rest : List Element) (b b' : Buffer LabelUse) → AllPlaced b → PutsWords force goes_on cells rest b b' → AllStopAhead b → AllStopAhead b'
+words_ahead force goes_on [] rest b b' placed p all = subst AllStopAhead (sym p) all
+words_ahead force goes_on (c ∷ cs) rest b b' placed p all = next_ahead force goes_on (next_room rest) (appended b (c ∷ cs)) b' p (cells_ahead b (c ∷ cs) placed all)
 
 pub ahead_step : (force : ForceVeneers) (x : Element) (rest : List Element) (b b' : Buffer LabelUse) → IsWhole label_kinds b → IsLater b b' → Moves force x rest b b' → AllStopAhead b → AllStopAhead b'
 ahead_step force (Binding label) rest b b' whole later p all = λ k d h.
     let count : length b'.uses ≡ length b.uses = ap (λ (v : Buffer LabelUse). length v.uses) p ∙ length-map b.uses (closed_at label_kinds label (end_of b)) in
     old_ahead b b' later (λ k d h. (whole.sound.placed k d h).inside) (λ place out. subst (λ (v : Buffer LabelUse). IsOutside v.islands place) p out) all k d (omega (arith, h, count))
-ahead_step force (Words cells) rest b b' whole later p all = words_ahead force cells rest b b' (λ k d h. (whole.sound.placed k d h).inside) p all
+ahead_step force (Words goes_on cells) rest b b' whole later p all = words_ahead force goes_on cells rest b b' (λ k d h. (whole.sound.placed k d h).inside) p all
 ahead_step force (Asking space) rest b b' whole later p all = asked_ahead space force force b b' p all
 
 pub ahead_none : (b : Buffer LabelUse) → b.uses ≡ [] → AllStopAhead b

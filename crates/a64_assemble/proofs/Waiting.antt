@@ -44,7 +44,7 @@ waiting_none x us h = nothing_sums (waiting_cost x) us (λ k d w. one (get_or us
     one u e = rw e (omega arith)
 
 -- behind an island no constant and no trap waits
-none_waits : (distance : ℕ) (force : ForceVeneers) (b b' : Buffer LabelUse) → HasIsland label_kinds distance force true b b' → All (λ u. is_waiting u ≡ false) b'.uses
+none_waits : {jump : Bool} (distance : ℕ) (force : ForceVeneers) (b b' : Buffer LabelUse) → HasIsland label_kinds distance force jump b b' → All (λ u. is_waiting u ≡ false) b'.uses
 none_waits distance force b b' has k d w = go (is_open label_kinds (get_or b'.uses k d)) refl
   where
     far : is_open label_kinds (get_or b'.uses k d) ≡ true → class label_kinds (get_or b'.uses k d) ≡ Far
@@ -107,23 +107,23 @@ waiting_map x l place [] = omega arith
 waiting_map x l place (u ∷ us) = omega (arith, sum_by-cons (waiting_cost x) u us, sum_by-cons (waiting_cost x) (closed_at label_kinds l place u) (map (closed_at label_kinds l place) us), waiting_closed x l place u, waiting_map x l place us)
 
 module _ (force : ForceVeneers) (x : ℕ) where
-  ask_waiting : (n : ℕ) (f g : ForceVeneers) (m b' : Buffer LabelUse) → Asks n f g m b' → waiting_from x b'.uses ≤ waiting_from x m.uses
+  ask_waiting : {jump : Bool} (n : ℕ) (f g : ForceVeneers) (m b' : Buffer LabelUse) → Asks n f g jump m b' → waiting_from x b'.uses ≤ waiting_from x m.uses
   ask_waiting n f g m b' a = elim a.outcome [ inl w ↦ omega (arith, waiting_none x b'.uses (none_waits n g m b' w.island)) | inr l ↦ subst (λ v. waiting_from x v.uses ≤ waiting_from x m.uses) (sym l.same) (omega arith) ]
 
-  words_waiting : (cells : List Cell) (rest : List Element) (b b' : Buffer LabelUse) → PutsWords force cells rest b b' → waiting_from x b'.uses ≤ waiting_from x b.uses + 28 * count_by is_load (sites_of cells)
-  words_waiting [] rest b b' p = subst (λ v. waiting_from x v.uses ≤ waiting_from x b.uses + 28 * 0) (sym p) (omega arith)
-  words_waiting (c ∷ cs) rest b b' p = next (next_room rest) p
+  words_waiting : (goes_on : Bool) (cells : List Cell) (rest : List Element) (b b' : Buffer LabelUse) → PutsWords force goes_on cells rest b b' → waiting_from x b'.uses ≤ waiting_from x b.uses + 28 * count_by is_load (sites_of cells)
+  words_waiting goes_on [] rest b b' p = subst (λ v. waiting_from x v.uses ≤ waiting_from x b.uses + 28 * 0) (sym p) (omega arith)
+  words_waiting goes_on (c ∷ cs) rest b b' p = next (next_room rest) p
     where
       middle : waiting_from x (appended b (c ∷ cs)).uses ≤ waiting_from x b.uses + 28 * count_by is_load (sites_of (c ∷ cs))
       middle = omega (arith, sum_by-append (waiting_cost x) b.uses (uses_from b.labels (end_of b) (c ∷ cs)), waiting_made x b.labels (end_of b) (c ∷ cs))
 
-      next : (o : Option ℕ) → AsksNext force o (appended b (c ∷ cs)) b' → waiting_from x b'.uses ≤ waiting_from x b.uses + 28 * count_by is_load (sites_of (c ∷ cs))
+      next : (o : Option ℕ) → AsksNext force goes_on o (appended b (c ∷ cs)) b' → waiting_from x b'.uses ≤ waiting_from x b.uses + 28 * count_by is_load (sites_of (c ∷ cs))
       next None e = subst (λ v. waiting_from x v.uses ≤ waiting_from x b.uses + 28 * count_by is_load (sites_of (c ∷ cs))) (sym e) middle
       next (Some n) a = omega (arith, middle, ask_waiting n No force (appended b (c ∷ cs)) b' a)
 
   pub waiting_step : (y : Element) (rest : List Element) (b b' : Buffer LabelUse) → Moves force y rest b b' → waiting_from x b'.uses ≤ waiting_from x b.uses + 28 * loads_in y
   waiting_step (Binding l) rest b b' p = omega (arith, ap (λ v. waiting_from x v.uses) p, waiting_map x l (end_of b) b.uses)
-  waiting_step (Words cells) rest b b' p = words_waiting cells rest b b' p
+  waiting_step (Words goes_on cells) rest b b' p = words_waiting goes_on cells rest b b' p
   waiting_step (Asking space) rest b b' p = omega (arith, ask_waiting space force force b b' p)
 
 -- ---- all that is owed

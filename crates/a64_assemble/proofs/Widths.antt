@@ -21,7 +21,7 @@ use Rattle.a64_assemble.proofs.Stepped.{words_element}
 -- follows, and is as wide as can be
 abbrev pub width_in : Element → ℕ
 width_in (Binding label) = 0
-width_in (Words cells) = min (growth_in (Words cells)) (2 ^ 32 - 1)
+width_in (Words goes_on cells) = min (growth_in (Words goes_on cells)) (2 ^ 32 - 1)
 width_in (Asking space) = 2 ^ 32 - 1
 
 abbrev pub IsWithin : ℕ → Element → Type 0
@@ -37,10 +37,10 @@ room_within : (widest : ℕ) (xs : List Element) → All (IsWithin widest) xs �
 room_within widest [] all short = omega arith
 room_within widest (Binding label ∷ xs) all short =
     room_within widest xs (All-tail (IsWithin widest) (Binding label) xs all) (omega (arith, short, sum_by-cons (λ x. growth_in x + space_in x) (Binding label) xs))
-room_within widest (Words cells ∷ xs) all short =
-    let more = sum_by-cons (λ x. growth_in x + space_in x) (Words cells) xs in
-    let here = all 0 (Words cells) (omega arith) in
-    words_within cells (next_room xs) widest (room_within widest xs (All-tail (IsWithin widest) (Words cells) xs all) (omega (arith, short, more))) (omega (arith, short, more, here))
+room_within widest (Words goes_on cells ∷ xs) all short =
+    let more = sum_by-cons (λ x. growth_in x + space_in x) (Words goes_on cells) xs in
+    let here = all 0 (Words goes_on cells) (omega arith) in
+    words_within cells (next_room xs) widest (room_within widest xs (All-tail (IsWithin widest) (Words goes_on cells) xs all) (omega (arith, short, more))) (omega (arith, short, more, here))
 room_within widest (Asking space ∷ xs) all short =
     let here = all 0 (Asking space) (omega arith) in
     omega (arith, short, here, room_le (Asking space ∷ xs))
@@ -55,13 +55,13 @@ bounds_rooms widest xs all short k =
 
 light_within : (x : Element) → is_asking x ≡ false → width_in x ≤ growth_in x + space_in x
 light_within (Binding label) e = omega arith
-light_within (Words cells) e = omega arith
+light_within (Words goes_on cells) e = omega arith
 light_within (Asking space) e = absurd (false≢true (sym e))
 
 extent_within : (x : Element) (size charge width : ℕ) → size ≡ saturated (size_in x) → charge ≡ saturated (charge_in x + space_in x) → (size ≡ 0 → charge ≢ 0 → width ≡ 2 ^ 32 - 1) → ((size ≡ 0 → charge ≡ 0) → width ≡ saturated (size + charge)) → width_in x ≤ width
 extent_within (Binding label) size charge width s g place words = omega arith
-extent_within (Words []) size charge width s g place words = omega arith
-extent_within (Words (c ∷ cs)) size charge width s g place words =
+extent_within (Words goes_on []) size charge width s g place words = omega arith
+extent_within (Words goes_on (c ∷ cs)) size charge width s g place words =
     let is = words (λ z. absurd (let e : ⊥ = omega (arith, s, z) in e)) in
     omega (arith, s, g, is)
 extent_within (Asking space) size charge width s g place words =

@@ -22,7 +22,7 @@ use Rattle.a64_buffer.specs.declared.force.ForceVeneers.{ForceVeneers}
 use Rattle.a64_buffer.specs.declared.site.Target.TheVariants.{Label, Constant, Trap}
 use Rattle.a64_buffer.specs.Classes.{wants}
 use Rattle.a64_buffer.specs.Kinds.{GoesTo}
-use Rattle.a64_buffer.specs.Pieces.{constant_of}
+use Rattle.a64_buffer.specs.Pieces.{constant_of, front_size}
 use Rattle.a64_buffer.specs.Word.{outside, word_at}
 use Rattle.a64_emit.specs.declared.code.Code.{Code}
 use Rattle.a64_emit.specs.declared.site.Site.{Site}
@@ -30,7 +30,7 @@ use Rattle.a64_label_use.specs.declared.label_use.LabelUse.TheVariants as uses
 use Rattle.a64_label_use.specs.LabelUses.{label_kinds, mask_for}
 use Rattle.a64_emit.specs.Cells.{Cell, plain, cells_of}
 use Rattle.a64_emit.specs.Contents.{site_class, order_of, IsCellUse, IsFarOff}
-use Rattle.a64_emit.specs.Layout.{standing}
+use Rattle.a64_emit.specs.Layout.{standing, IsIslandAfter}
 use Rattle.a64_emit.specs.Leads.{areas}
 use Rattle.a64_rows.specs.Control.{branch_reg}
 use Rattle.a64_assemble.specs.Placement.{IsLabelAt, IsWanting}
@@ -39,6 +39,7 @@ use Rattle.a64_assemble.specs.Assembled.{IsAssembled}
 use Rattle.a64_assemble.proofs.Filling.{no_constant}
 use Rattle.a64_assemble.proofs.Needing.{some_same}
 use Rattle.a64_assemble.proofs.WrongPieces.{each_its_own, in_turn, none_at_jump, none_unserved}
+use Rattle.a64_emit.specs.Falls.{falls_at}
 
 -- words as bytes, the least first
 abbrev pub in_bytes : List ℕ → List ℕ
@@ -117,7 +118,7 @@ module _ (frame : FrameLayout) (flags : EmitFlags) (constants : FinMap nat_cmp (
                   short = inr refl;
                   use' = subst (λ ps. IsCellUse (standing (map (cells_of frame flags) items) ps) (user, record { kind = uses.Branch19; target = Label label })) (sym is.places_are) use';
                   stops = subst (λ bytes. GoesTo label_kinds uses.Branch19 0 (word_at bytes user) user place) (sym is.bytes) stops;
-                  not_over = λ island listed begins says. not_over island (subst (λ is. Contains is island) is.islands_are listed) begins;
+                  not_over = λ island k there falls begins. not_over island (subst (λ is. Contains is island) is.islands_are there.listed) begins;
                   away = λ there. away (subst (λ (ls : List (MachLabel × ℕ)). Contains ls (label, place)) is.labels_are there);
                 },
               );
@@ -272,7 +273,7 @@ module _ (frame : FrameLayout) (flags : EmitFlags) (constants : FinMap nat_cmp (
       (cell_at cells 0 (0, record { kind = uses.Branch19; target = Label L1 }) (omega arith) refl refl) refl over
       (λ there. let at = labelled_at 36 12 there in omega (arith, at)) refl (omega arith) (omega arith)
       (λ there. let at = labelled_at 36 16 there in omega (arith, at)) in
-      elim (each_its_own frame flags two_branches constants code 8 12 36 _ h u v 16 16 su sv (λ e. omega (arith, e)) (λ s e. cc)) [
+      elim (each_its_own frame flags two_branches constants code 8 _ 36 _ h u v 16 16 su sv (λ e. omega (arith, e)) (λ s e. cc)) [
         | inl le ↦ absurd (omega (arith, le))
         | inr le ↦ absurd (omega (arith, le))
       ]
@@ -288,12 +289,23 @@ module _ (frame : FrameLayout) (flags : EmitFlags) (constants : FinMap nat_cmp (
   pub no_veneer_at_jump : IsThis (0x54000040 ∷ 0x14000003 ∷ 0x14000001 ∷ 0xd65f03c0 ∷ []) (0 ∷ 8 ∷ 12 ∷ 12 ∷ []) ((L1, 12) ∷ []) ((8, 12) ∷ []) 16 code
       → IsAssembled frame flags constants force one_branch code → ⊥
   no_veneer_at_jump is a =
-      let h = (island_holds one_branch _ _ _ _ _ is a 0 (omega arith)).holds in
+      let f : IsFilledIsland frame flags one_branch constants code (8, 12) = island_holds one_branch _ _ _ _ _ is a 0 (omega arith) in
       let cells : List (ℕ × Cell) = standing (map (cells_of frame flags) one_branch) (0 ∷ 8 ∷ 12 ∷ 12 ∷ []) in
       let u : ℕ × Site = (0, record { kind = uses.Branch19; target = Label L1 }) in
       let su = cell_stops one_branch _ _ _ _ _ is 8 12 u 8 refl (cell_at cells 0 u (omega arith) refl refl) refl (omega arith) (omega arith)
       (λ there. let at = labelled_at 12 8 (subst (λ (ls : List (MachLabel × ℕ)). Contains ls (L1, 8)) is.labels_are there) in omega (arith, at)) in
-      none_at_jump frame flags one_branch constants code 8 12 12 _ h u 8 su (omega arith)
+      none_at_jump frame flags one_branch constants code 8 _ 12 _ f.holds u 8 su (omega (arith, ap front_size (goes_on f.after f.within f.stands)))
+    where
+      -- behind `Ret` it does not stand
+      goes_on : (k : ℕ) → k < 4 → IsIslandAfter frame flags one_branch code k (8, 12) → falls_at one_branch k ≡ true
+      goes_on zero w s = refl
+      goes_on (suc zero) w s = refl
+      goes_on (suc (suc zero)) w s = refl
+      goes_on (suc (suc (suc zero))) w s =
+          let place : get_or (code.places.items ++ code.pool ∷ []) 3 0 ≡ 12 = ap (λ (ps : List ℕ). get_or (ps ++ code.pool ∷ []) 3 0) is.places_are in
+          let long : length (get_or (map (cells_of frame flags) one_branch) 3 []) ≡ 1 = refl in
+          absurd (omega (arith, s.begins, place, long))
+      goes_on (suc (suc (suc (suc k)))) w s = absurd (omega (arith, w))
 
   -- a jump word that goes back to the far veneer of an older island, which may serve what stands before its end alone
   abbrev two_islands : List Item
@@ -315,7 +327,7 @@ module _ (frame : FrameLayout) (flags : EmitFlags) (constants : FinMap nat_cmp (
       (cell_at cells 1 (28, record { kind = uses.Branch19; target = Label L1 }) (omega arith) refl refl) refl over
       (λ there. let at = labelled_at 44 40 there in omega (arith, at)) refl (omega arith) (omega arith)
       (λ there. let at = labelled_at 44 8 there in omega (arith, at)) in
-      none_unserved frame flags two_islands constants code 4 8 28 _ f.holds u 8 su (λ v by may. later v by may.0.before)
+      none_unserved frame flags two_islands constants code 4 _ 28 _ f.holds u 8 su (λ v by may. later v by may.0.before)
     where
       over : (island : ℕ × ℕ) → Contains ((4, 28) ∷ (36, 44) ∷ []) island → 40 ≡ island.0 → ⊥
       over island (zero, w, e) at = omega (arith, at, ap (λ (x : ℕ × ℕ). x.0) e)

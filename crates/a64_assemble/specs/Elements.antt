@@ -10,19 +10,20 @@ use Rattle.a64_buffer.specs.Classes.{wants, level_of, range_of}
 use Rattle.a64_label_use.specs.LabelUses.{label_kinds}
 use Rattle.a64_emit.specs.Cells.{Cell, kept_cells, sites_of}
 use Rattle.a64_emit.specs.Bounds.{ranges_in, size_of, charge_of, asked}
+use Rattle.a64_emit.specs.Falls.{inst_falls}
 use Rattle.a64_emit.specs.Contents.{site_class}
 
--- an item binds the label of a number, or has words, or is a place at which an island may stand without words before
--- it, and asks for so much space
+-- an item binds the label of a number, or has words, behind which execution may go on or not, or is a place at which
+-- an island may stand without words before it, and asks for so much space
 pub data Element : Type 0 where
   Binding : ℕ → Element
-  Words : List Cell → Element
+  Words : Bool → List Cell → Element
   Asking : ℕ → Element
 
 module _ (frame : FrameLayout) (flags : EmitFlags) where
   abbrev pub element_of : Item → Element
   element_of (Bind label) = Binding label.0
-  element_of (Emit inst kept) = elim (asked (Emit inst kept)) [ None ↦ Words (kept_cells frame flags inst kept) | Some space ↦ Asking space ]
+  element_of (Emit inst kept) = elim (asked (Emit inst kept)) [ None ↦ Words (inst_falls inst) (kept_cells frame flags inst kept) | Some space ↦ Asking space ]
 
   abbrev pub elements_of : List Item → List Element
   elements_of items = map element_of items
@@ -31,7 +32,7 @@ module _ (frame : FrameLayout) (flags : EmitFlags) where
 
 abbrev pub cells_in : Element → List Cell
 cells_in (Binding label) = []
-cells_in (Words cells) = cells
+cells_in (Words goes_on cells) = cells
 cells_in (Asking space) = []
 
 -- four bytes for each cell
@@ -41,13 +42,13 @@ size_in x = 4 * length (cells_in x)
 -- what islands may add to the code because of it
 abbrev pub charge_in : Element → ℕ
 charge_in (Binding label) = 0
-charge_in (Words cells) = charge_of cells
+charge_in (Words goes_on cells) = charge_of cells
 charge_in (Asking space) = 4
 
 -- the space that it asks for
 abbrev pub space_in : Element → ℕ
 space_in (Binding label) = 0
-space_in (Words cells) = 0
+space_in (Words goes_on cells) = 0
 space_in (Asking space) = space
 
 abbrev pub growth_in : Element → ℕ
@@ -60,18 +61,24 @@ some_cells (c ∷ cs) = true
 -- an island may stand behind words, and where it is asked for
 abbrev pub hosts : Element → Bool
 hosts (Binding label) = false
-hosts (Words cells) = some_cells cells
+hosts (Words goes_on cells) = some_cells cells
 hosts (Asking space) = true
 
 abbrev pub is_asking : Element → Bool
 is_asking (Binding label) = false
-is_asking (Words cells) = false
+is_asking (Words goes_on cells) = false
 is_asking (Asking space) = true
+
+-- execution may go on behind it, so that an island there begins with a jump
+abbrev pub falls_in : Element → Bool
+falls_in (Binding label) = true
+falls_in (Words goes_on cells) = goes_on
+falls_in (Asking space) = true
 
 -- it binds the label of a number
 abbrev pub binds_number : ℕ → Element → Bool
 binds_number number (Binding label) = nat_eq label number
-binds_number number (Words cells) = false
+binds_number number (Words goes_on cells) = false
 binds_number number (Asking space) = false
 
 -- each use of cells that may want something of an island reaches over all of them, and over what their
@@ -124,7 +131,7 @@ words_room (c ∷ cs) rest = Some (size_of (c ∷ cs) + 28 * length (ranges_in (
 abbrev pub next_room : List Element → Option ℕ
 next_room [] = None
 next_room (Binding label ∷ xs) = next_room xs
-next_room (Words cells ∷ xs) = words_room cells (next_room xs)
+next_room (Words goes_on cells ∷ xs) = words_room cells (next_room xs)
 next_room (Asking space ∷ xs) = add_more 4 (next_room xs)
 
 -- the same, and nothing where no words follow
@@ -139,5 +146,5 @@ BoundsRooms widest xs = (k : ℕ) → room_of (drop k xs) ≤ widest
 -- what the next words need
 abbrev pub ahead : Element → List Element → Option ℕ
 ahead (Binding label) rest = next_room rest
-ahead (Words cells) rest = next_room rest
+ahead (Words goes_on cells) rest = next_room rest
 ahead (Asking space) rest = Some space

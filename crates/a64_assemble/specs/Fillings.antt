@@ -9,10 +9,11 @@ use Rattle.a64_inst.specs.declared.item.Item.{Item}
 use Rattle.a64_inst.specs.declared.item.Item.TheVariants.{Bind}
 use Rattle.a64_buffer.specs.declared.site.Target.TheVariants.{Label, Constant, Trap, IslandEnd}
 use Rattle.a64_buffer.specs.Buffer.{is_within}
-use Rattle.a64_buffer.specs.Pieces.{constant_of}
+use Rattle.a64_buffer.specs.Pieces.{constant_of, front_size}
 use Rattle.a64_emit.specs.declared.code.Code.{Code}
 use Rattle.a64_emit.specs.declared.site.Site.{Site}
 use Rattle.a64_label_use.specs.LabelUses.{label_kinds}
+use Rattle.a64_emit.specs.Falls.{falls_at}
 use Rattle.a64_emit.specs.Layout.{IsIslandAfter}
 use Rattle.a64_emit.specs.Contents.{ComesBefore, IsCellUse, Fills, IsFarOff}
 use Rattle.a64_assemble.specs.Placement.{standing_cells, UseStopsAt, IsLabelAt, IsWanting, IsOpenIn}
@@ -63,12 +64,15 @@ module _ (frame : FrameLayout) (flags : EmitFlags) (items : List Item) (constant
     pub answered :
         (u : ℕ × Site) (stop : ℕ) → StopsBetween begin to u stop → Any (StopsBy stop u) served
 
-  -- an island stands behind an item, and holds pieces behind its jump, for uses that are open there
+  -- an island stands behind an item, and holds pieces, behind its jump where the item falls, and else from its
+  -- first byte on, for uses that are open there
   pub record IsFilledIsland (island : ℕ × ℕ) : Type 0 where
     pub after : ℕ
     pub within : after < length items
     pub stands : IsIslandAfter frame flags items code after island
-    pub holds : HoldsPieces island.0 (island.0 + 4) island.1 (λ u. IsOpenIn frame flags items code after island.0 island.1 u × IsLateOrFar after u)
+    pub holds :
+        HoldsPieces island.0 (island.0 + front_size (falls_at items after)) island.1
+        (λ u. IsOpenIn frame flags items code after island.0 island.1 u × IsLateOrFar after u)
 
   -- the pool holds pieces, and a veneer only for a use that is out of reach of its label
   abbrev pub IsFilledPool : Type 0

@@ -16,7 +16,7 @@ use Rattle.a64_label_use.specs.LabelUses.{label_kinds}
 use Rattle.a64_emit.specs.Cells.{sites_of}
 use Rattle.a64_emit.specs.declared.site.Site.{Site}
 use Rattle.a64_emit.specs.Contents.{site_class}
-use Rattle.a64_assemble.specs.Elements.{Element, cells_in, is_asking, is_bound_by, ahead, element_at}
+use Rattle.a64_assemble.specs.Elements.{Element, cells_in, is_asking, falls_in, is_bound_by, ahead, element_at}
 use Rattle.a64_assemble.specs.Stations.{IsIslandBehind}
 
 -- a stop is at a place or behind it
@@ -123,7 +123,7 @@ pub record WasAsked (force : ForceVeneers) (xs : List Element) (count : ℕ) (st
   pub distance_is : ahead (element_at xs after) (drop (after + 1) xs) ≡ Some distance
   pub written : Buffer LabelUse
   pub ends : end_of written ≡ island.1
-  pub has : HasIsland label_kinds distance force true moment written
+  pub has : HasIsland label_kinds distance force (falls_in (element_at xs after)) moment written
   pub since : IsLater written now
 
 -- no island was written at one of the first elements, where one is asked for, and no use was open there

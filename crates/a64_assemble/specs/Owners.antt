@@ -13,8 +13,7 @@ use Rattle.a64_emit.specs.Contents.{IsCellUse}
 use Rattle.a64_assemble.specs.Elements.{Element, cells_in}
 
 module _ (cells : List (ℕ × Cell)) (b : Buffer LabelUse) where
-  -- the use of a jump word in an island, behind the jump over it: a shorter branch of a cell, with the same
-  -- label, stops there
+  -- the use of a jump word in an island, of a label: a shorter branch of a cell, with the same label, stops there
   pub record IsGivenJump (u : Use LabelUse) : Type 0 where
     pub kind : u.kind ≡ uses.Branch26
     pub labelled : IsSome (label_of u.target)
@@ -22,7 +21,7 @@ module _ (cells : List (ℕ × Cell)) (b : Buffer LabelUse) where
     pub word : slice_index b.words (u.offset / 4) ≡ 0x14000000
     pub island : ℕ × ℕ
     pub listed : Contains b.islands island
-    pub behind : island.0 < u.offset
+    pub from : island.0 ≤ u.offset
     pub before : u.offset + 4 ≤ island.1
     pub parent : ℕ
     pub within : parent < length b.uses

@@ -22,6 +22,7 @@ use Rattle.a64_emit.specs.declared.site.Site.{Site}
 use Rattle.a64_label_use.specs.LabelUses.{mask_for, forward_range}
 use Rattle.a64_emit.specs.Cells.{Cell, cells_of}
 use Rattle.a64_emit.specs.Bounds.{whole}
+use Rattle.a64_emit.specs.Falls.{falls_at}
 use Rattle.a64_emit.specs.Layout.{standing, IsIslandAfter}
 use Rattle.a64_emit.specs.Contents.{site_class, IsCellUse}
 use Rattle.a64_emit.specs.Leads.{areas, StopsAt}
@@ -46,7 +47,8 @@ module _ (frame : FrameLayout) (flags : EmitFlags) (items : List Item) (code : C
   ]
 
   -- a veneer word, with its label as target: a jump word of an area at which a branch of 14 or 19 bits to that
-  -- label stops, where the label does not stand, and which is not the jump over an island
+  -- label stops, where the label does not stand, and which is not the first word of an island behind an item that
+  -- falls
   pub record IsVeneerWord (place : ℕ) (target : Target) : Type 0 where
     pub area : InArea (areas code) place 4
     pub word : outside (mask_for uses.Branch26) (word_at code.bytes.items place) ≡ 0x14000000
@@ -56,7 +58,9 @@ module _ (frame : FrameLayout) (flags : EmitFlags) (items : List Item) (code : C
     pub short : (kind ≡ uses.Branch14) ⊎ (kind ≡ uses.Branch19)
     pub use' : IsCellUse standing_cells (user, record { kind = kind; target = target })
     pub stops : UseStopsAt user kind place
-    pub not_over : (island : ℕ × ℕ) → Contains code.islands.items island → place ≡ island.0 → UseStopsAt place uses.Branch26 island.1 → ⊥
+    pub not_over :
+        (island : ℕ × ℕ) (k : ℕ) → IsIslandAfter frame flags items code k island → falls_at items k ≡ true
+        → place ≢ island.0
     pub away : IsLabelAt (user, record { kind = kind; target = target }) place → ⊥
 
   -- a use that may want something of an island: a cell's, or a veneer word

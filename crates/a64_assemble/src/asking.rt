@@ -28,7 +28,8 @@ fn is_asked(buffer: &MachBuffer<'_, LabelUse>, distance: u32, force: ForceVeneer
 }
 
 /// Writes an island, where one is needed before so many bytes more, or is asked for by force and some
-/// use waits. An island that comes gives veneers to all far uses where `force` says so, else by need.
+/// use waits. An island that comes gives veneers to all far uses where `force` says so, else by need, and begins
+/// with a jump where one is asked for.
 ///
 /// # Errors
 ///
@@ -38,13 +39,14 @@ pub fn ask(
     distance: u32,
     asked: ForceVeneers,
     force: ForceVeneers,
+    jump: bool,
 ) -> Result<(), AllocError>
     requires short { end_of buffer.old + owed label_kinds buffer.old + 4 < 2 ^ 31 }
-    ensures { OnOk result (Asks distance asked force buffer.old buffer.new) }
+    ensures { OnOk result (Asks distance asked force jump buffer.old buffer.new) }
 {
     let _end = buffer.cur_offset();
     if is_asked(buffer, distance, asked) {
-        return buffer.emit_island(distance, force, true);
+        return buffer.emit_island(distance, force, jump);
     }
     Ok(())
 }

@@ -9,6 +9,7 @@ ghost use Rattle.a64_buffer.specs.Buffer.{end_of, no_records};
 ghost use Rattle.a64_buffer.specs.Classes.{owed};
 ghost use Rattle.a64_emit.specs.Bounds as bounds;
 ghost use Rattle.a64_emit.specs.Bounds.{whole};
+ghost use Rattle.a64_emit.specs.Falls.{inst_falls};
 ghost use Rattle.a64_emit.specs.Faults.{item_fault, own_fault, second_binding};
 ghost use Rattle.a64_label_use.specs.LabelUses.{label_kinds};
 ghost use Rattle.a64_assemble.specs.Asks.{AsksNext, MayMove, Moves, NeedsNone};
@@ -20,7 +21,7 @@ ghost use Rattle.a64_assemble.specs.Progress.{AreQuiet};
 use crate::ahead::next_room;
 use crate::asking::ask;
 use a64_buffer::{ForceVeneers, MachBuffer};
-use a64_emit::{LabelUse, MachInstEmit, asked_space};
+use a64_emit::{LabelUse, MachInstEmit, asked_space, falls};
 use a64_inst::{EmitInfo, EmitState, FrameLayout, Inst, Item};
 use std::alloc::{AllocError, Global};
 
@@ -58,19 +59,21 @@ fn put_inst(
     if quiet || !buffer.island_needed(widest) {
         return Ok(());
     }
-    ask_behind(place, rest, buffer, info, state.frame_layout(), force)
+    ask_behind(inst, place, rest, buffer, info, state.frame_layout(), force)
 }
 
-/// Writes an island behind the words that begin at `start`, a place in bytes from the start of the code,
-/// where the next words need one. An island that comes gives veneers to all far uses where `force` says
-/// so, else by need. None comes where no word was put behind `start`, nor where no words follow. Stands out
-/// of line, since few instructions come so near to what an open use reaches.
+/// Writes an island behind the words of an instruction, which begin at `start`, a place in bytes from the
+/// start of the code, where the next words need one. An island that comes gives veneers to all far uses
+/// where `force` says so, else by need, and begins with a jump where execution may go on behind the
+/// instruction. None comes where no word was put behind `start`, nor where no words follow. Stands out of
+/// line, since few instructions come so near to what an open use reaches.
 ///
 /// # Errors
 ///
 /// Want of memory.
 #[inline(never)]
 fn ask_behind(
+    inst: &Inst,
     start: u32,
     rest: &[Item],
     buffer: &mut MachBuffer<'_, LabelUse>,
@@ -81,13 +84,15 @@ fn ask_behind(
     requires whole { whole_in (elements_of frame.now info.now rest.now) < 2 ^ 31 }
     requires short { start ≢ end_of buffer.old → end_of buffer.old + owed label_kinds buffer.old + 4 < 2 ^ 31 }
     ensures without { OnOk result (start ≡ end_of buffer.old → buffer.new ≡ buffer.old) }
-    ensures behind { OnOk result (start ≢ end_of buffer.old → AsksNext force (elements.next_room (elements_of frame.now info.now rest.now)) buffer.old buffer.new) }
+    ensures behind { OnOk result (start ≢ end_of buffer.old →
+        AsksNext force (inst_falls inst.now)
+        (elements.next_room (elements_of frame.now info.now rest.now)) buffer.old buffer.new) }
 {
     if buffer.cur_offset() == start {
         return Ok(());
     }
     match next_room(rest, frame, info) {
-        Some(distance) => ask(buffer, distance, ForceVeneers::No, force),
+        Some(distance) => ask(buffer, distance, ForceVeneers::No, force, falls(inst)),
         None => Ok(()),
     }
 }
@@ -123,7 +128,7 @@ fn put_item(
         Item::Emit { inst, map } => {
             let asked = if quiet { None } else { asked_space(inst) };
             if let Some(space) = asked {
-                return ask(buffer, space, force, force);
+                return ask(buffer, space, force, force, true);
             }
             state.pre_safepoint(*map);
             put_inst(inst, rest, place, buffer, info, state, force, quiet, widest)

@@ -1,5 +1,5 @@
 -- Places for islands: items without words that ask for space.
-use Rattle.std.proofs.Common.{ℕ, ◌≡◌, ◌+◌, ◌*◌, ◌^◌, ◌<◌, ◌≤◌, List, [], length, Option, None, Some, refl, sym, ap, ap₂, ◌∙◌, subst, arith}
+use Rattle.std.proofs.Common.{ℕ, ◌≡◌, ◌+◌, ◌*◌, ◌^◌, ◌<◌, ◌≤◌, true, List, [], length, Option, None, Some, refl, sym, ap, ap₂, ◌∙◌, subst, arith}
 use Rattle.std.specs.Prelude.{unwrap_or}
 use Rattle.std.specs.List.{list_any}
 use Rattle.a64_base.specs.declared.entity.UserStackMap.{UserStackMap}
@@ -12,6 +12,7 @@ use Rattle.a64_inst.specs.declared.item.Item.TheVariants.{Bind, Emit}
 use Rattle.a64_emit.specs.declared.extent.Light.{Light}
 use Rattle.a64_emit.specs.Cells.{shape_of, only_word, inst_cells, kept_by, kept_cells, cells_of}
 use Rattle.a64_emit.specs.Bounds.{AreExtent, IsExtent, ranges_in, size_of, charge_of, asked_of, growth_of, item_charge, item_size, least, saturated}
+use Rattle.a64_emit.specs.Falls.{inst_falls}
 use Rattle.a64_emit.specs.Lights.{IsLight}
 use Rattle.a64_emit.specs.Reach.{is_near}
 use Rattle.a64_emit.proofs.Burdens.{charge_least, charge_some}
@@ -27,6 +28,11 @@ module _ (frame : FrameLayout) (flags : EmitFlags) where
   pub plain_asked : (inst : Inst) (word : ℕ) → Some word ≡ only_word (shape_of frame flags inst) → asked_of inst ≡ None
   plain_asked (insts.EmitIsland needed_space) word e = absurd cc
   plain_asked _ word e = refl
+
+  -- and behind such a place execution goes on
+  pub asked_falls : (inst : Inst) (space : ℕ) → asked_of inst ≡ Some space → inst_falls inst ≡ true
+  asked_falls (insts.EmitIsland needed_space) space e = refl
+  asked_falls _ space e = absurd cc
 
   -- what an instruction that is none is charged for
   pub words_charge : (inst : Inst) (kept : Option UserStackMap) → asked_of inst ≡ None → item_charge frame flags (Emit inst kept) ≡ charge_of (inst_cells frame flags inst)

@@ -1,5 +1,5 @@
 -- Where the items of finished code stand.
-use Rattle.std.specs.Prelude.{ℕ, ℤ, ◌≡◌, ◌≢◌, ◌⊎◌, ◌↔◌, ◌+◌, ◌*◌, ◌%◌, ◌<◌, ◌≤◌, List, [], ◌∷◌, ◌++◌, All, Contains, map, length, if◌then◌else◌, slice_index, slice_index_or, slice_get, Option, None, Some, IsSome, option_map, option_and_then}
+use Rattle.std.specs.Prelude.{ℕ, ℤ, ◌≡◌, ◌≢◌, ◌⊎◌, ◌↔◌, ◌+◌, ◌*◌, ◌%◌, ◌<◌, ◌≤◌, List, [], ◌∷◌, ◌++◌, All, Contains, true, map, length, if◌then◌else◌, slice_index, slice_index_or, slice_get, Option, None, Some, IsSome, option_map, option_and_then}
 use Rattle.std.specs.List.{filter_map}
 use Rattle.std.specs.List.Sorted.{IsStrictlyIncreasing}
 use Rattle.a64_base.specs.declared.entity.ExternalName.{ExternalName}
@@ -17,6 +17,7 @@ use Rattle.a64_emit.specs.declared.code.Code.{Code}
 use Rattle.a64_label_use.specs.LabelUses.{mask_for}
 use Rattle.a64_emit.specs.declared.site.Site.{Site}
 use Rattle.a64_emit.specs.Cells.{Relocation, Cell, cell_word, cells_of}
+use Rattle.a64_emit.specs.Falls.{falls_at}
 use Rattle.a64_emit.specs.Leads.{JumpsTo}
 use Rattle.a64_emit.specs.Bounds.{asked}
 
@@ -109,15 +110,15 @@ module _ (frame : FrameLayout) (flags : EmitFlags) (items : List Item) (code : C
   abbrev pub end_of_item : ℕ → ℕ
   end_of_item i = slice_index stations i + 4 * length (slice_index_or item_cells i [])
 
-  -- a listed island stands behind item i, which has words or is a place for an island. It has at least its
-  -- first word, which jumps over it
+  -- a listed island stands behind item i, which has words or is a place for an island. Where the item falls, as a
+  -- place for an island does, the island begins with a jump to its end
   pub record IsIslandAfter (i : ℕ) (island : ℕ × ℕ) : Type 0 where
     pub listed : Contains code.islands.items island
     pub long : island.0 + 4 ≤ island.1
     pub begins : island.0 ≡ end_of_item i
     pub ends : island.1 ≡ slice_index stations (i + 1)
     pub has_words : (slice_index_or item_cells i [] ≢ []) ⊎ IsSome (option_and_then asked (slice_get items i))
-    pub jumped : JumpsTo code island.0 island.1
+    pub jumped : falls_at items i ≡ true → JumpsTo code island.0 island.1
 
   -- the next item, or the pool, stands at the end of item i, or behind an island there
   abbrev pub IsFollowed : ℕ → Type 0
@@ -132,7 +133,7 @@ module _ (frame : FrameLayout) (flags : EmitFlags) (items : List Item) (code : C
     pub stands : IsIslandAfter after island
     pub once : (i : ℕ) → i < length items → IsIslandAfter i island → i ≡ after
 
-  -- the items stand at their places, in order, with only jumped-over islands between them and one
+  -- the items stand at their places, in order, with only islands between them that no item runs into, and one
   -- pool behind them
   pub record Laid : Type 0 where
     pub count : length code.places.items ≡ length items

@@ -8,6 +8,7 @@ pub mod Bounds
 pub mod Reach
 pub mod Lights
 pub mod Leads
+pub mod Falls
 pub mod Layout
 pub mod Contents
 pub mod Emission

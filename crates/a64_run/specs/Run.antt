@@ -77,8 +77,8 @@ Untouched taken taken' (Some _) = taken' ≡ taken
 module _ (command : Command) (left left' : Option (List ℕ)) (taken taken' : Option (List ℕ)) where
   -- the headline: the file is the command's, without a fault, and what the command makes of it was
   -- written. For `asm`, what was read is a file of items, and the report was written of code in
-  -- which the words of each item stand at its place, in order, with only islands between them that are
-  -- jumped over and one pool behind them, and each use of a label or constant leads to it
+  -- which the words of each item stand at its place, in order, with only islands between them that no item
+  -- runs into and one pool behind them, and each use of a label or constant leads to it
   pub record IsDone (file : File) (code : Option Code) : Type 0 where
     pub input : IsInput command left left' file
     pub output : List ℕ

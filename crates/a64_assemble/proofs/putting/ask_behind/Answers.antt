@@ -1,5 +1,7 @@
-use Rattle.std.proofs.Common.{ℕ, Option, refl, sym, ◌∙◌, subst}
-use Rattle.a64_assemble.specs.Asks.{AsksNext}
+use Rattle.std.proofs.Common.{ℕ, Bool, Option, refl, sym, ◌∙◌, subst}
+use Rattle.a64_buffer.specs.declared.force.ForceVeneers.TheVariants.{No}
+use Rattle.a64_emit.specs.Falls.{inst_falls}
+use Rattle.a64_assemble.specs.Asks.{Asks, AsksNext}
 use Rattle.a64_assemble.proofs.Stepped.{on_ok}
 use Rattle.a64_assemble.proofs.putting.ask_behind.Goals as goal
 
@@ -15,8 +17,9 @@ returns-in-Some-clause-without c =
 
 pub returns-in-Some-clause-behind : goal.returns-in-Some-clause-behind
 returns-in-Some-clause-behind c =
-    on_ok c.ask.result (λ asks moved. subst (λ (o : Option ℕ). AsksNext c.args.force o c.args.buffer.now c.ask.new.buffer) (sym c.in-Some.is ∙ c.next_room.ensures) asks) c.ask.ensures
+    on_ok c.ask.result (λ asks moved. subst (λ (o : Option ℕ). AsksNext c.args.force (inst_falls c.args.inst.now) o c.args.buffer.now c.ask.new.buffer) (sym c.in-Some.is ∙ c.next_room.ensures)
+    (subst (λ (jump : Bool). Asks c.in-Some.distance No c.args.force jump c.args.buffer.now c.ask.new.buffer) c.falls.ensures asks)) c.ask.ensures
 
 pub returns-in-None-clause-behind : goal.returns-in-None-clause-behind
 returns-in-None-clause-behind c = λ moved.
-    subst (λ (o : Option ℕ). AsksNext c.args.force o c.args.buffer.now c.args.buffer.now) (sym c.in-None.is ∙ c.next_room.ensures) refl
+    subst (λ (o : Option ℕ). AsksNext c.args.force (inst_falls c.args.inst.now) o c.args.buffer.now c.args.buffer.now) (sym c.in-None.is ∙ c.next_room.ensures) refl

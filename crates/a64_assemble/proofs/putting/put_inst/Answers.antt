@@ -3,6 +3,7 @@ use Rattle.a64_inst.specs.declared.frame.FrameLayout.{FrameLayout}
 use Rattle.a64_inst.specs.State.{State}
 use Rattle.a64_buffer.specs.declared.force.ForceVeneers.TheVariants.{No}
 use Rattle.a64_emit.specs.Bounds.{asked_of}
+use Rattle.a64_emit.specs.Falls.{inst_falls}
 use Rattle.a64_emit.specs.Cells.{Cell, kept_cells}
 use Rattle.a64_assemble.specs.Asks.{AsksNext, MayMove, Moves}
 use Rattle.a64_assemble.specs.Elements.{Element, elements_of, next_room, whole_in}
@@ -48,9 +49,9 @@ returns-clause-buffer c =
     let rest : List Element = elements_of frame c.args.info.now c.args.rest.now in
     let none : asked_of c.args.inst.now ≡ None = c.requires.asked c.if-quiet.false in
     both_ok c.ask_behind.result (λ without behind. subst (λ (x : Element). Moves c.args.force x rest c.args.buffer.now c.ask_behind.new.buffer) (sym (words_element frame c.args.info.now c.args.inst.now c.args.state.now.map none))
-    (words_put c.args.force rest c.args.buffer.now cells c.emit.new.sink c.ask_behind.new.buffer c.args.place
+    (words_put c.args.force rest c.args.buffer.now (inst_falls c.args.inst.now) cells c.emit.new.sink c.ask_behind.new.buffer c.args.place
     (put_cells (asked_of c.args.inst.now) cells c.args.buffer.now c.emit.new.sink none c.in_ok-emit.ensures.ok)
     c.requires.place
     without
-    (λ moved. subst (λ (f : FrameLayout). AsksNext c.args.force (next_room (elements_of f c.args.info.now c.args.rest.now)) c.emit.new.sink c.ask_behind.new.buffer) (c.frame_layout.ensures ∙ ap (λ (s : State). s.frame) c.in_ok-emit.ensures.state) (behind moved))))
+    (λ moved. subst (λ (f : FrameLayout). AsksNext c.args.force (inst_falls c.args.inst.now) (next_room (elements_of f c.args.info.now c.args.rest.now)) c.emit.new.sink c.ask_behind.new.buffer) (c.frame_layout.ensures ∙ ap (λ (s : State). s.frame) c.in_ok-emit.ensures.state) (behind moved))))
     c.ask_behind.ensures.without c.ask_behind.ensures.behind
