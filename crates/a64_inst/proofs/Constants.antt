@@ -25,7 +25,7 @@ use Rattle.a64_inst.specs.declared.frame.FrameLayout.{FrameLayout}
 use Rattle.a64_inst.specs.declared.virtuals.VirtualRegisters.{VirtualRegisters}
 use Rattle.a64_inst.specs.declared.virtuals.VirtualRegisters.TheVariants.{Refused}
 use Rattle.a64_inst.specs.Operands.{is_int, is_register, is_register_or_zero, is_register_or_stack, is_same_register, is_same_size, is_wide_in, is_logic_of}
-use Rattle.a64_inst.specs.IntegerOperands.{are_mov_wide_operands, are_mov_k_operands, are_alu_rr_imm_logic_operands}
+use Rattle.a64_inst.specs.IntegerOperands.{is_kept}
 use Rattle.a64_inst.specs.Faults.{has_operands, inst_fault}
 use Rattle.a64_inst.specs.Constants.{step_into, HaveNoFault}
 
@@ -79,29 +79,25 @@ module _ (frame : FrameLayout) (flags : EmitFlags) (constants : FinMap nat_cmp (
   operands_decide (steps.Orr imm) e = rw e refl
 
   movz_good : (size : OperandSize) (imm : MoveWideConst) → IsWithin size imm → IsFaultless (steps.MovZ imm size)
-  unfolding are_mov_wide_operands
   movz_good size imm is =
       operands_decide (steps.MovZ imm size) (and_from (is_register_or_zero virtuals rd) (is_wide_in size imm) (good virtuals rd numbered).or_zero (wide_in size imm is))
 
   movn_good : (size : OperandSize) (imm : MoveWideConst) → IsWithin size imm → IsFaultless (steps.MovN imm size)
-  unfolding are_mov_wide_operands
   movn_good size imm is =
       operands_decide (steps.MovN imm size) (and_from (is_register_or_zero virtuals rd) (is_wide_in size imm) (good virtuals rd numbered).or_zero (wide_in size imm is))
 
   movk_good : (size : OperandSize) (step : ConstStep) → IsMovK size step → IsFaultless step
-  unfolding are_mov_k_operands
   movk_good size (steps.MovK imm width) (e, is) =
       let is_good = good virtuals rd numbered in
       operands_decide (steps.MovK imm width)
-      (and_from (is_register_or_zero virtuals rd && is_register_or_zero virtuals rd) (is_same_register rd rd && is_wide_in width imm)
-      (and_from (is_register_or_zero virtuals rd) (is_register_or_zero virtuals rd) is_good.or_zero is_good.or_zero)
-      (and_from (is_same_register rd rd) (is_wide_in width imm) is_good.itself (wide_in width imm (subst (λ z. IsWithin z imm) (sym e) is))))
+      (and_from (is_register_or_zero virtuals rd) (is_register_or_zero virtuals rd && is_kept rd rd imm width) is_good.or_zero
+      (and_from (is_register_or_zero virtuals rd) (is_kept rd rd imm width) is_good.or_zero
+      (and_from (is_same_register rd rd) (is_wide_in width imm) is_good.itself (wide_in width imm (subst (λ z. IsWithin z imm) (sym e) is)))))
   movk_good size (steps.MovZ imm width) is = elim is [ ]
   movk_good size (steps.MovN imm width) is = elim is [ ]
   movk_good size (steps.Orr imm) is = elim is [ ]
 
   orr_good : (imm : ImmLogic) → IsImmLogic imm → IsFaultless (steps.Orr imm)
-  unfolding are_alu_rr_imm_logic_operands
   orr_good imm is =
       operands_decide (steps.Orr imm)
       (and_from (is_register_or_stack virtuals rd) (is_logic_of imm.size imm) (good virtuals rd numbered).or_stack

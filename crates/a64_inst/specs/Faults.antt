@@ -11,12 +11,13 @@ use Rattle.a64_inst.specs.declared.inst.Inst.TheVariants as insts
 use Rattle.a64_inst.specs.declared.fault.OwnFault.{OwnFault}
 use Rattle.a64_inst.specs.declared.fault.OwnFault.TheVariants as own
 use Rattle.a64_inst.specs.Operands.{is_any_register, is_register, is_register_or_zero}
-use Rattle.a64_inst.specs.IntegerOperands as integer
 use Rattle.a64_inst.specs.ControlOperands as control
 use Rattle.a64_inst.specs.MemoryOperands as memory
 use Rattle.a64_inst.specs.SequenceOperands as sequence
 use Rattle.a64_inst.specs.CallOperands as calls
+use Rattle.a64_inst.specs.Groups.{group_of, is_plain}
 use Rattle.a64_inst.specs.Lone.{is_lone}
+use Rattle.a64_inst.specs.Sheets.{fields_fit, has_rest, sheet}
 use Rattle.std.specs.List.{list_all}
 use Rattle.a64_inst.specs.Accesses.{access_of}
 use Rattle.a64_inst.specs.Modes.{constant_in}
@@ -60,32 +61,8 @@ module _ (frame : FrameLayout) (flags : EmitFlags) (virtuals : VirtualRegisters)
   abbrev pub has_plain_operands : Inst → Bool
   has_plain_operands insts.Nop0 = true
   has_plain_operands insts.Nop4 = true
-  has_plain_operands (insts.AluRRR alu_op size rd rn rm) = integer.are_alu_rrr_operands virtuals alu_op size rd rn rm
-  has_plain_operands (insts.AluRRRR alu_op size rd rn rm ra) = integer.are_alu_rrrr_operands virtuals alu_op size rd rn rm ra
-  has_plain_operands (insts.AluRRImm12 alu_op size rd rn imm12) = integer.are_alu_rr_imm12_operands virtuals alu_op rd rn imm12
-  has_plain_operands (insts.AluRRImmLogic alu_op size rd rn imml) = integer.are_alu_rr_imm_logic_operands virtuals alu_op size rd rn imml
-  has_plain_operands (insts.AluRRImmShift alu_op size rd rn immshift) = integer.are_alu_rr_imm_shift_operands virtuals alu_op size rd rn immshift
-  has_plain_operands (insts.AluRRRShift alu_op size rd rn rm shiftop) = integer.are_alu_rrr_shift_operands virtuals alu_op size rd rn rm shiftop
-  has_plain_operands (insts.AluRRRExtend alu_op size rd rn rm extendop) = integer.are_alu_rrr_extend_operands virtuals alu_op rd rn rm
-  has_plain_operands (insts.BitRR op size rd rn) = integer.are_bit_rr_operands virtuals op size rd rn
-  has_plain_operands (insts.Mov size rd rm) = integer.are_mov_operands virtuals size rd rm
-  has_plain_operands (insts.MovFromPReg rd rm) = integer.are_mov_from_preg_operands virtuals rd rm
-  has_plain_operands (insts.MovToPReg rd rm) = integer.are_mov_to_preg_operands virtuals rd rm
-  has_plain_operands (insts.MovWide op rd imm size) = integer.are_mov_wide_operands virtuals rd imm size
-  has_plain_operands (insts.MovK rd rn imm size) = integer.are_mov_k_operands virtuals rd rn imm size
-  has_plain_operands (insts.CSel rd rn rm cond) = integer.are_select_operands virtuals rd rn rm
-  has_plain_operands (insts.CSNeg rd rn rm cond) = integer.are_select_operands virtuals rd rn rm
-  has_plain_operands (insts.CSet rd cond) = is_register_or_zero virtuals rd
-  has_plain_operands (insts.CSetm rd cond) = is_register_or_zero virtuals rd
-  has_plain_operands (insts.CCmp size rn rm nzcv cond) = integer.are_ccmp_operands virtuals rn rm
-  has_plain_operands (insts.CCmpImm size rn imm nzcv cond) = is_register_or_zero virtuals rn
-  has_plain_operands (insts.Extend rd rn signed from_bits to_bits) = integer.are_extend_operands virtuals rd rn signed from_bits to_bits
-  has_plain_operands (insts.BitfieldMove size bfm_op rd rn immr imms) = integer.are_bitfield_move_operands virtuals size rd rn immr imms
-  has_plain_operands (insts.BitfieldMoveMod size rd ri rn immr imms) = integer.are_bitfield_move_mod_operands virtuals size rd ri rn immr imms
   has_plain_operands (insts.MovToNZCV rn) = is_register_or_zero virtuals rn
   has_plain_operands (insts.MovFromNZCV rd) = is_register_or_zero virtuals rd
-  has_plain_operands (insts.Adr rd off) = integer.are_adr_operands virtuals rd off
-  has_plain_operands (insts.Adrp rd off) = integer.are_adr_operands virtuals rd off
   has_plain_operands insts.Ret = true
   has_plain_operands (insts.Jump dest) = control.are_jump_operands dest
   has_plain_operands (insts.CondBr taken not_taken kind) = control.are_cond_br_operands virtuals taken not_taken kind
@@ -110,7 +87,7 @@ module _ (frame : FrameLayout) (flags : EmitFlags) (virtuals : VirtualRegisters)
   has_plain_operands (insts.LoadP64 rt rt2 mem flags) = memory.are_pair_operands virtuals rt rt2 mem
   has_plain_operands (insts.StoreP64 rt rt2 mem flags) = memory.are_pair_operands virtuals rt rt2 mem
   has_plain_operands (insts.LoadAddr rd mem) = memory.are_address_operands frame virtuals rd mem
-  has_plain_operands _ = false
+  has_plain_operands inst = is_plain (group_of inst) && fields_fit virtuals (sheet inst) (has_rest virtuals inst)
 
   -- a frame can restore an instruction: it is one word without a use, and no call, and has no fault of its operands, its mode and its
   -- scratch registers

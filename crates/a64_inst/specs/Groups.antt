@@ -1,38 +1,40 @@
 -- The group of each instruction.
+use Rattle.std.specs.Prelude.{Bool, true, false}
 use Rattle.a64_inst.specs.declared.group.Group.{Group}
 use Rattle.a64_inst.specs.declared.group.Group.TheVariants as groups
+use Rattle.a64_inst.specs.declared.group.PlainGroup.TheVariants as plain
 use Rattle.a64_inst.specs.declared.inst.Inst.{Inst}
 use Rattle.a64_inst.specs.declared.inst.Inst.TheVariants as insts
 
 abbrev pub group_of : Inst → Group
 group_of insts.Nop0 = groups.Control
 group_of insts.Nop4 = groups.Control
-group_of (insts.AluRRR alu_op size rd rn rm) = groups.Register
-group_of (insts.AluRRRR alu_op size rd rn rm ra) = groups.Register
-group_of (insts.AluRRImm12 alu_op size rd rn imm12) = groups.Immediate
-group_of (insts.AluRRImmLogic alu_op size rd rn imml) = groups.Immediate
-group_of (insts.AluRRImmShift alu_op size rd rn immshift) = groups.Immediate
-group_of (insts.AluRRRShift alu_op size rd rn rm shiftop) = groups.Register
-group_of (insts.AluRRRExtend alu_op size rd rn rm extendop) = groups.Register
-group_of (insts.BitRR op size rd rn) = groups.Register
-group_of (insts.Mov size rd rm) = groups.Register
-group_of (insts.MovFromPReg rd rm) = groups.Register
-group_of (insts.MovToPReg rd rm) = groups.Register
-group_of (insts.MovWide op rd imm size) = groups.Immediate
-group_of (insts.MovK rd rn imm size) = groups.Immediate
-group_of (insts.CSel rd rn rm cond) = groups.Register
-group_of (insts.CSNeg rd rn rm cond) = groups.Register
-group_of (insts.CSet rd cond) = groups.Register
-group_of (insts.CSetm rd cond) = groups.Register
-group_of (insts.CCmp size rn rm nzcv cond) = groups.Register
-group_of (insts.CCmpImm size rn imm nzcv cond) = groups.Register
-group_of (insts.Extend rd rn signed from_bits to_bits) = groups.Immediate
-group_of (insts.BitfieldMove size bfm_op rd rn immr imms) = groups.Immediate
-group_of (insts.BitfieldMoveMod size rd ri rn immr imms) = groups.Immediate
+group_of (insts.AluRRR alu_op size rd rn rm) = groups.Plain plain.Register
+group_of (insts.AluRRRR alu_op size rd rn rm ra) = groups.Plain plain.Register
+group_of (insts.AluRRImm12 alu_op size rd rn imm12) = groups.Plain plain.Immediate
+group_of (insts.AluRRImmLogic alu_op size rd rn imml) = groups.Plain plain.Immediate
+group_of (insts.AluRRImmShift alu_op size rd rn immshift) = groups.Plain plain.Immediate
+group_of (insts.AluRRRShift alu_op size rd rn rm shiftop) = groups.Plain plain.Register
+group_of (insts.AluRRRExtend alu_op size rd rn rm extendop) = groups.Plain plain.Register
+group_of (insts.BitRR op size rd rn) = groups.Plain plain.Register
+group_of (insts.Mov size rd rm) = groups.Plain plain.Register
+group_of (insts.MovFromPReg rd rm) = groups.Plain plain.Register
+group_of (insts.MovToPReg rd rm) = groups.Plain plain.Register
+group_of (insts.MovWide op rd imm size) = groups.Plain plain.Immediate
+group_of (insts.MovK rd rn imm size) = groups.Plain plain.Immediate
+group_of (insts.CSel rd rn rm cond) = groups.Plain plain.Register
+group_of (insts.CSNeg rd rn rm cond) = groups.Plain plain.Register
+group_of (insts.CSet rd cond) = groups.Plain plain.Register
+group_of (insts.CSetm rd cond) = groups.Plain plain.Register
+group_of (insts.CCmp size rn rm nzcv cond) = groups.Plain plain.Register
+group_of (insts.CCmpImm size rn imm nzcv cond) = groups.Plain plain.Register
+group_of (insts.Extend rd rn signed from_bits to_bits) = groups.Plain plain.Immediate
+group_of (insts.BitfieldMove size bfm_op rd rn immr imms) = groups.Plain plain.Immediate
+group_of (insts.BitfieldMoveMod size rd ri rn immr imms) = groups.Plain plain.Immediate
 group_of (insts.MovToNZCV rn) = groups.Control
 group_of (insts.MovFromNZCV rd) = groups.Control
-group_of (insts.Adr rd off) = groups.Immediate
-group_of (insts.Adrp rd off) = groups.Immediate
+group_of (insts.Adr rd off) = groups.Plain plain.Immediate
+group_of (insts.Adrp rd off) = groups.Plain plain.Immediate
 group_of insts.Ret = groups.Control
 group_of (insts.Jump dest) = groups.Control
 group_of (insts.CondBr taken not_taken kind) = groups.Control
@@ -80,3 +82,8 @@ group_of (insts.FpuStore16 rd mem flags) = groups.Memory
 group_of (insts.FpuStore32 rd mem flags) = groups.Memory
 group_of (insts.FpuStore64 rd mem flags) = groups.Memory
 group_of (insts.FpuStore128 rd mem flags) = groups.Memory
+
+-- a group whose instructions are one plain word each
+abbrev pub is_plain : Group → Bool
+is_plain (groups.Plain group) = true
+is_plain _ = false

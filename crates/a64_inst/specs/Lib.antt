@@ -2,6 +2,8 @@ pub mod Constants
 pub mod State
 pub mod Groups
 pub mod Operands
+pub mod Fields
+pub mod Sheets
 pub mod IntegerOperands
 pub mod ControlOperands
 pub mod SequenceOperands

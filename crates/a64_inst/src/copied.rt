@@ -2,11 +2,13 @@
 
 ghost use Rattle.std.specs.Prelude.{◌≡◌, IfOk};
 ghost use Rattle.a64_inst.specs.declared.group.Group.TheVariants as groups;
+ghost use Rattle.a64_inst.specs.declared.group.PlainGroup.TheVariants as plain;
 ghost use Rattle.a64_inst.specs.Groups.{group_of};
 
 use crate::boxed::Boxed;
-use crate::group::Group;
+use crate::group::{Group, PlainGroup};
 use crate::inst::Inst;
+use crate::{immediate_list, register_list};
 use std::alloc::{AllocError, Global};
 
 /// An equal instruction, of these variants with these fields.
@@ -19,46 +21,41 @@ macro_rules! copied {
     };
 }
 
+/// An equal instruction, of those of a list.
+macro_rules! copied_arms {
+    ($virtuals:ident, $inst:expr; $($name:ident { $($field:ident: $way:ident $what:tt),* } if $rest:expr;)+) => {
+        match $inst {
+            $(Inst::$name { $($field),* } => Inst::$name { $($field: *$field),* },)+
+            _ => unreachable!(),
+        }
+    };
+}
+
 /// An equal integer operation with an immediate.
-fn copied_immediate(inst: &Inst) -> Result<Inst, AllocError>
-    requires { group_of inst.now ≡ groups.Immediate }
-    ensures { IfOk result (λ copy. copy ≡ inst.now) }
+fn copied_immediate(inst: &Inst) -> Inst
+    requires { group_of inst.now ≡ groups.Plain plain.Immediate }
+    ensures { result ≡ inst.now }
 {
-    copied!(inst;
-        AluRRImm12 { alu_op, size, rd, rn, imm12 },
-        AluRRImmLogic { alu_op, size, rd, rn, imml },
-        AluRRImmShift { alu_op, size, rd, rn, immshift },
-        MovWide { op, rd, imm, size },
-        MovK { rd, rn, imm, size },
-        Extend { rd, rn, signed, from_bits, to_bits },
-        BitfieldMove { size, bfm_op, rd, rn, immr, imms },
-        BitfieldMoveMod { size, rd, ri, rn, immr, imms },
-        Adr { rd, off },
-        Adrp { rd, off }
-    )
+    immediate_list!(copied_arms, virtuals, inst)
 }
 
 /// An equal integer operation on registers.
-fn copied_register(inst: &Inst) -> Result<Inst, AllocError>
-    requires { group_of inst.now ≡ groups.Register }
-    ensures { IfOk result (λ copy. copy ≡ inst.now) }
+fn copied_register(inst: &Inst) -> Inst
+    requires { group_of inst.now ≡ groups.Plain plain.Register }
+    ensures { result ≡ inst.now }
 {
-    copied!(inst;
-        AluRRR { alu_op, size, rd, rn, rm },
-        AluRRRR { alu_op, size, rd, rn, rm, ra },
-        AluRRRShift { alu_op, size, rd, rn, rm, shiftop },
-        AluRRRExtend { alu_op, size, rd, rn, rm, extendop },
-        BitRR { op, size, rd, rn },
-        Mov { size, rd, rm },
-        MovFromPReg { rd, rm },
-        MovToPReg { rd, rm },
-        CSel { rd, rn, rm, cond },
-        CSNeg { rd, rn, rm, cond },
-        CSet { rd, cond },
-        CSetm { rd, cond },
-        CCmp { size, rn, rm, nzcv, cond },
-        CCmpImm { size, rn, imm, nzcv, cond }
-    )
+    register_list!(copied_arms, virtuals, inst)
+}
+
+/// An equal instruction that is one plain word.
+fn copied_plain(inst: &Inst, group: PlainGroup) -> Inst
+    requires { group_of inst.now ≡ groups.Plain group }
+    ensures { result ≡ inst.now }
+{
+    match group {
+        PlainGroup::Immediate => copied_immediate(inst),
+        PlainGroup::Register => copied_register(inst),
+    }
 }
 
 /// An equal branch, hint, access to a system register, word of data or address of a label.
@@ -177,8 +174,7 @@ impl Inst {
         ensures { IfOk result (λ inst. inst ≡ self.now) }
     {
         match self.group() {
-            Group::Immediate => copied_immediate(self),
-            Group::Register => copied_register(self),
+            Group::Plain(group) => Ok(copied_plain(self, group)),
             Group::Control => copied_control(alloc, self),
             Group::Sequence => copied_sequence(alloc, self),
             Group::Call => copied_call(alloc, self),

@@ -2,7 +2,7 @@
 
 pub mod call;
 pub mod control;
-pub mod integer;
+pub mod plain;
 pub mod lone;
 pub mod memory;
 pub mod sequence;

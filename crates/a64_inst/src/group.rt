@@ -6,10 +6,8 @@
 /// the instructions of that group.
 #[derive(Clone, Copy, Debug)]
 pub enum Group {
-    /// Integer operations with immediates, moves of bitfields, and addresses near the code.
-    Immediate,
-    /// Integer operations on registers, and moves of them.
-    Register,
+    /// Instructions that are one word each, which is no use.
+    Plain(PlainGroup),
     /// Branches, hints, accesses to system registers, data, and addresses of labels.
     Control,
     /// Sequences around tables, symbols and the stack, and what has no word.
@@ -18,4 +16,13 @@ pub enum Group {
     Call,
     /// Loads and stores.
     Memory,
+}
+
+/// A group of instructions that are one word each, which is no use, and at which nothing is recorded.
+#[derive(Clone, Copy, Debug)]
+pub enum PlainGroup {
+    /// Integer operations with immediates, moves of bitfields, and addresses near the code.
+    Immediate,
+    /// Integer operations on registers, and moves of them.
+    Register,
 }

@@ -5,7 +5,7 @@ ghost use Rattle.a64_inst.specs.Groups.{group_of};
 
 use crate::boxed::Boxed;
 use crate::call::{CallInfo, ReturnCallInfo};
-use crate::group::Group;
+use crate::group::{Group, PlainGroup};
 use crate::mode::{AMode, PairAMode};
 use crate::pair::{ArgPair, RetPair};
 use a64_base::{
@@ -702,7 +702,7 @@ impl Inst {
             | Inst::BitfieldMove { .. }
             | Inst::BitfieldMoveMod { .. }
             | Inst::Adr { .. }
-            | Inst::Adrp { .. } => Group::Immediate,
+            | Inst::Adrp { .. } => Group::Plain(PlainGroup::Immediate),
             Inst::AluRRR { .. }
             | Inst::AluRRRR { .. }
             | Inst::AluRRRShift { .. }
@@ -716,7 +716,7 @@ impl Inst {
             | Inst::CSet { .. }
             | Inst::CSetm { .. }
             | Inst::CCmp { .. }
-            | Inst::CCmpImm { .. } => Group::Register,
+            | Inst::CCmpImm { .. } => Group::Plain(PlainGroup::Register),
             Inst::Nop0
             | Inst::Nop4
             | Inst::MovToNZCV { .. }

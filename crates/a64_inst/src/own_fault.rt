@@ -10,7 +10,7 @@ use crate::emission::EmitInfo;
 use crate::fault::OwnFault;
 use crate::fault::call::call_fault;
 use crate::fault::control::has_control_operands;
-use crate::fault::integer::{has_immediate_operands, has_register_operands};
+use crate::fault::plain::has_plain_operands;
 use crate::fault::lone::is_lone;
 use crate::fault::memory::memory_fault;
 use crate::fault::sequence::has_sequence_operands;
@@ -45,8 +45,7 @@ fn can_restore(
         return false;
     }
     match inst.group() {
-        Group::Immediate => has_immediate_operands(inst, frame, info, virtuals),
-        Group::Register => has_register_operands(inst, frame, info, virtuals),
+        Group::Plain(group) => has_plain_operands(inst, frame, info, virtuals, group),
         Group::Control => has_control_operands(inst, frame, info, virtuals),
         Group::Memory => memory_fault(inst, frame, info, None, virtuals).is_none(),
         Group::Sequence | Group::Call => false,
@@ -104,10 +103,9 @@ impl Inst {
         ensures { result ≡ fault_with frame.now info.now constant virtuals self.now }
     {
         match group {
-            Group::Immediate => {
-                operand_fault(has_immediate_operands(self, frame, info, virtuals))
+            Group::Plain(plain) => {
+                operand_fault(has_plain_operands(self, frame, info, virtuals, plain))
             }
-            Group::Register => operand_fault(has_register_operands(self, frame, info, virtuals)),
             Group::Control => operand_fault(has_control_operands(self, frame, info, virtuals)),
             Group::Sequence => operand_fault(has_sequence_operands(self, frame, info, virtuals)),
             Group::Call => call_fault(self, frame, info, virtuals, restorable),

@@ -112,7 +112,7 @@ pub fn is_lone(inst: &Inst, frame: &FrameLayout) -> bool
     ensures { result ≡ lone.is_lone frame.now inst.now }
 {
     match inst.group() {
-        Group::Immediate | Group::Register => true,
+        Group::Plain(_) => true,
         Group::Control => is_lone_control(inst, frame),
         Group::Sequence | Group::Call => false,
         Group::Memory => is_lone_memory(inst, frame),

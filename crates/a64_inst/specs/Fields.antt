@@ -1,0 +1,51 @@
+-- What a field of an instruction that is one plain word is.
+use Rattle.std.specs.Prelude.{ℕ, ℤ}
+use Rattle.std.specs.Prelude as std
+use Rattle.a64_base.specs.declared.cond.Cond as conds
+use Rattle.a64_base.specs.declared.reg.Reg.{Reg}
+use Rattle.a64_base.specs.declared.shift.ExtendOp.{ExtendOp}
+use Rattle.a64_base.specs.declared.size.OperandSize.{OperandSize}
+use Rattle.a64_base.specs.RegisterNumbers.{RealRegister}
+use Rattle.a64_base.specs.ShiftParts as shifts
+use Rattle.a64_imms.specs.declared.flags.NZCV.{NZCV}
+use Rattle.a64_imms.specs.declared.imm12.Imm12 as imm12s
+use Rattle.a64_imms.specs.declared.imm_logic.ImmLogic.{ImmLogic}
+use Rattle.a64_imms.specs.declared.move_wide.MoveWideConst.{MoveWideConst}
+use Rattle.a64_imms.specs.declared.unsigned.ImmShift as imm_shifts
+use Rattle.a64_imms.specs.declared.unsigned.UImm5 as uimm5s
+use Rattle.a64_imms.specs.declared.unsigned.UImm6 as uimm6s
+use Rattle.a64_ops.specs.declared.operator.ALUOp.{ALUOp}
+use Rattle.a64_ops.specs.declared.operator.ALUOp3.{ALUOp3}
+use Rattle.a64_ops.specs.declared.operator.BfmOp as bfm_ops
+use Rattle.a64_ops.specs.declared.operator.BitOp as bit_ops
+use Rattle.a64_ops.specs.declared.operator.MoveWideOp as move_wide_ops
+use Rattle.a64_inst.specs.declared.class.Class.{Class}
+
+-- what a field that is no register of an operand's class holds
+pub data Operand : Type 0 where
+  AluOp : ALUOp → Operand
+  AluOp3 : ALUOp3 → Operand
+  BitOp : bit_ops.BitOp → Operand
+  BfmOp : bfm_ops.BfmOp → Operand
+  MoveWideOp : move_wide_ops.MoveWideOp → Operand
+  Size : OperandSize → Operand
+  PReg : RealRegister → Operand
+  Imm12 : imm12s.Imm12 → Operand
+  Logic : ImmLogic → Operand
+  Wide : MoveWideConst → Operand
+  ImmShift : imm_shifts.ImmShift → Operand
+  UImm5 : uimm5s.UImm5 → Operand
+  UImm6 : uimm6s.UImm6 → Operand
+  Shift : shifts.Shift → Operand
+  Extend : ExtendOp → Operand
+  Cond : conds.Cond → Operand
+  Nzcv : NZCV → Operand
+  Bool : std.Bool → Operand
+  U8 : ℕ → Operand
+  I32 : ℤ → Operand
+
+-- a field: a register that is written or read, with its class, or something else
+pub data Field : Type 0 where
+  Def : Class → Reg → Field
+  Use : Class → Reg → Field
+  Is : Operand → Field

@@ -1,0 +1,93 @@
+-- The fields of each instruction that is one plain word, in the order of a file, and what must hold of them (Arm Architecture
+-- Reference Manual, C6.2).
+use Rattle.std.specs.Prelude.{Bool, true, ◌&&◌, List, [], ◌∷◌}
+use Rattle.a64_base.specs.declared.reg.Reg.{Reg}
+use Rattle.a64_inst.specs.declared.class.Class.{Class}
+use Rattle.a64_inst.specs.declared.class.Class.TheVariants.{Zero, Stack, Own}
+use Rattle.a64_inst.specs.declared.inst.Inst.{Inst}
+use Rattle.a64_inst.specs.declared.inst.Inst.TheVariants as insts
+use Rattle.a64_inst.specs.declared.virtuals.VirtualRegisters.{VirtualRegisters}
+use Rattle.a64_inst.specs.Fields as fields
+use Rattle.a64_inst.specs.Fields.{Field, Def, Use, Is}
+use Rattle.a64_inst.specs.IntegerOperands as integer
+use Rattle.a64_inst.specs.IntegerOperands.{add_sub_class, logic_class}
+use Rattle.a64_inst.specs.Operands.{is_register_or_stack, is_register_or_zero, is_wide_in, is_near}
+
+-- the fields
+abbrev pub sheet : Inst → List Field
+-- integer operations with immediates
+sheet (insts.AluRRImm12 alu_op size rd rn imm12) =
+    Is (fields.AluOp alu_op) ∷ Is (fields.Size size) ∷ Def (add_sub_class alu_op) rd ∷ Use Stack rn ∷ Is (fields.Imm12 imm12) ∷ []
+sheet (insts.AluRRImmLogic alu_op size rd rn imml) =
+    Is (fields.AluOp alu_op) ∷ Is (fields.Size size) ∷ Def (logic_class alu_op) rd ∷ Use Zero rn ∷ Is (fields.Logic imml) ∷ []
+sheet (insts.AluRRImmShift alu_op size rd rn immshift) =
+    Is (fields.AluOp alu_op) ∷ Is (fields.Size size) ∷ Def Zero rd ∷ Use Zero rn ∷ Is (fields.ImmShift immshift) ∷ []
+sheet (insts.MovWide op rd imm size) = Is (fields.MoveWideOp op) ∷ Def Zero rd ∷ Is (fields.Wide imm) ∷ Is (fields.Size size) ∷ []
+sheet (insts.MovK rd rn imm size) = Def Zero rd ∷ Use Zero rn ∷ Is (fields.Wide imm) ∷ Is (fields.Size size) ∷ []
+sheet (insts.Extend rd rn signed from_bits to_bits) =
+    Def Own rd ∷ Use Zero rn ∷ Is (fields.Bool signed) ∷ Is (fields.U8 from_bits) ∷ Is (fields.U8 to_bits) ∷ []
+sheet (insts.BitfieldMove size bfm_op rd rn immr imms) =
+    Is (fields.Size size) ∷ Is (fields.BfmOp bfm_op) ∷ Def Zero rd ∷ Use Zero rn ∷ Is (fields.UImm6 immr) ∷ Is (fields.UImm6 imms) ∷ []
+sheet (insts.BitfieldMoveMod size rd ri rn immr imms) =
+    Is (fields.Size size) ∷ Def Zero rd ∷ Use Zero ri ∷ Use Zero rn ∷ Is (fields.UImm6 immr) ∷ Is (fields.UImm6 imms) ∷ []
+sheet (insts.Adr rd off) = Def Zero rd ∷ Is (fields.I32 off) ∷ []
+sheet (insts.Adrp rd off) = Def Zero rd ∷ Is (fields.I32 off) ∷ []
+-- integer operations on registers
+sheet (insts.AluRRR alu_op size rd rn rm) =
+    Is (fields.AluOp alu_op) ∷ Is (fields.Size size) ∷ Def Zero rd ∷ Use Zero rn ∷ Use Zero rm ∷ []
+sheet (insts.AluRRRR alu_op size rd rn rm ra) =
+    Is (fields.AluOp3 alu_op) ∷ Is (fields.Size size) ∷ Def Zero rd ∷ Use Zero rn ∷ Use Zero rm ∷ Use Zero ra ∷ []
+sheet (insts.AluRRRShift alu_op size rd rn rm shiftop) =
+    Is (fields.AluOp alu_op) ∷ Is (fields.Size size) ∷ Def Zero rd ∷ Use Zero rn ∷ Use Zero rm ∷ Is (fields.Shift shiftop) ∷ []
+sheet (insts.AluRRRExtend alu_op size rd rn rm extendop) =
+    Is (fields.AluOp alu_op) ∷ Is (fields.Size size) ∷ Def (add_sub_class alu_op) rd ∷ Use Stack rn ∷ Use Zero rm
+    ∷ Is (fields.Extend extendop) ∷ []
+sheet (insts.BitRR op size rd rn) = Is (fields.BitOp op) ∷ Is (fields.Size size) ∷ Def Zero rd ∷ Use Zero rn ∷ []
+sheet (insts.Mov size rd rm) = Is (fields.Size size) ∷ Def Own rd ∷ Use Own rm ∷ []
+sheet (insts.MovFromPReg rd rm) = Def Own rd ∷ Is (fields.PReg rm) ∷ []
+sheet (insts.MovToPReg rd rm) = Is (fields.PReg rd) ∷ Use Own rm ∷ []
+sheet (insts.CSel rd rn rm cond) = Def Zero rd ∷ Use Zero rn ∷ Use Zero rm ∷ Is (fields.Cond cond) ∷ []
+sheet (insts.CSNeg rd rn rm cond) = Def Zero rd ∷ Use Zero rn ∷ Use Zero rm ∷ Is (fields.Cond cond) ∷ []
+sheet (insts.CSet rd cond) = Def Zero rd ∷ Is (fields.Cond cond) ∷ []
+sheet (insts.CSetm rd cond) = Def Zero rd ∷ Is (fields.Cond cond) ∷ []
+sheet (insts.CCmp size rn rm nzcv cond) =
+    Is (fields.Size size) ∷ Use Zero rn ∷ Use Zero rm ∷ Is (fields.Nzcv nzcv) ∷ Is (fields.Cond cond) ∷ []
+sheet (insts.CCmpImm size rn imm nzcv cond) =
+    Is (fields.Size size) ∷ Use Zero rn ∷ Is (fields.UImm5 imm) ∷ Is (fields.Nzcv nzcv) ∷ Is (fields.Cond cond) ∷ []
+-- the others are no plain words
+sheet _ = []
+
+-- what must hold beside the classes of the registers
+abbrev pub has_rest : VirtualRegisters → Inst → Bool
+has_rest virtuals (insts.AluRRImm12 alu_op size rd rn imm12) = integer.is_add_sub_imm12 alu_op imm12
+has_rest virtuals (insts.AluRRImmLogic alu_op size rd rn imml) = integer.is_logic_imm alu_op size imml
+has_rest virtuals (insts.AluRRImmShift alu_op size rd rn immshift) = integer.is_shift_by alu_op size immshift
+has_rest virtuals (insts.MovWide op rd imm size) = is_wide_in size imm
+has_rest virtuals (insts.MovK rd rn imm size) = integer.is_kept rd rn imm size
+has_rest virtuals (insts.Extend rd rn signed from_bits to_bits) = integer.is_extended virtuals rd signed from_bits to_bits
+has_rest virtuals (insts.BitfieldMove size bfm_op rd rn immr imms) = integer.is_bitfield size immr imms
+has_rest virtuals (insts.BitfieldMoveMod size rd ri rn immr imms) = integer.is_kept_bitfield rd ri size immr imms
+has_rest virtuals (insts.Adr rd off) = is_near off
+has_rest virtuals (insts.Adrp rd off) = is_near off
+has_rest virtuals (insts.AluRRR alu_op size rd rn rm) = integer.is_product_at alu_op size
+has_rest virtuals (insts.AluRRRR alu_op size rd rn rm ra) = integer.is_long_product_at alu_op size
+has_rest virtuals (insts.AluRRRShift alu_op size rd rn rm shiftop) = integer.is_shifted alu_op size shiftop
+has_rest virtuals (insts.AluRRRExtend alu_op size rd rn rm extendop) = integer.is_add_sub alu_op
+has_rest virtuals (insts.BitRR op size rd rn) = integer.is_bit_op_at op size
+has_rest virtuals (insts.Mov size rd rm) = integer.is_move virtuals size rd rm
+has_rest virtuals (insts.MovFromPReg rd rm) = integer.is_move_from virtuals rd rm
+has_rest virtuals (insts.MovToPReg rd rm) = integer.is_move_to virtuals rd rm
+has_rest virtuals _ = true
+
+-- a register is of a class
+abbrev pub is_of : VirtualRegisters → Class → Reg → Bool
+is_of virtuals Zero reg = is_register_or_zero virtuals reg
+is_of virtuals Stack reg = is_register_or_stack virtuals reg
+is_of virtuals Own reg = true
+
+-- the registers are of their classes, and the rest holds
+abbrev pub fields_fit : VirtualRegisters → List Field → Bool → Bool
+fields_fit virtuals [] rest = rest
+fields_fit virtuals (Def class reg ∷ others) rest = is_of virtuals class reg && fields_fit virtuals others rest
+fields_fit virtuals (Use class reg ∷ others) rest = is_of virtuals class reg && fields_fit virtuals others rest
+fields_fit virtuals (Is operand ∷ others) rest = fields_fit virtuals others rest

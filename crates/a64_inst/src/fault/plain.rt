@@ -1,0 +1,98 @@
+//! Whether the operands of instructions that are one plain word are in their sets.
+
+mod immediate;
+mod register;
+
+ghost use Rattle.std.specs.Prelude.{◌≡◌};
+ghost use Rattle.a64_inst.specs.declared.group.Group.TheVariants.{Plain};
+ghost use Rattle.a64_inst.specs.declared.group.PlainGroup.TheVariants.{Immediate, Register};
+ghost use Rattle.a64_inst.specs.Groups.{group_of};
+ghost use Rattle.a64_inst.specs.Faults.{has_operands};
+
+use crate::class::{Class, is_of};
+use crate::emission::EmitInfo;
+use crate::fault::plain::immediate::{
+    is_add_sub_imm12, is_bitfield, is_extended, is_kept, is_kept_bitfield, is_logic_imm, is_shift_by,
+    logic_class,
+};
+use crate::fault::plain::register::{
+    add_sub_class, is_add_sub, is_bit_op_at, is_long_product_at, is_move, is_move_from, is_move_to,
+    is_product_at, is_shifted,
+};
+use crate::frame::FrameLayout;
+use crate::group::PlainGroup;
+use crate::inst::Inst;
+use crate::operand::{is_near, is_wide_in};
+use crate::virtuals::VirtualRegisters;
+use crate::{immediate_list, register_list};
+
+/// Whether the registers among the fields are of their classes, and the rest holds.
+macro_rules! fields_fit {
+    ($virtuals:expr, $rest:expr;) => { $rest };
+    ($virtuals:expr, $rest:expr; $field:ident Def $class:ident, $($more:tt)*) => {
+        is_of($virtuals, Class::$class, $field.to_reg()) && fields_fit!($virtuals, $rest; $($more)*)
+    };
+    ($virtuals:expr, $rest:expr; $field:ident Def ($class:expr), $($more:tt)*) => {
+        is_of($virtuals, $class, $field.to_reg()) && fields_fit!($virtuals, $rest; $($more)*)
+    };
+    ($virtuals:expr, $rest:expr; $field:ident Use $class:ident, $($more:tt)*) => {
+        is_of($virtuals, Class::$class, *$field) && fields_fit!($virtuals, $rest; $($more)*)
+    };
+    ($virtuals:expr, $rest:expr; $field:ident Is $kind:ident, $($more:tt)*) => {
+        fields_fit!($virtuals, $rest; $($more)*)
+    };
+}
+
+/// Whether the operands of an instruction of a list are in their sets.
+macro_rules! operand_arms {
+    ($virtuals:ident, $inst:expr; $($name:ident { $($field:ident: $way:ident $what:tt),* } if $rest:expr;)+) => {
+        match $inst {
+            $(Inst::$name { $($field),* } => fields_fit!($virtuals, $rest; $($field $way $what,)*),)+
+            _ => unreachable!(),
+        }
+    };
+}
+
+/// Whether the operands of an integer operation with an immediate are in their sets.
+fn has_immediate_operands(
+    inst: &Inst,
+    frame: &FrameLayout,
+    info: &EmitInfo,
+    virtuals: VirtualRegisters,
+) -> bool
+    requires { group_of inst.now ≡ Plain Immediate }
+    ensures { result ≡ has_operands frame.now info.now virtuals inst.now }
+{
+    immediate_list!(operand_arms, virtuals, inst)
+}
+
+/// Whether the operands of an integer operation on registers are in their sets.
+fn has_register_operands(
+    inst: &Inst,
+    frame: &FrameLayout,
+    info: &EmitInfo,
+    virtuals: VirtualRegisters,
+) -> bool
+    requires { group_of inst.now ≡ Plain Register }
+    ensures { result ≡ has_operands frame.now info.now virtuals inst.now }
+{
+    register_list!(operand_arms, virtuals, inst)
+}
+
+/// Whether the operands of an instruction that is one plain word are in their sets.
+#[inline(always)]
+pub fn has_plain_operands(
+    inst: &Inst,
+    frame: &FrameLayout,
+    info: &EmitInfo,
+    virtuals: VirtualRegisters,
+    group: PlainGroup,
+) -> bool
+    requires { group_of inst.now ≡ Plain group }
+    ensures { result ≡ has_operands frame.now info.now virtuals inst.now }
+{
+    match group {
+        PlainGroup::Immediate => has_immediate_operands(inst, frame, info, virtuals),
+        PlainGroup::Register => has_register_operands(inst, frame, info, virtuals),
+    }
+}

@@ -1,0 +1,49 @@
+//! The instructions that are one plain word, each with its fields in the order of a file.
+//!
+//! A list hands its instructions to a macro, which makes of each an arm. Of a field it says what it is: a
+//! register that is written (`Def`) or read (`Use`), with its class, a name of [`Class`](crate::Class) or, in
+//! parentheses, a call that gives one; or something else (`Is`), with its kind. Behind `if` stands what must
+//! hold beside the classes. The macro's first argument names the variable that says whether registers may be
+//! virtual; only what stands behind `if` uses it.
+
+/// Hands the integer operations with immediates to a macro.
+#[macro_export]
+macro_rules! immediate_list {
+    ($arms:ident, $virtuals:ident, $($args:tt),+) => {
+        $arms! { $virtuals, $($args),+;
+            AluRRImm12 { alu_op: Is AluOp, size: Is Size, rd: Def (add_sub_class(*alu_op)), rn: Use Stack, imm12: Is Imm12 } if is_add_sub_imm12(*alu_op, *imm12);
+            AluRRImmLogic { alu_op: Is AluOp, size: Is Size, rd: Def (logic_class(*alu_op)), rn: Use Zero, imml: Is Logic } if is_logic_imm(*alu_op, *size, *imml);
+            AluRRImmShift { alu_op: Is AluOp, size: Is Size, rd: Def Zero, rn: Use Zero, immshift: Is ImmShift } if is_shift_by(*alu_op, *size, *immshift);
+            MovWide { op: Is MoveWideOp, rd: Def Zero, imm: Is Wide, size: Is Size } if is_wide_in(*size, *imm);
+            MovK { rd: Def Zero, rn: Use Zero, imm: Is Wide, size: Is Size } if is_kept(&rd.to_reg(), rn, *imm, *size);
+            Extend { rd: Def Own, rn: Use Zero, signed: Is Bool, from_bits: Is U8, to_bits: Is U8 } if is_extended($virtuals, rd.to_reg(), *signed, *from_bits, *to_bits);
+            BitfieldMove { size: Is Size, bfm_op: Is BfmOp, rd: Def Zero, rn: Use Zero, immr: Is UImm6, imms: Is UImm6 } if is_bitfield(*size, *immr, *imms);
+            BitfieldMoveMod { size: Is Size, rd: Def Zero, ri: Use Zero, rn: Use Zero, immr: Is UImm6, imms: Is UImm6 } if is_kept_bitfield(&rd.to_reg(), ri, *size, *immr, *imms);
+            Adr { rd: Def Zero, off: Is I32 } if is_near(*off);
+            Adrp { rd: Def Zero, off: Is I32 } if is_near(*off);
+        }
+    };
+}
+
+/// Hands the integer operations on registers to a macro.
+#[macro_export]
+macro_rules! register_list {
+    ($arms:ident, $virtuals:ident, $($args:tt),+) => {
+        $arms! { $virtuals, $($args),+;
+            AluRRR { alu_op: Is AluOp, size: Is Size, rd: Def Zero, rn: Use Zero, rm: Use Zero } if is_product_at(*alu_op, *size);
+            AluRRRR { alu_op: Is AluOp3, size: Is Size, rd: Def Zero, rn: Use Zero, rm: Use Zero, ra: Use Zero } if is_long_product_at(*alu_op, *size);
+            AluRRRShift { alu_op: Is AluOp, size: Is Size, rd: Def Zero, rn: Use Zero, rm: Use Zero, shiftop: Is Shift } if is_shifted(*alu_op, *size, *shiftop);
+            AluRRRExtend { alu_op: Is AluOp, size: Is Size, rd: Def (add_sub_class(*alu_op)), rn: Use Stack, rm: Use Zero, extendop: Is Extend } if is_add_sub(*alu_op);
+            BitRR { op: Is BitOp, size: Is Size, rd: Def Zero, rn: Use Zero } if is_bit_op_at(*op, *size);
+            Mov { size: Is Size, rd: Def Own, rm: Use Own } if is_move($virtuals, *size, rd.to_reg(), *rm);
+            MovFromPReg { rd: Def Own, rm: Is PReg } if is_move_from($virtuals, rd.to_reg(), *rm);
+            MovToPReg { rd: Is PReg, rm: Use Own } if is_move_to($virtuals, *rd, *rm);
+            CSel { rd: Def Zero, rn: Use Zero, rm: Use Zero, cond: Is Cond } if true;
+            CSNeg { rd: Def Zero, rn: Use Zero, rm: Use Zero, cond: Is Cond } if true;
+            CSet { rd: Def Zero, cond: Is Cond } if true;
+            CSetm { rd: Def Zero, cond: Is Cond } if true;
+            CCmp { size: Is Size, rn: Use Zero, rm: Use Zero, nzcv: Is Nzcv, cond: Is Cond } if true;
+            CCmpImm { size: Is Size, rn: Use Zero, imm: Is UImm5, nzcv: Is Nzcv, cond: Is Cond } if true;
+        }
+    };
+}
