@@ -10,6 +10,8 @@ pub mod RegisterPairs
 pub mod Clobbers
 pub mod Hex
 pub mod Parts
+pub mod Heading
+pub mod PlainFields
 pub mod Names
 pub mod Modes
 pub mod Branches

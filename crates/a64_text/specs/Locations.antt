@@ -10,7 +10,7 @@ use Rattle.a64_text.specs.declared.value.Kind.TheVariants as kinds
 use Rattle.a64_text.specs.declared.value.Value.{Value}
 use Rattle.a64_text.specs.declared.value.Value.TheVariants as values
 use Rattle.a64_text.specs.Fields.{call_text}
-use Rattle.a64_text.specs.Names.{Heading}
+use Rattle.a64_text.specs.Heading.{Heading}
 use Rattle.a64_text.specs.Parts.{part_texts, IsPart}
 
 abbrev pub location_heading : LocationName → Heading

@@ -10,7 +10,9 @@ use Rattle.a64_text.specs.declared.entry.Entry.{Entry}
 use Rattle.a64_text.specs.declared.entry.Entry.TheVariants as entries
 use Rattle.a64_text.specs.declared.name.CallName.TheVariants as call
 use Rattle.a64_text.specs.declared.name.ControlName.TheVariants as control
-use Rattle.a64_text.specs.declared.name.IntegerName.TheVariants as integer
+use Rattle.a64_text.specs.declared.name.ImmediateName.TheVariants as immediate
+use Rattle.a64_text.specs.declared.name.RegisterName.TheVariants as register
+use Rattle.a64_text.specs.declared.name.SystemName.TheVariants as system
 use Rattle.a64_text.specs.declared.name.MemoryName.TheVariants as memory
 use Rattle.a64_text.specs.declared.name.SequenceName.TheVariants as sequence
 use Rattle.a64_ops.specs.declared.access.AccessOp.TheVariants as ops
@@ -50,8 +52,12 @@ IsMade name values entry = (name_of entry ≡ name) × (fields_of entry ≡ valu
 
 pub made_some : (name : Name) (values : List Value) (r : Option Entry) → Makes name values r → map kind_of values ≡ kinds_of name → IfSome r (IsMade name values)
 unfolding Makes
-made_some (names.Integer integer.AluRRImmLogic) values r h are = h.some are
-made_some (names.Integer name) values r h are = made (IsMade (names.Integer name) values) r (entry_of (names.Integer name) values) h (refl, at_their_places (kinds_of (names.Integer name)) values are, (tt, refl))
+made_some (names.Immediate immediate.AluRRImmLogic) values r h are = h.some are
+made_some (names.Immediate name) values r h are = made (IsMade (names.Immediate name) values) r (entry_of (names.Immediate name) values) h (refl, at_their_places (kinds_of (names.Immediate name)) values are, (tt, refl))
+made_some (names.Register register.AluRRR) values r h are = made (IsMade (names.Register register.AluRRR) values) r (entry_of (names.Register register.AluRRR) values) h (refl, at_their_places (kinds_of (names.Register register.AluRRR)) values are, (tt, refl))
+made_some (names.Register name) values r h are = made (IsMade (names.Register name) values) r (entry_of (names.Register name) values) h (refl, at_their_places (kinds_of (names.Register name)) values are, (tt, refl))
+made_some (names.System system.Nop4) values r h are = made (IsMade (names.System system.Nop4) values) r (entry_of (names.System system.Nop4) values) h (refl, at_their_places (kinds_of (names.System system.Nop4)) values are, (tt, refl))
+made_some (names.System name) values r h are = made (IsMade (names.System name) values) r (entry_of (names.System name) values) h (refl, at_their_places (kinds_of (names.System name)) values are, (tt, refl))
 made_some (names.Control control.IndirectBr) vs r h are =
     made_of (AllByRecursion IsLabel) (list_text label_text) (list_at vs 1) (λ targets. emitted (insts.IndirectBr (reg_at vs 0) targets)) (IsMade (names.Control control.IndirectBr) vs)
     (λ targets own is. (refl, ap (λ (t : List ℕ). values.Reg (reg_at vs 0) ∷ values.List t ∷ []) (sym is) ∙ at_their_places (kinds_of (names.Control control.IndirectBr)) vs are, (own, refl)))
@@ -168,7 +174,9 @@ fields_kinds (entries.Flag flag) = refl
 fields_kinds (entries.Restore inst) = item_kinds inst None
 
 pub few_kinds : (name : Name) → length (kinds_of name) ≤ 12
-few_kinds (names.Integer integer.Nop4) = lit≤ tt
+few_kinds (names.Immediate immediate.Adr) = lit≤ tt
+few_kinds (names.Register register.CSel) = lit≤ tt
+few_kinds (names.System system.Nop4) = lit≤ tt
 few_kinds (names.Control control.Ret) = lit≤ tt
 few_kinds (names.Sequence sequence.DummyUse) = lit≤ tt
 few_kinds (names.Call call.Call) = lit≤ tt
@@ -177,7 +185,9 @@ few_kinds (names.Access ops.ULoad8) = lit≤ tt
 few_kinds _ = lit≤ tt
 
 pub name_plain : (name : Name) → HasNo 32 (name_text name)
-name_plain (names.Integer integer.Nop4) = refl
+name_plain (names.Immediate immediate.Adr) = refl
+name_plain (names.Register register.CSel) = refl
+name_plain (names.System system.Nop4) = refl
 name_plain (names.Control control.Ret) = refl
 name_plain (names.Sequence sequence.DummyUse) = refl
 name_plain (names.Call call.Call) = refl
@@ -187,7 +197,9 @@ name_plain _ = refl
 
 -- no name begins as the word of instructions that are restored
 pub name_first : (name : Name) → (get_or (name_text name) 0 0 == 114) ≡ false
-name_first (names.Integer integer.Nop4) = refl
+name_first (names.Immediate immediate.Adr) = refl
+name_first (names.Register register.CSel) = refl
+name_first (names.System system.Nop4) = refl
 name_first (names.Control control.Ret) = refl
 name_first (names.Sequence sequence.DummyUse) = refl
 name_first (names.Call call.Call) = refl
@@ -196,7 +208,9 @@ name_first (names.Access ops.ULoad8) = refl
 name_first _ = refl
 
 pub name_found : (x : Name) → look_up NAME_HOMES (map (λ row. row.2) NAMES) (name_text x) ≡ Some x
-name_found (names.Integer integer.Nop4) = refl
+name_found (names.Immediate immediate.Adr) = refl
+name_found (names.Register register.CSel) = refl
+name_found (names.System system.Nop4) = refl
 name_found (names.Control control.Ret) = refl
 name_found (names.Sequence sequence.DummyUse) = refl
 name_found (names.Call call.Call) = refl

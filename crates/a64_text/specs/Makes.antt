@@ -20,8 +20,7 @@ use Rattle.a64_text.specs.declared.entry.Entry.TheVariants as entries
 use Rattle.a64_text.specs.declared.name.CallName.TheVariants as call
 use Rattle.a64_text.specs.declared.name.ControlName.{ControlName}
 use Rattle.a64_text.specs.declared.name.ControlName.TheVariants as control
-use Rattle.a64_text.specs.declared.name.IntegerName.{IntegerName}
-use Rattle.a64_text.specs.declared.name.IntegerName.TheVariants as integer
+use Rattle.a64_text.specs.declared.name.ImmediateName.TheVariants as immediate
 use Rattle.a64_text.specs.declared.name.MemoryName.{MemoryName}
 use Rattle.a64_text.specs.declared.name.MemoryName.TheVariants as memory
 use Rattle.a64_text.specs.declared.name.SequenceName.{SequenceName}
@@ -36,6 +35,7 @@ use Rattle.a64_text.specs.Hex.{hex_text, HasHex}
 use Rattle.a64_text.specs.Lists.{list_text}
 use Rattle.a64_text.specs.ModeMakes.{MakesOf}
 use Rattle.a64_text.specs.Names.{kinds_of}
+use Rattle.a64_text.specs.PlainFields.{immediate_of, register_of, system_of}
 use Rattle.a64_text.specs.RegisterPairs.{arg_pair_text, IsArgPair, ret_pair_text, IsRetPair}
 use Rattle.a64_text.specs.Tokens.{name_of, fields_of, IsOwn, IsPlain}
 use Rattle.a64_text.specs.Values.{kind_of}
@@ -43,36 +43,6 @@ use Rattle.a64_text.specs.Values.{kind_of}
 -- the entry that is an instruction without a map
 abbrev pub emitted : Inst → Entry
 emitted inst = entries.Item (Emit inst None)
-
-abbrev pub integer_of : IntegerName → List Value → Inst
-integer_of integer.Nop0 values = insts.Nop0
-integer_of integer.Nop4 values = insts.Nop4
-integer_of integer.AluRRR values = insts.AluRRR (alu_op_at values 0) (size_at values 1) (reg_at values 2) (reg_at values 3) (reg_at values 4)
-integer_of integer.AluRRRR values = insts.AluRRRR (alu_op3_at values 0) (size_at values 1) (reg_at values 2) (reg_at values 3) (reg_at values 4) (reg_at values 5)
-integer_of integer.AluRRImm12 values = insts.AluRRImm12 (alu_op_at values 0) (size_at values 1) (reg_at values 2) (reg_at values 3) (imm12_at values 4)
-integer_of integer.AluRRImmShift values = insts.AluRRImmShift (alu_op_at values 0) (size_at values 1) (reg_at values 2) (reg_at values 3) (imm_shift_at values 4)
-integer_of integer.AluRRRShift values = insts.AluRRRShift (alu_op_at values 0) (size_at values 1) (reg_at values 2) (reg_at values 3) (reg_at values 4) (shift_at values 5)
-integer_of integer.AluRRRExtend values = insts.AluRRRExtend (alu_op_at values 0) (size_at values 1) (reg_at values 2) (reg_at values 3) (reg_at values 4) (extend_at values 5)
-integer_of integer.BitRR values = insts.BitRR (bit_op_at values 0) (size_at values 1) (reg_at values 2) (reg_at values 3)
-integer_of integer.Mov values = insts.Mov (size_at values 0) (reg_at values 1) (reg_at values 2)
-integer_of integer.MovFromPReg values = insts.MovFromPReg (reg_at values 0) (preg_at values 1)
-integer_of integer.MovToPReg values = insts.MovToPReg (preg_at values 0) (reg_at values 1)
-integer_of integer.MovWide values = insts.MovWide (move_wide_op_at values 0) (reg_at values 1) (wide_at values 2) (size_at values 3)
-integer_of integer.MovK values = insts.MovK (reg_at values 0) (reg_at values 1) (wide_at values 2) (size_at values 3)
-integer_of integer.CSel values = insts.CSel (reg_at values 0) (reg_at values 1) (reg_at values 2) (cond_at values 3)
-integer_of integer.CSNeg values = insts.CSNeg (reg_at values 0) (reg_at values 1) (reg_at values 2) (cond_at values 3)
-integer_of integer.CSet values = insts.CSet (reg_at values 0) (cond_at values 1)
-integer_of integer.CSetm values = insts.CSetm (reg_at values 0) (cond_at values 1)
-integer_of integer.CCmp values = insts.CCmp (size_at values 0) (reg_at values 1) (reg_at values 2) (nzcv_at values 3) (cond_at values 4)
-integer_of integer.CCmpImm values = insts.CCmpImm (size_at values 0) (reg_at values 1) (uimm5_at values 2) (nzcv_at values 3) (cond_at values 4)
-integer_of integer.Extend values = insts.Extend (reg_at values 0) (reg_at values 1) (truth_at values 2) (u8_at values 3) (u8_at values 4)
-integer_of integer.BitfieldMove values = insts.BitfieldMove (size_at values 0) (bfm_op_at values 1) (reg_at values 2) (reg_at values 3) (uimm6_at values 4) (uimm6_at values 5)
-integer_of integer.BitfieldMoveMod values = insts.BitfieldMoveMod (size_at values 0) (reg_at values 1) (reg_at values 2) (reg_at values 3) (uimm6_at values 4) (uimm6_at values 5)
-integer_of integer.MovToNZCV values = insts.MovToNZCV (reg_at values 0)
-integer_of integer.MovFromNZCV values = insts.MovFromNZCV (reg_at values 0)
-integer_of integer.Adr values = insts.Adr (reg_at values 0) (i32_at values 1)
-integer_of integer.Adrp values = insts.Adrp (reg_at values 0) (i32_at values 1)
-integer_of _ values = insts.Nop4
 
 abbrev pub control_of : ControlName → List Value → Inst
 control_of control.Ret values = insts.Ret
@@ -144,7 +114,9 @@ constant_of values bytes = entries.Constant (record { 0 = u32_at values 0 }) byt
 
 -- the entry of this name with these fields, where it needs nothing but these
 abbrev pub entry_of : Name → List Value → Entry
-entry_of (names.Integer name) values = emitted (integer_of name values)
+entry_of (names.Immediate name) values = emitted (immediate_of name values)
+entry_of (names.Register name) values = emitted (register_of name values)
+entry_of (names.System name) values = emitted (system_of name values)
 entry_of (names.Control name) values = emitted (control_of name values)
 entry_of (names.Sequence name) values = emitted (sequence_of name values)
 entry_of (names.Call name) values = emitted insts.Nop0
@@ -161,7 +133,7 @@ pub record MakesOwn {X : Type 0} (name : Name) (make : X → Entry) (values : Li
   pub only : (x : X) → IsPlain (make x) → fields_of (make x) ≡ values → result ≡ Some (make x)
 
 unfoldable pub Makes : Name → List Value → Option Entry → Type 0
-Makes (names.Integer integer.AluRRImmLogic) values result = MakesOwn (names.Integer integer.AluRRImmLogic) (λ (x : ALUOp × OperandSize × Reg × Reg × ImmLogic). emitted (insts.AluRRImmLogic x.0 x.1 x.2 x.3 x.4)) values result
+Makes (names.Immediate immediate.AluRRImmLogic) values result = MakesOwn (names.Immediate immediate.AluRRImmLogic) (λ (x : ALUOp × OperandSize × Reg × Reg × ImmLogic). emitted (insts.AluRRImmLogic x.0 x.1 x.2 x.3 x.4)) values result
 Makes (names.Control control.IndirectBr) values result = MakesOf (AllByRecursion IsLabel) (list_text label_text) (list_at values 1) (λ targets. emitted (insts.IndirectBr (reg_at values 0) targets)) result
 Makes (names.Sequence sequence.Args) values result = MakesOf (AllByRecursion IsArgPair) (list_text arg_pair_text) (list_at values 0) (λ args. emitted (insts.Args args)) result
 Makes (names.Sequence sequence.Rets) values result = MakesOf (AllByRecursion IsRetPair) (list_text ret_pair_text) (list_at values 0) (λ rets. emitted (insts.Rets rets)) result

@@ -21,7 +21,7 @@ use Rattle.a64_text.specs.declared.value.Kind.TheVariants as kinds
 use Rattle.a64_text.specs.declared.value.Value.{Value}
 use Rattle.a64_text.specs.declared.value.Value.TheVariants as values
 use Rattle.a64_text.specs.Fields.{call_text, IsLabel}
-use Rattle.a64_text.specs.Names.{Heading}
+use Rattle.a64_text.specs.Heading.{Heading}
 use Rattle.a64_text.specs.Parts.{part_texts, IsPart}
 use Rattle.a64_text.specs.Reads.{IsI32, IsU32}
 use Rattle.a64_text.specs.Types.{is_scale}

@@ -1,7 +1,12 @@
 -- The names of entries, each with the kinds of its fields.
-use Rattle.std.specs.Prelude.{ℕ, Bool, true, false, List, [], ◌∷◌, codes}
-use Rattle.a64_text.specs.declared.name.IntegerName.{IntegerName}
-use Rattle.a64_text.specs.declared.name.IntegerName.TheVariants as integer
+use Rattle.std.specs.Prelude.{ℕ, Bool, true, false, List, [], ◌∷◌, codes, map}
+use Rattle.a64_inst.specs.declared.inst.Inst.{Inst}
+use Rattle.a64_text.specs.declared.name.ImmediateName.{ImmediateName}
+use Rattle.a64_text.specs.declared.name.ImmediateName.TheVariants as immediate
+use Rattle.a64_text.specs.declared.name.RegisterName.{RegisterName}
+use Rattle.a64_text.specs.declared.name.RegisterName.TheVariants as register
+use Rattle.a64_text.specs.declared.name.SystemName.{SystemName}
+use Rattle.a64_text.specs.declared.name.SystemName.TheVariants as system
 use Rattle.a64_text.specs.declared.name.ControlName.{ControlName}
 use Rattle.a64_text.specs.declared.name.ControlName.TheVariants as control
 use Rattle.a64_text.specs.declared.name.CallName.{CallName}
@@ -13,44 +18,50 @@ use Rattle.a64_ops.specs.declared.access.AccessOp.TheVariants as ops
 use Rattle.a64_text.specs.declared.name.Name.{Name}
 use Rattle.a64_text.specs.declared.name.SequenceName.{SequenceName}
 use Rattle.a64_text.specs.declared.name.SequenceName.TheVariants as sequence
-use Rattle.a64_text.specs.declared.name.Name.TheVariants.{Integer, Control, Sequence, Call, Memory, Access, Bind, Const, Frame, Flag}
+use Rattle.a64_text.specs.declared.name.Name.TheVariants.{Immediate, Register, System, Control, Sequence, Call, Memory, Access, Bind, Const, Frame, Flag}
+use Rattle.a64_text.specs.Heading.{Heading}
+use Rattle.a64_text.specs.PlainFields.{inst_fields, immediate_of, register_of, system_of}
+use Rattle.a64_text.specs.Values.{kind_of}
 use Rattle.a64_text.specs.declared.value.Kind.{Kind}
 use Rattle.a64_text.specs.declared.value.Kind.TheVariants as kinds
 
--- a name and the kinds of the fields behind it
-pub record Heading : Type 0 where
-  pub text : List ℕ
-  pub kinds : List Kind
+abbrev pub immediate_text : ImmediateName → List ℕ
+immediate_text immediate.AluRRImm12 = codes "AluRRImm12"
+immediate_text immediate.AluRRImmLogic = codes "AluRRImmLogic"
+immediate_text immediate.AluRRImmShift = codes "AluRRImmShift"
+immediate_text immediate.MovWide = codes "MovWide"
+immediate_text immediate.MovK = codes "MovK"
+immediate_text immediate.Extend = codes "Extend"
+immediate_text immediate.BitfieldMove = codes "BitfieldMove"
+immediate_text immediate.BitfieldMoveMod = codes "BitfieldMoveMod"
+immediate_text immediate.Adr = codes "Adr"
+immediate_text immediate.Adrp = codes "Adrp"
 
-abbrev pub integer_heading : IntegerName → Heading
-integer_heading integer.Nop0 = record { text = codes "Nop0"; kinds = [] }
-integer_heading integer.Nop4 = record { text = codes "Nop4"; kinds = [] }
-integer_heading integer.AluRRR = record { text = codes "AluRRR"; kinds = kinds.AluOp ∷ kinds.Size ∷ kinds.Reg ∷ kinds.Reg ∷ kinds.Reg ∷ [] }
-integer_heading integer.AluRRRR = record { text = codes "AluRRRR"; kinds = kinds.AluOp3 ∷ kinds.Size ∷ kinds.Reg ∷ kinds.Reg ∷ kinds.Reg ∷ kinds.Reg ∷ [] }
-integer_heading integer.AluRRImm12 = record { text = codes "AluRRImm12"; kinds = kinds.AluOp ∷ kinds.Size ∷ kinds.Reg ∷ kinds.Reg ∷ kinds.Imm12 ∷ [] }
-integer_heading integer.AluRRImmLogic = record { text = codes "AluRRImmLogic"; kinds = kinds.AluOp ∷ kinds.Size ∷ kinds.Reg ∷ kinds.Reg ∷ kinds.U64 ∷ [] }
-integer_heading integer.AluRRImmShift = record { text = codes "AluRRImmShift"; kinds = kinds.AluOp ∷ kinds.Size ∷ kinds.Reg ∷ kinds.Reg ∷ kinds.ImmShift ∷ [] }
-integer_heading integer.AluRRRShift = record { text = codes "AluRRRShift"; kinds = kinds.AluOp ∷ kinds.Size ∷ kinds.Reg ∷ kinds.Reg ∷ kinds.Reg ∷ kinds.Shift ∷ [] }
-integer_heading integer.AluRRRExtend = record { text = codes "AluRRRExtend"; kinds = kinds.AluOp ∷ kinds.Size ∷ kinds.Reg ∷ kinds.Reg ∷ kinds.Reg ∷ kinds.Extend ∷ [] }
-integer_heading integer.BitRR = record { text = codes "BitRR"; kinds = kinds.BitOp ∷ kinds.Size ∷ kinds.Reg ∷ kinds.Reg ∷ [] }
-integer_heading integer.Mov = record { text = codes "Mov"; kinds = kinds.Size ∷ kinds.Reg ∷ kinds.Reg ∷ [] }
-integer_heading integer.MovFromPReg = record { text = codes "MovFromPReg"; kinds = kinds.Reg ∷ kinds.PReg ∷ [] }
-integer_heading integer.MovToPReg = record { text = codes "MovToPReg"; kinds = kinds.PReg ∷ kinds.Reg ∷ [] }
-integer_heading integer.MovWide = record { text = codes "MovWide"; kinds = kinds.MoveWideOp ∷ kinds.Reg ∷ kinds.Wide ∷ kinds.Size ∷ [] }
-integer_heading integer.MovK = record { text = codes "MovK"; kinds = kinds.Reg ∷ kinds.Reg ∷ kinds.Wide ∷ kinds.Size ∷ [] }
-integer_heading integer.CSel = record { text = codes "CSel"; kinds = kinds.Reg ∷ kinds.Reg ∷ kinds.Reg ∷ kinds.Cond ∷ [] }
-integer_heading integer.CSNeg = record { text = codes "CSNeg"; kinds = kinds.Reg ∷ kinds.Reg ∷ kinds.Reg ∷ kinds.Cond ∷ [] }
-integer_heading integer.CSet = record { text = codes "CSet"; kinds = kinds.Reg ∷ kinds.Cond ∷ [] }
-integer_heading integer.CSetm = record { text = codes "CSetm"; kinds = kinds.Reg ∷ kinds.Cond ∷ [] }
-integer_heading integer.CCmp = record { text = codes "CCmp"; kinds = kinds.Size ∷ kinds.Reg ∷ kinds.Reg ∷ kinds.Nzcv ∷ kinds.Cond ∷ [] }
-integer_heading integer.CCmpImm = record { text = codes "CCmpImm"; kinds = kinds.Size ∷ kinds.Reg ∷ kinds.UImm5 ∷ kinds.Nzcv ∷ kinds.Cond ∷ [] }
-integer_heading integer.Extend = record { text = codes "Extend"; kinds = kinds.Reg ∷ kinds.Reg ∷ kinds.Bool ∷ kinds.U8 ∷ kinds.U8 ∷ [] }
-integer_heading integer.BitfieldMove = record { text = codes "BitfieldMove"; kinds = kinds.Size ∷ kinds.BfmOp ∷ kinds.Reg ∷ kinds.Reg ∷ kinds.UImm6 ∷ kinds.UImm6 ∷ [] }
-integer_heading integer.BitfieldMoveMod = record { text = codes "BitfieldMoveMod"; kinds = kinds.Size ∷ kinds.Reg ∷ kinds.Reg ∷ kinds.Reg ∷ kinds.UImm6 ∷ kinds.UImm6 ∷ [] }
-integer_heading integer.MovToNZCV = record { text = codes "MovToNZCV"; kinds = kinds.Reg ∷ [] }
-integer_heading integer.MovFromNZCV = record { text = codes "MovFromNZCV"; kinds = kinds.Reg ∷ [] }
-integer_heading integer.Adr = record { text = codes "Adr"; kinds = kinds.Reg ∷ kinds.I32 ∷ [] }
-integer_heading integer.Adrp = record { text = codes "Adrp"; kinds = kinds.Reg ∷ kinds.I32 ∷ [] }
+abbrev pub register_text : RegisterName → List ℕ
+register_text register.AluRRR = codes "AluRRR"
+register_text register.AluRRRR = codes "AluRRRR"
+register_text register.AluRRRShift = codes "AluRRRShift"
+register_text register.AluRRRExtend = codes "AluRRRExtend"
+register_text register.BitRR = codes "BitRR"
+register_text register.Mov = codes "Mov"
+register_text register.MovFromPReg = codes "MovFromPReg"
+register_text register.MovToPReg = codes "MovToPReg"
+register_text register.CSel = codes "CSel"
+register_text register.CSNeg = codes "CSNeg"
+register_text register.CSet = codes "CSet"
+register_text register.CSetm = codes "CSetm"
+register_text register.CCmp = codes "CCmp"
+register_text register.CCmpImm = codes "CCmpImm"
+
+abbrev pub system_text : SystemName → List ℕ
+system_text system.Nop0 = codes "Nop0"
+system_text system.Nop4 = codes "Nop4"
+system_text system.MovToNZCV = codes "MovToNZCV"
+system_text system.MovFromNZCV = codes "MovFromNZCV"
+
+-- the fields behind the name of an instruction that is one plain word are those of the instruction
+abbrev pub plain_heading : List ℕ → Inst → Heading
+plain_heading text inst = record { text = text; kinds = map kind_of (inst_fields inst) }
 
 abbrev pub control_heading : ControlName → Heading
 control_heading control.Ret = record { text = codes "Ret"; kinds = [] }
@@ -114,7 +125,13 @@ abbrev pub access_heading : AccessOp → Heading
 access_heading op = record { text = access_text op; kinds = kinds.Reg ∷ kinds.Mode ∷ kinds.Flags ∷ [] }
 
 abbrev pub heading : Name → Heading
-heading (Integer name) = integer_heading name
+heading (Immediate immediate.AluRRImmLogic) = record {
+  text = immediate_text immediate.AluRRImmLogic;
+  kinds = kinds.AluOp ∷ kinds.Size ∷ kinds.Reg ∷ kinds.Reg ∷ kinds.U64 ∷ [];
+}
+heading (Immediate name) = plain_heading (immediate_text name) (immediate_of name [])
+heading (Register name) = plain_heading (register_text name) (register_of name [])
+heading (System name) = plain_heading (system_text name) (system_of name [])
 heading (Control name) = control_heading name
 heading (Sequence name) = sequence_heading name
 heading (Call name) = call_heading name

@@ -4,7 +4,7 @@ use Rattle.a64_inst.specs.declared.item.Item.{Item}
 use Rattle.a64_text.specs.declared.entry.Entry.{Entry}
 use Rattle.a64_text.specs.declared.entry.Entry.TheVariants as entries
 use Rattle.a64_text.specs.declared.name.ControlName.TheVariants as control
-use Rattle.a64_text.specs.declared.name.IntegerName.TheVariants as integer
+use Rattle.a64_text.specs.declared.name.ImmediateName.TheVariants as immediate
 use Rattle.a64_text.specs.declared.name.SequenceName.TheVariants as sequence
 use Rattle.a64_text.specs.declared.name.Name.{Name}
 use Rattle.a64_text.specs.declared.name.Name.TheVariants as names
@@ -26,7 +26,7 @@ PutsMade name values old new made = (r : Option Entry) × Makes name values r ×
 
 -- the same, said by the entry itself where the name needs nothing but its fields
 unfoldable pub Puts : Name → List Value → List Item → List Item → Bool → Type 0
-Puts (names.Integer integer.AluRRImmLogic) values old new made = PutsMade (names.Integer integer.AluRRImmLogic) values old new made
+Puts (names.Immediate immediate.AluRRImmLogic) values old new made = PutsMade (names.Immediate immediate.AluRRImmLogic) values old new made
 Puts (names.Control control.IndirectBr) values old new made = PutsMade (names.Control control.IndirectBr) values old new made
 Puts (names.Sequence sequence.Args) values old new made = PutsMade (names.Sequence sequence.Args) values old new made
 Puts (names.Sequence sequence.Rets) values old new made = PutsMade (names.Sequence sequence.Rets) values old new made

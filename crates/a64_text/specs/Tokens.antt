@@ -19,7 +19,6 @@ use Rattle.a64_text.specs.declared.entry.Entry.TheVariants as entries
 use Rattle.a64_text.specs.declared.name.CallName.{CallName}
 use Rattle.a64_text.specs.declared.name.CallName.TheVariants as call
 use Rattle.a64_text.specs.declared.name.ControlName.TheVariants as control
-use Rattle.a64_text.specs.declared.name.IntegerName.TheVariants as integer
 use Rattle.a64_text.specs.declared.name.MemoryName.TheVariants as memory
 use Rattle.a64_text.specs.declared.name.SequenceName.TheVariants as sequence
 use Rattle.a64_text.specs.declared.name.Name.{Name}
@@ -32,6 +31,7 @@ use Rattle.a64_text.specs.Fields.{label_text, IsLabel}
 use Rattle.a64_text.specs.Hex.{hex_text, HasHex}
 use Rattle.a64_text.specs.Lists.{list_text}
 use Rattle.a64_text.specs.Names.{name_text}
+use Rattle.a64_text.specs.PlainFields.{inst_fields, plain_name}
 use Rattle.a64_text.specs.RegisterPairs.{arg_pair_text, IsArgPair, ret_pair_text, IsRetPair}
 use Rattle.a64_text.specs.Values.{value_text, IsValue}
 
@@ -51,34 +51,6 @@ abbrev pub return_call_parts : {T : Type 0} → CallName → Value → ReturnCal
 return_call_parts name dest info = record { name = names.Call name; fields = dest ∷ values.List (list_text call_arg_text info.uses) ∷ values.U32 info.new_stack_arg_size ∷ values.Key info.key ∷ values.Bool info.sign_return_address_all ∷ [] }
 
 abbrev pub inst_parts : Inst → Parts
-inst_parts insts.Nop0 = record { name = names.Integer integer.Nop0; fields = [] }
-inst_parts insts.Nop4 = record { name = names.Integer integer.Nop4; fields = [] }
-inst_parts (insts.AluRRR alu_op size rd rn rm) = record { name = names.Integer integer.AluRRR; fields = values.AluOp alu_op ∷ values.Size size ∷ values.Reg rd ∷ values.Reg rn ∷ values.Reg rm ∷ [] }
-inst_parts (insts.AluRRRR alu_op size rd rn rm ra) = record { name = names.Integer integer.AluRRRR; fields = values.AluOp3 alu_op ∷ values.Size size ∷ values.Reg rd ∷ values.Reg rn ∷ values.Reg rm ∷ values.Reg ra ∷ [] }
-inst_parts (insts.AluRRImm12 alu_op size rd rn imm12) = record { name = names.Integer integer.AluRRImm12; fields = values.AluOp alu_op ∷ values.Size size ∷ values.Reg rd ∷ values.Reg rn ∷ values.Imm12 imm12 ∷ [] }
-inst_parts (insts.AluRRImmLogic alu_op size rd rn imml) = record { name = names.Integer integer.AluRRImmLogic; fields = values.AluOp alu_op ∷ values.Size size ∷ values.Reg rd ∷ values.Reg rn ∷ values.U64 (logic_value imml) ∷ [] }
-inst_parts (insts.AluRRImmShift alu_op size rd rn immshift) = record { name = names.Integer integer.AluRRImmShift; fields = values.AluOp alu_op ∷ values.Size size ∷ values.Reg rd ∷ values.Reg rn ∷ values.ImmShift immshift ∷ [] }
-inst_parts (insts.AluRRRShift alu_op size rd rn rm shiftop) = record { name = names.Integer integer.AluRRRShift; fields = values.AluOp alu_op ∷ values.Size size ∷ values.Reg rd ∷ values.Reg rn ∷ values.Reg rm ∷ values.Shift shiftop ∷ [] }
-inst_parts (insts.AluRRRExtend alu_op size rd rn rm extendop) = record { name = names.Integer integer.AluRRRExtend; fields = values.AluOp alu_op ∷ values.Size size ∷ values.Reg rd ∷ values.Reg rn ∷ values.Reg rm ∷ values.Extend extendop ∷ [] }
-inst_parts (insts.BitRR op size rd rn) = record { name = names.Integer integer.BitRR; fields = values.BitOp op ∷ values.Size size ∷ values.Reg rd ∷ values.Reg rn ∷ [] }
-inst_parts (insts.Mov size rd rm) = record { name = names.Integer integer.Mov; fields = values.Size size ∷ values.Reg rd ∷ values.Reg rm ∷ [] }
-inst_parts (insts.MovFromPReg rd rm) = record { name = names.Integer integer.MovFromPReg; fields = values.Reg rd ∷ values.PReg rm ∷ [] }
-inst_parts (insts.MovToPReg rd rm) = record { name = names.Integer integer.MovToPReg; fields = values.PReg rd ∷ values.Reg rm ∷ [] }
-inst_parts (insts.MovWide op rd imm size) = record { name = names.Integer integer.MovWide; fields = values.MoveWideOp op ∷ values.Reg rd ∷ values.Wide imm ∷ values.Size size ∷ [] }
-inst_parts (insts.MovK rd rn imm size) = record { name = names.Integer integer.MovK; fields = values.Reg rd ∷ values.Reg rn ∷ values.Wide imm ∷ values.Size size ∷ [] }
-inst_parts (insts.CSel rd rn rm cond) = record { name = names.Integer integer.CSel; fields = values.Reg rd ∷ values.Reg rn ∷ values.Reg rm ∷ values.Cond cond ∷ [] }
-inst_parts (insts.CSNeg rd rn rm cond) = record { name = names.Integer integer.CSNeg; fields = values.Reg rd ∷ values.Reg rn ∷ values.Reg rm ∷ values.Cond cond ∷ [] }
-inst_parts (insts.CSet rd cond) = record { name = names.Integer integer.CSet; fields = values.Reg rd ∷ values.Cond cond ∷ [] }
-inst_parts (insts.CSetm rd cond) = record { name = names.Integer integer.CSetm; fields = values.Reg rd ∷ values.Cond cond ∷ [] }
-inst_parts (insts.CCmp size rn rm nzcv cond) = record { name = names.Integer integer.CCmp; fields = values.Size size ∷ values.Reg rn ∷ values.Reg rm ∷ values.Nzcv nzcv ∷ values.Cond cond ∷ [] }
-inst_parts (insts.CCmpImm size rn imm nzcv cond) = record { name = names.Integer integer.CCmpImm; fields = values.Size size ∷ values.Reg rn ∷ values.UImm5 imm ∷ values.Nzcv nzcv ∷ values.Cond cond ∷ [] }
-inst_parts (insts.Extend rd rn signed from_bits to_bits) = record { name = names.Integer integer.Extend; fields = values.Reg rd ∷ values.Reg rn ∷ values.Bool signed ∷ values.U8 from_bits ∷ values.U8 to_bits ∷ [] }
-inst_parts (insts.BitfieldMove size bfm_op rd rn immr imms) = record { name = names.Integer integer.BitfieldMove; fields = values.Size size ∷ values.BfmOp bfm_op ∷ values.Reg rd ∷ values.Reg rn ∷ values.UImm6 immr ∷ values.UImm6 imms ∷ [] }
-inst_parts (insts.BitfieldMoveMod size rd ri rn immr imms) = record { name = names.Integer integer.BitfieldMoveMod; fields = values.Size size ∷ values.Reg rd ∷ values.Reg ri ∷ values.Reg rn ∷ values.UImm6 immr ∷ values.UImm6 imms ∷ [] }
-inst_parts (insts.MovToNZCV rn) = record { name = names.Integer integer.MovToNZCV; fields = values.Reg rn ∷ [] }
-inst_parts (insts.MovFromNZCV rd) = record { name = names.Integer integer.MovFromNZCV; fields = values.Reg rd ∷ [] }
-inst_parts (insts.Adr rd off) = record { name = names.Integer integer.Adr; fields = values.Reg rd ∷ values.I32 off ∷ [] }
-inst_parts (insts.Adrp rd off) = record { name = names.Integer integer.Adrp; fields = values.Reg rd ∷ values.I32 off ∷ [] }
 inst_parts insts.Ret = record { name = names.Control control.Ret; fields = [] }
 inst_parts (insts.Jump dest) = record { name = names.Control control.Jump; fields = values.Target dest ∷ [] }
 inst_parts (insts.CondBr taken not_taken kind) = record { name = names.Control control.CondBr; fields = values.Target taken ∷ values.Target not_taken ∷ values.CondBrKind kind ∷ [] }
@@ -126,6 +98,7 @@ inst_parts (insts.FpuStore16 rd mem flags) = access_parts ops.FpuStore16 rd mem 
 inst_parts (insts.FpuStore32 rd mem flags) = access_parts ops.FpuStore32 rd mem flags
 inst_parts (insts.FpuStore64 rd mem flags) = access_parts ops.FpuStore64 rd mem flags
 inst_parts (insts.FpuStore128 rd mem flags) = access_parts ops.FpuStore128 rd mem flags
+inst_parts inst = record { name = plain_name inst; fields = inst_fields inst }
 
 -- a call alone has a field for its map, behind the others
 abbrev pub map_fields : Inst → Option UserStackMap → List Value

@@ -2,9 +2,9 @@
 
 pub mod call;
 pub mod control;
-pub mod integer;
 pub mod memory;
 pub mod mode;
+pub mod plain;
 pub mod sequence;
 
 ghost use Rattle.std.specs.Prelude.{◌≡◌, ◌<◌, true, Some, option_map, IfOk, IfSome};

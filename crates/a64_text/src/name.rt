@@ -2,23 +2,38 @@
 
 use a64_inst::AccessOp;
 
-/// The name of an integer instruction.
+/// The name of an integer operation with an immediate.
 #[derive(Clone, Copy)]
-pub enum IntegerName {
-    /// `Nop0`.
-    Nop0,
-    /// `Nop4`.
-    Nop4,
-    /// `AluRRR`.
-    AluRRR,
-    /// `AluRRRR`.
-    AluRRRR,
+pub enum ImmediateName {
     /// `AluRRImm12`.
     AluRRImm12,
     /// `AluRRImmLogic`.
     AluRRImmLogic,
     /// `AluRRImmShift`.
     AluRRImmShift,
+    /// `MovWide`.
+    MovWide,
+    /// `MovK`.
+    MovK,
+    /// `Extend`.
+    Extend,
+    /// `BitfieldMove`.
+    BitfieldMove,
+    /// `BitfieldMoveMod`.
+    BitfieldMoveMod,
+    /// `Adr`.
+    Adr,
+    /// `Adrp`.
+    Adrp,
+}
+
+/// The name of an integer operation on registers.
+#[derive(Clone, Copy)]
+pub enum RegisterName {
+    /// `AluRRR`.
+    AluRRR,
+    /// `AluRRRR`.
+    AluRRRR,
     /// `AluRRRShift`.
     AluRRRShift,
     /// `AluRRRExtend`.
@@ -31,10 +46,6 @@ pub enum IntegerName {
     MovFromPReg,
     /// `MovToPReg`.
     MovToPReg,
-    /// `MovWide`.
-    MovWide,
-    /// `MovK`.
-    MovK,
     /// `CSel`.
     CSel,
     /// `CSNeg`.
@@ -47,20 +58,19 @@ pub enum IntegerName {
     CCmp,
     /// `CCmpImm`.
     CCmpImm,
-    /// `Extend`.
-    Extend,
-    /// `BitfieldMove`.
-    BitfieldMove,
-    /// `BitfieldMoveMod`.
-    BitfieldMoveMod,
+}
+
+/// The name of a hint, or of an access to the flags.
+#[derive(Clone, Copy)]
+pub enum SystemName {
+    /// `Nop0`.
+    Nop0,
+    /// `Nop4`.
+    Nop4,
     /// `MovToNZCV`.
     MovToNZCV,
     /// `MovFromNZCV`.
     MovFromNZCV,
-    /// `Adr`.
-    Adr,
-    /// `Adrp`.
-    Adrp,
 }
 
 /// The name of a control instruction.
@@ -142,8 +152,12 @@ pub enum MemoryName {
 /// The name with which a line begins.
 #[derive(Clone, Copy)]
 pub enum Name {
-    /// An integer instruction.
-    Integer(IntegerName),
+    /// An integer operation with an immediate.
+    Immediate(ImmediateName),
+    /// An integer operation on registers.
+    Register(RegisterName),
+    /// A hint, or an access to the flags.
+    System(SystemName),
     /// A branch or another instruction of control.
     Control(ControlName),
     /// A sequence around a table, a symbol or the stack, or what has no word.

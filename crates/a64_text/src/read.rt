@@ -17,7 +17,7 @@ use crate::frame_field::set_frame_field;
 use crate::line::read_line;
 use crate::make::call::put_call;
 use crate::make::control::put_control;
-use crate::make::integer::put_integer;
+use crate::make::plain::{put_immediate, put_register, put_system};
 use crate::make::memory::{put_access, put_memory};
 use crate::make::sequence::put_sequence;
 use crate::make::{make_constant, make_flag, make_frame, put_bind};
@@ -131,7 +131,9 @@ fn add_made(
 {
     state.file.items.reserve(1)?;
     match name {
-        Name::Integer(name) => Ok(put_integer(&mut state.file.items, name, values)),
+        Name::Immediate(name) => Ok(put_immediate(&mut state.file.items, name, values)),
+        Name::Register(name) => Ok(put_register(&mut state.file.items, name, values)),
+        Name::System(name) => Ok(put_system(&mut state.file.items, name, values)),
         Name::Control(name) => put_control(alloc, &mut state.file.items, name, values),
         Name::Sequence(name) => put_sequence(alloc, &mut state.file.items, name, values),
         Name::Call(name) => put_call(alloc, &mut state.file.items, name, values),

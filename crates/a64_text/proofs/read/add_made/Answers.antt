@@ -12,8 +12,14 @@ use Rattle.a64_text.proofs.read.add_made.Goals as goal
 abbrev with_items : ReaderState → Vec Item → ReaderState
 with_items state items = record state { file = record state.file { items = items } }
 
-pub returns-in-Integer : goal.returns-in-Integer
-returns-in-Integer c = put_adds c.args.state.now (with_items c.args.state.now c.put_integer.new.items) refl refl c.args.name (names.Integer c.in-Integer.name) c.args.values.now c.reserve.new.self.items c.put_integer.result c.in-Integer.is c.reserve.ensures.items c.put_integer.ensures
+pub returns-in-Immediate : goal.returns-in-Immediate
+returns-in-Immediate c = put_adds c.args.state.now (with_items c.args.state.now c.put_immediate.new.items) refl refl c.args.name (names.Immediate c.in-Immediate.name) c.args.values.now c.reserve.new.self.items c.put_immediate.result c.in-Immediate.is c.reserve.ensures.items c.put_immediate.ensures
+
+pub returns-in-Register : goal.returns-in-Register
+returns-in-Register c = put_adds c.args.state.now (with_items c.args.state.now c.put_register.new.items) refl refl c.args.name (names.Register c.in-Register.name) c.args.values.now c.reserve.new.self.items c.put_register.result c.in-Register.is c.reserve.ensures.items c.put_register.ensures
+
+pub returns-in-System : goal.returns-in-System
+returns-in-System c = put_adds c.args.state.now (with_items c.args.state.now c.put_system.new.items) refl refl c.args.name (names.System c.in-System.name) c.args.values.now c.reserve.new.self.items c.put_system.result c.in-System.is c.reserve.ensures.items c.put_system.ensures
 
 pub returns-in-Control : goal.returns-in-Control
 returns-in-Control c =

@@ -1,6 +1,6 @@
 use Rattle.std.proofs.Common.{◌∙◌}
 use Rattle.a64_text.proofs.Logics.{no_operation, operation}
-use Rattle.a64_text.proofs.make.integer.alu_rr_imm_logic.Goals as goal
+use Rattle.a64_text.proofs.make.plain.alu_rr_imm_logic.Goals as goal
 
 pub returns-in_err-logic_of : goal.returns-in_err-logic_of
 returns-in_err-logic_of c = rw c.from_residual.ensures (no_operation c.args.values.now c.get-size.result c.get-4.result c.get-size.ensures c.get-4.ensures c.in_err-logic_of.ensures)

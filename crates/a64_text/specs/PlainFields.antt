@@ -1,0 +1,123 @@
+-- The fields of instructions that are one plain word, in the lines of a file: what each name makes of them, and the name of each
+-- instruction.
+use Rattle.std.specs.Prelude.{List, [], ◌∷◌, map}
+use Rattle.a64_imms.specs.Logic.{logic_value}
+use Rattle.a64_inst.specs.declared.inst.Inst.{Inst}
+use Rattle.a64_inst.specs.declared.inst.Inst.TheVariants as insts
+use Rattle.a64_inst.specs.Fields as fields
+use Rattle.a64_inst.specs.Fields.{Operand, Field, Def, Use, Is}
+use Rattle.a64_inst.specs.Sheets.{sheet}
+use Rattle.a64_text.specs.declared.name.Name.{Name}
+use Rattle.a64_text.specs.declared.name.Name.TheVariants as names
+use Rattle.a64_text.specs.declared.name.ImmediateName.{ImmediateName}
+use Rattle.a64_text.specs.declared.name.ImmediateName.TheVariants as immediate
+use Rattle.a64_text.specs.declared.name.RegisterName.{RegisterName}
+use Rattle.a64_text.specs.declared.name.RegisterName.TheVariants as register
+use Rattle.a64_text.specs.declared.name.SystemName.{SystemName}
+use Rattle.a64_text.specs.declared.name.SystemName.TheVariants as system
+use Rattle.a64_text.specs.declared.value.Value.{Value}
+use Rattle.a64_text.specs.declared.value.Value.TheVariants as values
+use Rattle.a64_text.specs.At.{alu_op3_at, alu_op_at, bfm_op_at, bit_op_at, cond_at, extend_at, i32_at, imm12_at, imm_shift_at, move_wide_op_at, nzcv_at, preg_at, reg_at, shift_at, size_at, truth_at, u8_at, uimm5_at, uimm6_at, wide_at}
+
+-- ---- fields
+
+-- what stands in a file for an operand: for a bitmask immediate its value
+abbrev pub operand_value : Operand → Value
+operand_value (fields.AluOp x) = values.AluOp x
+operand_value (fields.AluOp3 x) = values.AluOp3 x
+operand_value (fields.BitOp x) = values.BitOp x
+operand_value (fields.BfmOp x) = values.BfmOp x
+operand_value (fields.MoveWideOp x) = values.MoveWideOp x
+operand_value (fields.Size x) = values.Size x
+operand_value (fields.PReg x) = values.PReg x
+operand_value (fields.Imm12 x) = values.Imm12 x
+operand_value (fields.Logic x) = values.U64 (logic_value x)
+operand_value (fields.Wide x) = values.Wide x
+operand_value (fields.ImmShift x) = values.ImmShift x
+operand_value (fields.UImm5 x) = values.UImm5 x
+operand_value (fields.UImm6 x) = values.UImm6 x
+operand_value (fields.Shift x) = values.Shift x
+operand_value (fields.Extend x) = values.Extend x
+operand_value (fields.Cond x) = values.Cond x
+operand_value (fields.Nzcv x) = values.Nzcv x
+operand_value (fields.Bool x) = values.Bool x
+operand_value (fields.U8 x) = values.U8 x
+operand_value (fields.I32 x) = values.I32 x
+
+abbrev pub field_value : Field → Value
+field_value (Def class reg) = values.Reg reg
+field_value (Use class reg) = values.Reg reg
+field_value (Is operand) = operand_value operand
+
+-- the fields of an instruction
+abbrev pub inst_fields : Inst → List Value
+inst_fields (insts.MovToNZCV rn) = values.Reg rn ∷ []
+inst_fields (insts.MovFromNZCV rd) = values.Reg rd ∷ []
+inst_fields inst = map field_value (sheet inst)
+
+-- ---- what a name makes of the fields at their places. An operation with a bitmask immediate takes what its constructor gives (Makes)
+
+abbrev pub immediate_of : ImmediateName → List Value → Inst
+immediate_of immediate.AluRRImm12 vs = insts.AluRRImm12 (alu_op_at vs 0) (size_at vs 1) (reg_at vs 2) (reg_at vs 3) (imm12_at vs 4)
+immediate_of immediate.AluRRImmShift vs = insts.AluRRImmShift (alu_op_at vs 0) (size_at vs 1) (reg_at vs 2) (reg_at vs 3) (imm_shift_at vs 4)
+immediate_of immediate.MovWide vs = insts.MovWide (move_wide_op_at vs 0) (reg_at vs 1) (wide_at vs 2) (size_at vs 3)
+immediate_of immediate.MovK vs = insts.MovK (reg_at vs 0) (reg_at vs 1) (wide_at vs 2) (size_at vs 3)
+immediate_of immediate.Extend vs = insts.Extend (reg_at vs 0) (reg_at vs 1) (truth_at vs 2) (u8_at vs 3) (u8_at vs 4)
+immediate_of immediate.BitfieldMove vs = insts.BitfieldMove (size_at vs 0) (bfm_op_at vs 1) (reg_at vs 2) (reg_at vs 3) (uimm6_at vs 4) (uimm6_at vs 5)
+immediate_of immediate.BitfieldMoveMod vs = insts.BitfieldMoveMod (size_at vs 0) (reg_at vs 1) (reg_at vs 2) (reg_at vs 3) (uimm6_at vs 4) (uimm6_at vs 5)
+immediate_of immediate.Adr vs = insts.Adr (reg_at vs 0) (i32_at vs 1)
+immediate_of _ vs = insts.Adrp (reg_at vs 0) (i32_at vs 1)
+
+abbrev pub register_of : RegisterName → List Value → Inst
+register_of register.AluRRR vs = insts.AluRRR (alu_op_at vs 0) (size_at vs 1) (reg_at vs 2) (reg_at vs 3) (reg_at vs 4)
+register_of register.AluRRRR vs = insts.AluRRRR (alu_op3_at vs 0) (size_at vs 1) (reg_at vs 2) (reg_at vs 3) (reg_at vs 4) (reg_at vs 5)
+register_of register.AluRRRShift vs = insts.AluRRRShift (alu_op_at vs 0) (size_at vs 1) (reg_at vs 2) (reg_at vs 3) (reg_at vs 4) (shift_at vs 5)
+register_of register.AluRRRExtend vs = insts.AluRRRExtend (alu_op_at vs 0) (size_at vs 1) (reg_at vs 2) (reg_at vs 3) (reg_at vs 4) (extend_at vs 5)
+register_of register.BitRR vs = insts.BitRR (bit_op_at vs 0) (size_at vs 1) (reg_at vs 2) (reg_at vs 3)
+register_of register.Mov vs = insts.Mov (size_at vs 0) (reg_at vs 1) (reg_at vs 2)
+register_of register.MovFromPReg vs = insts.MovFromPReg (reg_at vs 0) (preg_at vs 1)
+register_of register.MovToPReg vs = insts.MovToPReg (preg_at vs 0) (reg_at vs 1)
+register_of register.CSel vs = insts.CSel (reg_at vs 0) (reg_at vs 1) (reg_at vs 2) (cond_at vs 3)
+register_of register.CSNeg vs = insts.CSNeg (reg_at vs 0) (reg_at vs 1) (reg_at vs 2) (cond_at vs 3)
+register_of register.CSet vs = insts.CSet (reg_at vs 0) (cond_at vs 1)
+register_of register.CSetm vs = insts.CSetm (reg_at vs 0) (cond_at vs 1)
+register_of register.CCmp vs = insts.CCmp (size_at vs 0) (reg_at vs 1) (reg_at vs 2) (nzcv_at vs 3) (cond_at vs 4)
+register_of register.CCmpImm vs = insts.CCmpImm (size_at vs 0) (reg_at vs 1) (uimm5_at vs 2) (nzcv_at vs 3) (cond_at vs 4)
+
+abbrev pub system_of : SystemName → List Value → Inst
+system_of system.Nop0 vs = insts.Nop0
+system_of system.Nop4 vs = insts.Nop4
+system_of system.MovToNZCV vs = insts.MovToNZCV (reg_at vs 0)
+system_of system.MovFromNZCV vs = insts.MovFromNZCV (reg_at vs 0)
+
+-- ---- the name of an instruction
+
+abbrev pub plain_name : Inst → Name
+plain_name (insts.AluRRImm12 alu_op size rd rn imm12) = names.Immediate immediate.AluRRImm12
+plain_name (insts.AluRRImmLogic alu_op size rd rn imml) = names.Immediate immediate.AluRRImmLogic
+plain_name (insts.AluRRImmShift alu_op size rd rn immshift) = names.Immediate immediate.AluRRImmShift
+plain_name (insts.MovWide op rd imm size) = names.Immediate immediate.MovWide
+plain_name (insts.MovK rd rn imm size) = names.Immediate immediate.MovK
+plain_name (insts.Extend rd rn signed from_bits to_bits) = names.Immediate immediate.Extend
+plain_name (insts.BitfieldMove size bfm_op rd rn immr imms) = names.Immediate immediate.BitfieldMove
+plain_name (insts.BitfieldMoveMod size rd ri rn immr imms) = names.Immediate immediate.BitfieldMoveMod
+plain_name (insts.Adr rd off) = names.Immediate immediate.Adr
+plain_name (insts.Adrp rd off) = names.Immediate immediate.Adrp
+plain_name (insts.AluRRR alu_op size rd rn rm) = names.Register register.AluRRR
+plain_name (insts.AluRRRR alu_op size rd rn rm ra) = names.Register register.AluRRRR
+plain_name (insts.AluRRRShift alu_op size rd rn rm shiftop) = names.Register register.AluRRRShift
+plain_name (insts.AluRRRExtend alu_op size rd rn rm extendop) = names.Register register.AluRRRExtend
+plain_name (insts.BitRR op size rd rn) = names.Register register.BitRR
+plain_name (insts.Mov size rd rm) = names.Register register.Mov
+plain_name (insts.MovFromPReg rd rm) = names.Register register.MovFromPReg
+plain_name (insts.MovToPReg rd rm) = names.Register register.MovToPReg
+plain_name (insts.CSel rd rn rm cond) = names.Register register.CSel
+plain_name (insts.CSNeg rd rn rm cond) = names.Register register.CSNeg
+plain_name (insts.CSet rd cond) = names.Register register.CSet
+plain_name (insts.CSetm rd cond) = names.Register register.CSetm
+plain_name (insts.CCmp size rn rm nzcv cond) = names.Register register.CCmp
+plain_name (insts.CCmpImm size rn imm nzcv cond) = names.Register register.CCmpImm
+plain_name insts.Nop0 = names.System system.Nop0
+plain_name (insts.MovToNZCV rn) = names.System system.MovToNZCV
+plain_name (insts.MovFromNZCV rd) = names.System system.MovFromNZCV
+plain_name _ = names.System system.Nop4
