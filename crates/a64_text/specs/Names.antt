@@ -14,13 +14,9 @@ use Rattle.a64_text.specs.declared.name.Name.{Name}
 use Rattle.a64_text.specs.declared.name.SequenceName.{SequenceName}
 use Rattle.a64_text.specs.declared.name.SequenceName.TheVariants as sequence
 use Rattle.a64_text.specs.declared.name.Name.TheVariants.{Integer, Control, Sequence, Call, Memory, Access, Bind, Const, Frame, Flag}
-use Rattle.a64_text.specs.declared.value.Kind.{Kind}
-use Rattle.a64_text.specs.declared.value.Kind.TheVariants as kinds
-
--- a name and the kinds of the fields behind it
-pub record Heading : Type 0 where
-  pub text : List ℕ
-  pub kinds : List Kind
+use Rattle.a64_read.specs.declared.value.Kind.{Kind}
+use Rattle.a64_read.specs.declared.value.Kind.TheVariants as kinds
+use Rattle.a64_read.specs.Heading.{Heading}
 
 abbrev pub integer_heading : IntegerName → Heading
 integer_heading integer.Nop0 = record { text = codes "Nop0"; kinds = [] }

@@ -1,9 +1,9 @@
 //! The names with which lines begin, each with the kinds of the fields behind it.
 
 use crate::name::{CallName, ControlName, IntegerName, MemoryName, Name, SequenceName};
-use crate::named::Row;
-use crate::value::Kind;
 use a64_inst::AccessOp;
+use a64_read::named::Row;
+use a64_read::value::Kind;
 
 /// For each remainder of a hash, the row of the name that has it.
 pub static NAME_HOMES: [u8; 512] = [

@@ -7,13 +7,13 @@ ghost use Rattle.a64_text.specs.declared.name.IntegerName.TheVariants as integer
 ghost use Rattle.a64_text.specs.Makes.{emitted, Makes};
 ghost use Rattle.a64_text.specs.Puts.{Puts};
 
-use crate::at;
-use crate::immediate::logic_of;
+use crate::logic::logic_of;
 use crate::make::{emit, emit_some};
 use crate::name::IntegerName;
-use crate::value::Value;
 use a64_base::{OperandSize, Writable};
 use a64_inst::{Inst, Item};
+use a64_read::at;
+use a64_read::value::Value;
 
 /// The operation with the immediate that the constructor gives for the number at the size.
 #[tactic(auto, unfolding(crate::specs::Makes::Makes))]
