@@ -1,12 +1,12 @@
 #!/usr/bin/env python3
-"""Prints the table of homes of a list of names, for crates/a64_text.
+"""Prints the table of homes of a list of names, for the tables that crates/a64_read looks names up in.
 
 Usage: tools/name_homes.py NAME...
 
 The names are those of a table's rows, in their order. The home of a name is the number of its row; it
-stands at the remainder of the name's hash (`hash_of` of src/named.rt) by the length of the table. The
-shortest table is taken in which no two names have one place, of those whose length is a power of two: for
-these a remainder takes one machine instruction.
+stands at the remainder of the name's hash (`hash_of` of crates/a64_read/src/named.rt) by the length of the
+table. The shortest table is taken in which no two names have one place, of those whose length is a power of
+two: for these a remainder takes one machine instruction.
 """
 import sys
 

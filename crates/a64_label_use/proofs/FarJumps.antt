@@ -1,11 +1,12 @@
 -- The run of a far veneer.
-use Rattle.std.proofs.Common.{ℕ, suc, ℤ, pos, negsuc, ◌≡◌, ◌≢◌, ◌<◌, ◌≤◌, ◌+◌, ◌-◌, ◌^◌, ◌%◌, ◌+ℤ◌, nat_lt, if◌then◌else◌, Bool, true, false, Some, List, [], ◌∷◌, length, get_or, refl, sym, ap, ap₂, subst, inl, inr, ◌∙◌, arith, get_or-set_other, get_or-set_same}
-use Rattle.std.proofs.Math.ListN.{set, length-set}
+use Rattle.std.proofs.Common.{ℕ, suc, ℤ, pos, negsuc, ◌≡◌, ◌<◌, ◌≤◌, ◌+◌, ◌-◌, ◌^◌, ◌%◌, ◌+ℤ◌, nat_lt, if◌then◌else◌, Bool, true, false, List, [], ◌∷◌, refl, sym, ap, ap₂, subst, inl, inr, ◌∙◌, arith}
 use Rattle.std.proofs.lemmas.Int.{ints}
 use Rattle.std.proofs.lemmas.Bool.{cases_lt, ltb-true, ltb-false}
 use Rattle.a64_imms.specs.Offsets.{residue}
 use Rattle.a64_buffer.specs.Word.{signed, word_at, StandAt}
-use Rattle.a64_label_use.specs.FarJumps.{Loaded, Machine, wrapped, fetched, extended, goes_on, act, stepped, and_then, run_for, Arrives, JumpFar, LeadFar, first_words}
+use Rattle.a64_plan.specs.JumpMachine.{wrapped, extended, Arrives}
+use Rattle.a64_plan.proofs.Jumps.{four_arrive}
+use Rattle.a64_label_use.specs.FarJumps.{Loaded, fetched, JumpFar, LeadFar, first_words}
 
 -- the word at a place, seen from its address
 placed : (base place more : ℕ) → base < 2 ^ 64 → place + more < 2 ^ 64
@@ -32,37 +33,10 @@ reached : (b fifth : ℕ) → fifth < 2 ^ 32 → wrapped (extended fifth + wrapp
 reached b fifth fits = at (nat_lt fifth (2 ^ 31)) refl
   where
     at : (small : Bool) → nat_lt fifth (2 ^ 31) ≡ small
-        → wrapped (residue (2 ^ 64) (if small then pos fifth else negsuc (2 ^ 32 - suc fifth)) + wrapped (wrapped (wrapped b + 4) + 12))
+        → wrapped (residue (2 ^ 64) (if small then pos fifth else negsuc (2 ^ 32 - 1 - fifth)) + wrapped (wrapped (wrapped b + 4) + 12))
         ≡ residue (2 ^ 64) (pos (b + 16) +ℤ (if small then pos fifth else negsuc (2 ^ 32 - suc fifth)))
     at true is = ahead b fifth
-    at false is = behind b (2 ^ 32 - suc fifth) (omega arith)
-
--- ---- the four steps
-
--- each step is that of the word at the program counter
-one : (code : Loaded) (s : Machine) (w : ℕ) → fetched code s.pc ≡ w → stepped code s ≡ act code s w
-one code s w is = ap (act code s) is
-
-more_steps : (code : Loaded) (s t : Machine) (n : ℕ) → stepped code s ≡ Some t → run_for code (suc n) s ≡ run_for code n t
-more_steps code s t n is = ap (λ o. and_then o (run_for code n)) is
-
--- what the last register holds
-sum_is : (regs : List ℕ) (x y : ℕ) → length regs ≡ 31
-    → get_or (set (set (set regs 16 x) 17 y) 16 (wrapped (get_or (set (set regs 16 x) 17 y) 16 0 + get_or (set (set regs 16 x) 17 y) 17 0))) 16 0 ≡ wrapped (x + y)
-sum_is regs x y all =
-    let l1 = length-set regs 16 x in
-    let l2 = length-set (set regs 16 x) 17 y in
-    let e16 : get_or (set (set regs 16 x) 17 y) 16 0 ≡ x =
-    get_or-set_other (set regs 16 x) 17 16 y 0 (omega arith) ∙ get_or-set_same regs 16 x 0 (omega arith)
-    in
-    let e17 : get_or (set (set regs 16 x) 17 y) 17 0 ≡ y = get_or-set_same (set regs 16 x) 17 y 0 (omega arith) in
-    get_or-set_same (set (set regs 16 x) 17 y) 16 _ 0 (omega arith) ∙ ap₂ (λ (m n : ℕ). wrapped (m + n)) e16 e17
-
-others_stay : (regs : List ℕ) (x y z k : ℕ) → k ≢ 16 → k ≢ 17 → get_or (set (set (set regs 16 x) 17 y) 16 z) k 0 ≡ get_or regs k 0
-others_stay regs x y z k not_16 not_17 =
-    get_or-set_other (set (set regs 16 x) 17 y) 16 k z 0 not_16
-    ∙ get_or-set_other (set regs 16 x) 17 k y 0 not_17
-    ∙ get_or-set_other regs 16 k x 0 not_16
+    at false is = let same : 2 ^ 32 - suc fifth ≡ 2 ^ 32 - 1 - fifth = omega arith in rw same (behind b (2 ^ 32 - 1 - fifth) (omega arith))
 
 pub far_jump : JumpFar (0x98000090 ∷ 0x10000071 ∷ 0x8b110210 ∷ 0xd61f0200 ∷ [])
 unfolding JumpFar
@@ -70,12 +44,6 @@ far_jump code old place fifth is (w1, (w2, (w3, (w4, (w5, _))))) fits =
     let base_fits = is.base_fits in
     let place_fits = is.place_fits in
     let pc_is = is.pc_is in
-    let x : ℕ = extended (fetched code (wrapped (old.pc + 16))) in
-    let y : ℕ = wrapped (wrapped (old.pc + 4) + 12) in
-    let s1 : Machine = goes_on old 16 x in
-    let s2 : Machine = goes_on s1 17 y in
-    let s3 : Machine = goes_on s2 16 (wrapped (get_or s2.regs 16 0 + get_or s2.regs 17 0)) in
-    let s4 : Machine = record { regs = s3.regs; pc = get_or s3.regs 16 0 } in
     let p1 : old.pc ≡ wrapped (wrapped (code.base + place) + 0) = omega arith in
     let p2 : wrapped (old.pc + 4) ≡ wrapped (wrapped (code.base + place) + 4) = omega arith in
     let p3 : wrapped (wrapped (old.pc + 4) + 4) ≡ wrapped (wrapped (code.base + place) + 8) = omega arith in
@@ -86,23 +54,14 @@ far_jump code old place fifth is (w1, (w2, (w3, (w4, (w5, _))))) fits =
     let q4 : place + 12 ≡ place + 4 + 4 + 4 = omega arith in
     let q5 : place + 16 ≡ place + 4 + 4 + 4 + 4 = omega arith in
     let f1 : fetched code old.pc ≡ 0x98000090 = word code place 0 old.pc 0x98000090 base_fits (omega arith) p1 (ap (word_at code.bytes) q1 ∙ w1) in
-    let f2 : fetched code s1.pc ≡ 0x10000071 = word code place 4 s1.pc 0x10000071 base_fits (omega arith) p2 w2 in
-    let f3 : fetched code s2.pc ≡ 0x8b110210 = word code place 8 s2.pc 0x8b110210 base_fits (omega arith) p3 (ap (word_at code.bytes) q3 ∙ w3) in
-    let f4 : fetched code s3.pc ≡ 0xd61f0200 = word code place 12 s3.pc 0xd61f0200 base_fits (omega arith) p4 (ap (word_at code.bytes) q4 ∙ w4) in
+    let f2 : fetched code (wrapped (old.pc + 4)) ≡ 0x10000071 = word code place 4 (wrapped (old.pc + 4)) 0x10000071 base_fits (omega arith) p2 w2 in
+    let f3 : fetched code (wrapped (wrapped (old.pc + 4) + 4)) ≡ 0x8b110210 = word code place 8 (wrapped (wrapped (old.pc + 4) + 4)) 0x8b110210 base_fits (omega arith) p3 (ap (word_at code.bytes) q3 ∙ w3) in
+    let f4 : fetched code (wrapped (wrapped (wrapped (old.pc + 4) + 4) + 4)) ≡ 0xd61f0200 = word code place 12 (wrapped (wrapped (wrapped (old.pc + 4) + 4) + 4)) 0xd61f0200 base_fits (omega arith) p4 (ap (word_at code.bytes) q4 ∙ w4) in
     let f5 : fetched code (wrapped (old.pc + 16)) ≡ fifth = word code place 16 (wrapped (old.pc + 16)) fifth base_fits (omega arith) p5 (ap (word_at code.bytes) q5 ∙ w5) in
-    let x_is : x ≡ extended fifth = ap extended f5 in
-    let y_is : y ≡ wrapped (wrapped (wrapped (code.base + place) + 4) + 12) = omega arith in
-    record {
-      new = s4;
-      four =
-          more_steps code old s1 3 (one code old 0x98000090 f1)
-          ∙ more_steps code s1 s2 2 (one code s1 0x10000071 f2)
-          ∙ more_steps code s2 s3 1 (one code s2 0x8b110210 f3)
-          ∙ more_steps code s3 s4 0 (one code s3 0xd61f0200 f4);
-      there = sum_is old.regs x y is.all_registers ∙ ap₂ (λ (m n : ℕ). wrapped (m + n)) x_is y_is ∙ reached (code.base + place) fifth fits;
-      same_length = length-set s2.regs 16 _ ∙ length-set s1.regs 17 y ∙ length-set old.regs 16 x;
-      others = others_stay old.regs x y _;
-    }
+    let y_is : wrapped (wrapped (old.pc + 4) + 12) ≡ wrapped (wrapped (wrapped (code.base + place) + 4) + 12) = omega arith in
+    subst (Arrives (fetched code) old)
+    (ap₂ (λ (m n : ℕ). wrapped (m + n)) (ap extended f5) y_is ∙ reached (code.base + place) fifth fits)
+    (four_arrive (fetched code) old is.all_registers f1 f2 f3 f4)
 
 -- places and addresses differ by the base
 moved : (base a goal : ℕ) (z : ℤ) → (pos a +ℤ z) ≡ pos goal → (pos (base + a) +ℤ z) ≡ pos (base + goal)
@@ -126,7 +85,7 @@ lead_far last goal offset e fits ahead behind code old place at is stand =
     let there : (pos (code.base + place + 16) +ℤ signed 32 last) ≡ pos (code.base + goal) =
     ap (λ (n : ℕ). pos n +ℤ signed 32 last) (omega arith) ∙ moved code.base (place + 16) goal (signed 32 last) leads
     in
-    subst (Arrives code old) (ap (residue (2 ^ 64)) there) (far_jump code old place last is stand fits)
+    subst (Arrives (fetched code) old) (ap (residue (2 ^ 64)) there) (far_jump code old place last is stand fits)
 
 -- the words of a far veneer, as they stand
 pub jump_far : (bytes : List ℕ) → StandAt bytes 0 (0x98000090 ∷ 0x10000071 ∷ 0x8b110210 ∷ 0xd61f0200 ∷ []) → JumpFar (first_words bytes)

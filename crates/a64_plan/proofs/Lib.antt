@@ -2,3 +2,4 @@ pub mod Bound
 pub mod Counts
 pub mod Moves
 pub mod Shortest
+pub mod Jumps

@@ -4,7 +4,7 @@ use Rattle.a64_run.proofs.DigitPairs.{pair_at}
 use Rattle.a64_run.specs.declared.line.TheConstants.{HEX_PAIRS}
 use Rattle.a64_run.specs.Report.{hex_word}
 use Rattle.a64_run.specs.Stages.{hex_pair}
-use Rattle.a64_text.specs.Hex.{hex_digit}
+use Rattle.a64_read.specs.Hex.{hex_digit}
 
 pub hex_pairs_at : (byte : ℕ) → byte < 256 → (get_or HEX_PAIRS (byte * 2) 0 ≡ hex_digit (byte / 16)) × (get_or HEX_PAIRS (byte * 2 + 1) 0 ≡ hex_digit (byte % 16))
 hex_pairs_at byte h = pair_at HEX_PAIRS hex_digit 16 256 byte tt h

@@ -10,7 +10,7 @@ use Rattle.a64_base.specs.declared.entity.Reloc.TheVariants.{Arm64Call, Abs8, Aa
 use Rattle.a64_base.specs.declared.entity.TrapCode.{TrapCode}
 use Rattle.a64_base.specs.declared.entity.UserStackMap.{UserStackMap}
 use Rattle.a64_emit.specs.declared.code.Code.{Code}
-use Rattle.a64_text.specs.Hex.{hex_digit}
+use Rattle.a64_read.specs.Hex.{hex_digit}
 
 -- a word as eight hexadecimal digits, the highest first
 abbrev pub hex_word : ℕ → List ℕ

@@ -8,7 +8,7 @@ use Rattle.a64_run.specs.declared.command.Command.TheVariants.{Asm, Gen}
 use Rattle.a64_text.specs.declared.file.File.{File}
 use Rattle.a64_run.specs.declared.ran.Fault.{Fault}
 use Rattle.a64_run.specs.declared.ran.Fault.TheVariants as faults
-use Rattle.a64_text.specs.Hex.{hex_digit}
+use Rattle.a64_read.specs.Hex.{hex_digit}
 use Rattle.a64_text.specs.States.{contents_of}
 use Rattle.a64_text.specs.FileText.{IsFile, IsFirstBad}
 use Rattle.a64_run.specs.declared.making.Made.{Made}

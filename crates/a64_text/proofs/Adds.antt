@@ -12,11 +12,11 @@ use Rattle.a64_text.specs.declared.name.SequenceName.TheVariants as sequence
 use Rattle.a64_text.specs.declared.name.Name.{Name}
 use Rattle.a64_text.specs.declared.name.Name.TheVariants as names
 use Rattle.a64_text.specs.declared.state.ReaderState.{ReaderState}
-use Rattle.a64_text.specs.declared.value.Value.{Value}
+use Rattle.a64_read.specs.declared.value.Value.{Value}
 use Rattle.a64_text.specs.AddsLine.{Added, AddsName, AddsNothing, AddsEntry, AddsMade}
 use Rattle.a64_text.specs.Makes.{entry_of, Makes}
 use Rattle.a64_text.specs.Puts.{PutsEntry, PutsMade, Puts}
-use Rattle.a64_text.specs.Reads.{Reads}
+use Rattle.a64_read.specs.Reads.{Reads}
 use Rattle.a64_text.specs.States.{contents_of, once_name, said}
 use Rattle.a64_text.specs.Tokens.{line_of, IsEntry}
 use Rattle.a64_text.proofs.Givens.{added, not_added, no_entry}

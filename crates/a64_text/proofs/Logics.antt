@@ -16,13 +16,13 @@ use Rattle.a64_text.specs.declared.entry.Entry.{Entry}
 use Rattle.a64_text.specs.declared.name.ImmediateName.TheVariants as immediate
 use Rattle.a64_text.specs.declared.name.Name.{Name}
 use Rattle.a64_text.specs.declared.name.Name.TheVariants as names
-use Rattle.a64_text.specs.declared.value.Value.{Value}
-use Rattle.a64_text.specs.Reads.{Reads, IsU64}
-use Rattle.a64_text.specs.Fields.{IsLogicAt}
-use Rattle.a64_text.specs.At.{alu_op_at, size_at, reg_at, u64_at}
+use Rattle.a64_read.specs.declared.value.Value.{Value}
+use Rattle.a64_read.specs.Reads.{Reads, IsU64}
+use Rattle.a64_read.specs.Fields.{IsLogicAt}
+use Rattle.a64_read.specs.At.{alu_op_at, size_at, reg_at, u64_at}
 use Rattle.a64_text.specs.Makes.{emitted, Makes}
 use Rattle.a64_text.specs.Names.{kinds_of}
-use Rattle.a64_text.specs.Same.{at_their_places}
+use Rattle.a64_read.specs.Same.{at_their_places}
 use Rattle.a64_text.specs.Tokens.{fields_of, IsEntry}
 
 same_size : {a b : OperandSize} → Some a ≡ Some b → a ≡ b

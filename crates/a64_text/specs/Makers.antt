@@ -19,21 +19,22 @@ use Rattle.a64_ops.specs.declared.access.AccessOp.TheVariants as ops
 use Rattle.a64_text.specs.declared.name.Name.{Name}
 use Rattle.a64_text.specs.declared.name.Name.TheVariants as names
 use Rattle.a64_text.specs.declared.name_table.TheConstants.{NAME_HOMES, NAMES}
-use Rattle.a64_text.specs.declared.value.Value.{Value}
-use Rattle.a64_text.specs.declared.value.Value.TheVariants as values
-use Rattle.a64_text.specs.At.{convention_at, key_at, label_at, list_at, map_at, reg_at, truth_at, u32_at}
-use Rattle.a64_text.specs.Calls.{call_arg_text, call_lists_text, AreCallLists, IsCallArg}
-use Rattle.a64_text.specs.Fields.{HasNo, label_text, IsLabel}
-use Rattle.a64_text.specs.Hash.{look_up}
-use Rattle.a64_text.specs.Hex.{hex_text, HasHex}
-use Rattle.a64_text.specs.Lists.{list_text}
-use Rattle.a64_text.specs.ModeLaws.{made_of}
+use Rattle.a64_read.specs.declared.value.Value.{Value}
+use Rattle.a64_read.specs.declared.value.Value.TheVariants as values
+use Rattle.a64_read.specs.At.{convention_at, key_at, label_at, list_at, map_at, reg_at, truth_at, u32_at}
+use Rattle.a64_read.specs.Calls.{call_arg_text, call_lists_text, AreCallLists, IsCallArg}
+use Rattle.a64_read.specs.Fields.{HasNo, label_text, IsLabel}
+use Rattle.a64_read.specs.Hash.{look_up}
+use Rattle.a64_read.specs.Hex.{hex_text}
+use Rattle.a64_text.specs.Constants.{HasHex}
+use Rattle.a64_read.specs.Lists.{list_text}
+use Rattle.a64_read.specs.ModeLaws.{made_of}
 use Rattle.a64_text.specs.Makes.{called, call_of, call_texts_at, emitted, constant_of, entry_of, jump_of, name_at, return_call_of, Makes}
 use Rattle.a64_text.specs.Names.{name_text, kinds_of}
-use Rattle.a64_text.specs.RegisterPairs.{arg_pair_text, IsArgPair, ret_pair_text, IsRetPair}
-use Rattle.a64_text.specs.Same.{at_their_places}
+use Rattle.a64_read.specs.RegisterPairs.{arg_pair_text, IsArgPair, ret_pair_text, IsRetPair}
+use Rattle.a64_read.specs.Same.{at_their_places}
 use Rattle.a64_text.specs.Tokens.{inst_parts, name_of, fields_of, IsOwnInst, IsOwn}
-use Rattle.a64_text.specs.Values.{kind_of, IsValue}
+use Rattle.a64_read.specs.Values.{kind_of, IsValue}
 
 made : (P : Entry → Type 0) (r : Option Entry) (e : Entry) → r ≡ Some e → P e → IfSome r P
 made P r e is h = rw is h

@@ -27,18 +27,19 @@ use Rattle.a64_text.specs.declared.name.SequenceName.{SequenceName}
 use Rattle.a64_text.specs.declared.name.SequenceName.TheVariants as sequence
 use Rattle.a64_text.specs.declared.name.Name.{Name}
 use Rattle.a64_text.specs.declared.name.Name.TheVariants as names
-use Rattle.a64_text.specs.declared.value.Value.{Value}
-use Rattle.a64_text.specs.At.{alu_op3_at, alu_op_at, bfm_op_at, bit_op_at, cond_at, cond_br_kind_at, convention_at, emit_flag_at, extend_at, flags_at, frame_field_at, i32_at, i64_at, imm12_at, imm_shift_at, key_at, label_at, list_at, map_at, mode_at, move_wide_op_at, nzcv_at, pair_mode_at, preg_at, reg_at, shift_at, size_at, target_at, test_bit_kind_at, truth_at, u32_at, u64_at, u8_at, uimm5_at, uimm6_at, wide_at}
-use Rattle.a64_text.specs.Calls.{call_arg_text, call_lists_text, AreCallLists, CallLists, IsCallArg}
-use Rattle.a64_text.specs.Fields.{label_text, IsLabel}
-use Rattle.a64_text.specs.Hex.{hex_text, HasHex}
-use Rattle.a64_text.specs.Lists.{list_text}
-use Rattle.a64_text.specs.ModeMakes.{MakesOf}
+use Rattle.a64_read.specs.declared.value.Value.{Value}
+use Rattle.a64_read.specs.At.{alu_op3_at, alu_op_at, bfm_op_at, bit_op_at, cond_at, cond_br_kind_at, convention_at, emit_flag_at, extend_at, flags_at, frame_field_at, i32_at, i64_at, imm12_at, imm_shift_at, key_at, label_at, list_at, map_at, mode_at, move_wide_op_at, nzcv_at, pair_mode_at, preg_at, reg_at, shift_at, size_at, target_at, test_bit_kind_at, truth_at, u32_at, u64_at, u8_at, uimm5_at, uimm6_at, wide_at}
+use Rattle.a64_read.specs.Calls.{call_arg_text, call_lists_text, AreCallLists, CallLists, IsCallArg}
+use Rattle.a64_read.specs.Fields.{label_text, IsLabel}
+use Rattle.a64_read.specs.Hex.{hex_text}
+use Rattle.a64_text.specs.Constants.{HasHex}
+use Rattle.a64_read.specs.Lists.{list_text}
+use Rattle.a64_read.specs.ModeMakes.{MakesOf}
 use Rattle.a64_text.specs.Names.{kinds_of}
 use Rattle.a64_text.specs.PlainFields.{immediate_of, register_of, system_of}
-use Rattle.a64_text.specs.RegisterPairs.{arg_pair_text, IsArgPair, ret_pair_text, IsRetPair}
+use Rattle.a64_read.specs.RegisterPairs.{arg_pair_text, IsArgPair, ret_pair_text, IsRetPair}
 use Rattle.a64_text.specs.Tokens.{name_of, fields_of, IsOwn, IsPlain}
-use Rattle.a64_text.specs.Values.{kind_of}
+use Rattle.a64_read.specs.Values.{kind_of}
 
 -- the entry that is an instruction without a map
 abbrev pub emitted : Inst → Entry

@@ -19,11 +19,11 @@ use Rattle.a64_text.specs.declared.name.Name.{Name}
 use Rattle.a64_text.specs.declared.name.SequenceName.{SequenceName}
 use Rattle.a64_text.specs.declared.name.SequenceName.TheVariants as sequence
 use Rattle.a64_text.specs.declared.name.Name.TheVariants.{Immediate, Register, System, Control, Sequence, Call, Memory, Access, Bind, Const, Frame, Flag}
-use Rattle.a64_text.specs.Heading.{Heading}
 use Rattle.a64_text.specs.PlainFields.{inst_fields, immediate_of, register_of, system_of}
-use Rattle.a64_text.specs.Values.{kind_of}
-use Rattle.a64_text.specs.declared.value.Kind.{Kind}
-use Rattle.a64_text.specs.declared.value.Kind.TheVariants as kinds
+use Rattle.a64_read.specs.Heading.{Heading}
+use Rattle.a64_read.specs.Values.{kind_of}
+use Rattle.a64_read.specs.declared.value.Kind.{Kind}
+use Rattle.a64_read.specs.declared.value.Kind.TheVariants as kinds
 
 abbrev pub immediate_text : ImmediateName → List ℕ
 immediate_text immediate.AluRRImm12 = codes "AluRRImm12"

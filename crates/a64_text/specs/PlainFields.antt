@@ -15,9 +15,9 @@ use Rattle.a64_text.specs.declared.name.RegisterName.{RegisterName}
 use Rattle.a64_text.specs.declared.name.RegisterName.TheVariants as register
 use Rattle.a64_text.specs.declared.name.SystemName.{SystemName}
 use Rattle.a64_text.specs.declared.name.SystemName.TheVariants as system
-use Rattle.a64_text.specs.declared.value.Value.{Value}
-use Rattle.a64_text.specs.declared.value.Value.TheVariants as values
-use Rattle.a64_text.specs.At.{alu_op3_at, alu_op_at, bfm_op_at, bit_op_at, cond_at, extend_at, i32_at, imm12_at, imm_shift_at, move_wide_op_at, nzcv_at, preg_at, reg_at, shift_at, size_at, truth_at, u8_at, uimm5_at, uimm6_at, wide_at}
+use Rattle.a64_read.specs.declared.value.Value.{Value}
+use Rattle.a64_read.specs.declared.value.Value.TheVariants as values
+use Rattle.a64_read.specs.At.{alu_op3_at, alu_op_at, bfm_op_at, bit_op_at, cond_at, extend_at, i32_at, imm12_at, imm_shift_at, move_wide_op_at, nzcv_at, preg_at, reg_at, shift_at, size_at, truth_at, u8_at, uimm5_at, uimm6_at, wide_at}
 
 -- ---- fields
 

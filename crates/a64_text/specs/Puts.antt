@@ -8,7 +8,7 @@ use Rattle.a64_text.specs.declared.name.ImmediateName.TheVariants as immediate
 use Rattle.a64_text.specs.declared.name.SequenceName.TheVariants as sequence
 use Rattle.a64_text.specs.declared.name.Name.{Name}
 use Rattle.a64_text.specs.declared.name.Name.TheVariants as names
-use Rattle.a64_text.specs.declared.value.Value.{Value}
+use Rattle.a64_read.specs.declared.value.Value.{Value}
 use Rattle.a64_text.specs.Makes.{entry_of, Makes}
 
 -- true: the entry's item stands behind the old ones. False: there is no entry, and the items are the old ones

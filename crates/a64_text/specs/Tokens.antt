@@ -23,17 +23,18 @@ use Rattle.a64_text.specs.declared.name.MemoryName.TheVariants as memory
 use Rattle.a64_text.specs.declared.name.SequenceName.TheVariants as sequence
 use Rattle.a64_text.specs.declared.name.Name.{Name}
 use Rattle.a64_text.specs.declared.name.Name.TheVariants as names
-use Rattle.a64_text.specs.declared.value.Value.{Value}
-use Rattle.a64_text.specs.declared.value.Value.TheVariants as values
-use Rattle.a64_text.specs.Calls.{call_arg_text, IsCallArg, call_ret_text, AreCallLists}
-use Rattle.a64_text.specs.Clobbers.{clobbers_text}
-use Rattle.a64_text.specs.Fields.{label_text, IsLabel}
-use Rattle.a64_text.specs.Hex.{hex_text, HasHex}
-use Rattle.a64_text.specs.Lists.{list_text}
+use Rattle.a64_read.specs.declared.value.Value.{Value}
+use Rattle.a64_read.specs.declared.value.Value.TheVariants as values
+use Rattle.a64_read.specs.Calls.{call_arg_text, IsCallArg, call_ret_text, AreCallLists}
+use Rattle.a64_read.specs.Clobbers.{clobbers_text}
+use Rattle.a64_read.specs.Fields.{label_text, IsLabel}
+use Rattle.a64_read.specs.Hex.{hex_text}
+use Rattle.a64_text.specs.Constants.{HasHex}
+use Rattle.a64_read.specs.Lists.{list_text}
 use Rattle.a64_text.specs.Names.{name_text}
 use Rattle.a64_text.specs.PlainFields.{inst_fields, plain_name}
-use Rattle.a64_text.specs.RegisterPairs.{arg_pair_text, IsArgPair, ret_pair_text, IsRetPair}
-use Rattle.a64_text.specs.Values.{value_text, IsValue}
+use Rattle.a64_read.specs.RegisterPairs.{arg_pair_text, IsArgPair, ret_pair_text, IsRetPair}
+use Rattle.a64_read.specs.Values.{value_text, IsValue}
 
 -- a name and the fields behind it
 pub record Parts : Type 0 where

@@ -3,11 +3,11 @@
 ghost use Rattle.std.specs.Prelude.{◌≡◌};
 ghost use Rattle.a64_text.specs.States.{once_name};
 
-use crate::emit_flag::EmitFlag;
-use crate::frame_field::FrameField;
 use a64_base::VCodeConstant;
 use a64_inst::{Inst, Item};
 use a64_list::ListVec;
+use a64_read::emit_flag::EmitFlag;
+use a64_read::frame_field::FrameField;
 
 /// A name that a file gives at most once.
 #[derive(Clone, Copy, Debug, PartialEq, Eq, PartialOrd, Ord)]

@@ -7,7 +7,7 @@ ghost use Rattle.a64_text.specs.Makers.{name_found};
 
 use crate::name::Name;
 use crate::name_table::{NAME_HOMES, NAMES};
-use crate::named::{Named, Row};
+use a64_read::named::{Named, Row};
 
 impl Named for Name {
     ghost text = { name_text };

@@ -3,7 +3,6 @@
 pub mod call;
 pub mod control;
 pub mod memory;
-pub mod mode;
 pub mod plain;
 pub mod sequence;
 
@@ -14,12 +13,12 @@ ghost use Rattle.a64_text.specs.Makes.{called, emitted, Makes};
 ghost use Rattle.a64_text.specs.Puts.{PutsEntry, Puts};
 ghost use Rattle.a64_text.specs.States.{IsSized};
 
-use crate::at;
+use crate::constant::read_constant;
 use crate::entry::Entry;
-use crate::hex::read_constant;
-use crate::value::Value;
 use a64_base::{UserStackMap, VCodeConstant};
 use a64_inst::{Inst, Item};
+use a64_read::at;
+use a64_read::value::Value;
 use std::alloc::{AllocError, Global};
 
 /// Puts the instruction, without a map of the stack, behind the items. Always true.

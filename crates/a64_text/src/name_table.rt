@@ -3,9 +3,9 @@
 use crate::name::{
     CallName, ControlName, ImmediateName, MemoryName, Name, RegisterName, SequenceName, SystemName,
 };
-use crate::named::Row;
-use crate::value::Kind;
 use a64_inst::AccessOp;
+use a64_read::named::Row;
+use a64_read::value::Kind;
 
 /// For each remainder of a hash, the row of the name that has it.
 pub static NAME_HOMES: [u8; 512] = [

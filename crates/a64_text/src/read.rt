@@ -5,16 +5,13 @@ ghost use Rattle.a64_text.specs.States.{contents_of, said, IsSized};
 ghost use Rattle.a64_text.specs.FileText as FileText;
 ghost use Rattle.a64_text.specs.declared.name.Name.TheVariants as names;
 ghost use Rattle.a64_text.specs.Names.{kinds_of, names_inst};
-ghost use Rattle.a64_text.specs.Splitting.{first_line};
-ghost use Rattle.a64_text.specs.Values.{kind_of};
+ghost use Rattle.a64_read.specs.Splitting.{first_line};
+ghost use Rattle.a64_read.specs.Values.{kind_of};
 ghost use Rattle.a64_text.specs.AddsLine.{AddsName, AddsEntry, AddsMade, AddsNamed, AddsLine, IsBehindRestore, PopsInst, RestoresLast};
 ghost use Rattle.a64_text.specs.Reading.{Answers};
 
-use crate::emit_flag::set_emit_flag;
 use crate::entry::{Entry, OnceName};
 use crate::file::{File, FileError};
-use crate::frame_field::set_frame_field;
-use crate::line::read_line;
 use crate::make::call::put_call;
 use crate::make::control::put_control;
 use crate::make::plain::{put_immediate, put_register, put_system};
@@ -22,12 +19,18 @@ use crate::make::memory::{put_access, put_memory};
 use crate::make::sequence::put_sequence;
 use crate::make::{make_constant, make_flag, make_frame, put_bind};
 use crate::name::Name;
-use crate::split::cut;
+use crate::settings::{set_emit_flag, set_frame_field};
 use crate::state::{ReaderState, start_state};
-use crate::value::{Fields, Value};
 use a64_inst::{Inst, Item};
+use a64_read::line::read_line;
+use a64_read::split::cut;
+use a64_read::value::Value;
+use arrayvec::ArrayVec;
 use std::alloc::{AllocError, Global};
 use std::collections::BTreeSet;
+
+/// The fields of an entry: a name has few of them.
+type Fields<'t> = ArrayVec<Value<'t>, 12>;
 
 /// Whether the first line means nothing.
 #[inline(always)]
@@ -229,6 +232,7 @@ fn after_restore(text: &[u8]) -> Option<&[u8]>
 
 /// Takes what the first line says into the state, and answers the lines behind it. None: it is no
 /// entry that may stand there. `values` is room for the fields.
+#[tactic(auto, using(crate::specs::Makers::few_kinds))]
 #[inline(always)]
 fn add_line<'t>(
     alloc: Global,
@@ -239,7 +243,7 @@ fn add_line<'t>(
     ensures { IfOk result (AddsLine state.old state.new text.now) }
 {
     let behind = after_restore(text);
-    let Some((name, lines)) = read_line(behind.unwrap_or(text), values) else {
+    let Some((name, lines)) = read_line::<Name, 12>(behind.unwrap_or(text), values) else {
         return Ok(None);
     };
     if add_named(alloc, state, name, values.as_slice(), behind.is_some())? {

@@ -5,21 +5,21 @@ ghost use Rattle.std.specs.Vec.{vec_len, vec_capacity};
 ghost use Rattle.a64_inst.specs.declared.inst.Inst.{Inst};
 ghost use Rattle.a64_text.specs.declared.name.CallName.TheVariants as call;
 ghost use Rattle.a64_text.specs.declared.name.Name.TheVariants as names;
-ghost use Rattle.a64_text.specs.At.{map_at};
-ghost use Rattle.a64_text.specs.Calls.{call_lists_text, AreCallLists};
+ghost use Rattle.a64_read.specs.At.{map_at};
+ghost use Rattle.a64_read.specs.Calls.{call_lists_text, AreCallLists};
 ghost use Rattle.a64_text.specs.Makes.{call_of, call_texts_at, called, emitted, return_call_of, Makes};
 ghost use Rattle.a64_text.specs.Puts.{Puts};
-ghost use Rattle.a64_text.specs.Reads.{Reads};
+ghost use Rattle.a64_read.specs.Reads.{Reads};
 
-use crate::at;
-use crate::clobbers::read_clobbers;
-use crate::list::read_list;
 use crate::make::{emit_called, emit_some};
 use crate::name::CallName;
-use crate::value::Value;
 use a64_base::{ExternalName, PRegSet, Reg};
 use a64_inst::{Boxed, CallArgPair, CallInfo, CallRetPair, Inst, Item, ReturnCallInfo};
 use a64_list::ListVec;
+use a64_read::at;
+use a64_read::clobbers::read_clobbers;
+use a64_read::list::read_list;
+use a64_read::value::Value;
 use std::alloc::{AllocError, Global};
 
 /// What is passed to a function, what comes back, and the registers that it changes beside.

@@ -7,13 +7,13 @@ ghost use Rattle.a64_text.specs.declared.name.Name.TheVariants as names;
 ghost use Rattle.a64_text.specs.Makes.{emitted, Makes};
 ghost use Rattle.a64_text.specs.Puts.{Puts};
 
-use crate::at;
-use crate::list::read_list;
 use crate::make::{emit, emit_some};
 use crate::name::ControlName;
-use crate::value::Value;
 use a64_base::{MachLabel, TrapCode, Writable};
 use a64_inst::{Inst, Item};
+use a64_read::at;
+use a64_read::list::read_list;
+use a64_read::value::Value;
 use std::alloc::{AllocError, Global};
 
 /// The branch to what a register holds, with its targets.

@@ -5,12 +5,12 @@ ghost use Rattle.std.specs.Vec.{vec_len, vec_capacity};
 ghost use Rattle.a64_text.specs.declared.name.Name.TheVariants as names;
 ghost use Rattle.a64_text.specs.Puts.{Puts};
 
-use crate::at;
 use crate::make::emit;
 use crate::name::MemoryName;
-use crate::value::Value;
 use a64_base::Writable;
 use a64_inst::{Access, AccessOp, Inst, Item};
+use a64_read::at;
+use a64_read::value::Value;
 
 /// Puts the load or store of one register with these fields behind the items.
 #[tactic(auto, unfolding(crate::specs::Puts::Puts))]

@@ -7,13 +7,13 @@ ghost use Rattle.a64_text.specs.declared.name.ImmediateName.TheVariants as immed
 ghost use Rattle.a64_text.specs.Makes.{emitted, Makes};
 ghost use Rattle.a64_text.specs.Puts.{Puts};
 
-use crate::at;
-use crate::immediate::logic_of;
+use crate::logic::logic_of;
 use crate::make::{emit, emit_some};
 use crate::name::{ImmediateName, RegisterName, SystemName};
-use crate::value::Value;
 use a64_base::{OperandSize, Writable};
 use a64_inst::{Inst, Item, immediate_list, register_list};
+use a64_read::at;
+use a64_read::value::Value;
 
 /// The field at a place, by what a list says of it.
 macro_rules! field_at {

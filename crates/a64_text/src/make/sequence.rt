@@ -7,13 +7,13 @@ ghost use Rattle.a64_text.specs.declared.name.SequenceName.TheVariants as sequen
 ghost use Rattle.a64_text.specs.Makes.{emitted, Makes};
 ghost use Rattle.a64_text.specs.Puts.{Puts};
 
-use crate::at;
-use crate::list::read_list;
 use crate::make::{emit, emit_some};
 use crate::name::SequenceName;
-use crate::value::Value;
 use a64_base::{ExternalName, MachLabel, Writable};
 use a64_inst::{ArgPair, Inst, Item, RetPair};
+use a64_read::at;
+use a64_read::list::read_list;
+use a64_read::value::Value;
 use std::alloc::{AllocError, Global};
 
 /// The arguments with which a function is entered.

@@ -1,0 +1,24 @@
+-- The texts of bytes: hexadecimal digits, in order.
+use Rattle.std.specs.Prelude.{ℕ, ◌<◌, ◌+◌, ◌/◌, ◌%◌, nat_lt, if◌then◌else◌, List, [], ◌∷◌}
+use Rattle.std.specs.List.{AllByRecursion}
+use Rattle.a64_read.specs.Reads.{IsU8}
+
+-- a hexadecimal digit, in lower case
+abbrev pub hex_digit : ℕ → ℕ
+hex_digit n = if nat_lt n 10 then 48 + n else 87 + n
+
+-- a digit has four bits
+abbrev pub IsDigit : ℕ → Type 0
+IsDigit n = n < 16
+
+-- the two digits of a byte
+abbrev pub byte_digits : ℕ → ℕ × ℕ
+byte_digits byte = (hex_digit (byte / 16), hex_digit (byte % 16))
+
+-- the bytes one behind another
+abbrev pub hex_text : List ℕ → List ℕ
+hex_text [] = []
+hex_text (byte ∷ bytes) = hex_digit (byte / 16) ∷ hex_digit (byte % 16) ∷ hex_text bytes
+
+abbrev pub AreBytes : List ℕ → Type 0
+AreBytes bytes = AllByRecursion IsU8 bytes

@@ -1,0 +1,65 @@
+//! The names of calling conventions, and of keys where a return may have none.
+
+ghost use Rattle.std.specs.Prelude.{List, [], map};
+ghost use Rattle.a64_read.specs.declared.convention.TheConstants.{CONVENTION_HOMES, CONVENTIONS, KEY_HOMES, KEYS};
+ghost use Rattle.a64_read.specs.Conventions.{convention_text, key_text};
+ghost use Rattle.a64_read.specs.Found.{convention_found, key_found};
+
+use crate::named::{Named, Row};
+use a64_base::{APIKey, CallConv};
+
+/// For each remainder of a hash, the row of the name that has it.
+pub static CONVENTION_HOMES: [u8; 32] = [
+    1, 0, 0, 0, 0, 0, 0, 0, 0, 0, 0, 0, 0, 0, 0, 0, 2, 0, 0, 0, 0, 0, 0, 0, 0, 0, 0, 0, 0, 0, 0, 0,
+];
+
+/// The calling conventions.
+pub static CONVENTIONS: [Row<CallConv>; 3] = [
+    (b"SystemV", &[], CallConv::SystemV),
+    (b"Tail", &[], CallConv::Tail),
+    (b"AppleAarch64", &[], CallConv::AppleAarch64),
+];
+
+impl Named for CallConv {
+    ghost text = { convention_text };
+
+    ghost kinds_of = { λ _. [] };
+
+    ghost homes = { CONVENTION_HOMES };
+
+    ghost rows = { map (λ row. row.2) CONVENTIONS };
+
+    fn table() -> (&'static [u8], &'static [Row<CallConv>]) {
+        (&CONVENTION_HOMES, &CONVENTIONS)
+    }
+
+    ghost found = { convention_found };
+}
+
+/// For each remainder of a hash, the row of the name that has it.
+pub static KEY_HOMES: [u8; 8] = [3, 0, 1, 4, 0, 2, 0, 0];
+
+/// The keys, and a dash for none.
+pub static KEYS: [Row<Option<APIKey>>; 5] = [
+    (b"-", &[], None),
+    (b"AZ", &[], Some(APIKey::AZ)),
+    (b"ASP", &[], Some(APIKey::ASP)),
+    (b"BZ", &[], Some(APIKey::BZ)),
+    (b"BSP", &[], Some(APIKey::BSP)),
+];
+
+impl Named for Option<APIKey> {
+    ghost text = { key_text };
+
+    ghost kinds_of = { λ _. [] };
+
+    ghost homes = { KEY_HOMES };
+
+    ghost rows = { map (λ row. row.2) KEYS };
+
+    fn table() -> (&'static [u8], &'static [Row<Option<APIKey>>]) {
+        (&KEY_HOMES, &KEYS)
+    }
+
+    ghost found = { key_found };
+}

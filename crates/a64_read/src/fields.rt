@@ -1,0 +1,85 @@
+//! Reads fields that stand in a row.
+
+ghost use Rattle.std.specs.Prelude.{◌≡◌, ◌≤◌, ◌<◌, ℕ, true, false, List, length, option_map, IfSome, MatchOption};
+ghost use Rattle.a64_read.specs.declared.value.Value.{Value};
+ghost use Rattle.a64_read.specs.Reads.{Reads};
+ghost use Rattle.a64_read.specs.Values.{kind_of, IsValue};
+ghost use Rattle.a64_read.specs.Splitting.{lines_of, of_text, behind_text, IsCut};
+ghost use Rattle.a64_read.specs.Rows.{AreFields, texts, IsPut};
+
+use crate::split::CutToken;
+use crate::value::{Kind, Value};
+use arrayvec::ArrayVec;
+
+/// A way in which fields stand in a row.
+pub trait FieldRow {
+    /// Which fields may stand there.
+    ghost fits: { Value → Type 0 };
+
+    /// The tokens of a text.
+    ghost tokens: { List ℕ → List (List ℕ) };
+
+    /// The lines behind them.
+    ghost behind: { List ℕ → List (List ℕ) };
+
+    /// The first token of a text, and what comes after it.
+    fn cut(text: &[u8]) -> CutToken<'_>
+        ensures { IsCut tokens behind text.now result.token.now result.more result.lines };
+
+    /// Puts the field of the kind that the token is into `slot`.
+    /// False: it is no such field, and the slot stays as it is.
+    fn put<'t>(kind: Kind, token: &'t [u8], slot: &mut Value<'t>) -> bool
+        ensures { IsPut (λ v. (kind_of v ≡ kind) × fits v) token.now slot.old slot.new result };
+
+    /// A text has a token.
+    ghost some_token: { (text : List ℕ) → 0 < length (tokens text) };
+
+    /// What may stand there is a field.
+    ghost each_field: { (v : Value) → fits v → IsValue v };
+}
+
+/// Reads the fields of these kinds that the text is into `values`, and answers the lines behind them.
+/// None: it is no such fields.
+#[inline(always)]
+pub fn read_fields<'t, L: FieldRow, const N: usize>(
+    kinds: &[Kind],
+    text: Option<&'t [u8]>,
+    lines: Option<&'t [u8]>,
+    values: &mut ArrayVec<Value<'t>, N>,
+) -> Option<Option<&'t [u8]>>
+    requires { length kinds.now ≤ N }
+    ensures read { Reads (AreFields L.fits kinds.now) texts (of_text L.tokens text.entry) (option_map (λ _. values.new.items) result) }
+    ensures lines { IfSome result (λ left. of_text lines_of left ≡ behind_text L.behind text.entry lines.entry) }
+{
+    values.clear();
+    let mut more = text;
+    let mut left = lines;
+    for kind in kinds {
+        let cut = L::cut(more?);
+        let place = values.len();
+        values.push(Value::default());
+        if !L::put(*kind, cut.token, &mut values[place]) {
+            return None;
+        }
+        more = cut.more;
+        left = cut.lines;
+    }
+    match more {
+        None => Some(left),
+        Some(_) => None,
+    }
+}
+
+/// Puts the value, where there is one, into `slot`, and answers whether there is one.
+#[inline(always)]
+pub fn put_read<'t>(slot: &mut Value<'t>, value: Option<Value<'t>>) -> bool
+    ensures { MatchOption value.entry ((result ≡ false) × (slot.new ≡ slot.old)) (λ v. (result ≡ true) × (slot.new ≡ v)) }
+{
+    match value {
+        Some(value) => {
+            *slot = value;
+            true
+        }
+        None => false,
+    }
+}

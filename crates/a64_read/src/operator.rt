@@ -1,0 +1,170 @@
+//! The names of operators.
+
+ghost use Rattle.std.specs.Prelude.{List, [], map};
+ghost use Rattle.a64_read.specs.declared.operator.TheConstants.{ALU_OP_HOMES, ALU_OPS, ALU_OP3_HOMES, ALU_OP3S, BIT_OP_HOMES, BIT_OPS, BFM_OP_HOMES, BFM_OPS, MOVE_WIDE_OP_HOMES, MOVE_WIDE_OPS};
+ghost use Rattle.a64_read.specs.Operators.{alu_op_text, alu_op3_text, bit_op_text, bfm_op_text, move_wide_op_text};
+ghost use Rattle.a64_read.specs.Found.{alu_op_found, alu_op3_found, bit_op_found, bfm_op_found, move_wide_op_found};
+
+use crate::named::{Named, Row};
+use a64_ops::{ALUOp, ALUOp3, BfmOp, BitOp, MoveWideOp};
+
+/// For each remainder of a hash, the row of the name that has it.
+pub static ALU_OP_HOMES: [u8; 128] = [
+    21, 3, 0, 0, 5, 0, 0, 0, 0, 22, 0, 0, 0, 0, 0, 0, 0, 0, 0, 0, 20, 0, 0, 0, 0, 0, 0, 0, 0, 0, 7,
+    0, 0, 16, 0, 0, 0, 0, 0, 0, 0, 0, 13, 0, 0, 17, 0, 2, 0, 0, 0, 8, 0, 14, 0, 0, 0, 0, 0, 0, 0,
+    12, 0, 0, 0, 15, 0, 0, 0, 0, 0, 0, 0, 0, 10, 0, 0, 0, 0, 0, 0, 0, 9, 0, 0, 0, 0, 19, 11, 4, 0,
+    0, 0, 0, 0, 0, 0, 0, 0, 0, 0, 0, 0, 0, 0, 0, 0, 0, 0, 0, 0, 0, 0, 6, 0, 18, 0, 0, 0, 0, 0, 0,
+    0, 0, 0, 1, 0, 0,
+];
+
+/// The integer operators.
+pub static ALU_OPS: [Row<ALUOp>; 23] = [
+    (b"Add", &[], ALUOp::Add),
+    (b"Sub", &[], ALUOp::Sub),
+    (b"AddS", &[], ALUOp::AddS),
+    (b"SubS", &[], ALUOp::SubS),
+    (b"And", &[], ALUOp::And),
+    (b"Orr", &[], ALUOp::Orr),
+    (b"Eor", &[], ALUOp::Eor),
+    (b"AndS", &[], ALUOp::AndS),
+    (b"AndNot", &[], ALUOp::AndNot),
+    (b"OrrNot", &[], ALUOp::OrrNot),
+    (b"EorNot", &[], ALUOp::EorNot),
+    (b"Adc", &[], ALUOp::Adc),
+    (b"Sbc", &[], ALUOp::Sbc),
+    (b"AdcS", &[], ALUOp::AdcS),
+    (b"SbcS", &[], ALUOp::SbcS),
+    (b"UDiv", &[], ALUOp::UDiv),
+    (b"SDiv", &[], ALUOp::SDiv),
+    (b"Lsl", &[], ALUOp::Lsl),
+    (b"Lsr", &[], ALUOp::Lsr),
+    (b"Asr", &[], ALUOp::Asr),
+    (b"Extr", &[], ALUOp::Extr),
+    (b"SMulH", &[], ALUOp::SMulH),
+    (b"UMulH", &[], ALUOp::UMulH),
+];
+
+impl Named for ALUOp {
+    ghost text = { alu_op_text };
+
+    ghost kinds_of = { λ _. [] };
+
+    ghost homes = { ALU_OP_HOMES };
+
+    ghost rows = { map (λ row. row.2) ALU_OPS };
+
+    fn table() -> (&'static [u8], &'static [Row<ALUOp>]) {
+        (&ALU_OP_HOMES, &ALU_OPS)
+    }
+
+    ghost found = { alu_op_found };
+}
+
+/// For each remainder of a hash, the row of the name that has it.
+pub static ALU_OP3_HOMES: [u8; 8] = [3, 0, 1, 2, 0, 0, 0, 0];
+
+/// The integer operators with three operands.
+pub static ALU_OP3S: [Row<ALUOp3>; 4] = [
+    (b"MAdd", &[], ALUOp3::MAdd),
+    (b"MSub", &[], ALUOp3::MSub),
+    (b"UMAddL", &[], ALUOp3::UMAddL),
+    (b"SMAddL", &[], ALUOp3::SMAddL),
+];
+
+impl Named for ALUOp3 {
+    ghost text = { alu_op3_text };
+
+    ghost kinds_of = { λ _. [] };
+
+    ghost homes = { ALU_OP3_HOMES };
+
+    ghost rows = { map (λ row. row.2) ALU_OP3S };
+
+    fn table() -> (&'static [u8], &'static [Row<ALUOp3>]) {
+        (&ALU_OP3_HOMES, &ALU_OP3S)
+    }
+
+    ghost found = { alu_op3_found };
+}
+
+/// For each remainder of a hash, the row of the name that has it.
+pub static BIT_OP_HOMES: [u8; 16] = [4, 0, 5, 0, 0, 2, 1, 0, 0, 0, 0, 0, 0, 0, 3, 0];
+
+/// The operations on bits.
+pub static BIT_OPS: [Row<BitOp>; 6] = [
+    (b"RBit", &[], BitOp::RBit),
+    (b"Clz", &[], BitOp::Clz),
+    (b"Cls", &[], BitOp::Cls),
+    (b"Rev16", &[], BitOp::Rev16),
+    (b"Rev32", &[], BitOp::Rev32),
+    (b"Rev64", &[], BitOp::Rev64),
+];
+
+impl Named for BitOp {
+    ghost text = { bit_op_text };
+
+    ghost kinds_of = { λ _. [] };
+
+    ghost homes = { BIT_OP_HOMES };
+
+    ghost rows = { map (λ row. row.2) BIT_OPS };
+
+    fn table() -> (&'static [u8], &'static [Row<BitOp>]) {
+        (&BIT_OP_HOMES, &BIT_OPS)
+    }
+
+    ghost found = { bit_op_found };
+}
+
+/// For each remainder of a hash, the row of the name that has it.
+pub static BFM_OP_HOMES: [u8; 64] = [
+    0, 0, 0, 0, 0, 0, 0, 0, 0, 0, 0, 0, 0, 0, 0, 0, 0, 0, 0, 0, 0, 0, 0, 0, 0, 0, 0, 0, 0, 0, 0, 0,
+    0, 0, 0, 0, 0, 0, 0, 0, 0, 0, 0, 0, 0, 0, 0, 0, 0, 0, 0, 0, 1, 0, 0, 0, 0, 0, 0, 0, 0, 0, 0, 0,
+];
+
+/// The moves of a bitfield.
+pub static BFM_OPS: [Row<BfmOp>; 2] = [(b"UBfm", &[], BfmOp::UBfm), (b"SBfm", &[], BfmOp::SBfm)];
+
+impl Named for BfmOp {
+    ghost text = { bfm_op_text };
+
+    ghost kinds_of = { λ _. [] };
+
+    ghost homes = { BFM_OP_HOMES };
+
+    ghost rows = { map (λ row. row.2) BFM_OPS };
+
+    fn table() -> (&'static [u8], &'static [Row<BfmOp>]) {
+        (&BFM_OP_HOMES, &BFM_OPS)
+    }
+
+    ghost found = { bfm_op_found };
+}
+
+/// For each remainder of a hash, the row of the name that has it.
+pub static MOVE_WIDE_OP_HOMES: [u8; 64] = [
+    0, 0, 0, 0, 0, 0, 0, 0, 0, 0, 0, 0, 0, 0, 0, 0, 0, 0, 0, 0, 0, 0, 0, 0, 0, 0, 0, 0, 1, 0, 0, 0,
+    0, 0, 0, 0, 0, 0, 0, 0, 0, 0, 0, 0, 0, 0, 0, 0, 0, 0, 0, 0, 0, 0, 0, 0, 0, 0, 0, 0, 0, 0, 0, 0,
+];
+
+/// The wide moves.
+pub static MOVE_WIDE_OPS: [Row<MoveWideOp>; 2] = [
+    (b"MovZ", &[], MoveWideOp::MovZ),
+    (b"MovN", &[], MoveWideOp::MovN),
+];
+
+impl Named for MoveWideOp {
+    ghost text = { move_wide_op_text };
+
+    ghost kinds_of = { λ _. [] };
+
+    ghost homes = { MOVE_WIDE_OP_HOMES };
+
+    ghost rows = { map (λ row. row.2) MOVE_WIDE_OPS };
+
+    fn table() -> (&'static [u8], &'static [Row<MoveWideOp>]) {
+        (&MOVE_WIDE_OP_HOMES, &MOVE_WIDE_OPS)
+    }
+
+    ghost found = { move_wide_op_found };
+}

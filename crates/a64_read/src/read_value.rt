@@ -1,0 +1,417 @@
+//! Reads a field by its kind.
+
+ghost use Rattle.a64_read.specs.ReadsParts.{ReadsPart};
+ghost use Rattle.a64_read.specs.Values.{ReadsKind};
+
+use crate::branch_name::CondBrName;
+use crate::call::read_made;
+use crate::decimal::{read_u8, read_u32, read_u64};
+use crate::emit_flag::EmitFlag;
+use crate::flags::read_flags;
+use crate::frame_field::FrameField;
+use crate::immediate::{read_imm_shift, read_imm12, read_nzcv, read_uimm5, read_uimm6};
+use crate::label::{read_label, read_target};
+use crate::list_text::read_list_text;
+use crate::map::read_map;
+use crate::mode_name::{MemLabelName, ModeName, PairModeName};
+use crate::named::read_named;
+use crate::offset::{read_i32, read_i64, read_offset9, read_pair_offset};
+use crate::register::{read_preg, read_reg};
+use crate::shift::read_shift;
+use crate::size::read_size;
+use crate::value::{Kind, Value};
+use crate::wide::read_wide;
+use a64_base::{APIKey, CallConv, Cond, ExtendOp, IrType, TestBitAndBranchKind};
+use a64_ops::{ALUOp, ALUOp3, BfmOp, BitOp, MoveWideOp};
+
+/// Reads an integer operator.
+#[tactic(auto, unfolding(crate::specs::Values::ReadsKind))]
+#[inline(always)]
+pub fn alu_op(token: &[u8]) -> Option<Value<'_>>
+    ensures { ReadsKind Kind.AluOp token.now result }
+{
+    Some(Value::AluOp(read_named::<ALUOp>(token)?))
+}
+
+/// Reads an integer operator with three operands.
+#[tactic(auto, unfolding(crate::specs::Values::ReadsKind))]
+fn alu_op3(token: &[u8]) -> Option<Value<'_>>
+    ensures { ReadsKind Kind.AluOp3 token.now result }
+{
+    Some(Value::AluOp3(read_named::<ALUOp3>(token)?))
+}
+
+/// Reads an operation on bits.
+#[tactic(auto, unfolding(crate::specs::Values::ReadsKind))]
+fn bit_op(token: &[u8]) -> Option<Value<'_>>
+    ensures { ReadsKind Kind.BitOp token.now result }
+{
+    Some(Value::BitOp(read_named::<BitOp>(token)?))
+}
+
+/// Reads a move of a bitfield.
+#[tactic(auto, unfolding(crate::specs::Values::ReadsKind))]
+fn bfm_op(token: &[u8]) -> Option<Value<'_>>
+    ensures { ReadsKind Kind.BfmOp token.now result }
+{
+    Some(Value::BfmOp(read_named::<BfmOp>(token)?))
+}
+
+/// Reads a wide move.
+#[tactic(auto, unfolding(crate::specs::Values::ReadsKind))]
+fn move_wide_op(token: &[u8]) -> Option<Value<'_>>
+    ensures { ReadsKind Kind.MoveWideOp token.now result }
+{
+    Some(Value::MoveWideOp(read_named::<MoveWideOp>(token)?))
+}
+
+/// Reads the size of operands.
+#[tactic(auto, unfolding(crate::specs::Values::ReadsKind))]
+#[inline(always)]
+pub fn size(token: &[u8]) -> Option<Value<'_>>
+    ensures { ReadsKind Kind.Size token.now result }
+{
+    Some(Value::Size(read_size(token)?))
+}
+
+/// Reads a register.
+#[tactic(auto, unfolding(crate::specs::Values::ReadsKind))]
+#[inline(always)]
+pub fn reg(token: &[u8]) -> Option<Value<'_>>
+    ensures { ReadsKind Kind.Reg token.now result }
+{
+    Some(Value::Reg(read_reg(token)?))
+}
+
+/// Reads a register of the machine.
+#[tactic(auto, unfolding(crate::specs::Values::ReadsKind))]
+fn preg(token: &[u8]) -> Option<Value<'_>>
+    ensures { ReadsKind Kind.PReg token.now result }
+{
+    Some(Value::PReg(read_preg(token)?))
+}
+
+/// Reads an immediate of 12 bits, shifted or not.
+#[tactic(auto, unfolding(crate::specs::Values::ReadsKind))]
+fn imm12(token: &[u8]) -> Option<Value<'_>>
+    ensures { ReadsKind Kind.Imm12 token.now result }
+{
+    Some(Value::Imm12(read_imm12(token)?))
+}
+
+/// Reads a halfword and its place.
+#[tactic(auto, unfolding(crate::specs::Values::ReadsKind))]
+fn wide(token: &[u8]) -> Option<Value<'_>>
+    ensures { ReadsKind Kind.Wide token.now result }
+{
+    Some(Value::Wide(read_wide(token)?))
+}
+
+/// Reads the amount of a shift.
+#[tactic(auto, unfolding(crate::specs::Values::ReadsKind))]
+fn imm_shift(token: &[u8]) -> Option<Value<'_>>
+    ensures { ReadsKind Kind.ImmShift token.now result }
+{
+    Some(Value::ImmShift(read_imm_shift(token)?))
+}
+
+/// Reads an immediate of 5 bits.
+#[tactic(auto, unfolding(crate::specs::Values::ReadsKind))]
+fn uimm5(token: &[u8]) -> Option<Value<'_>>
+    ensures { ReadsKind Kind.UImm5 token.now result }
+{
+    Some(Value::UImm5(read_uimm5(token)?))
+}
+
+/// Reads an immediate of 6 bits.
+#[tactic(auto, unfolding(crate::specs::Values::ReadsKind))]
+fn uimm6(token: &[u8]) -> Option<Value<'_>>
+    ensures { ReadsKind Kind.UImm6 token.now result }
+{
+    Some(Value::UImm6(read_uimm6(token)?))
+}
+
+/// Reads a shift and its amount.
+#[tactic(auto, unfolding(crate::specs::Values::ReadsKind))]
+fn shift(token: &[u8]) -> Option<Value<'_>>
+    ensures { ReadsKind Kind.Shift token.now result }
+{
+    Some(Value::Shift(read_shift(token)?))
+}
+
+/// Reads an extension.
+#[tactic(auto, unfolding(crate::specs::Values::ReadsKind))]
+fn extend(token: &[u8]) -> Option<Value<'_>>
+    ensures { ReadsKind Kind.Extend token.now result }
+{
+    Some(Value::Extend(read_named::<ExtendOp>(token)?))
+}
+
+/// Reads a condition.
+#[tactic(auto, unfolding(crate::specs::Values::ReadsKind))]
+fn cond(token: &[u8]) -> Option<Value<'_>>
+    ensures { ReadsKind Kind.Cond token.now result }
+{
+    Some(Value::Cond(read_named::<Cond>(token)?))
+}
+
+/// Reads the flags.
+#[tactic(auto, unfolding(crate::specs::Values::ReadsKind))]
+fn nzcv(token: &[u8]) -> Option<Value<'_>>
+    ensures { ReadsKind Kind.Nzcv token.now result }
+{
+    Some(Value::Nzcv(read_nzcv(token)?))
+}
+
+/// Reads whether something is so.
+#[tactic(auto, unfolding(crate::specs::Values::ReadsKind))]
+fn truth(token: &[u8]) -> Option<Value<'_>>
+    ensures { ReadsKind Kind.Bool token.now result }
+{
+    Some(Value::Bool(read_named::<bool>(token)?))
+}
+
+/// Reads a number below 2^8.
+#[tactic(auto, unfolding(crate::specs::Values::ReadsKind))]
+fn u8(token: &[u8]) -> Option<Value<'_>>
+    ensures { ReadsKind Kind.U8 token.now result }
+{
+    Some(Value::U8(read_u8(token)?))
+}
+
+/// Reads a number below 2^32.
+#[tactic(auto, unfolding(crate::specs::Values::ReadsKind))]
+fn u32(token: &[u8]) -> Option<Value<'_>>
+    ensures { ReadsKind Kind.U32 token.now result }
+{
+    Some(Value::U32(read_u32(token)?))
+}
+
+/// Reads a number below 2^64.
+#[tactic(auto, unfolding(crate::specs::Values::ReadsKind))]
+fn u64(token: &[u8]) -> Option<Value<'_>>
+    ensures { ReadsKind Kind.U64 token.now result }
+{
+    Some(Value::U64(read_u64(token)?))
+}
+
+/// Reads a number of 32 bits, which may be below zero.
+#[tactic(auto, unfolding(crate::specs::Values::ReadsKind))]
+fn i32(token: &[u8]) -> Option<Value<'_>>
+    ensures { ReadsKind Kind.I32 token.now result }
+{
+    Some(Value::I32(read_i32(token)?))
+}
+
+/// Reads where a branch goes.
+#[tactic(auto, unfolding(crate::specs::Values::ReadsKind))]
+#[inline(always)]
+pub fn target(token: &[u8]) -> Option<Value<'_>>
+    ensures { ReadsKind Kind.Target token.now result }
+{
+    Some(Value::Target(read_target(token)?))
+}
+
+/// Reads a label.
+#[tactic(auto, unfolding(crate::specs::Values::ReadsKind))]
+#[inline(always)]
+pub fn label(token: &[u8]) -> Option<Value<'_>>
+    ensures { ReadsKind Kind.Label token.now result }
+{
+    Some(Value::Label(read_label(token)?))
+}
+
+/// Reads the size of an area of a frame.
+#[tactic(auto, unfolding(crate::specs::Values::ReadsKind))]
+fn frame_field(token: &[u8]) -> Option<Value<'_>>
+    ensures { ReadsKind Kind.FrameField token.now result }
+{
+    Some(Value::FrameField(read_named::<FrameField>(token)?))
+}
+
+/// Reads a setting.
+#[tactic(auto, unfolding(crate::specs::Values::ReadsKind))]
+fn emit_flag(token: &[u8]) -> Option<Value<'_>>
+    ensures { ReadsKind Kind.EmitFlag token.now result }
+{
+    Some(Value::EmitFlag(read_named::<EmitFlag>(token)?))
+}
+
+/// Reads a number of 64 bits, which may be below zero.
+#[tactic(auto, unfolding(crate::specs::Values::ReadsKind))]
+fn i64(token: &[u8]) -> Option<Value<'_>>
+    ensures { ReadsKind Kind.I64 token.now result }
+{
+    Some(Value::I64(read_i64(token)?))
+}
+
+/// Reads a signed offset of 9 bits.
+#[tactic(auto, unfolding(crate::specs::Values::ReadsKind))]
+fn offset9(token: &[u8]) -> Option<Value<'_>>
+    ensures { ReadsKind Kind.Offset9 token.now result }
+{
+    Some(Value::Offset9(read_offset9(token)?))
+}
+
+/// Reads a signed offset of 7 bits in doublewords.
+#[tactic(auto, unfolding(crate::specs::Values::ReadsKind))]
+fn pair_offset(token: &[u8]) -> Option<Value<'_>>
+    ensures { ReadsKind Kind.PairOffset token.now result }
+{
+    Some(Value::PairOffset(read_pair_offset(token)?))
+}
+
+/// Reads a type.
+#[tactic(auto, unfolding(crate::specs::Values::ReadsKind))]
+fn ir_type(token: &[u8]) -> Option<Value<'_>>
+    ensures { ReadsKind Kind.Type token.now result }
+{
+    Some(Value::Type(read_named::<IrType>(token)?))
+}
+
+/// Reads the name of an address in the code.
+#[tactic(auto, unfolding(crate::specs::Values::ReadsKind))]
+fn mem_label_name(token: &[u8]) -> Option<Value<'_>>
+    ensures { ReadsKind Kind.MemLabelName token.now result }
+{
+    Some(Value::MemLabelName(read_named::<MemLabelName>(token)?))
+}
+
+/// Reads an addressing mode.
+#[tactic(auto, unfolding(crate::specs::Values::ReadsKind))]
+fn mode(token: &[u8]) -> Option<Value<'_>>
+    ensures { ReadsKind Kind.Mode token.now result }
+{
+    Some(Value::Mode(read_made::<ModeName>(token)?))
+}
+
+/// Reads an addressing mode of a pair of doublewords.
+#[tactic(auto, unfolding(crate::specs::Values::ReadsKind))]
+fn pair_mode(token: &[u8]) -> Option<Value<'_>>
+    ensures { ReadsKind Kind.PairMode token.now result }
+{
+    Some(Value::PairMode(read_made::<PairModeName>(token)?))
+}
+
+/// Reads what is known of a memory access.
+#[tactic(auto, unfolding(crate::specs::Values::ReadsKind))]
+fn flags(token: &[u8]) -> Option<Value<'_>>
+    ensures { ReadsKind Kind.Flags token.now result }
+{
+    Some(Value::Flags(read_flags(token)?))
+}
+
+/// Reads what a conditional branch tests.
+#[tactic(auto, unfolding(crate::specs::Values::ReadsKind))]
+fn cond_br_kind(token: &[u8]) -> Option<Value<'_>>
+    ensures { ReadsKind Kind.CondBrKind token.now result }
+{
+    Some(Value::CondBrKind(read_made::<CondBrName>(token)?))
+}
+
+/// Reads what a branch on one bit tests.
+#[tactic(auto, unfolding(crate::specs::Values::ReadsKind))]
+fn test_bit_kind(token: &[u8]) -> Option<Value<'_>>
+    ensures { ReadsKind Kind.TestBitAndBranchKind token.now result }
+{
+    Some(Value::TestBitAndBranchKind(read_named::<TestBitAndBranchKind>(token)?))
+}
+
+/// Reads a list as it is written.
+#[tactic(auto, unfolding(crate::specs::Values::ReadsKind))]
+fn list(token: &[u8]) -> Option<Value<'_>>
+    ensures { ReadsKind Kind.List token.now result }
+{
+    Some(Value::List(read_list_text(token)?))
+}
+
+/// Reads a calling convention.
+#[tactic(auto, unfolding(crate::specs::Values::ReadsKind))]
+fn convention(token: &[u8]) -> Option<Value<'_>>
+    ensures { ReadsKind Kind.Convention token.now result }
+{
+    Some(Value::Convention(read_named::<CallConv>(token)?))
+}
+
+/// Reads the key that authenticates a return address, where one does.
+#[tactic(auto, unfolding(crate::specs::Values::ReadsKind))]
+fn key(token: &[u8]) -> Option<Value<'_>>
+    ensures { ReadsKind Kind.Key token.now result }
+{
+    Some(Value::Key(read_named::<Option<APIKey>>(token)?))
+}
+
+/// Reads the map of the stack at a call, where there is one.
+#[tactic(auto, unfolding(crate::specs::Values::ReadsKind))]
+fn map(token: &[u8]) -> Option<Value<'_>>
+    ensures { ReadsKind Kind.Map token.now result }
+{
+    Some(Value::Map(read_map(token)?))
+}
+
+/// The field of the kind that the token is, where such a field may stand with commas between.
+pub fn read_part(kind: Kind, token: &[u8]) -> Option<Value<'_>>
+    ensures { ReadsPart kind token.now result }
+{
+    match kind {
+        Kind::Reg => reg(token),
+        Kind::Extend => extend(token),
+        Kind::U32 => u32(token),
+        Kind::I64 => i64(token),
+        Kind::Offset9 => offset9(token),
+        Kind::PairOffset => pair_offset(token),
+        Kind::Type => ir_type(token),
+        Kind::MemLabelName => mem_label_name(token),
+        Kind::Size => size(token),
+        Kind::Cond => cond(token),
+        _ => None,
+    }
+}
+
+/// The field of the kind that the token is.
+pub fn read_value(kind: Kind, token: &[u8]) -> Option<Value<'_>>
+    ensures { ReadsKind kind token.now result }
+{
+    match kind {
+        Kind::AluOp => alu_op(token),
+        Kind::AluOp3 => alu_op3(token),
+        Kind::BitOp => bit_op(token),
+        Kind::BfmOp => bfm_op(token),
+        Kind::MoveWideOp => move_wide_op(token),
+        Kind::Size => size(token),
+        Kind::Reg => reg(token),
+        Kind::PReg => preg(token),
+        Kind::Imm12 => imm12(token),
+        Kind::Wide => wide(token),
+        Kind::ImmShift => imm_shift(token),
+        Kind::UImm5 => uimm5(token),
+        Kind::UImm6 => uimm6(token),
+        Kind::Shift => shift(token),
+        Kind::Extend => extend(token),
+        Kind::Cond => cond(token),
+        Kind::Nzcv => nzcv(token),
+        Kind::Bool => truth(token),
+        Kind::U8 => u8(token),
+        Kind::U32 => u32(token),
+        Kind::U64 => u64(token),
+        Kind::I32 => i32(token),
+        Kind::Target => target(token),
+        Kind::Label => label(token),
+        Kind::FrameField => frame_field(token),
+        Kind::EmitFlag => emit_flag(token),
+        Kind::I64 => i64(token),
+        Kind::Offset9 => offset9(token),
+        Kind::PairOffset => pair_offset(token),
+        Kind::Type => ir_type(token),
+        Kind::MemLabelName => mem_label_name(token),
+        Kind::Mode => mode(token),
+        Kind::PairMode => pair_mode(token),
+        Kind::Flags => flags(token),
+        Kind::CondBrKind => cond_br_kind(token),
+        Kind::TestBitAndBranchKind => test_bit_kind(token),
+        Kind::List => list(token),
+        Kind::Convention => convention(token),
+        Kind::Key => key(token),
+        Kind::Map => map(token),
+    }
+}

@@ -1,0 +1,189 @@
+//! The fields of entries.
+
+use crate::emit_flag::EmitFlag;
+use crate::frame_field::FrameField;
+use crate::list_text::ListText;
+use crate::mode_name::MemLabelName;
+use a64_base::{
+    APIKey, BranchTarget, CallConv, Cond, CondBrKind, ExtendOp, IrType, MachLabel, MemFlagsData,
+    OperandSize, PReg, Reg, ShiftOpAndAmt, TestBitAndBranchKind, UserStackMap,
+};
+use a64_imms::{Imm12, ImmShift, MoveWideConst, NZCV, SImm7Scaled, SImm9, UImm5, UImm6};
+use a64_inst::{AMode, PairAMode};
+use a64_ops::{ALUOp, ALUOp3, BfmOp, BitOp, MoveWideOp};
+
+/// What a field is.
+#[derive(Clone, Copy)]
+pub enum Kind {
+    /// An integer operator.
+    AluOp,
+    /// An integer operator with three operands.
+    AluOp3,
+    /// An operation on bits.
+    BitOp,
+    /// A move of a bitfield.
+    BfmOp,
+    /// A wide move.
+    MoveWideOp,
+    /// The size of operands.
+    Size,
+    /// A register.
+    Reg,
+    /// A register of the machine.
+    PReg,
+    /// An immediate of 12 bits, shifted or not.
+    Imm12,
+    /// A halfword and its place.
+    Wide,
+    /// The amount of a shift.
+    ImmShift,
+    /// An immediate of 5 bits.
+    UImm5,
+    /// An immediate of 6 bits.
+    UImm6,
+    /// A shift and its amount.
+    Shift,
+    /// An extension.
+    Extend,
+    /// A condition.
+    Cond,
+    /// The flags.
+    Nzcv,
+    /// Whether something is so.
+    Bool,
+    /// A number below 2^8.
+    U8,
+    /// A number below 2^32.
+    U32,
+    /// A number below 2^64.
+    U64,
+    /// A number of 32 bits, which may be below zero.
+    I32,
+    /// Where a branch goes.
+    Target,
+    /// A label.
+    Label,
+    /// The size of an area of a frame.
+    FrameField,
+    /// A setting.
+    EmitFlag,
+    /// A number of 64 bits, which may be below zero.
+    I64,
+    /// A signed offset of 9 bits.
+    Offset9,
+    /// A signed offset of 7 bits in doublewords.
+    PairOffset,
+    /// A type.
+    Type,
+    /// The name of an address in the code.
+    MemLabelName,
+    /// An addressing mode.
+    Mode,
+    /// An addressing mode of a pair of doublewords.
+    PairMode,
+    /// What is known of a memory access.
+    Flags,
+    /// What a conditional branch tests.
+    CondBrKind,
+    /// What a branch on one bit tests.
+    TestBitAndBranchKind,
+    /// A list, which takes memory: it is read where the item is made.
+    List,
+    /// A calling convention.
+    Convention,
+    /// The key that authenticates a return address, where one does.
+    Key,
+    /// The map of the stack at a call, where there is one.
+    Map,
+}
+
+/// A field.
+#[derive(Drop)]
+pub enum Value<'t> {
+    /// An integer operator.
+    AluOp(ALUOp),
+    /// An integer operator with three operands.
+    AluOp3(ALUOp3),
+    /// An operation on bits.
+    BitOp(BitOp),
+    /// A move of a bitfield.
+    BfmOp(BfmOp),
+    /// A wide move.
+    MoveWideOp(MoveWideOp),
+    /// The size of operands.
+    Size(OperandSize),
+    /// A register.
+    Reg(Reg),
+    /// A register of the machine.
+    PReg(PReg),
+    /// An immediate of 12 bits, shifted or not.
+    Imm12(Imm12),
+    /// A halfword and its place.
+    Wide(MoveWideConst),
+    /// The amount of a shift.
+    ImmShift(ImmShift),
+    /// An immediate of 5 bits.
+    UImm5(UImm5),
+    /// An immediate of 6 bits.
+    UImm6(UImm6),
+    /// A shift and its amount.
+    Shift(ShiftOpAndAmt),
+    /// An extension.
+    Extend(ExtendOp),
+    /// A condition.
+    Cond(Cond),
+    /// The flags.
+    Nzcv(NZCV),
+    /// Whether something is so.
+    Bool(bool),
+    /// A number below 2^8.
+    U8(u8),
+    /// A number below 2^32.
+    U32(u32),
+    /// A number below 2^64.
+    U64(u64),
+    /// A number of 32 bits, which may be below zero.
+    I32(i32),
+    /// Where a branch goes.
+    Target(BranchTarget),
+    /// A label.
+    Label(MachLabel),
+    /// The size of an area of a frame.
+    FrameField(FrameField),
+    /// A setting.
+    EmitFlag(EmitFlag),
+    /// A number of 64 bits, which may be below zero.
+    I64(i64),
+    /// A signed offset of 9 bits.
+    Offset9(SImm9),
+    /// A signed offset of 7 bits in doublewords.
+    PairOffset(SImm7Scaled),
+    /// A type.
+    Type(IrType),
+    /// The name of an address in the code.
+    MemLabelName(MemLabelName),
+    /// An addressing mode.
+    Mode(AMode),
+    /// An addressing mode of a pair of doublewords.
+    PairMode(PairAMode),
+    /// What is known of a memory access.
+    Flags(MemFlagsData),
+    /// What a conditional branch tests.
+    CondBrKind(CondBrKind),
+    /// What a branch on one bit tests.
+    TestBitAndBranchKind(TestBitAndBranchKind),
+    /// A list, as it is written.
+    List(ListText<'t>),
+    /// A calling convention.
+    Convention(CallConv),
+    /// The key that authenticates a return address, where one does.
+    Key(Option<APIKey>),
+    /// The map of the stack at a call, where there is one.
+    Map(Option<UserStackMap>),
+}
+
+impl<'t> Default for Value<'t> {
+    fn default() -> Value<'t> {
+        Value::U64(0)
+    }
+}

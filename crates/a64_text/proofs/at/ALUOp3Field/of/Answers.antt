@@ -1,5 +1,0 @@
-use Rattle.a64_text.proofs.OtherKinds.{alu_op3_else}
-use Rattle.a64_text.proofs.at.ALUOp3Field.of.Goals as goal
-
-pub returns-in_default : goal.returns-in_default
-returns-in_default c = alu_op3_else c.args.value.now c.in_default.not-AluOp3

@@ -1,5 +1,0 @@
-use Rattle.a64_text.proofs.OtherKinds.{bfm_op_else}
-use Rattle.a64_text.proofs.at.BfmOpField.of.Goals as goal
-
-pub returns-in_default : goal.returns-in_default
-returns-in_default c = bfm_op_else c.args.value.now c.in_default.not-BfmOp

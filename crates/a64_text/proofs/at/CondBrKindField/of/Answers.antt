@@ -1,5 +1,0 @@
-use Rattle.a64_text.proofs.OtherKinds.{cond_br_kind_else}
-use Rattle.a64_text.proofs.at.CondBrKindField.of.Goals as goal
-
-pub returns-in_default : goal.returns-in_default
-returns-in_default c = cond_br_kind_else c.args.value.now c.in_default.not-CondBrKind
