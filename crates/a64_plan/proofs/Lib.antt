@@ -1,4 +1,5 @@
 pub mod Bound
 pub mod Counts
+pub mod Kept
 pub mod Moves
 pub mod Shortest

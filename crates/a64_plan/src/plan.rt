@@ -3,7 +3,8 @@
 ghost use Rattle.std.specs.Prelude.{◌≡◌, ◌<◌, ◌≤◌, length, [], ◌∷◌};
 ghost use Rattle.a64_imms.specs.MoveWides.{halfword};
 ghost use Rattle.a64_plan.specs.Shapes.{halfword_count, IsShape, Leave, NoneFewer};
-ghost use Rattle.a64_plan.specs.Plans.{count, given, places, takes_movn, move_at, moves_at, moves_of, moves_size, plan_of};
+ghost use Rattle.a64_plan.specs.Plans.{count, given, places, takes_movn, move_at, moves_at, moves_of, moves_size};
+ghost use Rattle.a64_plan.specs.Plans.{has_two_moves, narrow_logic_of, plan_of, plan_without_narrow};
 
 use crate::step::ConstStep;
 use a64_base::{IrType, OperandSize};
@@ -103,6 +104,29 @@ fn alone(step: ConstStep) -> ArrayVec<ConstStep, 4>
     steps
 }
 
+/// Whether the moves of a value are two of 32 bits: its upper half is zero, and of the two other
+/// halfwords a first move gives neither.
+fn has_two_moves(value: u64) -> bool
+    ensures { result ≡ has_two_moves value }
+{
+    if value >= 1 << 32 {
+        return false;
+    }
+    count_of(0, value, OperandSize::Size32) == 0
+        && count_of(u16::MAX, value, OperandSize::Size32) == 0
+}
+
+/// The immediate of an `orr` of 32 bits in the place of two moves.
+fn narrow_logic(value: u64) -> Option<ImmLogic>
+    ensures { result ≡ narrow_logic_of value }
+{
+    if has_two_moves(value) {
+        ImmLogic::maybe_from_u64(value, IrType::I32)
+    } else {
+        None
+    }
+}
+
 /// The plan of a value, as its definition has it.
 #[tactic(auto, unfolding(crate::specs::Plans::plan_of))]
 fn plan(value: u64) -> ArrayVec<ConstStep, 4>
@@ -114,6 +138,8 @@ fn plan(value: u64) -> ArrayVec<ConstStep, 4>
         alone(ConstStep::MovN(imm, OperandSize::Size64))
     } else if let Some(imm) = ImmLogic::maybe_from_u64(value, IrType::I64) {
         alone(ConstStep::Orr(imm))
+    } else if let Some(imm) = narrow_logic(value) {
+        alone(ConstStep::Orr(imm))
     } else {
         moves(value)
     }
@@ -122,13 +148,17 @@ fn plan(value: u64) -> ArrayVec<ConstStep, 4>
 /// The shortest steps that leave a value in a register. They take no memory.
 ///
 /// One `movz`, `movn` or `orr` of 64 bits where it can, and else a `movz` or `movn` with a `movk`
-/// for each further halfword, at 32 bits where the upper half of the value is zero.
+/// for each further halfword, at 32 bits where the upper half of the value is zero. Two moves of
+/// 32 bits are one `orr` of 32 bits where there is one.
 pub fn const_plan(value: u64) -> ArrayVec<ConstStep, 4>
     ensures shape { IsShape result.items }
     ensures value { Leave result.items value }
     ensures least { NoneFewer (length result.items) value }
     ensures few { length result.items ≤ 4 }
     ensures plan { result.items ≡ plan_of value }
+    // An `orr` of 32 bits is taken only where it is shorter.
+    ensures kept { length (plan_without_narrow value) ≡ 1
+        → result.items ≡ plan_without_narrow value }
 {
     plan(value)
 }
