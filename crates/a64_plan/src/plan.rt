@@ -4,7 +4,7 @@ ghost use Rattle.std.specs.Prelude.{◌≡◌, ◌<◌, ◌≤◌, length, [], �
 ghost use Rattle.a64_imms.specs.MoveWides.{halfword};
 ghost use Rattle.a64_plan.specs.Shapes.{halfword_count, IsShape, Leave, NoneFewer};
 ghost use Rattle.a64_plan.specs.Plans.{count, given, places, takes_movn, move_at, moves_at, moves_of, moves_size};
-ghost use Rattle.a64_plan.specs.Plans.{has_two_moves, narrow_logic_of, plan_of, plan_without_narrow};
+ghost use Rattle.a64_plan.specs.Plans.{alone_or, has_two_moves, narrow_logic_of, plan_of, plan_without_narrow};
 
 use crate::step::ConstStep;
 use a64_base::{IrType, OperandSize};
@@ -59,12 +59,19 @@ fn move_giving(is_first: bool, size: OperandSize, negated: bool, value: u64, shi
     }
 }
 
-/// The moves that give a value at a size, the first one a `movn` or else a `movz`.
-fn moves_beginning(negated: bool, size: OperandSize, value: u64) -> ArrayVec<ConstStep, 4>
-    ensures { result.items ≡ moves_at size negated value (places negated value (halfword_count size)) }
+/// Makes of no steps the moves that give a value at a size, the first one a `movn` or else a
+/// `movz`.
+fn push_moves_beginning(
+    steps: &mut ArrayVec<ConstStep, 4>,
+    negated: bool,
+    size: OperandSize,
+    value: u64,
+)
+    requires { steps.old.items ≡ [] }
+    ensures { steps.new.items
+        ≡ moves_at size negated value (places negated value (halfword_count size)) }
 {
     let given = given_by(negated);
-    let mut steps = ArrayVec::new();
     for shift in 0..halfwords_of(size) {
         if halfword_of(value, shift) == given {
             continue;
@@ -72,7 +79,6 @@ fn moves_beginning(negated: bool, size: OperandSize, value: u64) -> ArrayVec<Con
         let is_first = steps.is_empty();
         steps.push(move_giving(is_first, size, negated, value, shift));
     }
-    steps
 }
 
 /// Whether the moves of a value at a size begin with a `movn`.
@@ -82,26 +88,19 @@ fn begins_negated(size: OperandSize, value: u64) -> bool
     count_of(u16::MAX, value, size) > count_of(0, value, size)
 }
 
-/// The moves that give a value.
+/// Makes of no steps the moves that give a value.
+#[inline(never)]
 #[tactic(auto, unfolding(crate::specs::Plans::moves_of))]
-fn moves(value: u64) -> ArrayVec<ConstStep, 4>
-    ensures { result.items ≡ moves_of (moves_size value) value }
+fn push_moves(steps: &mut ArrayVec<ConstStep, 4>, value: u64)
+    requires { steps.old.items ≡ [] }
+    ensures { steps.new.items ≡ moves_of (moves_size value) value }
 {
     let size = if value < 1 << 32 {
         OperandSize::Size32
     } else {
         OperandSize::Size64
     };
-    moves_beginning(begins_negated(size, value), size, value)
-}
-
-/// A plan of one step.
-fn alone(step: ConstStep) -> ArrayVec<ConstStep, 4>
-    ensures { result.items ≡ step ∷ [] }
-{
-    let mut steps = ArrayVec::new();
-    steps.push(step);
-    steps
+    push_moves_beginning(steps, begins_negated(size, value), size, value);
 }
 
 /// Whether the moves of a value are two of 32 bits: its upper half is zero, and of the two other
@@ -127,22 +126,35 @@ fn narrow_logic(value: u64) -> Option<ImmLogic>
     }
 }
 
-/// The plan of a value, as its definition has it.
+/// The step of a value that does alone, where its plan is not moves: it is of 64 bits, or one
+/// `orr` of 32 bits in the place of two moves.
 #[tactic(auto, unfolding(crate::specs::Plans::plan_of))]
+fn lone_step(value: u64) -> Option<ConstStep>
+    ensures { plan_of value ≡ alone_or result (moves_of (moves_size value) value) }
+{
+    if let Some(imm) = MoveWideConst::maybe_from_u64(value) {
+        Some(ConstStep::MovZ(imm, OperandSize::Size64))
+    } else if let Some(imm) = MoveWideConst::maybe_from_u64(!value) {
+        Some(ConstStep::MovN(imm, OperandSize::Size64))
+    } else if let Some(imm) = ImmLogic::maybe_from_u64(value, IrType::I64) {
+        Some(ConstStep::Orr(imm))
+    } else if let Some(imm) = narrow_logic(value) {
+        Some(ConstStep::Orr(imm))
+    } else {
+        None
+    }
+}
+
+/// The plan of a value, as its definition has it.
 fn plan(value: u64) -> ArrayVec<ConstStep, 4>
     ensures { result.items ≡ plan_of value }
 {
-    if let Some(imm) = MoveWideConst::maybe_from_u64(value) {
-        alone(ConstStep::MovZ(imm, OperandSize::Size64))
-    } else if let Some(imm) = MoveWideConst::maybe_from_u64(!value) {
-        alone(ConstStep::MovN(imm, OperandSize::Size64))
-    } else if let Some(imm) = ImmLogic::maybe_from_u64(value, IrType::I64) {
-        alone(ConstStep::Orr(imm))
-    } else if let Some(imm) = narrow_logic(value) {
-        alone(ConstStep::Orr(imm))
-    } else {
-        moves(value)
+    let mut steps = ArrayVec::new();
+    match lone_step(value) {
+        Some(step) => steps.push(step),
+        None => push_moves(&mut steps, value),
     }
+    steps
 }
 
 /// The shortest steps that leave a value in a register. They take no memory.
