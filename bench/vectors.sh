@@ -2,7 +2,7 @@
 # Holds the program against vectors: single lines with the words, or the refusal, that they must give.
 # Usage: bench/vectors.sh FOLDER
 # FOLDER has words.tsv and refusals.tsv. A row is a number, a line of a file, and the words of its code in hex, or the line on
-# standard error. Words behind " | " are those of a form that does not exist yet. Rows of instructions that do not exist are left out.
+# standard error. Where " | " stands between words, those behind it hold. Rows of instructions that do not exist are left out.
 set -eu
 cd "$(dirname "$0")/.."
 folder=$(cd "$OLDPWD" && cd "${1:?a folder of vectors}" && pwd)
@@ -18,7 +18,7 @@ def rows(name):
     for row in open(f"{folder}/{name}"):
         _, line, answer = row.rstrip("\n").split("\t")
         if line.split(" ")[0] in names:
-            yield line, answer.split(" | ")[0]
+            yield line, answer.split(" | ")[-1]
 
 def run(line):
     return subprocess.run(["crates/a64_cli/out/a64_cli"], input=line.encode(), capture_output=True)

@@ -74,9 +74,9 @@ module _ (rd : Reg) where
   shape_forms (steps.MovN imm size ∷ rest) (is, are) =
       All-cons IsFormOf (step_form rd (steps.MovN imm size)) (step_forms rd rest) (mov_wide_within wide.MovN rd imm size is) (movks_are_forms size rest are)
   shape_forms (steps.MovK imm size ∷ rest) is = elim is [ ]
-  shape_forms (steps.Orr imm ∷ []) (size, is, e) =
+  shape_forms (steps.Orr imm ∷ []) (is, e) =
       All-cons IsFormOf (step_form rd (steps.Orr imm)) [] (orr_is_form rd (integer_register 31) imm is) (All-nil IsFormOf)
-  shape_forms (steps.Orr imm ∷ step ∷ rest) (size, is, e) = absurd cc
+  shape_forms (steps.Orr imm ∷ step ∷ rest) (is, e) = absurd cc
 
   -- of any constant
   pub plan_forms : (value : ℕ) → value < 2 ^ 64 → All IsFormOf (step_forms rd (plan_of value))

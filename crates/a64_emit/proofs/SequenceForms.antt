@@ -17,7 +17,7 @@ use Rattle.a64_imms.specs.MoveWides.{wide_of}
 use Rattle.a64_imms.proofs.Found.{wide_holds}
 use Rattle.a64_plan.specs.declared.step.ConstStep.{ConstStep}
 use Rattle.a64_plan.specs.declared.step.ConstStep.TheVariants.{MovZ, MovN, Orr}
-use Rattle.a64_plan.specs.Plans.{alone_or, moves_size, moves_of, plan_of}
+use Rattle.a64_plan.specs.Plans.{alone_or, moves_size, moves_of, narrow_logic_of, plan_of}
 use Rattle.a64_plan.specs.Shapes.{IsShape}
 use Rattle.a64_plan.proofs.Shortest.{plan_shortest}
 use Rattle.a64_inst.specs.declared.emission.EmitFlags.{EmitFlags}
@@ -48,7 +48,7 @@ unfolding plan_of wide_of
 large_shape value high = go (wide_of value) refl
   where
     others : List ConstStep
-    others = alone_or (option_map Orr (logic_of Size64 value)) (moves_of (moves_size value) value)
+    others = alone_or (option_map Orr (logic_of Size64 value)) (alone_or (option_map Orr (narrow_logic_of value)) (moves_of (moves_size value) value))
 
     negated : IsShape (alone_or (option_map (λ imm. MovN imm Size64) (wide_of (2 ^ 64 - 1 - value))) others)
     negated =

@@ -120,8 +120,8 @@ module _ (frame : FrameLayout) (flags : EmitFlags) (constants : FinMap nat_cmp (
   shape_good (steps.MovZ imm size ∷ rest) (is, are) = one_more (steps.MovZ imm size) rest (movz_good size imm is) (movks_good size rest are)
   shape_good (steps.MovN imm size ∷ rest) (is, are) = one_more (steps.MovN imm size) rest (movn_good size imm is) (movks_good size rest are)
   shape_good (steps.MovK imm size ∷ rest) is = elim is [ ]
-  shape_good (steps.Orr imm ∷ []) (wide, is, e) = one_more (steps.Orr imm) [] (orr_good imm is) (movks_good Size64 [] tt)
-  shape_good (steps.Orr imm ∷ step ∷ rest) (wide, is, e) = absurd cc
+  shape_good (steps.Orr imm ∷ []) (is, e) = one_more (steps.Orr imm) [] (orr_good imm is) (movks_good Size64 [] tt)
+  shape_good (steps.Orr imm ∷ step ∷ rest) (is, e) = absurd cc
 
 pub steps_good : (rd : Reg) (all : List ConstStep) → is_register Refused rd ≡ true → IsShape all → HaveNoFault (map (step_into rd) all)
 steps_good rd all numbered is = λ frame flags constants virtuals. shape_good frame flags constants virtuals rd numbered all is

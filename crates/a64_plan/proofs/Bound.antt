@@ -1,5 +1,5 @@
 -- What steps of a shape can leave: the lower bound of their number.
-use Rattle.std.proofs.Common.{◌≡◌, ℕ, ◌+◌, ◌-◌, ◌*◌, ◌^◌, ◌<◌, ◌≤◌, ◌⊎◌, inl, inr, List, [], ◌∷◌, length, sym, ap, subst, ◌∙◌, arith}
+use Rattle.std.proofs.Common.{◌≡◌, ℕ, ◌+◌, ◌-◌, ◌*◌, ◌^◌, ◌<◌, ◌≤◌, ◌⊎◌, inl, inr, List, [], ◌∷◌, length, sym, subst, ◌∙◌, arith}
 use Rattle.std.specs.Prelude.{nat_eq}
 use Rattle.std.specs.List.{AllByRecursion}
 use Rattle.std.proofs.lemmas.Bool.{and_parts, eqb-true}
@@ -88,7 +88,7 @@ pub record IsFew (many : ℕ) (size : OperandSize) (value : ℕ) : Type 0 where
 
 -- what a step that is no move can leave
 abbrev pub IsAlone : ℕ → Type 0
-IsAlone value = IsLogicValue Size64 value
+IsAlone value = IsLogicValue Size64 value ⊎ ((value < 2 ^ 32) × IsLogicValue Size32 value)
 
 -- the fields of an immediate tell the number that is seen
 pub orr_number : (imm : ImmLogic) → IsImmLogic imm → number (run_in imm) ≡ seen imm.size (logic_value imm)
@@ -97,12 +97,18 @@ orr_number imm is =
     let (run, same) = and_parts (is_run (run_in imm)) (nat_eq (number (run_in imm)) (seen imm.size (logic_value imm))) (passes imm is) in
     eqb-true (number (run_in imm)) (seen imm.size (logic_value imm)) same
 
-orr_leaves : (imm : ImmLogic) → imm.size ≡ Size64 → IsImmLogic imm → IsAlone (cut imm.size (number (run_in imm)))
-orr_leaves imm wide is =
-    let fits = (is_built is.run is.is_run).fits in
-    let same : number (run_in imm) ≡ number is.run = orr_number imm is ∙ sym is.number_is in
-    let whole : cut Size64 (number (run_in imm)) ≡ number (run_in imm) = omega arith in
-    (is.run, is.is_run, sym (ap (λ z. cut z (number (run_in imm))) wide ∙ whole ∙ same))
+orr_leaves : (imm : ImmLogic) → IsImmLogic imm → IsAlone (cut imm.size (number (run_in imm)))
+orr_leaves imm is = at imm.size (is.number_is, orr_number imm is)
+  where
+    at : (size : OperandSize) → (number is.run ≡ seen size imm.value) × (number (run_in imm) ≡ seen size imm.value)
+        → IsAlone (cut size (number (run_in imm)))
+    at Size32 (e, same) =
+        let low : seen Size32 (cut Size32 (number (run_in imm))) ≡ seen Size32 imm.value = omega arith in
+        inr (cut_fits Size32 (number (run_in imm)), (is.run, is.is_run, e ∙ sym low))
+    at Size64 (e, same) =
+        let fits = (is_built is.run is.is_run).fits in
+        let whole : cut Size64 (number (run_in imm)) ≡ imm.value = omega arith in
+        inl (is.run, is.is_run, e ∙ sym whole)
 
 pub shape_leaves : (steps : List ConstStep) (old : ℕ) → IsShape steps
     → IsAlone (after_all steps old) ⊎ ((size : OperandSize) × IsFew (length steps) size (after_all steps old))
@@ -122,8 +128,8 @@ shape_leaves (MovN imm size ∷ steps) old (is, all) = inr (
   },
 )
 shape_leaves (MovK imm size ∷ steps) old is = elim is [ ]
-shape_leaves (Orr imm ∷ []) old (wide, is, e) = inl (orr_leaves imm wide is)
-shape_leaves (Orr imm ∷ step ∷ steps) old (wide, is, e) = absurd cc
+shape_leaves (Orr imm ∷ []) old (is, e) = inl (orr_leaves imm is)
+shape_leaves (Orr imm ∷ step ∷ steps) old (is, e) = absurd cc
 
 -- ---- the plan's moves
 

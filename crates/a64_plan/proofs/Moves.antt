@@ -1,7 +1,7 @@
 -- The moves of a plan leave the value, and how many they are.
-use Rattle.std.proofs.Common.{◌≡◌, ◌≢◌, ℕ, zero, suc, ◌+◌, ◌-◌, ◌*◌, ◌%◌, ◌^◌, ◌<◌, ◌≤◌, Bool, true, false, if◌then◌else◌, nat_eq, List, [], ◌∷◌, ◌++◌, length, map, refl, sym, ap, subst, ◌∙◌, arith, add-one}
+use Rattle.std.proofs.Common.{◌≡◌, ◌≢◌, ℕ, zero, suc, ◌+◌, ◌-◌, ◌*◌, ◌%◌, ◌^◌, ◌<◌, ◌≤◌, Bool, true, false, if◌then◌else◌, ◌&&◌, nat_eq, List, [], ◌∷◌, ◌++◌, length, map, refl, sym, ap, subst, ◌∙◌, arith, add-one}
 use Rattle.std.specs.List.{AllByRecursion}
-use Rattle.std.proofs.lemmas.Bool.{ltb-true, ltb-false, eqb-true, eq-eqb, ne_eqb}
+use Rattle.std.proofs.lemmas.Bool.{lt-ltb, ltb-true, ltb-false, eqb-true, eqb-false, eq-eqb, ne_eqb}
 use Rattle.std.proofs.lemmas.List.{map_push, length-map}
 use Rattle.a64_base.specs.declared.size.OperandSize.{OperandSize}
 use Rattle.a64_base.specs.declared.size.OperandSize.TheVariants.{Size32, Size64}
@@ -10,7 +10,7 @@ use Rattle.a64_imms.specs.MoveWides.{halfword}
 use Rattle.a64_plan.specs.declared.step.ConstStep.{ConstStep}
 use Rattle.a64_plan.specs.Machine.{after, after_all}
 use Rattle.a64_plan.specs.Shapes.{halfword_count, IsMovK, IsShape, Leave}
-use Rattle.a64_plan.specs.Plans.{count, given, places, takes_movn, first_move, next_move, move_at, moves_at, moves_of}
+use Rattle.a64_plan.specs.Plans.{count, given, places, takes_movn, first_move, next_move, move_at, moves_at, moves_of, has_two_moves}
 use Rattle.a64_plan.proofs.Counts.{at_each, written, places_count}
 
 -- ---- what the register holds on the way
@@ -161,6 +161,27 @@ moves_few size value = at (takes_movn size value) refl
         let e = length_at size false value (places false value (halfword_count size)) in
         let all = places_count false value (halfword_count size) in
         (omega arith, omega arith)
+
+all_moves : (value : ℕ) → count 0 value 2 ≡ 0 → count (2 ^ 16 - 1) value 2 ≡ 0 → length (moves_of Size32 value) ≡ 2
+unfolding moves_of
+all_moves value zeros ones = at (takes_movn Size32 value)
+  where
+    at : (negated : Bool) → length (moves_at Size32 negated value (places negated value 2)) ≡ 2
+    at true = length_at Size32 true value (places true value 2) ∙ omega (arith, places_count true value 2)
+    at false = length_at Size32 false value (places false value 2) ∙ omega (arith, places_count false value 2)
+
+-- moves are two at 32 bits where the first one gives neither halfword
+pub two_moves : (value : ℕ) → value < 2 ^ 32 → has_two_moves value ≡ (nat_eq (count 0 value 2) 0 && nat_eq (count (2 ^ 16 - 1) value 2) 0)
+two_moves value low =
+    ap (λ b. b && nat_eq (length (moves_of Size32 value)) 2) (lt-ltb value (2 ^ 32) low)
+    ∙ at (nat_eq (count 0 value 2) 0) refl (nat_eq (count (2 ^ 16 - 1) value 2) 0) refl (moves_few Size32 value)
+  where
+    at : (no_zeros : Bool) → nat_eq (count 0 value 2) 0 ≡ no_zeros → (no_ones : Bool) → nat_eq (count (2 ^ 16 - 1) value 2) 0 ≡ no_ones
+        → AreFew Size32 value 0 (length (moves_of Size32 value)) × AreFew Size32 value (2 ^ 16 - 1) (length (moves_of Size32 value))
+        → nat_eq (length (moves_of Size32 value)) 2 ≡ (no_zeros && no_ones)
+    at true zeros true ones few = eq-eqb (length (moves_of Size32 value)) 2 (all_moves value (eqb-true _ _ zeros) (eqb-true _ _ ones))
+    at true zeros false ones few = let some = eqb-false (count (2 ^ 16 - 1) value 2) 0 ones in ne_eqb (length (moves_of Size32 value)) 2 (λ two. absurd (omega arith))
+    at false zeros no_ones ones few = let some = eqb-false (count 0 value 2) 0 zeros in ne_eqb (length (moves_of Size32 value)) 2 (λ two. absurd (omega arith))
 
 -- ---- one more halfword
 

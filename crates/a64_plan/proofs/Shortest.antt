@@ -1,7 +1,7 @@
 -- The plan of a value is shortest.
-use Rattle.std.proofs.Common.{◌≡◌, ◌≢◌, ℕ, ◌-◌, ◌^◌, ◌<◌, ◌≤◌, inl, inr, if◌then◌else◌, Bool, Option, None, Some, List, [], ◌∷◌, length, refl, sym, ap, subst, ◌∙◌, arith}
+use Rattle.std.proofs.Common.{◌≡◌, ◌≢◌, ℕ, ◌-◌, ◌^◌, ◌<◌, ◌≤◌, ◌⊎◌, inl, inr, ◌&&◌, nat_eq, nat_lt, if◌then◌else◌, Bool, true, false, Option, None, Some, List, [], ◌∷◌, length, refl, sym, ap, ap₂, subst, ◌∙◌, arith}
 use Rattle.std.specs.Prelude.{option_map}
-use Rattle.std.proofs.lemmas.Bool.{cases_lt, lt-ltb, le-ltb}
+use Rattle.std.proofs.lemmas.Bool.{cases_lt, lt-ltb, le-ltb, ltb-true, eqb-false}
 use Rattle.a64_base.specs.declared.size.OperandSize.{OperandSize}
 use Rattle.a64_base.specs.declared.size.OperandSize.TheVariants.{Size32, Size64}
 use Rattle.a64_imms.specs.declared.imm_logic.ImmLogic.{ImmLogic}
@@ -10,13 +10,14 @@ use Rattle.a64_imms.specs.declared.run.Run.{Run}
 use Rattle.a64_imms.specs.declared.run.Period.TheVariants.{SixtyFour}
 use Rattle.a64_imms.specs.MoveWides.{wide_of}
 use Rattle.a64_imms.specs.Runs.{number, run_of}
-use Rattle.a64_imms.specs.Logic.{seen, IsImmLogic, logic_with, logic_of, run_in}
+use Rattle.a64_base.specs.OperandSizes.{operand_bits}
+use Rattle.a64_imms.specs.Logic.{seen, IsLogicValue, IsImmLogic, logic_with, logic_of}
 use Rattle.a64_imms.proofs.Found.{wide_holds, wide_named, run_holds, run_none}
 use Rattle.a64_plan.specs.declared.step.ConstStep.{ConstStep}
 use Rattle.a64_plan.specs.declared.step.ConstStep.TheVariants.{MovZ, MovN, Orr}
 use Rattle.a64_plan.specs.Machine.{cut}
 use Rattle.a64_plan.specs.Shapes.{halfword_count, IsShape, Leave, NoneFewer}
-use Rattle.a64_plan.specs.Plans.{moves_of, moves_size, alone_or, plan_of}
+use Rattle.a64_plan.specs.Plans.{moves_of, moves_size, alone_or, narrow_logic_of, plan_of}
 use Rattle.a64_plan.proofs.Moves.{moves_right, moves_few}
 use Rattle.a64_plan.proofs.Bound.{IsAlone, orr_number, low_least, high_least}
 
@@ -78,13 +79,26 @@ logic_lawful size value imm e = at (run_of (seen size value)) refl e
           refl,
         )
 
-orr_right : (value : ℕ) → value < 2 ^ 64 → (imm : ImmLogic) → logic_of Size64 value ≡ Some imm
+-- what is seen of a value of a size leaves it
+seen_leaves : (size : OperandSize) (value : ℕ) → value < 2 ^ operand_bits size → cut size (seen size value) ≡ value
+seen_leaves Size32 value fits = omega arith
+seen_leaves Size64 value fits = omega arith
+
+orr_right : (size : OperandSize) (value : ℕ) → value < 2 ^ operand_bits size → (imm : ImmLogic) → logic_of size value ≡ Some imm
     → IsShape (Orr imm ∷ []) × Leave (Orr imm ∷ []) value
-orr_right value fits imm e =
-    let (is, value_is, wide) = logic_lawful Size64 value imm e in
-    let same : number (run_in imm) ≡ value = orr_number imm is ∙ ap (λ z. seen z imm.value) wide ∙ value_is in
-    let whole : cut Size64 (number (run_in imm)) ≡ value = omega arith in
-    ((wide, is, refl), λ old. ap (λ z. cut z (number (run_in imm))) wide ∙ whole)
+orr_right size value fits imm e =
+    let (is, value_is, size_is) = logic_lawful size value imm e in
+    ((is, refl), λ old. ap₂ cut size_is (orr_number imm is ∙ ap₂ seen size_is value_is) ∙ seen_leaves size value fits)
+
+-- an orr of 32 bits in the place of two moves
+narrow_right : (value : ℕ) (imm : ImmLogic) → narrow_logic_of value ≡ Some imm → IsShape (Orr imm ∷ []) × Leave (Orr imm ∷ []) value
+narrow_right value imm e = at (nat_lt value (2 ^ 32)) refl (nat_eq (length (moves_of Size32 value)) 2) e
+  where
+    at : (low : Bool) → nat_lt value (2 ^ 32) ≡ low → (two : Bool) → (if low && two then logic_of Size32 value else None) ≡ Some imm
+        → IsShape (Orr imm ∷ []) × Leave (Orr imm ∷ []) value
+    at true is true e = orr_right Size32 value (ltb-true value (2 ^ 32) is) imm e
+    at true is false e = absurd cc
+    at false is two e = absurd cc
 
 -- ---- moves
 
@@ -101,43 +115,65 @@ not_zero value none e =
     (record { lawful = record { bits_fit = omega arith; shift_fits = omega arith }; value_is = sym e; lowest = λ zero. refl }) in
     absurd cc
 
-none_logic : (value : ℕ) → logic_of Size64 value ≡ None → ¬ IsAlone value
-none_logic value e (run, is, number_is) = run_none value (at (run_of value) refl e) run is number_is
+none_logic : (size : OperandSize) (value : ℕ) → logic_of size value ≡ None → ¬ IsLogicValue size value
+none_logic size value e (run, is, number_is) = run_none (seen size value) (at (run_of (seen size value)) refl e) run is number_is
   where
-    at : (named : Option Run) → run_of value ≡ named → option_map (logic_with Size64 value) named ≡ None → run_of value ≡ None
+    at : (named : Option Run) → run_of (seen size value) ≡ named → option_map (logic_with size value) named ≡ None → run_of (seen size value) ≡ None
     at None is e = is
     at (Some run) is e = absurd cc
 
 -- 32 ones are a run of 64 bits
-low_ones : IsAlone (2 ^ 32 - 1)
+low_ones : IsLogicValue Size64 (2 ^ 32 - 1)
 unfolding number
 low_ones = (record { period = SixtyFour; ones = 32; turn = 0 }, record { some = omega arith; part = omega arith; turned = omega arith }, refl)
 
-low_shortest : (value : ℕ) → value < 2 ^ 32 → value ≢ 0 → ¬ IsAlone value → IsShortest value (moves_of Size32 value)
-low_shortest value low some apart =
-    let right = moves_right Size32 value low some (λ e. apart (subst IsAlone (sym e) low_ones)) in
-    record { shape = right.shape; leave = right.leave; least = low_least value apart; few = moves_within Size32 value }
+pub narrow_low : (value : ℕ) → value < 2 ^ 32 → narrow_logic_of value ≡ (if nat_eq (length (moves_of Size32 value)) 2 then logic_of Size32 value else None)
+narrow_low value low = ap (λ (b : Bool). if b && nat_eq (length (moves_of Size32 value)) 2 then logic_of Size32 value else None) (lt-ltb value (2 ^ 32) low)
 
-high_shortest : (value : ℕ) → value < 2 ^ 64 → 2 ^ 32 ≤ value → value ≢ 2 ^ 64 - 1 → ¬ IsAlone value → IsShortest value (moves_of Size64 value)
-high_shortest value fits high part apart =
+-- moves at 32 bits are other than two, or there is no orr of 32 bits in their place
+abbrev HasNoNarrow : ℕ → Type 0
+HasNoNarrow value = (length (moves_of Size32 value) ≢ 2) ⊎ (logic_of Size32 value ≡ None)
+
+no_narrow : (value : ℕ) → value < 2 ^ 32 → narrow_logic_of value ≡ None → HasNoNarrow value
+no_narrow value low none = at (nat_eq (length (moves_of Size32 value)) 2) refl (sym (narrow_low value low) ∙ none)
+  where
+    at : (two : Bool) → nat_eq (length (moves_of Size32 value)) 2 ≡ two → (if two then logic_of Size32 value else None) ≡ None → HasNoNarrow value
+    at true is none = inr none
+    at false is none = inl (eqb-false (length (moves_of Size32 value)) 2 is)
+
+low_fewest : (value : ℕ) → ¬ IsLogicValue Size64 value → HasNoNarrow value → NoneFewer (length (moves_of Size32 value)) value
+low_fewest value wide (inl other) steps old is e =
+    let (zeros, ones) = moves_few Size32 value in
+    let some = some_steps steps is in
+    omega arith
+low_fewest value wide (inr none) steps old is e = low_least value (λ alone. elim alone [ inl is ↦ wide is | inr is ↦ none_logic Size32 value none is.1 ]) steps old is e
+
+low_shortest : (value : ℕ) → value < 2 ^ 32 → value ≢ 0 → ¬ IsLogicValue Size64 value → HasNoNarrow value → IsShortest value (moves_of Size32 value)
+low_shortest value low some wide narrow =
+    let right = moves_right Size32 value low some (λ e. wide (subst (IsLogicValue Size64) (sym e) low_ones)) in
+    record { shape = right.shape; leave = right.leave; least = low_fewest value wide narrow; few = moves_within Size32 value }
+
+high_shortest : (value : ℕ) → value < 2 ^ 64 → 2 ^ 32 ≤ value → value ≢ 2 ^ 64 - 1 → ¬ IsLogicValue Size64 value → IsShortest value (moves_of Size64 value)
+high_shortest value fits high part wide =
     let right = moves_right Size64 value fits (λ e. omega arith) part in
+    let apart : ¬ IsAlone value = λ alone. elim alone [ inl is ↦ wide is | inr is ↦ (let low = is.0 in omega arith) ] in
     record { shape = right.shape; leave = right.leave; least = high_least value high apart; few = moves_within Size64 value }
 
-size_low : (value : ℕ) → value < 2 ^ 32 → moves_size value ≡ Size32
+pub size_low : (value : ℕ) → value < 2 ^ 32 → moves_size value ≡ Size32
 size_low value low = ap (λ (b : Bool). if b then Size32 else Size64) (lt-ltb value (2 ^ 32) low)
 
 size_high : (value : ℕ) → 2 ^ 32 ≤ value → moves_size value ≡ Size64
 size_high value high = ap (λ (b : Bool). if b then Size32 else Size64) (le-ltb value (2 ^ 32) high)
 
 moves_shortest : (value : ℕ) → value < 2 ^ 64 → wide_of value ≡ None → wide_of (2 ^ 64 - 1 - value) ≡ None → logic_of Size64 value ≡ None
-    → IsShortest value (moves_of (moves_size value) value)
-moves_shortest value fits wide negated logic = elim (cases_lt value (2 ^ 32)) [
+    → narrow_logic_of value ≡ None → IsShortest value (moves_of (moves_size value) value)
+moves_shortest value fits wide negated logic narrow = elim (cases_lt value (2 ^ 32)) [
   | inl low ↦
       subst (λ size. IsShortest value (moves_of size value)) (sym (size_low value low))
-      (low_shortest value low (not_zero value wide) (none_logic value logic))
+      (low_shortest value low (not_zero value wide) (none_logic Size64 value logic) (no_narrow value low narrow))
   | inr high ↦
       subst (λ size. IsShortest value (moves_of size value)) (sym (size_high value high))
-      (high_shortest value fits high (λ e. not_zero (2 ^ 64 - 1 - value) negated (omega arith)) (none_logic value logic))
+      (high_shortest value fits high (λ e. not_zero (2 ^ 64 - 1 - value) negated (omega arith)) (none_logic Size64 value logic))
 ]
 
 -- ---- the plan
@@ -147,5 +183,6 @@ unfolding plan_of
 plan_shortest value fits =
     alone_shortest value (wide_of value) (λ imm. MovZ imm Size64) _ (movz_right value fits)
     (λ wide. alone_shortest value (wide_of (2 ^ 64 - 1 - value)) (λ imm. MovN imm Size64) _ (movn_right value fits)
-    (λ negated. alone_shortest value (logic_of Size64 value) Orr _ (orr_right value fits)
-    (λ logic. moves_shortest value fits wide negated logic)))
+    (λ negated. alone_shortest value (logic_of Size64 value) Orr _ (orr_right Size64 value fits)
+    (λ logic. alone_shortest value (narrow_logic_of value) Orr _ (narrow_right value)
+    (λ narrow. moves_shortest value fits wide negated logic narrow))))

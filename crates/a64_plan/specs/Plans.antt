@@ -1,7 +1,8 @@
 -- The plan of a constant: the first of a few that applies.
-use Rattle.std.specs.Prelude.{ℕ, zero, suc, ◌+◌, ◌-◌, ◌^◌, Bool, true, false, if◌then◌else◌, nat_eq, nat_lt, Option, None, Some, option_map, List, [], ◌∷◌, ◌++◌, map}
+use Rattle.std.specs.Prelude.{ℕ, zero, suc, ◌+◌, ◌-◌, ◌^◌, Bool, true, false, if◌then◌else◌, ◌&&◌, nat_eq, nat_lt, Option, None, Some, option_map, List, [], ◌∷◌, ◌++◌, length, map}
 use Rattle.a64_base.specs.declared.size.OperandSize.{OperandSize}
 use Rattle.a64_base.specs.declared.size.OperandSize.TheVariants.{Size32, Size64}
+use Rattle.a64_imms.specs.declared.imm_logic.ImmLogic.{ImmLogic}
 use Rattle.a64_imms.specs.MoveWides.{halfword, wide_at, wide_of}
 use Rattle.a64_imms.specs.Logic.{logic_of}
 use Rattle.a64_plan.specs.declared.step.ConstStep.{ConstStep}
@@ -57,10 +58,26 @@ abbrev pub alone_or : Option ConstStep → List ConstStep → List ConstStep
 alone_or (Some step) steps = step ∷ []
 alone_or None steps = steps
 
--- one movz, movn or orr of 64 bits where it can, tried in this order, or else moves
-unfoldable pub plan_of : ℕ → List ConstStep
-plan_of value =
+-- one movz, movn or orr of 64 bits where it can, tried in this order, or else other steps
+abbrev pub wide_step_or : ℕ → List ConstStep → List ConstStep
+wide_step_or value steps =
     alone_or (option_map (λ imm. MovZ imm Size64) (wide_of value))
     (alone_or (option_map (λ imm. MovN imm Size64) (wide_of (2 ^ 64 - 1 - value)))
-    (alone_or (option_map Orr (logic_of Size64 value))
-    (moves_of (moves_size value) value)))
+    (alone_or (option_map Orr (logic_of Size64 value)) steps))
+
+-- the upper half of the value is zero, and its moves are two
+abbrev pub has_two_moves : ℕ → Bool
+has_two_moves value = nat_lt value (2 ^ 32) && nat_eq (length (moves_of Size32 value)) 2
+
+-- the immediate of an orr of 32 bits in the place of two moves
+abbrev pub narrow_logic_of : ℕ → Option ImmLogic
+narrow_logic_of value = if has_two_moves value then logic_of Size32 value else None
+
+-- one step of 64 bits where it can, or else one orr of 32 bits in the place of two moves, or else moves
+unfoldable pub plan_of : ℕ → List ConstStep
+plan_of value =
+    wide_step_or value (alone_or (option_map Orr (narrow_logic_of value)) (moves_of (moves_size value) value))
+
+-- the same without an orr of 32 bits
+unfoldable pub plan_without_narrow : ℕ → List ConstStep
+plan_without_narrow value = wide_step_or value (moves_of (moves_size value) value)

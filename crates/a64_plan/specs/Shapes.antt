@@ -26,13 +26,13 @@ IsMovK size (MovN imm width) = ⊥
 IsMovK size (MovK imm width) = (width ≡ size) × IsWithin size imm
 IsMovK size (Orr imm) = ⊥
 
--- one movz or movn and then movks at its size, which may be none; or one orr at 64 bits
+-- one movz or movn and then movks at its size, which may be none; or one orr at either size
 abbrev pub IsShape : List ConstStep → Type 0
 IsShape [] = ⊥
 IsShape (MovZ imm size ∷ steps) = IsWithin size imm × AllByRecursion (IsMovK size) steps
 IsShape (MovN imm size ∷ steps) = IsWithin size imm × AllByRecursion (IsMovK size) steps
 IsShape (MovK imm size ∷ steps) = ⊥
-IsShape (Orr imm ∷ steps) = (imm.size ≡ Size64) × IsImmLogic imm × (steps ≡ [])
+IsShape (Orr imm ∷ steps) = IsImmLogic imm × (steps ≡ [])
 
 -- the steps leave the value in the register, whatever it held
 abbrev pub Leave : List ConstStep → ℕ → Type 0

@@ -3,7 +3,8 @@
 ghost use Rattle.std.specs.Prelude.{◌≡◌, ◌<◌, ◌≤◌, length, [], ◌∷◌};
 ghost use Rattle.a64_imms.specs.MoveWides.{halfword};
 ghost use Rattle.a64_plan.specs.Shapes.{halfword_count, IsShape, Leave, NoneFewer};
-ghost use Rattle.a64_plan.specs.Plans.{count, given, places, takes_movn, move_at, moves_at, moves_of, moves_size, plan_of};
+ghost use Rattle.a64_plan.specs.Plans.{count, given, places, takes_movn, move_at, moves_at, moves_of, moves_size};
+ghost use Rattle.a64_plan.specs.Plans.{alone_or, has_two_moves, narrow_logic_of, plan_of, plan_without_narrow};
 
 use crate::step::ConstStep;
 use a64_base::{IrType, OperandSize};
@@ -58,12 +59,19 @@ fn move_giving(is_first: bool, size: OperandSize, negated: bool, value: u64, shi
     }
 }
 
-/// The moves that give a value at a size, the first one a `movn` or else a `movz`.
-fn moves_beginning(negated: bool, size: OperandSize, value: u64) -> ArrayVec<ConstStep, 4>
-    ensures { result.items ≡ moves_at size negated value (places negated value (halfword_count size)) }
+/// Makes of no steps the moves that give a value at a size, the first one a `movn` or else a
+/// `movz`.
+fn push_moves_beginning(
+    steps: &mut ArrayVec<ConstStep, 4>,
+    negated: bool,
+    size: OperandSize,
+    value: u64,
+)
+    requires { steps.old.items ≡ [] }
+    ensures { steps.new.items
+        ≡ moves_at size negated value (places negated value (halfword_count size)) }
 {
     let given = given_by(negated);
-    let mut steps = ArrayVec::new();
     for shift in 0..halfwords_of(size) {
         if halfword_of(value, shift) == given {
             continue;
@@ -71,7 +79,6 @@ fn moves_beginning(negated: bool, size: OperandSize, value: u64) -> ArrayVec<Con
         let is_first = steps.is_empty();
         steps.push(move_giving(is_first, size, negated, value, shift));
     }
-    steps
 }
 
 /// Whether the moves of a value at a size begin with a `movn`.
@@ -81,54 +88,89 @@ fn begins_negated(size: OperandSize, value: u64) -> bool
     count_of(u16::MAX, value, size) > count_of(0, value, size)
 }
 
-/// The moves that give a value.
+/// Makes of no steps the moves that give a value.
+#[inline(never)]
 #[tactic(auto, unfolding(crate::specs::Plans::moves_of))]
-fn moves(value: u64) -> ArrayVec<ConstStep, 4>
-    ensures { result.items ≡ moves_of (moves_size value) value }
+fn push_moves(steps: &mut ArrayVec<ConstStep, 4>, value: u64)
+    requires { steps.old.items ≡ [] }
+    ensures { steps.new.items ≡ moves_of (moves_size value) value }
 {
     let size = if value < 1 << 32 {
         OperandSize::Size32
     } else {
         OperandSize::Size64
     };
-    moves_beginning(begins_negated(size, value), size, value)
+    push_moves_beginning(steps, begins_negated(size, value), size, value);
 }
 
-/// A plan of one step.
-fn alone(step: ConstStep) -> ArrayVec<ConstStep, 4>
-    ensures { result.items ≡ step ∷ [] }
+/// Whether the moves of a value are two of 32 bits: its upper half is zero, and of the two other
+/// halfwords a first move gives neither.
+fn has_two_moves(value: u64) -> bool
+    ensures { result ≡ has_two_moves value }
 {
-    let mut steps = ArrayVec::new();
-    steps.push(step);
-    steps
+    if value >= 1 << 32 {
+        return false;
+    }
+    count_of(0, value, OperandSize::Size32) == 0
+        && count_of(u16::MAX, value, OperandSize::Size32) == 0
+}
+
+/// The immediate of an `orr` of 32 bits in the place of two moves.
+fn narrow_logic(value: u64) -> Option<ImmLogic>
+    ensures { result ≡ narrow_logic_of value }
+{
+    if has_two_moves(value) {
+        ImmLogic::maybe_from_u64(value, IrType::I32)
+    } else {
+        None
+    }
+}
+
+/// The step of a value that does alone, where its plan is not moves: it is of 64 bits, or one
+/// `orr` of 32 bits in the place of two moves.
+#[tactic(auto, unfolding(crate::specs::Plans::plan_of))]
+fn lone_step(value: u64) -> Option<ConstStep>
+    ensures { plan_of value ≡ alone_or result (moves_of (moves_size value) value) }
+{
+    if let Some(imm) = MoveWideConst::maybe_from_u64(value) {
+        Some(ConstStep::MovZ(imm, OperandSize::Size64))
+    } else if let Some(imm) = MoveWideConst::maybe_from_u64(!value) {
+        Some(ConstStep::MovN(imm, OperandSize::Size64))
+    } else if let Some(imm) = ImmLogic::maybe_from_u64(value, IrType::I64) {
+        Some(ConstStep::Orr(imm))
+    } else if let Some(imm) = narrow_logic(value) {
+        Some(ConstStep::Orr(imm))
+    } else {
+        None
+    }
 }
 
 /// The plan of a value, as its definition has it.
-#[tactic(auto, unfolding(crate::specs::Plans::plan_of))]
 fn plan(value: u64) -> ArrayVec<ConstStep, 4>
     ensures { result.items ≡ plan_of value }
 {
-    if let Some(imm) = MoveWideConst::maybe_from_u64(value) {
-        alone(ConstStep::MovZ(imm, OperandSize::Size64))
-    } else if let Some(imm) = MoveWideConst::maybe_from_u64(!value) {
-        alone(ConstStep::MovN(imm, OperandSize::Size64))
-    } else if let Some(imm) = ImmLogic::maybe_from_u64(value, IrType::I64) {
-        alone(ConstStep::Orr(imm))
-    } else {
-        moves(value)
+    let mut steps = ArrayVec::new();
+    match lone_step(value) {
+        Some(step) => steps.push(step),
+        None => push_moves(&mut steps, value),
     }
+    steps
 }
 
 /// The shortest steps that leave a value in a register. They take no memory.
 ///
 /// One `movz`, `movn` or `orr` of 64 bits where it can, and else a `movz` or `movn` with a `movk`
-/// for each further halfword, at 32 bits where the upper half of the value is zero.
+/// for each further halfword, at 32 bits where the upper half of the value is zero. Two moves of
+/// 32 bits are one `orr` of 32 bits where there is one.
 pub fn const_plan(value: u64) -> ArrayVec<ConstStep, 4>
     ensures shape { IsShape result.items }
     ensures value { Leave result.items value }
     ensures least { NoneFewer (length result.items) value }
     ensures few { length result.items ≤ 4 }
     ensures plan { result.items ≡ plan_of value }
+    // An `orr` of 32 bits is taken only where it is shorter.
+    ensures kept { length (plan_without_narrow value) ≡ 1
+        → result.items ≡ plan_without_narrow value }
 {
     plan(value)
 }

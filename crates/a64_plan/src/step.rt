@@ -12,7 +12,8 @@ pub enum ConstStep {
     MovN(MoveWideConst, OperandSize),
     /// `movk`: replaces one halfword of the register.
     MovK(MoveWideConst, OperandSize),
-    /// `orr` of the zero register and an immediate, at the immediate's size.
+    /// `orr` of the zero register and an immediate, at the immediate's size: at 32 bits the upper
+    /// half of the register becomes zero.
     Orr(ImmLogic),
 }
 

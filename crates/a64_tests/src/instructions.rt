@@ -193,8 +193,23 @@ fn constants_into_a_register(rt: HostRuntime) -> Result<(), Fail> {
         ),
         (
             0x5555_5555,
-            "movz32 5555,0; movk32 5555,1; ",
-            [0xa0, 0xaa, 0x8a, 0x52, 0xa0, 0xaa, 0xaa, 0x72].as_slice(),
+            "orr32 0,0,60; ",
+            [0xe0, 0xf3, 0x00, 0x32].as_slice(),
+        ),
+        (
+            0xf00f_f00f,
+            "orr32 0,4,39; ",
+            [0xe0, 0x9f, 0x04, 0x32].as_slice(),
+        ),
+        (
+            0x00ff_ff00,
+            "orr64 1,56,15; ",
+            [0xe0, 0x3f, 0x78, 0xb2].as_slice(),
+        ),
+        (
+            0x1234_5678,
+            "movz32 5678,0; movk32 1234,1; ",
+            [0x00, 0xcf, 0x8a, 0x52, 0x80, 0x46, 0xa2, 0x72].as_slice(),
         ),
     ] {
         let insts = Inst::load_constant(alloc, writable_xreg(0), value)?;

@@ -1,6 +1,6 @@
 use Rattle.std.proofs.Common.{◌≡◌, ◌≤◌, length}
 use Rattle.a64_plan.specs.Plans.{given, places, moves_at}
-use Rattle.a64_plan.proofs.plan.moves_beginning.Given as goal
+use Rattle.a64_plan.proofs.plan.push_moves_beginning.Given as goal
 
 abbrev pub invariant-loop-shift : goal.invariant-loop-shift
 invariant-loop-shift l =

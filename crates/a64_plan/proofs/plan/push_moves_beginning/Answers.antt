@@ -3,7 +3,7 @@ use Rattle.a64_imms.specs.MoveWides.{halfword}
 use Rattle.a64_plan.specs.declared.step.ConstStep.{ConstStep}
 use Rattle.a64_plan.specs.Plans.{given, places, move_at, moves_at}
 use Rattle.a64_plan.proofs.Moves.{places_more, moves-push}
-use Rattle.a64_plan.proofs.plan.moves_beginning.Goals as goal
+use Rattle.a64_plan.proofs.plan.push_moves_beginning.Goals as goal
 
 pub loop-shift-preserved : goal.loop-shift-preserved
 loop-shift-preserved c =
