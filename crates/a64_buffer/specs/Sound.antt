@@ -14,8 +14,7 @@ use Rattle.a64_buffer.specs.Buffer.{Buffer, end_of, goal_of, is_within}
 use Rattle.a64_buffer.specs.ByPlace.{AreRecordedByPlace}
 use Rattle.a64_buffer.specs.Areas.{InArea, HasUse, Stands}
 use Rattle.a64_buffer.specs.Classes.{Fits}
-use Rattle.a64_buffer.specs.Pieces.{constant_of}
-use Rattle.a64_buffer.specs.Chain.{AreChained}
+use Rattle.a64_buffer.specs.Chain.{constant_of, AreChained}
 use Rattle.a64_buffer.specs.Queues.{AreWaiting}
 
 -- what the parts of a buffer are to its callers
