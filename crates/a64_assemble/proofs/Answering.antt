@@ -19,6 +19,7 @@ use Rattle.a64_buffer.specs.Constants.{AreConstants}
 use Rattle.a64_buffer.specs.Finished.{IsFinished}
 use Rattle.a64_buffer.specs.Islands.{HasIsland}
 use Rattle.a64_buffer.specs.Later.{IsSameUse, IsLater}
+use Rattle.a64_buffer.specs.Chain.{constant_of}
 use Rattle.a64_buffer.specs.Pieces as pieces
 use Rattle.a64_buffer.specs.Pieces.{IsAnswered, IsServed, StopsWith, StopsAtPiece}
 use Rattle.a64_buffer.proofs.Emitting.{stops_below}
@@ -286,7 +287,7 @@ module _ (frame : FrameLayout) (flags : EmitFlags) (items : List Item) (force : 
       stops_by : (i : ℕ) (v : Use LabelUse) → i < length served → get_or served i v ≡ v → StopsWith (get_or w.uses k no_use) v → StopsBy frame flags items b.constants out stop u (site_of v)
       stops_by i v within at (inl e) = inl (ap site_of (sym e) ∙ site_in_w)
       stops_by i v within at (inr copy) = inr (
-        subst (λ t. IsSome (pieces.constant_of t)) (sym copy.1 ∙ target) copy.0,
+        subst (λ t. IsSome (constant_of t)) (sym copy.1 ∙ target) copy.0,
         sym copy.1 ∙ target,
         piece_stops i v within at (sym copy.2 ∙ p.stop_is),
       )

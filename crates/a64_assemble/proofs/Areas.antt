@@ -24,6 +24,7 @@ use Rattle.a64_buffer.specs.Buffer.{Buffer, end_of, goal_of}
 use Rattle.a64_buffer.specs.Classes.{class, class_of, wants, is_open}
 use Rattle.a64_buffer.specs.Later.{IsSameUse, IsLater}
 use Rattle.a64_buffer.specs.Sound.{IsSound}
+use Rattle.a64_buffer.specs.Chain.{constant_of}
 use Rattle.a64_buffer.specs.Pieces as pieces
 use Rattle.a64_buffer.specs.Pieces.{IsAnswered, Serves, IsServed, StopsAtPiece}
 use Rattle.a64_buffer.specs.Finished.{IsFinished}
@@ -109,7 +110,7 @@ pub record IsWritten (constants : FinMap nat_cmp (List ℕ)) (m start w final : 
   pub count : length m.uses ≤ length start.uses
   pub started : (k : ℕ) (d : Use LabelUse) → k < length m.uses → get_or start.uses k d ≡ get_or m.uses k d
   pub low : All (λ u. u.offset < end_of start) start.uses
-  pub new : (k : ℕ) (d : Use LabelUse) → length m.uses ≤ k → k < length w.uses → IsSome (pieces.constant_of (get_or w.uses k d).target) → ⊥
+  pub new : (k : ℕ) (d : Use LabelUse) → length m.uses ≤ k → k < length w.uses → IsSome (constant_of (get_or w.uses k d).target) → ⊥
   pub made : (k : ℕ) (d : Use LabelUse) → length m.uses ≤ k → k < length w.uses → wants (class label_kinds (get_or w.uses k d)) ≡ true → IsAnswered m.labels served (get_or w.uses k d)
   pub behind : (k stop : ℕ) → length w.uses ≤ k → k < length final.uses → wants (class label_kinds (get_or final.uses k no_use)) ≡ true → (get_or final.uses k no_use).stop ≡ Some stop → (end_of w ≤ stop) ⊎ (goal_of final.labels (get_or final.uses k no_use).target ≡ Some stop)
 
@@ -252,14 +253,14 @@ module _ (frame : FrameLayout) (flags : EmitFlags) (items : List Item) (force : 
       final_target : (use_at j.index).target ≡ u.target
       final_target = ap (λ (t : ℕ × Site). t.1.target) j.is ∙ target
 
-      constant_wants : (t : Target) (kind : LabelUse) → IsSome (pieces.constant_of t) → wants (class_of label_kinds t kind) ≡ true
+      constant_wants : (t : Target) (kind : LabelUse) → IsSome (constant_of t) → wants (class_of label_kinds t kind) ≡ true
       constant_wants (Label x) kind s = absurd (false≢true s)
       constant_wants (Constant x) kind s = refl
       constant_wants (Trap x) kind s = absurd (false≢true s)
       constant_wants IslandEnd kind s = absurd (false≢true s)
 
       want : wants (class label_kinds (use_at j.index)) ≡ true
-      want = constant_wants (use_at j.index).target (use_at j.index).kind (subst (λ t. IsSome (pieces.constant_of t)) (sym final_target) some)
+      want = constant_wants (use_at j.index).target (use_at j.index).kind (subst (λ t. IsSome (constant_of t)) (sym final_target) some)
 
       stop_is : (use_at j.index).stop ≡ Some stop
       stop_is = stop_said frame flags items force b code f out o h owned j.index known want stop (subst (λ (t : ℕ × Site). StopsAt out t.1.kind 0 t.0 stop) (sym j.is) says)
@@ -268,7 +269,7 @@ module _ (frame : FrameLayout) (flags : EmitFlags) (items : List Item) (force : 
       old : q.index < length m.uses
       old = elim (cases_lt q.index (length m.uses)) [
         | inl lt ↦ lt
-        | inr ge ↦ absurd (a.new q.index no_use ge q.within (subst (λ (x : Use LabelUse). IsSome (pieces.constant_of x.target)) (sym (q.is no_use)) some))
+        | inr ge ↦ absurd (a.new q.index no_use ge q.within (subst (λ (x : Use LabelUse). IsSome (constant_of x.target)) (sym (q.is no_use)) some))
       ]
 
       placed : u.offset < end_of m
@@ -288,7 +289,7 @@ module _ (frame : FrameLayout) (flags : EmitFlags) (items : List Item) (force : 
             let open' : is_open label_kinds (get_or start.uses j.index no_use) ≡ true =
             ap (λ (x : Use LabelUse). is_open label_kinds x) start_is
             ∙ (ap (λ g. wants (class label_kinds (get_or m.uses j.index no_use)) && is_none g) e
-            ∙ ap (λ c. c && true) (constant_wants (get_or m.uses j.index no_use).target (get_or m.uses j.index no_use).kind (subst (λ t. IsSome (pieces.constant_of t)) (sym m_target) some))) in
+            ∙ ap (λ c. c && true) (constant_wants (get_or m.uses j.index no_use).target (get_or m.uses j.index no_use).kind (subst (λ t. IsSome (constant_of t)) (sym m_target) some))) in
             let less = a.serves.first' k no_use l some j.index no_use (omega (arith, lt, a.count)) open' (ap (λ (x : Use LabelUse). x.target) start_is ∙ m_target) in
             omega (arith, less, ap (λ (x : Use LabelUse). x.offset) start_is, same.offset, place)
         | Some t ↦ λ e. absurd (below t e)
@@ -297,7 +298,7 @@ module _ (frame : FrameLayout) (flags : EmitFlags) (items : List Item) (force : 
           same : IsSameUse (end_of m) (get_or m.uses j.index no_use) (use_at j.index)
           same = a.known.uses j.index no_use lt
 
-          no_other : (t : Target) → IsSome (pieces.constant_of t) → (x : ℕ) → (x < end_of m) ⊎ (goal_of m.labels t ≡ Some x) ⊎ (t ≡ IslandEnd) → x < end_of m
+          no_other : (t : Target) → IsSome (constant_of t) → (x : ℕ) → (x < end_of m) ⊎ (goal_of m.labels t ≡ Some x) ⊎ (t ≡ IslandEnd) → x < end_of m
           no_other (Label y) s x p = absurd (false≢true s)
           no_other (Trap y) s x p = absurd (false≢true s)
           no_other IslandEnd s x p = absurd (false≢true s)
@@ -308,7 +309,7 @@ module _ (frame : FrameLayout) (flags : EmitFlags) (items : List Item) (force : 
               let one : t ≡ stop = some_same (sym (same.kept t e) ∙ stop_is) in
               let bound : (t < end_of m) ⊎ (goal_of m.labels (get_or m.uses j.index no_use).target ≡ Some t) ⊎ ((get_or m.uses j.index no_use).target ≡ IslandEnd) =
               subst (λ g. IfSome g (λ x. (x < end_of m) ⊎ (goal_of m.labels (get_or m.uses j.index no_use).target ≡ Some x) ⊎ ((get_or m.uses j.index no_use).target ≡ IslandEnd))) e (stops_below label_kinds m m.islands a.sound j.index no_use lt) in
-              let less = no_other (get_or m.uses j.index no_use).target (subst (λ t. IsSome (pieces.constant_of t)) (sym (sym same.target ∙ final_target)) some) t bound in
+              let less = no_other (get_or m.uses j.index no_use).target (subst (λ t. IsSome (constant_of t)) (sym (sym same.target ∙ final_target)) some) t bound in
               omega (arith, less, one, low)
 
       go : (j.index < length m.uses) ⊎ (length m.uses ≤ j.index) → u.offset ≤ v.0

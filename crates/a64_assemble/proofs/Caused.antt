@@ -27,7 +27,7 @@ use Rattle.a64_assemble.proofs.Arrivals.{no_use, IsOutput, pool_is}
 use Rattle.a64_assemble.proofs.Finishing.{code_laid, code_caused, code_forced, code_short}
 use Rattle.a64_assemble.proofs.Islanded.{island_after}
 use Rattle.a64_assemble.proofs.Itemized.{whole_same}
-use Rattle.a64_assemble.proofs.Needing.{some_same, need_here, need_far, takes_near, takes_far, leaves_far, open_known, open_stands}
+use Rattle.a64_assemble.proofs.Needing.{some_same, need_in, takes_near, takes_far, leaves_far, open_known, open_stands}
 
 module _ (frame : FrameLayout) (flags : EmitFlags) (items : List Item) (force : ForceVeneers) (b : Buffer LabelUse) (code : Finished) (f : IsFinished label_kinds b code) (out : Code) (o : IsOutput code out) (good : AreGood (elements_of frame flags items)) (h : HasPut force (elements_of frame flags items) (length (elements_of frame flags items)) out.places.items b) (owned : AreOwned (elements_of frame flags items) (length (elements_of frame flags items)) out.places.items b) where
   abbrev xs : List Element
@@ -50,7 +50,7 @@ module _ (frame : FrameLayout) (flags : EmitFlags) (items : List Item) (force : 
         space = c.space;
         space_is = c.space_is;
         cause = elim c.cause [
-          | inl need ↦ inl (need_here frame flags items force b code f out o h owned c.after island.0 c.space c.within (omega (arith, long, low)) need)
+          | inl need ↦ inl (need_in frame flags items force b code f out o h owned c.after island.0 island.0 c.space (λ site. Unit {0}) c.within (omega (arith, long, low)) need)
           | inr forced ↦ inr (forced.0, forced.1, ((use_at forced.2.index).offset, (site_of (use_at forced.2.index)).1, open_stands frame flags items force b code f out o h owned c.after island.0 island.0 forced.2.index c.within (omega (arith, long, low)) forced.2.within (forced.2.open' no_use)))
         ];
         near = takes_near frame flags items force b code f out o h owned c.after island c.within long low c.holds.near;
@@ -59,7 +59,7 @@ module _ (frame : FrameLayout) (flags : EmitFlags) (items : List Item) (force : 
           | inr takes ↦ inr (
             takes_far frame flags items force b code f out o h owned c.after island c.within low takes.0,
             elim takes.1 [
-              | inl need ↦ inl (need_far frame flags items force b code f out o h owned c.after c.space island c.within low need)
+              | inl need ↦ inl (need_in frame flags items force b code f out o h owned c.after island.0 island.1 c.space (placement.IsFar frame flags items out) c.within low need)
               | inr forced ↦ inr forced
             ],
           )

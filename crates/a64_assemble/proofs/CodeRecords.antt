@@ -13,7 +13,8 @@ use Rattle.a64_buffer.specs.declared.site.Target.{Target}
 use Rattle.a64_buffer.specs.declared.site.Target.TheVariants.{Trap}
 use Rattle.a64_buffer.specs.declared.finish.Finished.{Finished}
 use Rattle.a64_buffer.specs.declared.force.ForceVeneers.{ForceVeneers}
-use Rattle.a64_buffer.specs.Buffer.{Records, Buffer, label_of, IsFree}
+use Rattle.a64_buffer.specs.Buffer.{Records, Buffer, end_of, label_of, IsFree}
+use Rattle.a64_buffer.specs.ByPlace.{AreByPlace}
 use Rattle.a64_buffer.specs.Classes.{wants, class, class_of}
 use Rattle.a64_buffer.specs.Finished.{IsFinished}
 use Rattle.a64_emit.specs.declared.code.Code.{Code}
@@ -25,7 +26,7 @@ use Rattle.a64_emit.specs.Emission.{site_of, HasUse, IsPut}
 use Rattle.a64_emit.specs.Layout.{standing, records_in}
 use Rattle.a64_emit.specs.Contents.{IsCellUse}
 use Rattle.a64_emit.specs.Records.{IsTrapOf, IsDeferredTrap, HasRecords}
-use Rattle.a64_assemble.proofs.Arrivals.{no_use, IsOutput, old_site, final_use, final_index, stops_at, site_leads}
+use Rattle.a64_assemble.proofs.Arrivals.{no_use, IsOutput, end_is, old_site, final_use, final_index, stops_at, site_leads}
 use Rattle.a64_assemble.proofs.Recorded.{relocs_from_items, calls_from_items, patchable_from_items, maps_from_items, traps_exact}
 use Rattle.a64_assemble.proofs.FieldKinds.{one_stop}
 use Rattle.a64_emit.proofs.Targets.{IsCodeTarget, IsCodeSite}
@@ -127,9 +128,20 @@ module _ (frame : FrameLayout) (flags : EmitFlags) (items : List Item) (force : 
   records_are : b.records ≡ records_in cells
   records_are = subst (λ cs. b.records ≡ records_in cs) (all_cells_are frame flags items out.places.items) recorded.records
 
+  -- the code ends where the buffer does
+  to_end : {A : Type 0} {place_of : A → ℕ} {xs : List A} → AreByPlace place_of 0 (end_of f.final) xs → AreByPlace place_of 0 (length out.bytes.items) xs
+  to_end {place_of} {xs} p = subst (λ end. AreByPlace place_of 0 end xs) (sym (end_is b code f out o)) p
+
   -- the code has the records of its items, and no others, by place
   pub code_records : out.relocs.items ≡ code.relocs.items → out.calls.items ≡ code.calls.items → out.patchable.items ≡ code.patchable.items → out.maps.items ≡ code.maps.items → HasRecords frame flags items out
   code_records relocs calls patchable maps = record {
+    by_place = record {
+      traps = subst (λ ts. AreByPlace (λ t. t.0) 0 (length out.bytes.items) ts) (sym traps_are) (to_end f.recorded.traps);
+      relocs = subst (AreByPlace (λ r. r.0) 0 (length out.bytes.items)) (sym (relocs ∙ f.relocs ∙ ap (λ rs. rs.relocs) (sym f.records_kept))) (to_end f.recorded.relocs);
+      calls = subst (AreByPlace (λ place. place) 0 (length out.bytes.items)) (sym (calls ∙ f.calls ∙ ap (λ rs. rs.calls) (sym f.records_kept))) (to_end f.recorded.calls);
+      patchable = subst (AreByPlace (λ c. c.0) 0 (length out.bytes.items)) (sym (patchable ∙ f.patchable ∙ ap (λ rs. rs.patchable) (sym f.records_kept))) (to_end f.recorded.patchable);
+      maps = subst (AreByPlace (λ m. m.0) 0 (length out.bytes.items)) (sym (maps ∙ f.maps ∙ ap (λ rs. rs.maps) (sym f.records_kept))) (to_end f.recorded.maps);
+    };
     relocs = relocs ∙ f.relocs ∙ ap (λ (rs : Records). rs.relocs) records_are ∙ relocs_from_items frame flags out.places.items items;
     traps_ordered = code_traps_ordered;
     traps = code_traps;

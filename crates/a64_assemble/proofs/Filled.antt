@@ -23,7 +23,7 @@ use Rattle.a64_label_use.specs.declared.label_use.LabelUse.{LabelUse}
 use Rattle.a64_label_use.specs.declared.label_use.LabelUse.TheVariants as uses
 use Rattle.a64_label_use.specs.LabelUses.{label_kinds, mask_for, distance_in}
 use Rattle.a64_emit.specs.Emission.{site_of}
-use Rattle.a64_emit.specs.Contents.{piece_size, piece_stop, StandsFor, Fills}
+use Rattle.a64_emit.specs.Contents.{piece_size, StandsFor, Fills}
 
 -- a use, as pieces tell it
 abbrev Told : Type 0
@@ -267,7 +267,7 @@ module _ (constants : FinMap nat_cmp (List ℕ)) (sized : (number : ℕ) (conten
       let next_is : place + 4 * length (words_for u place) ≡ place + piece_size constants (class label_kinds u) u.target place = ap (λ n. place + n) size in (
         record {
           stands = stands_for place u us s (class label_kinds u) refl (wait 0 u (omega arith));
-          stops = settled 0 (place, u) (omega arith) (piece_stop constants (class label_kinds u) u.target place) (stops 0 (place, u) (omega arith) ∙ ap (λ n. Some n) (same_stop (class label_kinds u)));
+          stops = settled 0 (place, u) (omega arith) (pieces.stop_for label_kinds constants (class label_kinds u) u.target place) (stops 0 (place, u) (omega arith));
         },
         subst (λ n. Fills constants out n (map site_of us) to) next_is
             (fills (place + 4 * length (words_for u place)) us (others_stand place u us s)
@@ -276,11 +276,3 @@ module _ (constants : FinMap nat_cmp (List ℕ)) (sized : (number : ℕ) (conten
             (λ k d h. stops (suc k) d (omega arith))
             to (omega (arith, e, ap length (words_split place u us s), length-append (words_for u place) (all_words (place + 4 * length (words_for u place)) us)))),
       )
-    where
-      same_stop : (c : Class) → pieces.stop_for label_kinds constants c u.target place ≡ piece_stop constants c u.target place
-      same_stop Near = refl
-      same_stop Middle = refl
-      same_stop Load = refl
-      same_stop Trapping = refl
-      same_stop Far = refl
-      same_stop Direct = refl

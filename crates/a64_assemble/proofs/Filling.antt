@@ -25,6 +25,7 @@ use Rattle.a64_buffer.specs.Classes.{class, class_of, wants}
 use Rattle.a64_buffer.specs.Islands.{IsNewUse}
 use Rattle.a64_buffer.specs.Kinds.{IsWithin}
 use Rattle.a64_buffer.specs.Later.{IsLater}
+use Rattle.a64_buffer.specs.Chain.{constant_of}
 use Rattle.a64_buffer.specs.Pieces as pieces
 use Rattle.a64_buffer.specs.Pieces.{Serves, IsServed, front_size}
 use Rattle.a64_buffer.specs.Sound.{IsStop, IsRightlyOpen}
@@ -62,7 +63,7 @@ use Rattle.a64_assemble.proofs.Opens.{some_place}
 use Rattle.a64_buffer.proofs.Islands.{begun_end, begun_old, begun_new, begun_jumps}
 use Rattle.a64_emit.specs.Falls.{falls_at}
 
-pub no_constant : (t : Target) → IsSome (label_of t) → IsSome (pieces.constant_of t) → ⊥
+pub no_constant : (t : Target) → IsSome (label_of t) → IsSome (constant_of t) → ⊥
 no_constant (Label l) s c = false≢true c
 no_constant (Constant n) s c = false≢true s
 no_constant (Trap x) s c = false≢true s
@@ -266,9 +267,9 @@ module _ (frame : FrameLayout) (flags : EmitFlags) (items : List Item) (force : 
     since_moment : IsLater m b
     since_moment = later_trans m z.written b z.has.later z.since
 
-    new_use : (v : Use LabelUse) → IsNewUse label_kinds true m v → IsSome (pieces.constant_of v.target) → ⊥
+    new_use : (v : Use LabelUse) → IsNewUse label_kinds true m v → IsSome (constant_of v.target) → ⊥
     new_use v new c = elim new [
-      | inl over ↦ false≢true (subst (λ t. IsSome (pieces.constant_of t)) over.0 c)
+      | inl over ↦ false≢true (subst (λ t. IsSome (constant_of t)) over.0 c)
       | inr veneer ↦ no_constant v.target veneer.labelled c
     ]
 

@@ -20,7 +20,7 @@ use Rattle.a64_buffer.specs.declared.site.Target.TheVariants.{Label, Constant, T
 use Rattle.a64_buffer.specs.declared.finish.Finished.{Finished}
 use Rattle.a64_buffer.specs.declared.force.ForceVeneers.{ForceVeneers}
 use Rattle.a64_buffer.specs.Buffer.{Buffer, end_of, label_of}
-use Rattle.a64_buffer.specs.Classes.{third, level_of, wants, class, range_of}
+use Rattle.a64_buffer.specs.Classes.{level_of, wants, class, range_of}
 use Rattle.a64_buffer.specs.Finished.{IsFinished}
 use Rattle.a64_buffer.proofs.Rooms.{wanting_range}
 use Rattle.a64_emit.specs.declared.code.Code.{Code}
@@ -31,7 +31,7 @@ use Rattle.a64_label_use.specs.LabelLaws.{label_kinds_lawful}
 use Rattle.a64_emit.specs.Emission.{site_of}
 use Rattle.a64_emit.specs.Contents.{site_class}
 use Rattle.a64_assemble.specs.Elements.{Element, Binding, Asking, element_of, elements_of, element_at, is_bound_by}
-use Rattle.a64_assemble.specs.OpenUses.{stops_from, is_place, stops_at_label, is_open_in, Needs, NeedsFar, StopsIn}
+use Rattle.a64_assemble.specs.OpenUses.{stops_from, is_place, stops_at_label, is_open_in, Needs, StopsIn}
 use Rattle.a64_assemble.specs.Progress.{HasPut}
 use Rattle.a64_assemble.specs.Owners.{AreOwned}
 use Rattle.a64_assemble.specs.Placement as placement
@@ -194,27 +194,19 @@ module _ (frame : FrameLayout) (flags : EmitFlags) (items : List Item) (force : 
   one_range : (j : ℕ) → j < length f.final.uses → wants (class label_kinds (use_at j)) ≡ true → forward_range (use_at j).kind ≡ range_of label_kinds (level_of (class label_kinds (use_at j)))
   one_range j w want = wanting_range label_kinds label_kinds_lawful (use_at j).target (use_at j).kind (f.final_sound.kinded j no_use w) want
 
-  need_of : (k a c space : ℕ) (passes : Site → Type 0) → k < length xs → c ≤ out.pool → (j : ℕ) → j < length f.final.uses → is_open_in xs f.final k a c (use_at j) ≡ true → passes (site_of (use_at j)).1 → (use_at j).offset + range_of label_kinds (level_of (class label_kinds (use_at j))) < a + 4 + 28 * length (opens k a c) + space → placement.Need frame flags items out k a c space passes
-  need_of k a c space passes within low j inside e passed late = record {
-    opens = opens k a c;
-    apart = opens_apart k a c;
-    each = opens_stand k a c within low;
-    late = site_of (use_at j);
-    among = contains_map site_of (filter (is_open_in xs f.final k a c) f.final.uses) (use_at j) (contains_filter (is_open_in xs f.final k a c) f.final.uses j no_use inside e);
-    passed = passed;
-    short = omega (arith, late, one_range j inside (open_parts xs f.final k a c (use_at j) e).wanting);
-  }
-
   opens_count : (k a c : ℕ) → length (opens k a c) ≡ count_by (is_open_in xs f.final k a c) f.final.uses
   opens_count k a c = length-map (filter (is_open_in xs f.final k a c) f.final.uses) site_of ∙ length-filter (is_open_in xs f.final k a c) f.final.uses
 
-  pub need_here : (k a space : ℕ) → k < length xs → a ≤ out.pool → Needs xs f.final k a space → placement.Need frame flags items out k a a space (λ site. Unit {0})
-  need_here k a space within low n = need_of k a a space (λ site. Unit {0}) within low n.index n.within (n.open' no_use) tt (let x = n.late no_use in omega (arith, x, opens_count k a a))
-
-  pub need_far : (k space : ℕ) (island : ℕ × ℕ) → k < length xs → island.1 ≤ out.pool → NeedsFar xs f.final k space island → placement.Need frame flags items out k island.0 island.1 space (placement.IsFar frame flags items out)
-  need_far k space island within low n =
-      let far : range_of label_kinds (level_of (class label_kinds (use_at n.index))) ≡ range_of label_kinds third = ap (λ c. range_of label_kinds (level_of c)) (n.far no_use) in
-      need_of k island.0 island.1 space (placement.IsFar frame flags items out) within low n.index n.within (n.open' no_use) (n.far no_use) (let x = n.late no_use in omega (arith, x, far, opens_count k island.0 island.1))
+  pub need_in : (k a c space : ℕ) (passes : Site → Type 0) → k < length xs → c ≤ out.pool → Needs xs f.final k a c space (λ u. passes (site_of u).1) → placement.Need frame flags items out k a c space passes
+  need_in k a c space passes within low n = record {
+    opens = opens k a c;
+    apart = opens_apart k a c;
+    each = opens_stand k a c within low;
+    late = site_of (use_at n.index);
+    among = contains_map site_of (filter (is_open_in xs f.final k a c) f.final.uses) (use_at n.index) (contains_filter (is_open_in xs f.final k a c) f.final.uses n.index no_use n.within (n.open' no_use));
+    passed = n.passed no_use;
+    short = let x = n.late no_use in omega (arith, x, one_range n.index n.within (open_parts xs f.final k a c (use_at n.index) (n.open' no_use)).wanting, opens_count k a c);
+  }
 
   -- ---- what stops where
 

@@ -214,13 +214,14 @@ module _ (xs : List Element) (m f : Buffer LabelUse) (k : ℕ) (whole : IsWhole 
     pub counted : count_by (is_open label_kinds) m.uses ≤ open_at xs f k (end_of m)
     counted = counts_le (is_open label_kinds) (is_open_at xs f k (end_of m)) m.uses f.uses later.count still_open
 
-    pub needs_from : (space : ℕ) → (Fits label_kinds m space → ⊥) → Needs xs f k (end_of m) space
+    pub needs_from : (space : ℕ) → (Fits label_kinds m space → ⊥) → Needs xs f k (end_of m) (end_of m) space (λ u. Unit {0})
     needs_from space never =
         let x = misfit (end_of m) m.uses space never in
         record {
           index = x.index;
           within = omega (arith, x.within, later.count);
           open' = λ d. still_open x.index d x.within (x.opened d);
+          passed = λ d. tt;
           late = λ d.
               let same : IsSameUse (end_of m) (get_or m.uses x.index d) (get_or f.uses x.index d) = later.uses x.index d x.within in
               let l = ap (λ c. range_of label_kinds (level_of c)) (same_class (end_of m) (get_or m.uses x.index d) (get_or f.uses x.index d) same) in

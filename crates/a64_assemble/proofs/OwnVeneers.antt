@@ -19,6 +19,7 @@ use Rattle.a64_buffer.specs.Classes.{class, class_of, wants}
 use Rattle.a64_buffer.specs.Constants.{AreConstants}
 use Rattle.a64_buffer.specs.Finished.{IsFinished}
 use Rattle.a64_buffer.specs.Later.{IsSameUse}
+use Rattle.a64_buffer.specs.Chain.{constant_of}
 use Rattle.a64_buffer.specs.Pieces as pieces
 use Rattle.a64_buffer.specs.Pieces.{StopsWith, StopsAtPiece}
 use Rattle.a64_buffer.specs.Sound.{IsStop, IsRightlyOpen, LeadsOn}
@@ -180,7 +181,7 @@ module _ (frame : FrameLayout) (flags : EmitFlags) (items : List Item) (force : 
             let target : (get_or w.uses n.index no_use).target ≡ u.1.target = sym same.target ∙ ap (λ (t : ℕ × Site). t.1.target) n.is in
             let is : get_or served i no_use ≡ get_or w.uses n.index no_use = get_or_default served i no_use v within ∙ (at ∙ elim with' [
               | inl e ↦ sym e
-              | inr load ↦ absurd (no_constant (get_or w.uses n.index no_use).target (subst (λ t. IsSome (label_of t)) (sym target) labelled) (subst (λ t. IsSome (pieces.constant_of t)) (sym load.1) load.0))
+              | inr load ↦ absurd (no_constant (get_or w.uses n.index no_use).target (subst (λ t. IsSome (label_of t)) (sym target) labelled) (subst (λ t. IsSome (constant_of t)) (sym load.1) load.0))
             ]) in
             record {
               number = i;

@@ -8,7 +8,7 @@ use Rattle.std.proofs.lemmas.List.Sums.{sum_by-cons, sum_by-take-drop, get_or-le
 use Rattle.a64_buffer.specs.declared.class.Class.TheVariants.{Far}
 use Rattle.a64_buffer.specs.declared.force.ForceVeneers.{ForceVeneers}
 use Rattle.a64_buffer.specs.declared.site.Use.{Use}
-use Rattle.a64_buffer.specs.Buffer.{Buffer, end_of, label_of, goal_of, is_within}
+use Rattle.a64_buffer.specs.Buffer.{Buffer, end_of, label_of, goal_of}
 use Rattle.a64_buffer.specs.Classes.{third, cost, wants, level_of, class, range_of, is_open, weigh, burden, Fits}
 use Rattle.a64_buffer.specs.Later.{IsSameUse, IsLater}
 use Rattle.a64_buffer.specs.Sound.{IsWhole}
@@ -18,8 +18,8 @@ use Rattle.a64_buffer.proofs.Rooms.{open_wants, open_stop, few_bytes}
 use Rattle.a64_label_use.specs.declared.label_use.LabelUse.{LabelUse}
 use Rattle.a64_label_use.specs.LabelUses.{label_kinds}
 use Rattle.a64_assemble.specs.Elements.{Element, is_bound_by, falls_in, element_at}
-use Rattle.a64_assemble.specs.OpenUses.{stops_from, is_open_in, is_open_at, SomeOpenAt, Needs, NeedsFar, StopsIn, IsLate, Holds, IsCaused, WasAsked}
-use Rattle.a64_assemble.proofs.Opens.{OpenParts, open_parts, parts_open, from_stop, from_to, counts_le, burden_open, misfit, at_bound, at_label, stop_at, some_place, goal_is, still_open, needs_from, some_from}
+use Rattle.a64_assemble.specs.OpenUses.{stops_from, is_open_in, is_open_at, SomeOpenAt, Needs, StopsIn, Holds, IsCaused, WasAsked}
+use Rattle.a64_assemble.proofs.Opens.{OpenParts, open_parts, parts_open, from_stop, from_to, counts_le, burden_open, misfit, at_bound, at_label, stop_at, some_place, still_open, needs_from, some_from}
 use Rattle.a64_assemble.proofs.Forcing.{StopsAtGoal, at_goal, below_or_goal, stop_there}
 use Rattle.a64_buffer.proofs.Islands.{front_short}
 use Rattle.a64_buffer.specs.Pieces.{front_size}
@@ -159,7 +159,7 @@ module _ (force : ForceVeneers) (xs : List Element) (f : Buffer LabelUse) (k dis
       let parts = open_parts xs f k (end_of m) (end_of m) v o in
       parts_open xs f k (end_of m) (end_of w) v (record { before = let long = has.long in omega (arith, parts.before, long); wanting = parts.wanting; from = parts.from; away = parts.away })
 
-  needs_far : (p : Buffer LabelUse) → IsBeforePromotion label_kinds jump m p → IsLater p w → (Fits label_kinds p distance → ⊥) → NeedsFar xs f k distance (end_of m, end_of w)
+  needs_far : (p : Buffer LabelUse) → IsBeforePromotion label_kinds jump m p → IsLater p w → (Fits label_kinds p distance → ⊥) → Needs xs f k (end_of m) (end_of w) distance (λ u. class label_kinds u ≡ Far)
   needs_far p is later never =
       let x = misfit (end_of p) p.uses distance never in
       let rest : IsLater p f = later_trans p w f later since in
@@ -167,15 +167,18 @@ module _ (force : ForceVeneers) (xs : List Element) (f : Buffer LabelUse) (k dis
         index = x.index;
         within = omega (arith, x.within, rest.count);
         open' = λ d. opened x.index d x.within (x.opened d);
-        far = λ d. alike_class (end_of p) (get_or p.uses x.index d) (get_or f.uses x.index d) (rest.uses x.index d x.within) ∙ is.only_far x.index d x.within (x.opened d);
+        passed = λ d. is_far x.index d x.within (x.opened d);
         late = λ d.
             let u : Use LabelUse = get_or p.uses x.index d in
             let same : IsSameUse (end_of p) (get_or p.uses x.index d) (get_or f.uses x.index d) = rest.uses x.index d x.within in
             let far : class label_kinds u ≡ Far = is.only_far x.index d x.within (x.opened d) in
             let late : u.offset + range_of label_kinds third < end_of p + distance + 4 + burden label_kinds third p.uses = subst (λ l. u.offset + range_of label_kinds l < end_of p + distance + 4 + burden label_kinds l p.uses) (ap level_of far) (x.late d) in
-            omega (arith, late, same.offset, is.owed, front_short label_kinds jump, many x.index d x.within (x.opened d) far);
+            omega (arith, late, same.offset, is.owed, front_short label_kinds jump, many x.index d x.within (x.opened d) far, ap (λ c. range_of label_kinds (level_of c)) (is_far x.index d x.within (x.opened d)));
       }
     where
+      is_far : (j : ℕ) (d : Use LabelUse) → j < length p.uses → is_open label_kinds (get_or p.uses j d) ≡ true → class label_kinds (get_or f.uses j d) ≡ Far
+      is_far j d within o = alike_class (end_of p) (get_or p.uses j d) (get_or f.uses j d) ((later_trans p w f later since).uses j d within) ∙ is.only_far j d within o
+
       -- no label is bound both by then and behind what stands in front
       not_there : (label place : ℕ) → get m.labels label ≡ Some place → end_of p ≤ place → place ≤ end_of m → (t : Bool) → jump ≡ t → ⊥
       not_there label place at from low true e = omega (arith, from, low, is.long, ap front_size e)
@@ -232,23 +235,6 @@ module _ (force : ForceVeneers) (xs : List Element) (f : Buffer LabelUse) (k dis
     ];
   }
 
-  -- what the island serves has a label that is bound later, or is out of its range
-  pub served_late : All (IsLate xs f k) has.served
-  served_late i d within = go (label_of (get_or has.served i d).target) refl
-    where
-      unbound : (n : ℕ) → get m.labels n ≡ None → (c : Bool) → is_bound_by (take (k + 1) xs) n ≡ c → c ≡ false
-      unbound n e false c = refl
-      unbound n e true c = absurd (false≢true (subst IsSome e (bound n c)))
-
-      go : (o : Option ℕ) → label_of (get_or has.served i d).target ≡ o → IfSome o (λ label. (is_bound_by (take (k + 1) xs) label ≡ false) ⊎ IfSome (get f.labels label) (λ place. is_within label_kinds (get_or has.served i d).kind (get_or has.served i d).offset place ≡ false))
-      go None e = tt
-      go (Some n) e = elim (get m.labels n) as (λ q. get m.labels n ≡ q → (is_bound_by (take (k + 1) xs) n ≡ false) ⊎ IfSome (get f.labels n) (λ place. is_within label_kinds (get_or has.served i d).kind (get_or has.served i d).offset place ≡ false)) [
-        | None ↦ λ q. inl (unbound n q (is_bound_by (take (k + 1) xs) n) refl)
-        | Some g ↦ λ q.
-            let out : is_within label_kinds (get_or has.served i d).kind (get_or has.served i d).offset g ≡ false = subst (λ t. IfSome t (λ place. is_within label_kinds (get_or has.served i d).kind (get_or has.served i d).offset place ≡ false)) (goal_is m.labels (label_of (get_or has.served i d).target) n g e q) (has.serves.waited i d within).far_off in
-            inr (subst (λ t. IfSome t (λ place. is_within label_kinds (get_or has.served i d).kind (get_or has.served i d).offset place ≡ false)) (sym (all_later.labels n g q)) out)
-      ] refl
-
 -- an island that was asked for is caused, told from the finished code
 pub is_caused : (force : ForceVeneers) (xs : List Element) (stations : List ℕ) (b f : Buffer LabelUse) (island : ℕ × ℕ) → IsLater b f → All (λ u. wants (class label_kinds u) ≡ true → IsSome u.stop) f.uses → (z : WasAsked force xs (length xs) stations b island) → (falls_in (element_at xs z.after) ≡ false → AreBefore z.moment) → IsCaused xs f force stations island
 is_caused force xs stations b f island then' stops z before =
@@ -262,13 +248,11 @@ is_caused force xs stations b f island then' stops z before =
       space = z.distance;
       space_is = z.distance_is;
       cause = elim z.cause [
-        | inl need ↦ inl (subst (λ a. Needs xs f z.after a z.distance) z.at (needs_from xs m f z.after z.whole later z.bound stops z.distance (subst (λ n. Fits label_kinds m n → ⊥) (same_some need.0 z.distance (sym need.1 ∙ z.distance_is)) need.2)))
+        | inl need ↦ inl (subst (λ a. Needs xs f z.after a a z.distance (λ u. Unit {0})) z.at (needs_from xs m f z.after z.whole later z.bound stops z.distance (subst (λ n. Fits label_kinds m n → ⊥) (same_some need.0 z.distance (sym need.1 ∙ z.distance_is)) need.2)))
         | inr forced ↦ inr (forced.0, forced.1, subst (λ a. SomeOpenAt xs f z.after a) z.at (some_from xs m f z.after z.whole later z.bound stops (2 ^ 32 - 1) forced.2))
       ];
       holds = subst (λ b. Holds xs f force z.after z.distance (island.0, b)) z.ends (subst (λ a. Holds xs f force z.after z.distance (a, end_of z.written)) z.at
           (holds force xs f z.after z.distance (falls_in (element_at xs z.after)) m z.written z.whole z.has since stops z.bound z.only before));
-      served = z.has.served;
-      late = served_late force xs f z.after z.distance (falls_in (element_at xs z.after)) m z.written z.whole z.has since stops z.bound z.only before;
     }
   where
     same_some : (s t : ℕ) → ◌≡◌ {A = Option ℕ} (Some s) (Some t) → s ≡ t

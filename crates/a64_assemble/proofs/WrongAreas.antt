@@ -22,7 +22,8 @@ use Rattle.a64_buffer.specs.declared.force.ForceVeneers.{ForceVeneers}
 use Rattle.a64_buffer.specs.declared.site.Target.TheVariants.{Label, Constant, Trap}
 use Rattle.a64_buffer.specs.Classes.{wants}
 use Rattle.a64_buffer.specs.Kinds.{GoesTo}
-use Rattle.a64_buffer.specs.Pieces.{constant_of, front_size}
+use Rattle.a64_buffer.specs.Chain.{constant_of}
+use Rattle.a64_buffer.specs.Pieces.{front_size}
 use Rattle.a64_buffer.specs.Word.{outside, word_at}
 use Rattle.a64_emit.specs.declared.code.Code.{Code}
 use Rattle.a64_emit.specs.declared.site.Site.{Site}
@@ -134,6 +135,59 @@ module _ (frame : FrameLayout) (flags : EmitFlags) (constants : FinMap nat_cmp (
 
   -- ---- in the pool
 
+  -- the load of a constant, 0 or 1, which stands at 0 or at 4
+  abbrev load_of : ℕ → ℕ × Site
+  load_of n = (4 * n, record { kind = uses.Ldr19; target = Constant (record { 0 = n }) })
+
+  -- where two items are such loads, the copy of the first constant stands before the place at which the second stops
+  module _ (items : List Item) (words : List ℕ) (c d : Cell) (are : standing (map (cells_of frame flags) items) (0 ∷ 4 ∷ []) ≡ (0, c) ∷ (4, d) ∷ []) (site_c : c.site ≡ Some (load_of 0).1) (site_d : d.site ≡ Some (load_of 1).1) (is : IsThis words (0 ∷ 4 ∷ []) [] [] 8 code) where
+    abbrev IsCell : ℕ × Site → Type 0
+    IsCell a = IsCellUse (standing (map (cells_of frame flags) items) (0 ∷ 4 ∷ [])) a
+
+    there : (n : ℕ) → n < 2 → IsCell (load_of n)
+    there n less = subst (λ cells. IsCellUse cells (load_of n)) (sym are) (at n less)
+      where
+        at : (n : ℕ) → n < 2 → IsCellUse ((0, c) ∷ (4, d) ∷ []) (load_of n)
+        at zero less = cell_at ((0, c) ∷ (4, d) ∷ []) 0 (load_of 0) (omega arith) refl site_c
+        at (suc zero) less = cell_at ((0, c) ∷ (4, d) ∷ []) 1 (load_of 1) (omega arith) refl site_d
+        at (suc (suc n)) less = absurd (omega (arith, less))
+
+    -- no other use loads one of the two
+    lone : (n : ℕ) (a : ℕ × Site) → IsWanting frame flags items code a.0 a.1 → a.1.target ≡ (load_of n).1.target → a ≡ load_of n
+    lone n a w same = elim w.is [
+      | inl e ↦ either (subst (λ cells. IsCellUse cells a) are (subst (λ ps. IsCellUse (standing (map (cells_of frame flags) items) ps) a) is.places_are e))
+      | inr veneer ↦ absurd (no_constant a.1.target veneer.1.labelled (subst (λ t. IsSome (constant_of t)) (sym same) refl))
+    ]
+      where
+        one : (m : ℕ) (s : ℕ × Cell) → s.0 ≡ (load_of m).0 → s.1.site ≡ Some (load_of m).1 → s.0 ≡ a.0 → s.1.site ≡ Some a.1 → a ≡ load_of n
+        one m s at_m is_m place site =
+            let a_is : a ≡ load_of m = ap (λ k. (k, a.1)) (sym place ∙ at_m) ∙ ap (λ t. ((load_of m).0, t)) (some_same (sym site ∙ is_m)) in
+            a_is ∙ ap load_of (ap (λ t. unwrap_or (constant_of t) 0) (sym (ap (λ (x : ℕ × Site). x.1.target) a_is) ∙ same))
+
+        either : IsCellUse ((0, c) ∷ (4, d) ∷ []) a → a ≡ load_of n
+        either (s, (zero, w, e), place, site) = one 0 s (ap (λ (x : ℕ × Cell). x.0) (sym e)) (ap (λ (x : ℕ × Cell). x.1.site) (sym e) ∙ site_c) place site
+        either (s, (suc zero, w, e), place, site) = one 1 s (ap (λ (x : ℕ × Cell). x.0) (sym e)) (ap (λ (x : ℕ × Cell). x.1.site) (sym e) ∙ site_d) place site
+        either (s, (suc (suc k), w, e), place, site) = absurd (omega (arith, w))
+
+    -- so whatever has the piece by which a load stops is that load
+    itself : (n stop : ℕ) (a : ℕ × Site) → IsWanting frame flags items code a.0 a.1 → StopsBy frame flags items constants code stop (load_of n) a → a ≡ load_of n
+    itself n stop a w (inl e) = e
+    itself n stop a w (inr copy) = lone n a w copy.1
+
+    -- where the word of a load leads
+    abbrev LoadGoes : ℕ → ℕ → Type 0
+    LoadGoes n stop = GoesTo label_kinds uses.Ldr19 0 (word_at (in_bytes words) (4 * n)) (4 * n) stop
+
+    pub copies_in_turn :
+        (s t : ℕ) → LoadGoes 0 s → LoadGoes 1 t → 8 ≤ s → s < length (in_bytes words) → 8 ≤ t → t < length (in_bytes words)
+        → IsAssembled frame flags constants force items code → s + length (unwrap_or (get constants 0) []) ≤ t
+    copies_in_turn s t goes_s goes_t low_s high_s low_t high_t a =
+        let stops = cell_stops items _ _ _ _ _ is 8 (length (in_bytes words)) in
+        in_turn frame flags items constants code 8 8 (length (in_bytes words)) _ (pool_holds items _ _ _ _ _ is a) (load_of 0) (load_of 1) s t
+        (stops (load_of 0) s refl (there 0 (omega arith)) goes_s low_s high_s (λ e. e))
+        (stops (load_of 1) t refl (there 1 (omega arith)) goes_t low_t high_t (λ e. e))
+        (λ a b wa wb by_a by_b. omega (arith, ap order_of (itself 0 s a wa by_a), ap order_of (itself 1 t b wb by_b)))
+
   module _ (rd : Reg) (trap : Option TrapCode) where
     -- one copy for two constants with the same bytes
     abbrev two_loads : List Item
@@ -145,16 +199,8 @@ module _ (frame : FrameLayout) (flags : EmitFlags) (constants : FinMap nat_cmp (
         → get constants 0 ≡ Some (1 ∷ 2 ∷ 3 ∷ 4 ∷ 5 ∷ 6 ∷ 7 ∷ 8 ∷ []) → get constants 1 ≡ Some (1 ∷ 2 ∷ 3 ∷ 4 ∷ 5 ∷ 6 ∷ 7 ∷ 8 ∷ [])
         → IsAssembled frame flags constants force two_loads code → ⊥
     no_copy_for_two is first second a =
-        let h = pool_holds two_loads _ _ _ _ _ is a in
-        let cells : List (ℕ × Cell) = standing (map (cells_of frame flags) two_loads) (0 ∷ 4 ∷ []) in
-        let u : ℕ × Site = (0, record { kind = uses.Ldr19; target = Constant (record { 0 = 0 }) }) in
-        let v : ℕ × Site = (4, record { kind = uses.Ldr19; target = Constant (record { 0 = 1 }) }) in
-        let su = cell_stops two_loads _ _ _ _ _ is 8 16 u 8 refl (cell_at cells 0 u (omega arith) refl refl) refl (omega arith) (omega arith) (λ e. e) in
-        let sv = cell_stops two_loads _ _ _ _ _ is 8 16 v 8 refl (cell_at cells 1 v (omega arith) refl refl) refl (omega arith) (omega arith) (λ e. e) in
-        elim (each_its_own frame flags two_loads constants code 8 8 16 _ h u v 8 8 su sv (λ e. omega (arith, e)) (λ s. other_constant 0 1 (λ e. omega (arith, e)))) [
-          | inl le ↦ absurd (omega (arith, le, bytes_long 0 _ first))
-          | inr le ↦ absurd (omega (arith, le, bytes_long 1 _ second))
-        ]
+        let le = copies_in_turn two_loads _ _ _ refl refl refl is 8 8 refl refl (omega arith) (omega arith) (omega arith) (omega arith) a in
+        omega (arith, le, bytes_long 0 _ first)
 
     -- a load into a part of the copy of another constant
     abbrev load_of_part : List Item
@@ -165,16 +211,8 @@ module _ (frame : FrameLayout) (flags : EmitFlags) (constants : FinMap nat_cmp (
     pub no_load_of_part : IsThis (0x5c000040 ∷ 0x1c000041 ∷ 0x04030201 ∷ 0x08070605 ∷ []) (0 ∷ 4 ∷ []) [] [] 8 code
         → get constants 0 ≡ Some (1 ∷ 2 ∷ 3 ∷ 4 ∷ 5 ∷ 6 ∷ 7 ∷ 8 ∷ []) → IsAssembled frame flags constants force load_of_part code → ⊥
     no_load_of_part is first a =
-        let h = pool_holds load_of_part _ _ _ _ _ is a in
-        let cells : List (ℕ × Cell) = standing (map (cells_of frame flags) load_of_part) (0 ∷ 4 ∷ []) in
-        let u : ℕ × Site = (0, record { kind = uses.Ldr19; target = Constant (record { 0 = 0 }) }) in
-        let v : ℕ × Site = (4, record { kind = uses.Ldr19; target = Constant (record { 0 = 1 }) }) in
-        let su = cell_stops load_of_part _ _ _ _ _ is 8 16 u 8 refl (cell_at cells 0 u (omega arith) refl refl) refl (omega arith) (omega arith) (λ e. e) in
-        let sv = cell_stops load_of_part _ _ _ _ _ is 8 16 v 12 refl (cell_at cells 1 v (omega arith) refl refl) refl (omega arith) (omega arith) (λ e. e) in
-        elim (each_its_own frame flags load_of_part constants code 8 8 16 _ h u v 8 12 su sv (λ e. omega (arith, e)) (λ s. other_constant 0 1 (λ e. omega (arith, e)))) [
-          | inl le ↦ absurd (omega (arith, le, bytes_long 0 _ first))
-          | inr le ↦ absurd (omega (arith, le))
-        ]
+        let le = copies_in_turn load_of_part _ _ _ refl refl refl is 8 12 refl refl (omega arith) (omega arith) (omega arith) (omega arith) a in
+        omega (arith, le, bytes_long 0 _ first)
 
     -- a load into the zero words that align the copy of another constant
     abbrev load_of_zeros : List Item
@@ -182,52 +220,11 @@ module _ (frame : FrameLayout) (flags : EmitFlags) (constants : FinMap nat_cmp (
         Emit (insts.FpuLoad128 rd (modes.Const (record { 0 = 0 })) trap) None
         ∷ Emit (insts.FpuLoad32 rd (modes.Const (record { 0 = 1 })) trap) None ∷ []
 
-    abbrev cells : List (ℕ × Cell)
-    cells = standing (map (cells_of frame flags) load_of_zeros) (0 ∷ 4 ∷ [])
-
-    abbrev u : ℕ × Site
-    u = (0, record { kind = uses.Ldr19; target = Constant (record { 0 = 0 }) })
-
-    abbrev v : ℕ × Site
-    v = (4, record { kind = uses.Ldr19; target = Constant (record { 0 = 1 }) })
-
     pub no_load_of_zeros : IsThis (0x9c000080 ∷ 0x1c000021 ∷ 0 ∷ 0 ∷ 0x04030201 ∷ 0x08070605 ∷ 0x0c0b0a09 ∷ 0x100f0e0d ∷ []) (0 ∷ 4 ∷ []) [] [] 8 code
         → IsAssembled frame flags constants force load_of_zeros code → ⊥
     no_load_of_zeros is a =
-        let h = pool_holds load_of_zeros _ _ _ _ _ is a in
-        let su = cell_stops load_of_zeros _ _ _ _ _ is 8 32 u 16 refl (cell_at cells 0 u (omega arith) refl refl) refl (omega arith) (omega arith) (λ e. e) in
-        let sv = cell_stops load_of_zeros _ _ _ _ _ is 8 32 v 8 refl (cell_at cells 1 v (omega arith) refl refl) refl (omega arith) (omega arith) (λ e. e) in
-        let le = in_turn frame flags load_of_zeros constants code 8 8 32 _ h u v 16 8 su sv before in
+        let le = copies_in_turn load_of_zeros _ _ _ refl refl refl is 16 8 refl refl (omega arith) (omega arith) (omega arith) (omega arith) a in
         omega (arith, le)
-      where
-        either : (a : ℕ × Site) → IsCellUse (standing (map (cells_of frame flags) load_of_zeros) (0 ∷ 4 ∷ [])) a → (a ≡ u) ⊎ (a ≡ v)
-        either a (s, (zero, w, e), place, site) = inl (ap (λ n. (n, a.1)) (sym place ∙ ap (λ (x : ℕ × Cell). x.0) (sym e)) ∙ ap (λ t. (0, t)) (some_same (sym site ∙ ap (λ (x : ℕ × Cell). x.1.site) (sym e))))
-        either a (s, (suc zero, w, e), place, site) = inr (ap (λ n. (n, a.1)) (sym place ∙ ap (λ (x : ℕ × Cell). x.0) (sym e)) ∙ ap (λ t. (4, t)) (some_same (sym site ∙ ap (λ (x : ℕ × Cell). x.1.site) (sym e))))
-        either a (s, (suc (suc k), w, e), place, site) = absurd (omega (arith, w))
-
-        -- a load is that of its constant
-        loads : (a : ℕ × Site) → IsWanting frame flags load_of_zeros code a.0 a.1 → IsSome (constant_of a.1.target) → (a ≡ u) ⊎ (a ≡ v)
-        loads a w some = elim w.is [
-          | inl c ↦ either a (subst (λ ps. IsCellUse (standing (map (cells_of frame flags) load_of_zeros) ps) a) is.places_are c)
-          | inr veneer ↦ absurd (no_constant a.1.target veneer.1.labelled some)
-        ]
-
-        first : (a : ℕ × Site) → IsWanting frame flags load_of_zeros code a.0 a.1 → StopsBy frame flags load_of_zeros constants code 16 u a → a ≡ u
-        first a w (inl e) = e
-        first a w (inr copy) = elim (loads a w (subst (λ t. IsSome (constant_of t)) (sym copy.1) refl)) [
-          | inl e ↦ e
-          | inr e ↦ absurd (other_constant 1 0 (λ e. omega (arith, e)) (sym (ap (λ (x : ℕ × Site). x.1.target) e) ∙ copy.1))
-        ]
-
-        second : (c : ℕ × Site) → IsWanting frame flags load_of_zeros code c.0 c.1 → StopsBy frame flags load_of_zeros constants code 8 v c → c ≡ v
-        second c w (inl e) = e
-        second c w (inr copy) = elim (loads c w (subst (λ t. IsSome (constant_of t)) (sym copy.1) refl)) [
-          | inr e ↦ e
-          | inl e ↦ absurd (other_constant 0 1 (λ e. omega (arith, e)) (sym (ap (λ (x : ℕ × Site). x.1.target) e) ∙ copy.1))
-        ]
-
-        before : (a c : ℕ × Site) → IsWanting frame flags load_of_zeros code a.0 a.1 → IsWanting frame flags load_of_zeros code c.0 c.1 → StopsBy frame flags load_of_zeros constants code 16 u a → StopsBy frame flags load_of_zeros constants code 8 v c → order_of a < order_of c
-        before a c wa wc by more = let x = first a wa by in let y = second c wc more in omega (arith, ap order_of x, ap order_of y)
 
     -- a constant that is a trap word
     abbrev load_and_trap : List Item

@@ -12,7 +12,8 @@ use Rattle.a64_buffer.specs.declared.class.Class.{Class}
 use Rattle.a64_buffer.specs.declared.class.Class.TheVariants.{Near, Middle, Load, Trapping, Far, Direct}
 use Rattle.a64_buffer.specs.declared.site.Target.{Target}
 use Rattle.a64_buffer.specs.declared.site.Target.TheVariants.{Label, Constant, Trap, IslandEnd}
-use Rattle.a64_buffer.specs.Pieces.{constant_of, content_of}
+use Rattle.a64_buffer.specs.Chain.{constant_of}
+use Rattle.a64_buffer.specs.Pieces.{content_of, stop_for}
 use Rattle.a64_buffer.specs.Word.{word_at}
 use Rattle.a64_emit.specs.declared.code.Code.{Code}
 use Rattle.a64_emit.specs.declared.site.Site.{Site}
@@ -20,7 +21,7 @@ use Rattle.a64_label_use.specs.LabelUses.{adds_distance}
 use Rattle.a64_emit.proofs.Burdens.{target_kinded}
 use Rattle.a64_emit.proofs.Targets.{IsCodeSite}
 use Rattle.a64_emit.specs.Cells.{Cell}
-use Rattle.a64_emit.specs.Contents.{site_class, order_of, piece_size, piece_stop, HasPiece, Fills}
+use Rattle.a64_emit.specs.Contents.{site_class, order_of, piece_size, HasPiece, Fills}
 use Rattle.a64_assemble.specs.Placement.{UseStopsAt, IsWanting}
 use Rattle.a64_assemble.specs.Fillings.{StopsBetween, StopsBy, HoldsPieces}
 use Rattle.a64_assemble.proofs.Areas.{field_says}
@@ -41,7 +42,7 @@ module _ (frame : FrameLayout) (flags : EmitFlags) (items : List Item) (constant
   size_of u place = piece_size constants (site_class u.1) u.1.target place
 
   abbrev stop_in : ℕ × Site → ℕ → ℕ
-  stop_in u place = piece_stop constants (site_class u.1) u.1.target place
+  stop_in u place = stop_for label_kinds constants (site_class u.1) u.1.target place
 
   abbrev bytes_of : ℕ × Site → ℕ
   bytes_of u = bytes_for constants (site_class u.1) u.1.target
@@ -69,7 +70,7 @@ module _ (frame : FrameLayout) (flags : EmitFlags) (items : List Item) (constant
   piece_behind from (u ∷ us) zero (suc k) d lt h = piece_low (from + size_of u from) us k
   piece_behind from (u ∷ us) (suc j) (suc k) d lt h = piece_behind (from + size_of u from) us j k d (omega (arith, lt)) (omega (arith, h))
 
-  stop_low : (c : Class) (t : Target) (place : ℕ) → place ≤ piece_stop constants c t place
+  stop_low : (c : Class) (t : Target) (place : ℕ) → place ≤ stop_for label_kinds constants c t place
   stop_low Near t place = omega arith
   stop_low Middle t place = omega arith
   stop_low Load t place = omega arith
@@ -77,7 +78,7 @@ module _ (frame : FrameLayout) (flags : EmitFlags) (items : List Item) (constant
   stop_low Far t place = omega arith
   stop_low Direct t place = omega arith
 
-  stop_high : (c : Class) (t : Target) (place : ℕ) → piece_stop constants c t place + bytes_for constants c t ≡ place + piece_size constants c t place
+  stop_high : (c : Class) (t : Target) (place : ℕ) → stop_for label_kinds constants c t place + bytes_for constants c t ≡ place + piece_size constants c t place
   stop_high Near t place = refl
   stop_high Middle t place = refl
   stop_high Load t place = omega arith

@@ -9,7 +9,8 @@ use Rattle.a64_inst.specs.declared.item.Item.{Item}
 use Rattle.a64_inst.specs.declared.item.Item.TheVariants.{Bind}
 use Rattle.a64_buffer.specs.declared.site.Target.TheVariants.{Label, Constant, Trap, IslandEnd}
 use Rattle.a64_buffer.specs.Buffer.{is_within}
-use Rattle.a64_buffer.specs.Pieces.{constant_of, front_size}
+use Rattle.a64_buffer.specs.Chain.{constant_of}
+use Rattle.a64_buffer.specs.Pieces.{front_size}
 use Rattle.a64_emit.specs.declared.code.Code.{Code}
 use Rattle.a64_emit.specs.declared.site.Site.{Site}
 use Rattle.a64_label_use.specs.LabelUses.{label_kinds}

@@ -1,13 +1,13 @@
 -- Which uses are open at a place of a finished buffer, and why islands were asked for.
-use Rattle.std.specs.Prelude.{ℕ, ◌≡◌, ◌⊎◌, ◌+◌, ◌-◌, ◌*◌, ◌^◌, ◌<◌, Bool, true, false, not, ◌&&◌, nat_eq, nat_le, nat_lt, List, take, drop, All, length, slice_index, slice_index_or, count_by, Option, None, Some, IsSome, IfSome}
+use Rattle.std.specs.Prelude.{ℕ, ◌≡◌, ◌⊎◌, ◌+◌, ◌-◌, ◌*◌, ◌^◌, ◌<◌, Bool, true, false, not, ◌&&◌, nat_eq, nat_le, nat_lt, List, take, drop, All, length, slice_index, slice_index_or, count_by, Option, None, Some, IsSome}
 use Rattle.std.specs.Ordering.{nat_cmp}
 use Rattle.std.specs.FinMap.{FinMap, get}
 use Rattle.a64_buffer.specs.declared.class.Class.TheVariants.{Far}
 use Rattle.a64_buffer.specs.declared.force.ForceVeneers.{ForceVeneers}
 use Rattle.a64_buffer.specs.declared.force.ForceVeneers.TheVariants.{No, Yes}
 use Rattle.a64_buffer.specs.declared.site.Use.{Use}
-use Rattle.a64_buffer.specs.Buffer.{Buffer, end_of, label_of, is_within}
-use Rattle.a64_buffer.specs.Classes.{third, level_of, wants, class, range_of, is_open, Fits}
+use Rattle.a64_buffer.specs.Buffer.{Buffer, end_of, label_of}
+use Rattle.a64_buffer.specs.Classes.{level_of, wants, class, range_of, is_open, Fits}
 use Rattle.a64_buffer.specs.Later.{IsLater}
 use Rattle.a64_buffer.specs.Sound.{IsWhole}
 use Rattle.a64_buffer.specs.Islands.{HasIsland}
@@ -33,7 +33,12 @@ is_place (Some place) (Some stop) = nat_eq place stop
 -- a use stops at its label, which element k or one before it binds
 abbrev pub stops_at_label : List Element → FinMap nat_cmp ℕ → ℕ → Option ℕ → Option ℕ → Bool
 stops_at_label xs labels k None stop = false
-stops_at_label xs labels k (Some label) stop = is_place (get labels label) stop && is_bound_by (take (k + 1) xs) label
+stops_at_label xs labels k (Some label) stop =
+    is_place (get labels label) stop && is_bound_by (take (k + 1) xs) label
+
+-- how far ahead a use reaches that may want something of an island
+abbrev pub reach_of : Use LabelUse → ℕ
+reach_of u = range_of label_kinds (level_of (class label_kinds u))
 
 module _ (xs : List Element) (final : Buffer LabelUse) where
   -- a use that stands before b is open at the end a of element k: it does not stop before a, unless it
@@ -56,51 +61,49 @@ module _ (xs : List Element) (final : Buffer LabelUse) where
     pub within : index < length final.uses
     pub open' : (d : Use LabelUse) → is_open_at k a (slice_index_or final.uses index d) ≡ true
 
-  -- one that is open there reaches less than what the worst island needs, and the space behind it
-  pub record Needs (k a space : ℕ) : Type 0 where
+  -- one of the uses that stand before b and are open at a, and passes a test, reaches less than what the
+  -- worst island needs, and the space behind it
+  pub record Needs (k a b space : ℕ) (passes : Use LabelUse → Type 0) : Type 0 where
     pub index : ℕ
     pub within : index < length final.uses
-    pub open' : (d : Use LabelUse) → is_open_at k a (slice_index_or final.uses index d) ≡ true
-    pub late : (d : Use LabelUse) → (slice_index_or final.uses index d).offset + range_of label_kinds (level_of (class label_kinds (slice_index_or final.uses index d))) < a + 4 + 28 * open_at k a + space
-
-  -- one of the longest range that is open there, or is a veneer in the island, reaches less than that
-  pub record NeedsFar (k space : ℕ) (island : ℕ × ℕ) : Type 0 where
-    pub index : ℕ
-    pub within : index < length final.uses
-    pub open' : (d : Use LabelUse) → is_open_in k island.0 island.1 (slice_index_or final.uses index d) ≡ true
-    pub far : (d : Use LabelUse) → class label_kinds (slice_index_or final.uses index d) ≡ Far
-    pub late : (d : Use LabelUse) → (slice_index_or final.uses index d).offset + range_of label_kinds third < island.0 + 4 + 28 * count_by (is_open_in k island.0 island.1) final.uses + space
+    pub open' : (d : Use LabelUse) → is_open_in k a b (slice_index_or final.uses index d) ≡ true
+    pub passed : (d : Use LabelUse) → passes (slice_index_or final.uses index d)
+    pub late :
+        (d : Use LabelUse)
+        → (slice_index_or final.uses index d).offset + reach_of (slice_index_or final.uses index d)
+        < a + 4 + 28 * count_by (is_open_in k a b) final.uses + space
 
   -- a use that is open at an island, or is a veneer in it, stops in the island
   abbrev pub StopsIn : ℕ → ℕ × ℕ → Use LabelUse → Type 0
-  StopsIn k island u = is_open_in k island.0 island.1 u ≡ true → (stop : ℕ) × (u.stop ≡ Some stop) × (stop < island.1)
+  StopsIn k island u =
+      is_open_in k island.0 island.1 u ≡ true
+      → (stop : ℕ) × (u.stop ≡ Some stop) × (stop < island.1)
 
-  -- a use has a label that is bound later, or is out of its range; or it has none
-  abbrev pub IsLate : ℕ → Use LabelUse → Type 0
-  IsLate k u = IfSome (label_of u.target) (λ label. (is_bound_by (take (k + 1) xs) label ≡ false) ⊎ IfSome (get final.labels label) (λ place. is_within label_kinds u.kind u.offset place ≡ false))
+  -- it stops at its end or behind it
+  abbrev pub StopsBehind : ℕ → ℕ × ℕ → Use LabelUse → Type 0
+  StopsBehind k island u =
+      is_open_in k island.0 island.1 u ≡ true → stops_from island.1 u.stop ≡ true
 
   -- whatever is open there and is not of the longest range stops in the island; of the others, veneers in
   -- the island included, none does, and islands are not forced, or all do, and that is needed, or islands are
   -- forced
   pub record Holds (force : ForceVeneers) (k space : ℕ) (island : ℕ × ℕ) : Type 0 where
     pub near : All (λ u. (class label_kinds u ≡ Far → ⊥) → StopsIn k island u) final.uses
-    pub far : (All (λ u. class label_kinds u ≡ Far → is_open_in k island.0 island.1 u ≡ true → stops_from island.1 u.stop ≡ true) final.uses
-        × (force ≡ No))
+    pub far : (All (λ u. class label_kinds u ≡ Far → StopsBehind k island u) final.uses × (force ≡ No))
         ⊎ (All (λ u. class label_kinds u ≡ Far → StopsIn k island u) final.uses
-        × (NeedsFar k space island ⊎ (force ≡ Yes)))
+        × (Needs k island.0 island.1 space (λ u. class label_kinds u ≡ Far) ⊎ (force ≡ Yes)))
 
-  -- an island is needed where it stands, or forced where one is asked for and some use is open; and the
-  -- uses that it serves have labels that are bound later, or are out of their range
+  -- an island is needed where it stands, or forced where one is asked for and some use is open
   pub record IsCaused (force : ForceVeneers) (stations : List ℕ) (island : ℕ × ℕ) : Type 0 where
     pub after : ℕ
     pub within : after < length xs
     pub stands : IsIslandBehind xs stations after island
     pub space : ℕ
     pub space_is : ahead (element_at xs after) (drop (after + 1) xs) ≡ Some space
-    pub cause : Needs after island.0 space ⊎ ((is_asking (element_at xs after) ≡ true) × (force ≡ Yes) × SomeOpenAt after island.0)
+    pub cause :
+        Needs after island.0 island.0 space (λ u. Unit {0})
+        ⊎ ((is_asking (element_at xs after) ≡ true) × (force ≡ Yes) × SomeOpenAt after island.0)
     pub holds : Holds force after space island
-    pub served : List (Use LabelUse)
-    pub late : All (IsLate after) served
 
 -- why an island was asked for, told from the buffer at that moment
 abbrev pub Cause : ForceVeneers → Element → List Element → Buffer LabelUse → Type 0
@@ -118,7 +121,9 @@ pub record WasAsked (force : ForceVeneers) (xs : List Element) (count : ℕ) (st
   pub whole : IsWhole label_kinds moment
   pub cause : Cause force (element_at xs after) (drop (after + 1) xs) moment
   pub bound : (n : ℕ) → is_bound_by (take (after + 1) xs) n ≡ true → IsSome (get moment.labels n)
-  pub only : (label place : ℕ) → get moment.labels label ≡ Some place → is_bound_by (take (after + 1) xs) label ≡ true
+  pub only :
+      (label place : ℕ) → get moment.labels label ≡ Some place
+      → is_bound_by (take (after + 1) xs) label ≡ true
   pub distance : ℕ
   pub distance_is : ahead (element_at xs after) (drop (after + 1) xs) ≡ Some distance
   pub written : Buffer LabelUse
@@ -132,15 +137,20 @@ pub record WasLeft (xs : List Element) (stations : List ℕ) (now : Buffer Label
   pub at : end_of moment ≡ slice_index stations i
   pub whole : IsWhole label_kinds moment
   pub closed : All (λ u. is_open label_kinds u ≡ false) moment.uses
-  pub bound : (label place : ℕ) → get moment.labels label ≡ Some place → is_bound_by (take (i + 1) xs) label ≡ true
+  pub bound :
+      (label place : ℕ) → get moment.labels label ≡ Some place
+      → is_bound_by (take (i + 1) xs) label ≡ true
   pub later : IsLater moment now
 
 -- a use may want nothing of an island, or none is forced and so much code is shorter than its range
 abbrev pub SiteIsQuiet : ForceVeneers → ℕ → Site → Type 0
-SiteIsQuiet force size s = wants (site_class s) ≡ true → (force ≡ No) × (size < range_of label_kinds (level_of (site_class s)))
+SiteIsQuiet force size s =
+    wants (site_class s) ≡ true
+    → (force ≡ No) × (size < range_of label_kinds (level_of (site_class s)))
 
 abbrev pub IsQuietElement : ForceVeneers → ℕ → Element → Type 0
 IsQuietElement force size x = All (SiteIsQuiet force size) (sites_of (cells_in x))
 
 abbrev pub UseIsQuiet : ForceVeneers → ℕ → Use LabelUse → Type 0
-UseIsQuiet force size u = wants (class label_kinds u) ≡ true → (force ≡ No) × (size < range_of label_kinds (level_of (class label_kinds u)))
+UseIsQuiet force size u =
+    wants (class label_kinds u) ≡ true → (force ≡ No) × (size < reach_of u)

@@ -15,7 +15,8 @@ use Rattle.a64_buffer.specs.Buffer.{Buffer, end_of, label_of, goal_of, is_within
 use Rattle.a64_buffer.specs.Areas.{HasUse}
 use Rattle.a64_buffer.specs.declared.class.Class.{Class}
 use Rattle.a64_buffer.specs.Classes.{Level, third, level_of, wants, cost, class, range_of, is_open, weigh, burden, weigh_label}
-use Rattle.a64_buffer.specs.Later.{IsSameUse, HasMoreRecords, IsLater, AreTraps}
+use Rattle.a64_buffer.specs.ByPlace.{AreByPlace}
+use Rattle.a64_buffer.specs.Later.{IsSameUse, HasMoreRecords, IsLater}
 use Rattle.a64_buffer.specs.Sound.{IsPlaced, AreApart, IsKinded, IsKnown, IsStop, IsRightlyOpen, IsStoppedOrOpen, IsSound}
 use Rattle.a64_buffer.specs.Steps.{stopped, Adds, Within}
 use Rattle.a64_buffer.proofs.Growth.{Grows, stop_stays}
@@ -114,7 +115,7 @@ module _ {K : Type 0} (r : Kinds K) (law : IsLawful r) (b b' : Buffer K) (areas 
           new true t e f = let z : place ≡ t = cc f in omega arith
           new false t e f = absurd (let z : None ≡ Some t = sym e ∙ f in cc)
 
-      pub added_later : end_of b ≤ place → AreTraps (end_of b) (end_of b') traps → IsLater b b'
+      pub added_later : end_of b ≤ place → AreByPlace (λ t. t.0) (end_of b) (end_of b') traps → IsLater b b'
       added_later far stand = record {
         end = omega (arith, added_end);
         words = kept_word;

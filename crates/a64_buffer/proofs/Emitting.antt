@@ -30,7 +30,7 @@ use Rattle.a64_buffer.proofs.Laters.{same_records, later_beside, later_trans}
 use Rattle.a64_buffer.proofs.Serving.{open_none, serves_none, served_behind, serves_join, sites_stopped}
 use Rattle.a64_buffer.proofs.OwnStops.{own_later}
 use Rattle.a64_buffer.proofs.Writing.{part_none}
-use Rattle.a64_buffer.proofs.Traps.{no_traps}
+use Rattle.a64_buffer.proofs.ByPlace.{none_placed, recorded_later}
 use Rattle.a64_buffer.proofs.Costs.{none_open}
 use Rattle.a64_buffer.proofs.Memory.{same_buffer}
 use Rattle.a64_buffer.proofs.Islands.{map_none, sound_beside, front_all, front_short, begun_end, begun_old, begun_new, begun_has, begun_jumps, begun_none, begun_later, begun_sound, begun_sound_in, begun_weight, begun_within, open_areas, open_hold, close_areas, jump_reach, islands_more}
@@ -278,7 +278,7 @@ module _ {K : Type 0} (r : Kinds K) (law : IsLawful r) (distance : ℕ) (force :
   )
 
   closed_later : IsLater m closed
-  closed_later = added_later r law m closed (open_areas r law b) (is_jump_at jump (end_of b)) (end_of m) [] [] [] sound_m adds (λ k d h. absurd (omega arith)) gives (omega arith) (no_traps (end_of m) (end_of m))
+  closed_later = added_later r law m closed (open_areas r law b) (is_jump_at jump (end_of b)) (end_of m) [] [] [] sound_m adds (λ k d h. absurd (omega arith)) gives (omega arith) (none_placed (end_of m) (end_of m))
 
   closed_sound : IsSound r closed (open_areas r law b)
   closed_sound = added_sound r law m closed (open_areas r law b) (is_jump_at jump (end_of b)) (end_of m) [] [] [] sound_m adds (λ k d h. absurd (omega arith)) gives sound_m.short (λ k d h. absurd (omega arith)) (λ j k d lt h. absurd (omega arith)) (λ k d h. absurd (omega arith)) (λ k d h. absurd (omega arith)) (λ k d h. absurd (omega arith))
@@ -513,6 +513,9 @@ module _ {K : Type 0} (r : Kinds K) (law : IsLawful r) (distance : ℕ) (force :
       (stops_below r (begun r jump b) b.islands (begun_sound r law jump b b.islands whole.sound (omega (arith, short)))) begun_own
       )
 
+  records_now : b'.records ≡ b.records
+  records_now = last.part.records ∙ near.writing.part.records
+
   whole_now : IsWhole r b'
   whole_now = go is_listed refl
     where
@@ -521,7 +524,7 @@ module _ {K : Type 0} (r : Kinds K) (law : IsLawful r) (distance : ℕ) (force :
       neither false e = (refl, ltb-false (end_of b) (end_of m) e)
 
       go : (t : Bool) → is_listed ≡ t → IsWhole r b'
-      go true e = record { sound = sound_end e; islands = islands_more r b b' (end_of m) b_later (now_listed e) whole.islands (new_island e); fits = less_room r law (end_of m) (ended jump (end_of b) m).uses distance 0 (omega arith) fits_now; own_stops = own_now e }
+      go true e = record { sound = sound_end e; islands = islands_more r b b' (end_of m) b_later (now_listed e) whole.islands (new_island e); fits = less_room r law (end_of m) (ended jump (end_of b) m).uses distance 0 (omega arith) fits_now; own_stops = own_now e; recorded = recorded_later b b' b_later records_now whole.recorded }
       go false e = let n = neither jump e in subst (IsWhole r) (sym (ended_same n.0 n.1)) whole
 
   pub island_made : HasIsland r distance force jump b (ended jump (end_of b) m)
@@ -533,7 +536,7 @@ module _ {K : Type 0} (r : Kinds K) (law : IsLawful r) (distance : ℕ) (force :
         (length b.uses, record over { stop = Some (end_of m) }, omega (arith, count_m j, m_later.count), at, (refl, refl));
     idle = λ j none. ended_same j (omega (arith, ends, ap front_size j, none_open r (cost third) b.uses none));
     labels = labels_now;
-    records = last.part.records ∙ near.writing.part.records;
+    records = records_now;
     later = b_later;
     given = given_now;
     whole = whole_now;

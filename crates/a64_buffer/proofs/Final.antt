@@ -20,6 +20,7 @@ use Rattle.a64_buffer.specs.Steps.{Writes, MayWrite, everywhere}
 use Rattle.a64_buffer.specs.Leads.{FarAt, Arrives, JumpAt, LabelLeads, TargetLeads}
 use Rattle.a64_buffer.specs.Settled.{IsCodeOf, Reaches, MayLead, IsLed, AreSettled, Lists, IsCode}
 use Rattle.a64_buffer.specs.Finished.{JumpsOver, IsSettled, IsFinished}
+use Rattle.a64_buffer.proofs.ByPlace.{recorded_later}
 use Rattle.a64_buffer.proofs.Rooms.{label_wants}
 use Rattle.a64_buffer.proofs.OwnStops.{own_later}
 use Rattle.a64_buffer.proofs.Islands.{sound_beside, in_everywhere, open_areas, open_hold, more_areas, close_areas, later_keeps, island_stays}
@@ -334,6 +335,7 @@ module _ {K : Type 0} (r : Kinds K) (law : IsLawful r) (b m : Buffer K) (whole :
       served = w.writing.served;
       serves = w.writing.serves;
       own_stops = own_later r (open_areas r law b) w.writing.served b m w.writing.serves later labels_are sound (stops_below r b b.islands whole.sound) whole.own_stops;
+      recorded = recorded_later b m later w.writing.part.records whole.recorded;
       final_sound = sound_beside r m m.islands m.records (open_areas r law b) areas sound closes;
       jumps = subst (λ bs. All (λ island. HasJump b.uses island → JumpsOver r bs island) b.islands) (sym bytes_are) jumps_over;
       labels = labels;

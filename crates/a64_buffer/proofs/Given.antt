@@ -26,7 +26,7 @@ use Rattle.a64_buffer.proofs.Rooms.{open_wants, open_stop, wanting_urgency, want
 use Rattle.a64_buffer.proofs.Adding.{added_end, added_count, new_use, all_uses}
 use Rattle.a64_buffer.proofs.Giving.{made_stop_of, made_goal, at_index, use_placed, use_kinded, end_reached, only_here, given}
 use Rattle.a64_buffer.proofs.WordLists.{words_short, words_whole}
-use Rattle.a64_buffer.proofs.Traps.{no_traps, one_trap}
+use Rattle.a64_buffer.proofs.ByPlace.{none_placed, one_placed}
 use Rattle.a64_buffer.proofs.Pays.{jump_pays, jump_pays_third, copy_pays, word_pays, far_pays, veneers_of, jump_class, far_class, label_is, weight_one, weight_none, label_one}
 
 one_apart : {K : Type 0} (v : Use K) (j k : ℕ) (d : Use K) → j < k → k < length (v ∷ []) → (get_or (v ∷ []) j d).offset ≢ (get_or (v ∷ []) k d).offset
@@ -128,7 +128,7 @@ module _ {K : Type 0} (r : Kinds K) (law : IsLawful r) (b b' : Buffer K) (areas 
         given r law b b' areas s index u within is open' room lowest (stands_at u.offset) (end_of b) (r.jump_word ∷ []) (jump ∷ []) [] a
         (All-cons (λ (v : Use K). end_of b ≤ v.offset) jump [] (omega arith) (λ k d h. absurd (omega arith)))
         (stops_there (end_of b) refl (veneer_leads r b' areas u.target u.kind label.0 (end_of b) label.1 (wants_veneer r u.target u.kind label.0 label.1 (open_wants r u open')) (inl (not_third, is_jump))))
-        (omega arith) (no_traps (end_of b) (end_of b')) itself (omega arith) itself_class short
+        (omega arith) (none_placed (end_of b) (end_of b')) itself (omega arith) itself_class short
         (All-cons (IsPlaced (end_of b')) jump [] (record { aligned = omega arith; inside = omega (arith, jump_end) }) (λ k d h. absurd (omega arith)))
         (one_apart jump)
         (All-cons (λ (v : Use K). IsKinded r v.target v.kind) jump [] (label_is_kinded r u.target r.jump label.0 label.1) (λ k d h. absurd (omega arith)))
@@ -205,7 +205,7 @@ module _ {K : Type 0} (r : Kinds K) (law : IsLawful r) (b b' : Buffer K) (areas 
         given r law b b' areas s index u within is open' room lowest (stands_at u.offset) (end_of b) (r.far_words ++ 0 ∷ []) (last' ∷ []) [] a
         (All-cons (λ (v : Use K). end_of b ≤ v.offset) last' [] (omega arith) (λ k d h. absurd (omega arith)))
         (stops_there (end_of b) refl (veneer_leads r b' areas u.target u.kind far_label.0 (end_of b) far_label.1 (wants_veneer r u.target u.kind far_label.0 far_label.1 (open_wants r u open')) (inr is_far)))
-        (omega arith) (no_traps (end_of b) (end_of b')) itself (omega (arith, length-append r.far_words (0 ∷ []))) itself_class short
+        (omega arith) (none_placed (end_of b) (end_of b')) itself (omega (arith, length-append r.far_words (0 ∷ []))) itself_class short
         (All-cons (IsPlaced (end_of b')) last' [] (record { aligned = omega arith; inside = omega (arith, far_end) }) (λ k d h. absurd (omega arith)))
         (one_apart last')
         (All-cons (λ (v : Use K). IsKinded r v.target v.kind) last' [] (label_is_kinded r u.target r.far_use far_label.0 far_label.1) (λ k d h. absurd (omega arith)))
@@ -262,7 +262,7 @@ module _ {K : Type 0} (r : Kinds K) (law : IsLawful r) (b b' : Buffer K) (areas 
         given r law b b' areas s index u within is open' room lowest (stands_at u.offset) (end_of b) (r.trap_word ∷ []) [] ((end_of b, code) ∷ []) a
         (λ k d h. absurd (omega arith))
         (stops_there (end_of b) refl (subst (λ t. LeadsOn r b' areas u.kind t (end_of b)) (sym target_is) is_trap))
-        (omega arith) (one_trap (end_of b) (end_of b') (end_of b, code) (omega arith) (omega (arith, trap_end))) itself (omega arith) itself_class short
+        (omega arith) (one_placed (end_of b) (end_of b') (end_of b, code) (omega arith) (omega (arith, trap_end))) itself (omega arith) itself_class short
         (λ k d h. absurd (omega arith)) (λ j k d lt h. absurd (omega arith)) (λ k d h. absurd (omega arith)) (λ k d h. absurd (omega arith)) (λ k d h. absurd (omega arith)) (λ k d h. absurd (omega arith)) (λ k d h. absurd (omega arith)) (λ k d h. absurd (omega arith)) (λ e k d h. absurd (omega arith))
         (λ t. omega arith)
         (λ l c w e o. omega (arith, word_pays (class r u) c l trap_class w e o))
@@ -379,7 +379,7 @@ module _ {K : Type 0} (r : Kinds K) (law : IsLawful r) (b b' : Buffer K) (areas 
         given r law b b' areas s index u within is open' room lowest (waits_for constant.0) (end_of b + 4 * pad) added [] [] a
         (λ k d h. absurd (omega arith))
         copy_stops
-        (omega arith) (no_traps (end_of b) (end_of b')) passes (omega (arith, added_length, aligned.3)) copy_class short
+        (omega arith) (none_placed (end_of b) (end_of b')) passes (omega (arith, added_length, aligned.3)) copy_class short
         (λ k d h. absurd (omega arith)) (λ j k d lt h. absurd (omega arith)) (λ k d h. absurd (omega arith)) (λ k d h. absurd (omega arith)) (λ k d h. absurd (omega arith)) (λ k d h. absurd (omega arith)) (λ k d h. absurd (omega arith)) (λ k d h. absurd (omega arith)) (λ e k d h. absurd (omega arith))
         (λ t. omega arith)
         (λ l c w e o. omega (arith, added_length, aligned.1, copy_pays (class r u) c l load_class w e o))

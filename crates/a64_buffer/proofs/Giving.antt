@@ -14,7 +14,8 @@ use Rattle.a64_buffer.specs.Buffer.{Buffer, end_of, goal_of, is_within, reached,
 use Rattle.a64_buffer.specs.declared.class.Class.{Class}
 use Rattle.a64_buffer.specs.declared.class.Class.TheVariants.{Far}
 use Rattle.a64_buffer.specs.Classes.{Level, third, level_of, wants, rank_of, cost, veneer_uses, trap_words, class, range_of, is_open, weigh, weight_of, burden, owed, weigh_label}
-use Rattle.a64_buffer.specs.Later.{IsLater, AreTraps}
+use Rattle.a64_buffer.specs.ByPlace.{AreByPlace}
+use Rattle.a64_buffer.specs.Later.{IsLater}
 use Rattle.a64_buffer.specs.Sound.{IsPlaced, AreApart, IsKinded, IsKnown, IsStop, IsStoppedOrOpen, IsSound}
 use Rattle.a64_buffer.specs.Islands.{IsVeneerUse}
 use Rattle.a64_buffer.specs.Pieces.{AtGoal}
@@ -126,7 +127,7 @@ module _ {K : Type 0} (r : Kinds K) (law : IsLawful r) (b b' : Buffer K) (areas 
             go true false p o = o
             go true true p o = absurd (let z : false ≡ true = o in cc)
 
-    module _ (behind : All (λ v. end_of b ≤ v.offset) fresh) (gives : All (λ v. test v ≡ true → (v.stop ≡ None) × IsStop r b' areas v.target v.kind v.offset place) b.uses) (ahead : end_of b ≤ place) (recorded : AreTraps (end_of b) (end_of b') traps) (passes : test u ≡ true) (some : 0 < length added) (same_class : (k : ℕ) (d : Use K) → k < length b.uses → test (get_or b.uses k d) ≡ true → class r (get_or b.uses k d) ≡ class r u) where
+    module _ (behind : All (λ v. end_of b ≤ v.offset) fresh) (gives : All (λ v. test v ≡ true → (v.stop ≡ None) × IsStop r b' areas v.target v.kind v.offset place) b.uses) (ahead : end_of b ≤ place) (recorded : AreByPlace (λ t. t.0) (end_of b) (end_of b') traps) (passes : test u ≡ true) (some : 0 < length added) (same_class : (k : ℕ) (d : Use K) → k < length b.uses → test (get_or b.uses k d) ≡ true → class r (get_or b.uses k d) ≡ class r u) where
       pub given : end_of b + owed r b < 2 ^ 31 → All (IsPlaced (end_of b')) fresh → AreApart fresh → All (λ v. IsKinded r v.target v.kind) fresh → All (λ v. IsKnown b.constants v.target) fresh → All (IsStoppedOrOpen r b' areas) fresh → All (λ v. is_open r v ≡ true → class r v ≡ Far) fresh → All (λ v. IsVeneerUse r b v) fresh → All (AtGoal b.labels) fresh → (class r u ≡ Far → All (λ v. wants (class r v) ≡ false) fresh) → ((t : ℕ → Bool) → sum_by (weigh_label r t) fresh ≤ weigh_label r t u) → ((l : Level) (c : Class) → wants c ≡ true → level_of c ≡ l → (c ≡ Far) ⊎ (rank_of (class r u) ≤ rank_of c) → 4 * length added + burden r l fresh ≤ cost l (class r u)) → 4 * length added + burden r third fresh ≤ cost third (class r u) → length fresh + weight_of r veneer_uses fresh ≤ veneer_uses (class r u) → length traps + weight_of r trap_words fresh ≤ trap_words (class r u) → HasGiven r areas (class r u) b b'
       given short placed apart kinded known stops fars veneers goals lasts same_label pays pays_third uses traps_fit =
           let end : end_of b' ≡ end_of b + 4 * length added = added_end r law b b' areas test place added fresh traps s a in

@@ -19,7 +19,7 @@ use Rattle.a64_buffer.proofs.Costs.{weight-append}
 use Rattle.a64_buffer.proofs.Pays.{weight_none}
 use Rattle.a64_buffer.proofs.Rooms.{within_from, next_within}
 use Rattle.a64_buffer.proofs.Adding.{added_later, added_sound}
-use Rattle.a64_buffer.proofs.Traps.{no_traps}
+use Rattle.a64_buffer.proofs.ByPlace.{none_placed}
 use Rattle.a64_buffer.proofs.Memory.{same_buffer}
 
 pub in_everywhere : (end p size : ℕ) → end < 2 ^ 31 → p + size ≤ end → InArea everywhere p size
@@ -125,7 +125,7 @@ module _ {K : Type 0} where
       behind = front_all r jump (λ (u : Use K). end_of b ≤ u.offset) (end_of b) (omega arith)
 
       pub begun_later : IsLater b (begun r jump b)
-      begun_later = added_later r law b (begun r jump b) areas (λ v. false) (end_of b) (front_words r jump) (front_uses r jump (end_of b)) [] s adds_begun behind (λ k d h e. absurd (false≢true e)) (omega arith) (no_traps (end_of b) (end_of (begun r jump b)))
+      begun_later = added_later r law b (begun r jump b) areas (λ v. false) (end_of b) (front_words r jump) (front_uses r jump (end_of b)) [] s adds_begun behind (λ k d h e. absurd (false≢true e)) (omega arith) (none_placed (end_of b) (end_of (begun r jump b)))
 
       pub begun_sound : end_of b + 4 < 2 ^ 31 → IsSound r (begun r jump b) areas
       begun_sound short =

@@ -13,7 +13,7 @@ use Rattle.a64_buffer.specs.Classes.{wants, class, class_of, is_open}
 use Rattle.a64_buffer.specs.Later.{IsSameUse, HasMore, HasMoreRecords, IsLaterFrom, IsLater}
 use Rattle.a64_buffer.specs.Sound.{HasJump}
 use Rattle.a64_buffer.proofs.Rooms.{open_wants, open_stop}
-use Rattle.a64_buffer.proofs.Traps.{same_traps, more_traps}
+use Rattle.a64_buffer.proofs.ByPlace.{same_traps, more_traps}
 
 pub same_use : {K : Type 0} (end : ℕ) (u : Use K) → IsSameUse end u u
 same_use end u = record { offset = refl; target = refl; kind = refl; kept = λ t e. e; later = λ t e f. absurd (let z : None ≡ Some t = sym e ∙ f in cc) }

@@ -11,7 +11,7 @@ pub mod Given
 pub mod Writing
 pub mod Islands
 pub mod Memory
-pub mod Traps
+pub mod ByPlace
 pub mod Laters
 pub mod Serving
 pub mod Pieces

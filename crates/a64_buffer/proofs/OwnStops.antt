@@ -17,7 +17,8 @@ use Rattle.a64_buffer.specs.Buffer.{Buffer, end_of, goal_of}
 use Rattle.a64_buffer.specs.Classes.{class, class_of, label_class, wants, is_open}
 use Rattle.a64_buffer.specs.Later.{IsLater, HasStopBelow}
 use Rattle.a64_buffer.specs.Sound.{IsTrap, IsShared, MayShare, HaveOwnStops, IsKnown, IsStop, IsRightlyOpen, IsSound}
-use Rattle.a64_buffer.specs.Pieces.{padding, constant_of, copy_words, words_for, stop_for, piece_words, pieces, StopsWith, Serves}
+use Rattle.a64_buffer.specs.Chain.{constant_of}
+use Rattle.a64_buffer.specs.Pieces.{padding, copy_words, words_for, stop_for, piece_words, pieces, StopsWith, Serves}
 use Rattle.a64_buffer.proofs.Rooms.{label_wants}
 use Rattle.a64_buffer.proofs.Serving.{same_class}
 use Rattle.a64_buffer.proofs.WordLists.{words_long}

@@ -16,7 +16,8 @@ use Rattle.a64_buffer.specs.Kinds.{Kinds, IsLawful}
 use Rattle.a64_buffer.specs.Buffer.{Buffer, end_of, label_of, made_use}
 use Rattle.a64_buffer.specs.Classes.{class, class_of, rank_of, is_open}
 use Rattle.a64_buffer.specs.Sound.{IsSound, IsStoppedOrOpen, IsStop, IsRightlyOpen}
-use Rattle.a64_buffer.specs.Pieces.{padding, constant_of, trap_at, copy_words, AtGoal, site_of, key_of, words_for, stop_for, sites_for, piece_words, piece_traps, piece_sites, StopsAtPiece, IsServed, IsFirst, StopsWith}
+use Rattle.a64_buffer.specs.Chain.{constant_of}
+use Rattle.a64_buffer.specs.Pieces.{padding, trap_at, copy_words, AtGoal, site_of, key_of, words_for, stop_for, sites_for, piece_words, piece_traps, piece_sites, StopsAtPiece, IsServed, IsFirst, StopsWith}
 use Rattle.a64_buffer.specs.Steps.{stopped, stands_at, is_load_of, waits_for, Adds, GivesJump, GivesFar, GivesTrap, GivesCopy, Within, ServesNext}
 use Rattle.a64_buffer.proofs.Rooms.{open_wants, open_stop}
 use Rattle.a64_buffer.proofs.Adding.{added_count, old_use, new_use}

@@ -14,7 +14,8 @@ use Rattle.a64_buffer.specs.Kinds.{Kinds}
 use Rattle.a64_buffer.specs.Buffer.{Buffer, end_of, label_of, goal_of}
 use Rattle.a64_buffer.specs.Classes.{class, class_of, wants, rank_of, is_open}
 use Rattle.a64_buffer.specs.Later.{IsSameUse, IsLater}
-use Rattle.a64_buffer.specs.Pieces.{constant_of, AtGoal, IsAnswered, site_of, key_of, ComesBefore, words_for, piece_words, piece_traps, piece_sites, StopsAtPiece, pieces, IsServed, IsFirst, StopsWith, Serves}
+use Rattle.a64_buffer.specs.Chain.{constant_of}
+use Rattle.a64_buffer.specs.Pieces.{AtGoal, IsAnswered, site_of, key_of, ComesBefore, words_for, piece_words, piece_traps, piece_sites, StopsAtPiece, pieces, IsServed, IsFirst, StopsWith, Serves}
 use Rattle.a64_buffer.specs.Steps.{stopped}
 use Rattle.a64_buffer.proofs.Rooms.{open_wants, open_stop}
 use Rattle.a64_buffer.proofs.Laters.{was_open}

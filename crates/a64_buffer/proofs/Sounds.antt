@@ -15,6 +15,7 @@ use Rattle.a64_buffer.specs.declared.class.Class.{Class}
 use Rattle.a64_buffer.specs.Kinds.{Kinds, IsLawful}
 use Rattle.a64_buffer.specs.Buffer.{Records, Buffer, end_of, new_buffer, label_of, leads_to, goal_of, is_within, reached, made_use, closed_at, IsFree, IsOutside}
 use Rattle.a64_buffer.specs.Classes.{level_of, wants, cost, class, is_open, weigh, weight_of, burden, range_of, HasRoom, Fits}
+use Rattle.a64_buffer.specs.ByPlace.{AreRecordedByPlace}
 use Rattle.a64_buffer.specs.Later.{IsSameUse, IsLaterFrom, IsLater}
 use Rattle.a64_buffer.specs.Sound.{IsPlaced, IsShared, MayShare, HaveOwnStops, IsKinded, IsKnown, IsStop, IsRightlyOpen, IsStoppedOrOpen, IsWhole}
 use Rattle.a64_buffer.specs.Steps.{stopped, Adds}
@@ -24,7 +25,7 @@ use Rattle.a64_buffer.proofs.Growth.{Grows, stop_stays}
 use Rattle.a64_buffer.proofs.Adding.{added_later, added_sound}
 use Rattle.a64_buffer.proofs.Giving.{made_stop, made_goal}
 use Rattle.a64_buffer.proofs.Laters.{same_use, same_records}
-use Rattle.a64_buffer.proofs.Traps.{no_traps, one_trap, same_traps}
+use Rattle.a64_buffer.proofs.ByPlace.{none_placed, one_placed, same_traps, none_recorded, recorded_later}
 use Rattle.a64_buffer.proofs.Islands.{map_none, sound_beside, Keeps, later_keeps, islands_stay}
 
 module _ {K : Type 0} (r : Kinds K) where
@@ -61,6 +62,7 @@ module _ {K : Type 0} (r : Kinds K) where
     islands = record { each = λ k d h. absurd (omega arith); in_order = λ j k h i. absurd (omega arith) };
     fits = record { rooms = λ k d h. absurd (omega arith) };
     own_stops = λ j k stop d lt h. absurd (omega arith);
+    recorded = none_recorded 0;
   }
 
   module _ (law : IsLawful r) (b : Buffer K) (whole : IsWhole r b) where
@@ -77,7 +79,7 @@ module _ {K : Type 0} (r : Kinds K) where
       adds = record { words = refl; uses = sym (append-nil (map (stopped (λ (v : Use K). false) (end_of b)) b.uses) ∙ map_none (end_of b) b.uses); labels = refl; islands = refl; traps_are = sym (append-nil b.traps); constants = refl; records = refl }
 
       pub put_later : IsLater b (record b { words = b.words ++ added })
-      put_later = added_later r law b put b.islands (λ v. false) (end_of b) added [] [] whole.sound adds (λ k d h. absurd (omega arith)) (λ k d h e. absurd (false≢true e)) (omega arith) (no_traps (end_of b) (end_of put))
+      put_later = added_later r law b put b.islands (λ v. false) (end_of b) added [] [] whole.sound adds (λ k d h. absurd (omega arith)) (λ k d h e. absurd (false≢true e)) (omega arith) (none_placed (end_of b) (end_of put))
 
       pub whole_put : end_of b + 4 * length added < 2 ^ 31 → Fits r b (4 * length added) → IsWhole r (record b { words = b.words ++ added })
       whole_put short fits = record {
@@ -85,6 +87,7 @@ module _ {K : Type 0} (r : Kinds K) where
         islands = islands_stay r b put (later_keeps r b put whole.islands put_later) refl whole.islands;
         fits = record { rooms = λ k d w o. let x = fits.rooms k d w o in omega (arith, put_end) };
         own_stops = whole.own_stops;
+        recorded = recorded_later b put put_later refl whole.recorded;
       }
 
     -- ---- one more trap
@@ -97,7 +100,7 @@ module _ {K : Type 0} (r : Kinds K) where
       adds_trap = record { words = sym (append-nil b.words); uses = sym (append-nil (map (stopped (λ (v : Use K). false) (end_of b)) b.uses) ∙ map_none (end_of b) b.uses); labels = refl; islands = refl; traps_are = refl; constants = refl; records = refl }
 
       pub trap_later : IsLater b (record b { traps = b.traps ++ (end_of b, code) ∷ [] })
-      trap_later = added_later r law b trapped b.islands (λ v. false) (end_of b) [] [] ((end_of b, code) ∷ []) whole.sound adds_trap (λ k d h. absurd (omega arith)) (λ k d h e. absurd (false≢true e)) (omega arith) (one_trap (end_of b) (end_of b) (end_of b, code) (omega arith) (omega arith))
+      trap_later = added_later r law b trapped b.islands (λ v. false) (end_of b) [] [] ((end_of b, code) ∷ []) whole.sound adds_trap (λ k d h. absurd (omega arith)) (λ k d h e. absurd (false≢true e)) (omega arith) (one_placed (end_of b) (end_of b) (end_of b, code) (omega arith) (omega arith))
 
       pub whole_trap : IsWhole r (record b { traps = b.traps ++ (end_of b, code) ∷ [] })
       whole_trap = record {
@@ -105,17 +108,19 @@ module _ {K : Type 0} (r : Kinds K) where
         islands = islands_stay r b trapped (later_keeps r b trapped whole.islands trap_later) refl whole.islands;
         fits = record { rooms = λ k d w o. whole.fits.rooms k d w o };
         own_stops = whole.own_stops;
+        recorded = recorded_later b trapped trap_later refl whole.recorded;
       }
 
     -- ---- more records
 
-    module _ (records : Records) where
+    module _ (records : Records) (recorded : AreRecordedByPlace (end_of b) b.traps records) where
       pub whole_records : IsWhole r (record b { records = records })
       whole_records = record {
         sound = sound_beside r b b.islands records b.islands b.islands whole.sound (λ p size h i. i);
         islands = islands_stay r b (record b { records = records }) (record { end = omega arith; words = λ i h. refl; count = omega arith; uses = λ k d h. same_use (end_of b) (get_or b.uses k d); fresh = λ k d low high. absurd (omega arith) }) refl whole.islands;
         fits = record { rooms = λ k d w o. whole.fits.rooms k d w o };
         own_stops = whole.own_stops;
+        recorded = recorded;
       }
 
     -- ---- one more use
@@ -197,6 +202,7 @@ module _ {K : Type 0} (r : Kinds K) where
         islands = islands_stay r b used (used_keeps outside) refl whole.islands;
         fits = fits;
         own_stops = used_own;
+        recorded = whole.recorded;
       }
         where
           old : (u : Use K) (o : Option ℕ) → MatchOption o (IsRightlyOpen r b b.islands u.target u.kind u.offset) (IsStop r b b.islands u.target u.kind u.offset) → MatchOption o (IsRightlyOpen r used b.islands u.target u.kind u.offset) (IsStop r used b.islands u.target u.kind u.offset)
@@ -406,4 +412,5 @@ module _ {K : Type 0} (r : Kinds K) where
         islands = islands_stay r b bound' bind_keeps refl whole.islands;
         fits = bind_room 0 whole.fits;
         own_stops = bound_own;
+        recorded = whole.recorded;
       }

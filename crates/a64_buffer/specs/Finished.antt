@@ -6,6 +6,7 @@ use Rattle.a64_buffer.specs.declared.finish.Finished.{Finished}
 use Rattle.a64_buffer.specs.Word.{outside, word_at}
 use Rattle.a64_buffer.specs.Kinds.{Kinds, GoesTo}
 use Rattle.a64_buffer.specs.Buffer.{Buffer, end_of, IsFree}
+use Rattle.a64_buffer.specs.ByPlace.{AreRecordedByPlace}
 use Rattle.a64_buffer.specs.Classes.{trap_words, weight_of, owed}
 use Rattle.a64_buffer.specs.Later.{IsLater}
 use Rattle.a64_buffer.specs.Sound.{HasJump, HaveOwnStops, IsSound}
@@ -43,6 +44,7 @@ module _ {K : Type 0} (r : Kinds K) where
     pub served : List (Use K)
     pub serves : Serves r b.labels b.constants served b final
     pub own_stops : HaveOwnStops b.labels final.uses
+    pub recorded : AreRecordedByPlace (end_of final) final.traps final.records
     pub final_sound : IsSound r final (b.islands ++ (end_of b, end_of final) ∷ [])
     pub jumps : All (λ island. HasJump b.uses island → JumpsOver code.bytes.items island) b.islands
     pub labels : Lists b.labels code.labels.items

@@ -1,12 +1,12 @@
 -- What stays true of a buffer as islands are added to it.
-use Rattle.std.specs.Prelude.{ℕ, ◌≡◌, ◌⊎◌, ◌<◌, ◌≤◌, List, ◌++◌, All, length, slice_index, slice_index_or, Some, None, IfSome}
-use Rattle.std.specs.List.{AllPairs}
+use Rattle.std.specs.Prelude.{ℕ, ◌≡◌, ◌⊎◌, ◌<◌, ◌≤◌, List, ◌++◌, length, slice_index, slice_index_or, Some, None, IfSome}
 use Rattle.std.specs.Ordering.{nat_cmp}
 use Rattle.std.specs.FinMap.{FinMap, get}
 use Rattle.a64_base.specs.declared.entity.TrapCode.{TrapCode}
 use Rattle.a64_buffer.specs.declared.site.Use.{Use}
 use Rattle.a64_buffer.specs.declared.site.Target.TheVariants.{IslandEnd}
 use Rattle.a64_buffer.specs.Buffer.{Records, Buffer, end_of, goal_of}
+use Rattle.a64_buffer.specs.ByPlace.{AreByPlace}
 
 -- a use later on: the same use; a stop that it has stays, and one that it gets is at the end from which
 -- it waited, or behind it
@@ -17,17 +17,11 @@ pub record IsSameUse {K : Type 0} (end : ℕ) (u v : Use K) : Type 0 where
   pub kept : (stop : ℕ) → u.stop ≡ Some stop → v.stop ≡ Some stop
   pub later : (stop : ℕ) → u.stop ≡ None → v.stop ≡ Some stop → end ≤ stop
 
--- traps recorded from one place up to another, by place
-pub record AreTraps (from to : ℕ) (traps : List (ℕ × TrapCode)) : Type 0 where
-  pub behind : All (λ t. from ≤ t.0) traps
-  pub ahead : All (λ t. t.0 ≤ to) traps
-  pub in_order : AllPairs (λ t u. t.0 ≤ u.0) traps
-
--- traps later on: those of before, and behind them such as stand between the two ends
+-- traps later on: those of before, and behind them such as stand between the two ends, by place
 pub record HasMoreTraps (from to : ℕ) (traps traps' : List (ℕ × TrapCode)) : Type 0 where
   pub more : List (ℕ × TrapCode)
   pub are : traps' ≡ traps ++ more
-  pub stand : AreTraps from to more
+  pub stand : AreByPlace (λ t. t.0) from to more
 
 -- a list later on: the items of before, and more behind them
 pub record HasMore {A : Type 0} (items items' : List A) : Type 0 where

@@ -2,6 +2,7 @@ pub mod Word
 pub mod Constants
 pub mod Kinds
 pub mod Buffer
+pub mod ByPlace
 pub mod Areas
 pub mod Classes
 pub mod Chain

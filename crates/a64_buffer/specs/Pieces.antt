@@ -1,5 +1,5 @@
 -- What stands in islands and in the pool, and in which order.
-use Rattle.std.specs.Prelude.{ℕ, ◌≡◌, ◌≢◌, ◌⊎◌, ◌+◌, ◌*◌, ◌-◌, ◌/◌, ◌%◌, ◌^◌, ◌<◌, ◌≤◌, Bool, true, false, ◌||◌, nat_lt, if◌then◌else◌, List, [], ◌∷◌, ◌++◌, All, Any, map, length, slice_index_or, replicate, Option, None, Some, IfSome, IsSome}
+use Rattle.std.specs.Prelude.{ℕ, ◌≡◌, ◌≢◌, ◌⊎◌, ◌+◌, ◌*◌, ◌-◌, ◌/◌, ◌%◌, ◌^◌, ◌<◌, ◌≤◌, Bool, true, false, ◌||◌, nat_lt, if◌then◌else◌, List, [], ◌∷◌, ◌++◌, All, Any, map, length, slice_index_or, replicate, None, Some, IfSome, IsSome}
 use Rattle.std.specs.Option.{unwrap_or}
 use Rattle.std.specs.List.{AllPairs, flat_map}
 use Rattle.std.specs.Ordering.{nat_cmp}
@@ -13,18 +13,12 @@ use Rattle.a64_buffer.specs.declared.class.Class.TheVariants.{Near, Middle, Load
 use Rattle.a64_buffer.specs.Word.{words_of}
 use Rattle.a64_buffer.specs.Kinds.{Kinds}
 use Rattle.a64_buffer.specs.Buffer.{Buffer, end_of, goal_of, is_within}
+use Rattle.a64_buffer.specs.Chain.{constant_of}
 use Rattle.a64_buffer.specs.Classes.{class, rank_of, wants, is_open}
 
 -- how many zero words bring a place to a multiple of a size of 4, 8 or 16 bytes
 abbrev pub padding : ℕ → ℕ → ℕ
 padding place size = (size - place % size) % size / 4
-
--- the number of the constant that a target is, where it is one
-abbrev pub constant_of : Target → Option ℕ
-constant_of (Label label) = None
-constant_of (Constant constant) = Some constant.0
-constant_of (Trap code) = None
-constant_of IslandEnd = None
 
 -- the bytes of the constant that a target is
 abbrev pub content_of : FinMap nat_cmp (List ℕ) → Target → List ℕ

@@ -11,15 +11,19 @@ use Rattle.a64_buffer.specs.Word.{words_of}
 use Rattle.a64_buffer.specs.Constants.{IsConstant}
 use Rattle.a64_buffer.specs.Kinds.{Kinds, IsWithin}
 use Rattle.a64_buffer.specs.Buffer.{Buffer, end_of, goal_of, is_within}
+use Rattle.a64_buffer.specs.ByPlace.{AreRecordedByPlace}
 use Rattle.a64_buffer.specs.Areas.{InArea, HasUse, Stands}
 use Rattle.a64_buffer.specs.Classes.{Fits}
-use Rattle.a64_buffer.specs.Pieces.{constant_of}
-use Rattle.a64_buffer.specs.Chain.{AreChained}
+use Rattle.a64_buffer.specs.Chain.{constant_of, AreChained}
 use Rattle.a64_buffer.specs.Queues.{AreWaiting}
 
 -- what the parts of a buffer are to its callers
 abbrev pub seen : {K : Type 0} → Parts K → Buffer K
 seen p = record { words = p.words.items; uses = p.uses.items; labels = p.labels; islands = p.islands.items; traps = p.traps.items; constants = p.constants.now; records = record { relocs = p.records.relocs.items; calls = p.records.calls.items; patchable = p.records.patchable.items; maps = p.records.maps.items } }
+
+-- the uses of a buffer are in chains
+abbrev pub HasChains : {K : Type 0} → Parts K → Type 0
+HasChains p = AreChained p.uses.items p.earlier.items p.heads p.loads
 
 -- a use stands on a word of code that ends there
 pub record IsPlaced {K : Type 0} (end : ℕ) (u : Use K) : Type 0 where
@@ -161,9 +165,10 @@ module _ {K : Type 0} (r : Kinds K) where
     pub islands : AreIslands b
     pub fits : Fits r b 0
     pub own_stops : HaveOwnStops b.labels b.uses
+    pub recorded : AreRecordedByPlace (end_of b) b.traps b.records
 
   -- the parts of such a buffer, with its chains of uses, and what is kept of the open ones
   pub record AreSound (p : Parts K) : Type 0 where
     pub whole : IsWhole (seen p)
-    pub chained : AreChained p.uses.items p.earlier.items p.heads p.loads
+    pub chained : HasChains p
     pub waiting : AreWaiting r p.uses.items p.queues p.burdens

@@ -9,7 +9,7 @@ use Rattle.a64_buffer.specs.Word.{words_of}
 use Rattle.a64_buffer.specs.Kinds.{Kinds}
 use Rattle.a64_buffer.specs.Buffer.{Buffer, end_of, made_use}
 use Rattle.a64_buffer.specs.Areas.{InArea}
-use Rattle.a64_buffer.specs.Chain.{constant_of, AreChained}
+use Rattle.a64_buffer.specs.Chain.{constant_of}
 use Rattle.a64_buffer.specs.declared.parts.Parts.{Parts}
 use Rattle.a64_buffer.specs.declared.class.Class.{Class}
 use Rattle.a64_buffer.specs.declared.class.Class.TheVariants.{Near, Middle, Load, Trapping, Far, Direct}
@@ -18,7 +18,7 @@ use Rattle.a64_buffer.specs.declared.force.ForceVeneers.{ForceVeneers}
 use Rattle.a64_buffer.specs.declared.force.ForceVeneers.TheVariants.{No, Yes}
 use Rattle.a64_buffer.specs.Later.{IsLater}
 use Rattle.a64_buffer.specs.Space.{HasSpace}
-use Rattle.a64_buffer.specs.Sound.{seen, AreApart, IsSound}
+use Rattle.a64_buffer.specs.Sound.{seen, HasChains, AreApart, IsSound}
 use Rattle.a64_buffer.specs.Pieces.{padding, listed, AtGoal, key_of, Serves}
 use Rattle.a64_buffer.specs.Islands.{IsVeneerUse, FarWaits}
 
@@ -67,6 +67,10 @@ pub record Adds {K : Type 0} (test : Use K → Bool) (place : ℕ) (added : List
 -- a use stands behind as many uses as there were
 abbrev pub AddsUse : {K : Type 0} → List (Use K) → List (Use K) → Use K → Type 0
 AddsUse us us' u = us' ≡ take (length us) us' ++ u ∷ []
+
+-- and so it does, where one is answered; else there are as many uses as there were
+abbrev pub MayAddUse : {K : Type 0} → List (Use K) → List (Use K) → Option (Use K) → Type 0
+MayAddUse us us' result = MatchOption result (length us' ≡ length us) (AddsUse us us')
 
 -- an island from a place on is ended
 abbrev pub ended : {K : Type 0} → Bool → ℕ → Buffer K → Buffer K
@@ -164,6 +168,14 @@ module _ {K : Type 0} (r : Kinds K) where
     pub sound_in : (areas : List (ℕ × ℕ)) → IsSound r b areas → HoldFrom areas (end_of b) → IsSound r b' areas
     pub next : ServesNext given_class b b'
 
+  -- the use at an index is of a class
+  abbrev pub IsOfClass : Class → List (Use K) → ℕ → Type 0
+  IsOfClass c uses index = (d : Use K) → class r (slice_index_or uses index d) ≡ c
+
+  -- and it got what it waited for, where it came first
+  abbrev pub GivesUse : ℕ → Buffer K → Buffer K → Type 0
+  GivesUse index b b' = (d : Use K) → GivesAll (class r (slice_index_or b.uses index d)) b b'
+
   -- a buffer in which open uses may be given what they wait for
   pub record MayWrite (b : Buffer K) : Type 0 where
     pub sound : IsSound r b everywhere
@@ -216,4 +228,4 @@ pub record IsReady {K : Type 0} (r : Kinds K) (p : Parts K) (index : ℕ) : Type
   pub next : (d : Use K) → (is_open r (slice_index_or p.uses.items index d) ≡ true) × All (λ u. is_open r u ≡ true → rank_of (class r (slice_index_or p.uses.items index d)) ≤ rank_of (class r u)) p.uses.items
   pub may : MayWrite r (seen p)
   pub space : HasSpace r p
-  pub chained : AreChained p.uses.items p.earlier.items p.heads p.loads
+  pub chained : HasChains p

@@ -1,9 +1,8 @@
 //! Islands, and what gives open uses what they wait for.
 
-ghost use Rattle.std.specs.Prelude.{◌≡◌, ◌⊎◌, ◌+◌, ◌*◌, ◌^◌, ◌<◌, ◌≤◌, All, MatchBool, MatchOption, OnOk, OnErr, true, length, slice_index_or, vec_len, vec_capacity};
+ghost use Rattle.std.specs.Prelude.{◌≡◌, ◌⊎◌, ◌+◌, ◌*◌, ◌^◌, ◌<◌, ◌≤◌, All, MatchBool, OnOk, OnErr, true, slice_index_or, vec_len, vec_capacity};
 ghost use Rattle.a64_buffer.specs.Buffer.{end_of};
-ghost use Rattle.a64_buffer.specs.Classes as classes;
-ghost use Rattle.a64_buffer.specs.Classes.{veneer_uses, weight_of, owed, Fits};
+ghost use Rattle.a64_buffer.specs.Classes.{owed, Fits};
 ghost use Rattle.a64_buffer.specs.declared.force.ForceVeneers.TheVariants.{No, Yes};
 ghost use Rattle.a64_buffer.specs.declared.site.Target.TheVariants.{Label};
 
@@ -17,11 +16,13 @@ use a64_base::MachLabel;
 use std::alloc::AllocError;
 
 impl<'c, K: MachInstLabelUse> Parts<'c, K> {
-    ghost use Rattle.a64_buffer.specs.Sound.{seen, IsPlaced, AreApart, IsKinded, AreSound};
-    ghost use Rattle.a64_buffer.specs.Chain.{constant_of, AreChained};
-    ghost use Rattle.a64_buffer.specs.Queues.{HaveRoomFor, AllHold, AllLimits, AreBurdens, AreWaiting};
-    ghost use Rattle.a64_buffer.specs.Space.{SameRoom, HasSpace, HasSpaceForMore};
-    ghost use Rattle.a64_buffer.specs.Steps.{AddsUse, IsNextOpen, IsReady, GivesAll, MayWrite, Writes, WritesFar, StandsAt, EndsJump, EndsIsland};
+    ghost use Rattle.a64_buffer.specs.Sound.{seen, HasChains, IsPlaced, IsKinded, AreSound};
+    ghost use Rattle.a64_buffer.specs.Chain.{constant_of};
+    ghost use Rattle.a64_buffer.specs.Queues.{AllHold, AllLimits, AreBurdens, AreWaiting};
+    ghost use Rattle.a64_buffer.specs.Space.{SameRoom, HasSpace, HasSpaceForMore, HasVeneerRoom};
+    ghost use Rattle.a64_buffer.specs.Steps.{AddsUse, MayAddUse, IsNextOpen, IsReady, IsOfClass};
+    ghost use Rattle.a64_buffer.specs.Steps.{GivesAll, GivesUse, MayWrite, Writes, WritesFar};
+    ghost use Rattle.a64_buffer.specs.Steps.{StandsAt, EndsJump, EndsIsland};
     ghost use Rattle.a64_buffer.specs.Pieces.{begun};
     ghost use Rattle.a64_buffer.specs.Islands.{HasIsland};
 
@@ -41,12 +42,13 @@ impl<'c, K: MachInstLabelUse> Parts<'c, K> {
     #[inline(always)]
     fn give_veneer(&mut self, index: usize, label: MachLabel, class: Class) -> Use<K>
         requires ready { IsReady K.kinds self.old index }
-        requires class { (d : _) → classes.class K.kinds (slice_index_or self.old.uses.items index d) ≡ class }
-        requires label { (d : _) → (slice_index_or self.old.uses.items index d).target ≡ Label label }
+        requires class { IsOfClass K.kinds class self.old.uses.items index }
+        requires label { (d : _) →
+            (slice_index_or self.old.uses.items index d).target ≡ Label label }
         requires burdens { AreBurdens K.kinds self.old.uses.items self.old.burdens }
         ensures gives { GivesAll K.kinds class (seen self.old) (seen self.new) }
         ensures added { AddsUse self.old.uses.items self.new.uses.items result }
-        ensures chained { AreChained self.new.uses.items self.new.earlier.items self.new.heads self.new.loads }
+        ensures chained { HasChains self.new }
         ensures room { SameRoom self.old self.new }
         ensures queues { self.new.queues ≡ self.old.queues }
         ensures burdens { AreBurdens K.kinds self.new.uses.items self.new.burdens }
@@ -58,16 +60,16 @@ impl<'c, K: MachInstLabelUse> Parts<'c, K> {
         }
     }
 
-    /// Gives the open use that comes first, which is of a class, what it waits for, and answers the use
-    /// that was added, if any.
+    /// Gives the open use that comes first, which is of a class, what it waits for, and answers the
+    /// use that was added, if any.
     #[inline(always)]
     fn give(&mut self, index: usize, class: Class) -> Option<Use<K>>
         requires ready { IsReady K.kinds self.old index }
-        requires class { (d : _) → classes.class K.kinds (slice_index_or self.old.uses.items index d) ≡ class }
+        requires class { IsOfClass K.kinds class self.old.uses.items index }
         requires burdens { AreBurdens K.kinds self.old.uses.items self.old.burdens }
         ensures gives { GivesAll K.kinds class (seen self.old) (seen self.new) }
-        ensures added { MatchOption result (length self.new.uses.items ≡ length self.old.uses.items) (AddsUse self.old.uses.items self.new.uses.items) }
-        ensures chained { AreChained self.new.uses.items self.new.earlier.items self.new.heads self.new.loads }
+        ensures added { MayAddUse self.old.uses.items self.new.uses.items result }
+        ensures chained { HasChains self.new }
         ensures room { SameRoom self.old self.new }
         ensures queues { self.new.queues ≡ self.old.queues }
         ensures burdens { AreBurdens K.kinds self.new.uses.items self.new.burdens }
@@ -81,23 +83,23 @@ impl<'c, K: MachInstLabelUse> Parts<'c, K> {
         None
     }
 
-    /// Gives the open use that comes first, which is of a class, what it waits for, and keeps what waits
-    /// then.
+    /// Gives the open use that comes first, which is of a class, what it waits for, and keeps what
+    /// waits then.
     #[inline(always)]
     fn serve_as(&mut self, index: usize, class: Class)
         requires ready { IsReady K.kinds self.old index }
-        requires class { (d : _) → classes.class K.kinds (slice_index_or self.old.uses.items index d) ≡ class }
+        requires class { IsOfClass K.kinds class self.old.uses.items index }
         requires hold { AllHold K.kinds self.old.uses.items self.old.queues }
         requires limits { AllLimits K.kinds self.old.uses.items self.old.queues }
         requires burdens { AreBurdens K.kinds self.old.uses.items self.old.burdens }
-        requires queued { HaveRoomFor (weight_of K.kinds veneer_uses self.old.uses.items) self.old.queues }
+        requires queued { HasVeneerRoom K.kinds self.old 0 }
         ensures gives { GivesAll K.kinds class (seen self.old) (seen self.new) }
-        ensures chained { AreChained self.new.uses.items self.new.earlier.items self.new.heads self.new.loads }
+        ensures chained { HasChains self.new }
         ensures room { SameRoom self.old self.new }
         ensures hold { AllHold K.kinds self.new.uses.items self.new.queues }
         ensures burdens { AreBurdens K.kinds self.new.uses.items self.new.burdens }
         ensures limits { AllLimits K.kinds self.new.uses.items self.new.queues }
-        ensures queued { HaveRoomFor (weight_of K.kinds veneer_uses self.new.uses.items) self.new.queues }
+        ensures queued { HasVeneerRoom K.kinds self.new 0 }
     {
         let from = self.uses.len();
         let added = self.give(index, class);
@@ -122,14 +124,14 @@ impl<'c, K: MachInstLabelUse> Parts<'c, K> {
         requires hold { AllHold K.kinds self.old.uses.items self.old.queues }
         requires limits { AllLimits K.kinds self.old.uses.items self.old.queues }
         requires burdens { AreBurdens K.kinds self.old.uses.items self.old.burdens }
-        requires queued { HaveRoomFor (weight_of K.kinds veneer_uses self.old.uses.items) self.old.queues }
-        ensures gives { (d : _) → GivesAll K.kinds (classes.class K.kinds (slice_index_or self.old.uses.items index d)) (seen self.old) (seen self.new) }
-        ensures chained { AreChained self.new.uses.items self.new.earlier.items self.new.heads self.new.loads }
+        requires queued { HasVeneerRoom K.kinds self.old 0 }
+        ensures gives { GivesUse K.kinds index (seen self.old) (seen self.new) }
+        ensures chained { HasChains self.new }
         ensures room { SameRoom self.old self.new }
         ensures hold { AllHold K.kinds self.new.uses.items self.new.queues }
         ensures burdens { AreBurdens K.kinds self.new.uses.items self.new.burdens }
         ensures limits { AllLimits K.kinds self.new.uses.items self.new.queues }
-        ensures queued { HaveRoomFor (weight_of K.kinds veneer_uses self.new.uses.items) self.new.queues }
+        ensures queued { HasVeneerRoom K.kinds self.new 0 }
     {
         match self.uses[index].class() {
             Class::Near => self.serve_as(index, Class::Near),
@@ -146,19 +148,19 @@ impl<'c, K: MachInstLabelUse> Parts<'c, K> {
         requires limit { limit ≤ 5 }
         requires may { MayWrite K.kinds (seen self.old) }
         requires space { HasSpace K.kinds self.old }
-        requires chained { AreChained self.old.uses.items self.old.earlier.items self.old.heads self.old.loads }
+        requires chained { HasChains self.old }
         requires hold { AllHold K.kinds self.old.uses.items self.old.queues }
         requires burdens { AreBurdens K.kinds self.old.uses.items self.old.burdens }
         requires limits { AllLimits K.kinds self.old.uses.items self.old.queues }
-        requires queued { HaveRoomFor (weight_of K.kinds veneer_uses self.old.uses.items) self.old.queues }
+        requires queued { HasVeneerRoom K.kinds self.old 0 }
         ensures writes { Writes K.kinds limit (seen self.old) (seen self.new) }
         ensures space { HasSpace K.kinds self.new }
-        ensures chained { AreChained self.new.uses.items self.new.earlier.items self.new.heads self.new.loads }
+        ensures chained { HasChains self.new }
         ensures room { SameRoom self.old self.new }
         ensures hold { AllHold K.kinds self.new.uses.items self.new.queues }
         ensures burdens { AreBurdens K.kinds self.new.uses.items self.new.burdens }
         ensures limits { AllLimits K.kinds self.new.uses.items self.new.queues }
-        ensures queued { HaveRoomFor (weight_of K.kinds veneer_uses self.new.uses.items) self.new.queues }
+        ensures queued { HasVeneerRoom K.kinds self.new 0 }
     {
         while let Some(index) = self.next_open(limit) {
             self.serve(index);
@@ -169,7 +171,7 @@ impl<'c, K: MachInstLabelUse> Parts<'c, K> {
     pub fn reserve_all(&mut self) -> Result<(), AllocError>
         requires owed { owed K.kinds (seen self.old) < 2 ^ 31 }
         requires burdens { AreBurdens K.kinds self.old.uses.items self.old.burdens }
-        requires chained { AreChained self.old.uses.items self.old.earlier.items self.old.heads self.old.loads }
+        requires chained { HasChains self.old }
         ensures ok { OnOk result (HasSpaceForMore K.kinds self.new) }
         ensures rest { seen self.new ≡ seen self.old }
         ensures earlier { self.new.earlier.items ≡ self.old.earlier.items }
@@ -187,26 +189,26 @@ impl<'c, K: MachInstLabelUse> Parts<'c, K> {
         Ok(())
     }
 
-    /// Begins an island, with a jump where it is to have one, whose end is not known yet. That waits for
-    /// nothing, so it is in no queue.
+    /// Begins an island, with a jump where it is to have one, whose end is not known yet. That waits
+    /// for nothing, so it is in no queue.
     fn begin_island(&mut self, jump: bool)
         requires short { end_of (seen self.old) + 4 < 2 ^ 31 }
         requires words { vec_len self.old.words < vec_capacity self.old.words }
         requires uses { vec_len self.old.uses < vec_capacity self.old.uses }
         requires earlier { vec_len self.old.earlier < vec_capacity self.old.earlier }
-        requires chained { AreChained self.old.uses.items self.old.earlier.items self.old.heads self.old.loads }
+        requires chained { HasChains self.old }
         requires hold { AllHold K.kinds self.old.uses.items self.old.queues }
         requires limits { AllLimits K.kinds self.old.uses.items self.old.queues }
         requires burdens { AreBurdens K.kinds self.old.uses.items self.old.burdens }
-        requires queued { HaveRoomFor (weight_of K.kinds veneer_uses self.old.uses.items + 1) self.old.queues }
+        requires queued { HasVeneerRoom K.kinds self.old 1 }
         requires few { self.old.burdens.third < 2 ^ 32 }
         ensures begun { seen self.new ≡ begun K.kinds jump (seen self.old) }
-        ensures chained { AreChained self.new.uses.items self.new.earlier.items self.new.heads self.new.loads }
+        ensures chained { HasChains self.new }
         ensures room { SameRoom self.old self.new }
         ensures hold { AllHold K.kinds self.new.uses.items self.new.queues }
         ensures burdens { AreBurdens K.kinds self.new.uses.items self.new.burdens }
         ensures limits { AllLimits K.kinds self.new.uses.items self.new.queues }
-        ensures queued { HaveRoomFor (weight_of K.kinds veneer_uses self.new.uses.items) self.new.queues }
+        ensures queued { HasVeneerRoom K.kinds self.new 0 }
         ensures islands { self.new.islands ≡ self.old.islands }
     {
         if !jump {
@@ -222,17 +224,21 @@ impl<'c, K: MachInstLabelUse> Parts<'c, K> {
         });
     }
 
-    /// Lets the jump over an island, the use at an index, lead to its end, where the island has one.
+    /// Lets the jump over an island, the use at an index, lead to its end, where the island has
+    /// one.
     #[inline(always)]
     fn end_jump(&mut self, index: usize, start: u32, end: u32, jump: bool)
         requires over { jump ≡ true → StandsAt index start self.old.uses.items }
-        requires chained { AreChained self.old.uses.items self.old.earlier.items self.old.heads self.old.loads }
+        requires chained { HasChains self.old }
         requires burdens { AreBurdens K.kinds self.old.uses.items self.old.burdens }
         ensures uses { EndsJump jump start end self.old.uses.items self.new.uses.items }
-        ensures chained { AreChained self.new.uses.items self.new.earlier.items self.new.heads self.new.loads }
+        ensures chained { HasChains self.new }
         ensures burdens { AreBurdens K.kinds self.new.uses.items self.new.burdens }
         ensures capacity { vec_capacity self.new.uses ≡ vec_capacity self.old.uses }
-        ensures rest { self.new ≡ record self.old { uses = self.new.uses; burdens = self.new.burdens } }
+        ensures rest { self.new ≡ record self.old {
+          uses = self.new.uses;
+          burdens = self.new.burdens;
+        } }
     {
         if !jump {
             return;
@@ -241,16 +247,16 @@ impl<'c, K: MachInstLabelUse> Parts<'c, K> {
         self.stop_at(index, end, class);
     }
 
-    /// Ends an island: its jump, the use at an index, leads there, and it is listed, where it has a jump
-    /// or contents.
+    /// Ends an island: its jump, the use at an index, leads there, and it is listed, where it has a
+    /// jump or contents.
     fn end_island(&mut self, index: usize, start: u32, jump: bool)
         requires over { jump ≡ true → StandsAt index start self.old.uses.items }
         requires short { end_of (seen self.old) < 2 ^ 31 }
         requires islands { vec_len self.old.islands < vec_capacity self.old.islands }
-        requires chained { AreChained self.old.uses.items self.old.earlier.items self.old.heads self.old.loads }
+        requires chained { HasChains self.old }
         requires burdens { AreBurdens K.kinds self.old.uses.items self.old.burdens }
         ensures ended { EndsIsland jump start (seen self.old) (seen self.new) }
-        ensures chained { AreChained self.new.uses.items self.new.earlier.items self.new.heads self.new.loads }
+        ensures chained { HasChains self.new }
         ensures queues { self.new.queues ≡ self.old.queues }
         ensures burdens { AreBurdens K.kinds self.new.uses.items self.new.burdens }
         ensures capacity { vec_capacity self.new.uses ≡ vec_capacity self.old.uses }
@@ -262,14 +268,16 @@ impl<'c, K: MachInstLabelUse> Parts<'c, K> {
         }
     }
 
-    /// Whether the open uses of the longest range are given veneers: that is forced, or some would be
-    /// out of reach.
+    /// Whether the open uses of the longest range are given veneers: that is forced, or some would
+    /// be out of reach.
     fn promotes(&self, distance: u32, force: ForceVeneers) -> bool
         requires short { end_of (seen self.now) < 2 ^ 31 }
         requires owed { owed K.kinds (seen self.now) < 2 ^ 32 }
         requires kinded { All (λ u. IsKinded K.kinds u.target u.kind) self.now.uses.items }
         requires waiting { AreWaiting K.kinds self.now.uses.items self.now.queues self.now.burdens }
-        ensures { MatchBool result ((force ≡ Yes) ⊎ (Fits K.kinds (seen self.now) distance → ⊥)) ((force ≡ No) × Fits K.kinds (seen self.now) distance) }
+        ensures { MatchBool result
+            ((force ≡ Yes) ⊎ (Fits K.kinds (seen self.now) distance → ⊥))
+            ((force ≡ No) × Fits K.kinds (seen self.now) distance) }
     {
         match force {
             ForceVeneers::Yes => true,
@@ -287,7 +295,8 @@ impl<'c, K: MachInstLabelUse> Parts<'c, K> {
         requires sound { AreSound K.kinds self.old }
         requires short { end_of (seen self.old) + owed K.kinds (seen self.old) + 4 < 2 ^ 31 }
         ensures sound { AreSound K.kinds self.new }
-        ensures ok { OnOk result (HasIsland K.kinds distance force jump (seen self.old) (seen self.new)) }
+        ensures ok { OnOk result
+            (HasIsland K.kinds distance force jump (seen self.old) (seen self.new)) }
         ensures err { OnErr result (seen self.new ≡ seen self.old) }
     {
         self.reserve_all()?;
@@ -305,13 +314,13 @@ impl<'c, K: MachInstLabelUse> Parts<'c, K> {
     fn promote(&mut self, distance: u32, force: ForceVeneers)
         requires may { MayWrite K.kinds (seen self.old) }
         requires space { HasSpace K.kinds self.old }
-        requires chained { AreChained self.old.uses.items self.old.earlier.items self.old.heads self.old.loads }
+        requires chained { HasChains self.old }
         requires hold { AllHold K.kinds self.old.uses.items self.old.queues }
         requires burdens { AreBurdens K.kinds self.old.uses.items self.old.burdens }
         requires limits { AllLimits K.kinds self.old.uses.items self.old.queues }
-        requires queued { HaveRoomFor (weight_of K.kinds veneer_uses self.old.uses.items) self.old.queues }
+        requires queued { HasVeneerRoom K.kinds self.old 0 }
         ensures promotes { WritesFar K.kinds distance force (seen self.old) (seen self.new) }
-        ensures chained { AreChained self.new.uses.items self.new.earlier.items self.new.heads self.new.loads }
+        ensures chained { HasChains self.new }
         ensures room { SameRoom self.old self.new }
         ensures hold { AllHold K.kinds self.new.uses.items self.new.queues }
         ensures burdens { AreBurdens K.kinds self.new.uses.items self.new.burdens }

@@ -94,6 +94,7 @@ module _ (b : Buffer LabelUse) (cells : List Cell) where
     records = p.records ∙ ap (more_records b.records) (put_part_records (end_of b) cells p.part);
     labels = p.labels;
     constants = p.constants;
+    islands = p.islands;
   }
 
   pub put_room : HasRoom b cells → HasRoom b (map as_put cells)

@@ -95,6 +95,7 @@ module _ (b : Buffer LabelUse) (word : ℕ) (callee : Callee) (kept : Option Use
           records = ap (λ (c : Buffer LabelUse). c.records) is ∙ same_records _ _ _ _ _ _ _ _ refl (sym (append-nil b.records.calls)) (sym (append-nil b.records.patchable)) (sym (append-nil b.records.maps));
           labels = ap (λ (c : Buffer LabelUse). c.labels) is;
           constants = ap (λ (c : Buffer LabelUse). c.constants) is;
+          islands = ap (λ (c : Buffer LabelUse). c.islands) is;
         }
 
     module _ (b2 : Buffer LabelUse) (e2 : b2 ≡ record b1 { words = b1.words ++ word ∷ [] }) where
@@ -119,6 +120,7 @@ module _ (b : Buffer LabelUse) (word : ℕ) (callee : Callee) (kept : Option Use
             records = ap (λ (c : Buffer LabelUse). c.records) is ∙ same_records _ _ _ _ _ _ _ _ refl (sym (append-nil b.records.calls)) (sym (append-nil b.records.patchable)) (sym (append-nil b.records.maps));
             labels = ap (λ (c : Buffer LabelUse). c.labels) is;
             constants = ap (λ (c : Buffer LabelUse). c.constants) is;
+            islands = ap (λ (c : Buffer LabelUse). c.islands) is;
           }
 
       module _ (b3 : Buffer LabelUse) (e3 : b3 ≡ mapped kept b2) where
@@ -142,6 +144,7 @@ module _ (b : Buffer LabelUse) (word : ℕ) (callee : Callee) (kept : Option Use
               records = ap (λ (c : Buffer LabelUse). c.records) is ∙ same_records _ _ _ _ _ _ _ _ refl (sym (append-nil b.records.calls)) (sym (append-nil b.records.patchable)) refl;
               labels = ap (λ (c : Buffer LabelUse). c.labels) is;
               constants = ap (λ (c : Buffer LabelUse). c.constants) is;
+              islands = ap (λ (c : Buffer LabelUse). c.islands) is;
             }
 
         -- and the call
@@ -228,6 +231,7 @@ module _ (b : Buffer LabelUse) (word : ℕ) (callee : Callee) (kept : Option Use
         (ap (λ ps. b.records.patchable ++ ps) (no_patchable p.part.patched)) (ap (λ ms. b.records.maps ++ ms) (same_maps p.part.mapped));
     labels = p.labels;
     constants = p.constants;
+    islands = p.islands;
   }
     where
       same_words : (k : ℕ) → map cell_word (take k called) ≡ map cell_word (take k all)

@@ -134,6 +134,7 @@ none_put b b' cells e = record {
   records = ap (λ (c : Buffer LabelUse). c.records) e ∙ sym (no_more b.records);
   labels = ap (λ (c : Buffer LabelUse). c.labels) e;
   constants = ap (λ (c : Buffer LabelUse). c.constants) e;
+  islands = ap (λ (c : Buffer LabelUse). c.islands) e;
 }
 
 -- all of them was
@@ -148,6 +149,7 @@ all_put b b' cells e =
       records = ap (λ (c : Buffer LabelUse). c.records) e ∙ ap (λ cs. more_records b.records (records_in (placed (end_of b) cs))) (sym all);
       labels = ap (λ (c : Buffer LabelUse). c.labels) e;
       constants = ap (λ (c : Buffer LabelUse). c.constants) e;
+      islands = ap (λ (c : Buffer LabelUse). c.islands) e;
     }
 
 -- and no cells are nothing

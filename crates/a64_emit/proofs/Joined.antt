@@ -182,6 +182,7 @@ module _ (b : Buffer LabelUse) (xs ys : List Cell) where
     records = p.records ∙ ap (more_records b.records) (sym (first_records xs ys (end_of b) p.part));
     labels = p.labels;
     constants = p.constants;
+    islands = p.islands;
   }
 
   pub part_second : (b1 b' : Buffer LabelUse) → b1 ≡ appended b xs → IsAppendedInPart b1 b' ys → IsAppendedInPart b b' (xs ++ ys)
@@ -196,6 +197,7 @@ module _ (b : Buffer LabelUse) (xs ys : List Cell) where
         records = p.records ∙ part_behind p.part;
         labels = p.labels;
         constants = p.constants;
+        islands = p.islands;
       }
 
   -- ---- room

@@ -82,6 +82,7 @@ module _ (b b' : Buffer LabelUse) (words : List ℕ) where
         ∙ sym (ap (λ cells. more_records b.records (records_in (placed (end_of b) cells))) (silent_take p.count words) ∙ ap (more_records b.records) (silent_records (end_of b) (take p.count words)) ∙ no_more b.records);
     labels = ap (λ (c : Buffer LabelUse). c.labels) p.is;
     constants = ap (λ (c : Buffer LabelUse). c.constants) p.is;
+    islands = ap (λ (c : Buffer LabelUse). c.islands) p.is;
   }
 
 pub silent_room : (b : Buffer LabelUse) (words : List ℕ) → HasRoom b (silent words) → end_of b + 4 * length words < 2 ^ 31
@@ -132,6 +133,7 @@ module _ (b : Buffer LabelUse) (word : ℕ) (trap : Option TrapCode) where
         records = ap (λ (c : Buffer LabelUse). c.records) is ∙ sym (no_more b.records);
         labels = ap (λ (c : Buffer LabelUse). c.labels) is;
         constants = ap (λ (c : Buffer LabelUse). c.constants) is;
+        islands = ap (λ (c : Buffer LabelUse). c.islands) is;
       }
 
   module _ (b1 b2 : Buffer LabelUse) (put : b1 ≡ trapped trap (record b { words = b.words ++ word ∷ [] }) (end_of b)) (site : Site) where
@@ -150,6 +152,7 @@ module _ (b : Buffer LabelUse) (word : ℕ) (trap : Option TrapCode) where
           records = ap (λ (c : Buffer LabelUse). c.records) is ∙ sym (no_more b.records);
           labels = ap (λ (c : Buffer LabelUse). c.labels) is;
           constants = ap (λ (c : Buffer LabelUse). c.constants) is;
+          islands = ap (λ (c : Buffer LabelUse). c.islands) is;
         }
 
     -- the constants are as they were
@@ -203,4 +206,5 @@ module _ (b : Buffer LabelUse) (word : ℕ) (kind : Reloc) (name : ExternalName)
         records = ap (λ (c : Buffer LabelUse). c.records) is ∙ one_reloc;
         labels = ap (λ (c : Buffer LabelUse). c.labels) is;
         constants = ap (λ (c : Buffer LabelUse). c.constants) is;
+        islands = ap (λ (c : Buffer LabelUse). c.islands) is;
       }

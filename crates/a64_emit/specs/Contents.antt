@@ -8,7 +8,8 @@ use Rattle.a64_buffer.specs.declared.site.Target.{Target}
 use Rattle.a64_buffer.specs.declared.site.Target.TheVariants.{Label, Constant, Trap, IslandEnd}
 use Rattle.a64_buffer.specs.Buffer.{is_within}
 use Rattle.a64_buffer.specs.Classes.{class_of, rank_of}
-use Rattle.a64_buffer.specs.Pieces.{padding, constant_of, content_of, copy_words}
+use Rattle.a64_buffer.specs.Chain.{constant_of}
+use Rattle.a64_buffer.specs.Pieces.{padding, content_of, copy_words, stop_for}
 use Rattle.a64_buffer.specs.Word.{outside, word_at, StandAt}
 use Rattle.a64_emit.specs.declared.code.Code.{Code}
 use Rattle.a64_label_use.specs.declared.label_use.LabelUse.TheVariants as uses
@@ -33,8 +34,8 @@ abbrev pub IsCellUse : List (ℕ × Cell) → ℕ × Site → Type 0
 IsCellUse cells u = (s : ℕ × Cell) × Contains cells s × (s.0 ≡ u.0) × (s.1.site ≡ Some u.1)
 
 module _ (constants : FinMap nat_cmp (List ℕ)) where
-  -- how many bytes a use that waits for something gets from a place on: a copy stands behind zero words up to a
-  -- multiple of its size
+  -- how many bytes a use that waits for something gets from a place on, at which it stops: a copy stands behind
+  -- zero words up to a multiple of its size, and the use stops at the copy
   abbrev pub piece_size : Class → Target → ℕ → ℕ
   piece_size Near target place = 4
   piece_size Middle target place = 4
@@ -42,15 +43,6 @@ module _ (constants : FinMap nat_cmp (List ℕ)) where
   piece_size Trapping target place = 4
   piece_size Far target place = 20
   piece_size Direct target place = 0
-
-  -- where among these bytes the use stops
-  abbrev pub piece_stop : Class → Target → ℕ → ℕ
-  piece_stop Near target place = place
-  piece_stop Middle target place = place
-  piece_stop Load target place = place + 4 * padding place (length (content_of constants target))
-  piece_stop Trapping target place = place
-  piece_stop Far target place = place
-  piece_stop Direct target place = place
 
   module _ (code : Code) where
     -- what stands there: a jump word, a copy, a trap word, a far veneer
@@ -65,7 +57,7 @@ module _ (constants : FinMap nat_cmp (List ℕ)) where
     -- a use has its piece from a place on, and stops there
     pub record HasPiece (place : ℕ) (u : ℕ × Site) : Type 0 where
       pub stands : StandsFor (site_class u.1) u.1.target place
-      pub stops : pos u.0 +ℤ distance_in u.1.kind (word_at code.bytes.items u.0) ≡ pos (piece_stop (site_class u.1) u.1.target place)
+      pub stops : pos u.0 +ℤ distance_in u.1.kind (word_at code.bytes.items u.0) ≡ pos (stop_for label_kinds constants (site_class u.1) u.1.target place)
 
     -- the pieces of some uses, one behind another, are all that stands between two places
     abbrev pub Fills : ℕ → List (ℕ × Site) → ℕ → Type 0

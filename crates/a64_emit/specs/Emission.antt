@@ -94,7 +94,7 @@ part_records place cells part = record {
   maps = maps_in (placed place (take part.mapped cells));
 }
 
--- a buffer that has got a first part of some cells
+-- a buffer that has got a first part of some cells, and no island
 pub record IsAppendedInPart (b b' : Buffer LabelUse) (cells : List Cell) : Type 0 where
   pub part : Parts cells
   pub words : b'.words ≡ b.words ++ map cell_word (take part.count cells)
@@ -103,6 +103,7 @@ pub record IsAppendedInPart (b b' : Buffer LabelUse) (cells : List Cell) : Type 
   pub records : b'.records ≡ more_records b.records (part_records (end_of b) cells part)
   pub labels : b'.labels ≡ b.labels
   pub constants : b'.constants ≡ b.constants
+  pub islands : b'.islands ≡ b.islands
 
 -- an island was written where the space needed one, and else nothing
 abbrev pub IslandsIfNeeded : ℕ → Buffer LabelUse → Buffer LabelUse → Type 0

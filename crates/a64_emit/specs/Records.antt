@@ -1,5 +1,5 @@
 -- What is recorded of finished code.
-use Rattle.std.specs.Prelude.{ℕ, ℤ, ◌≡◌, ◌⊎◌, ◌↔◌, ◌+◌, List, [], ◌∷◌, ◌++◌, Contains, map, slice_get, Some}
+use Rattle.std.specs.Prelude.{ℕ, ℤ, ◌≡◌, ◌⊎◌, ◌↔◌, ◌+◌, List, [], ◌∷◌, ◌++◌, Contains, map, length, slice_get, Some}
 use Rattle.std.specs.List.Sorted.{IsStrictlyIncreasing}
 use Rattle.a64_base.specs.declared.entity.Reloc.{Reloc}
 use Rattle.a64_base.specs.declared.entity.ExternalName.{ExternalName}
@@ -9,6 +9,8 @@ use Rattle.a64_inst.specs.declared.emission.EmitFlags.{EmitFlags}
 use Rattle.a64_inst.specs.declared.frame.FrameLayout.{FrameLayout}
 use Rattle.a64_inst.specs.declared.item.Item.{Item}
 use Rattle.a64_buffer.specs.declared.site.Target.TheVariants.{Trap}
+use Rattle.a64_buffer.specs.Buffer.{Records}
+use Rattle.a64_buffer.specs.ByPlace.{AreRecordedByPlace}
 use Rattle.a64_emit.specs.declared.code.Code.{Code}
 use Rattle.a64_label_use.specs.declared.label_use.LabelUse.{LabelUse}
 use Rattle.a64_emit.specs.Cells.{Cell, cell_word, cells_of}
@@ -47,6 +49,15 @@ abbrev pub all_from : {R : Type 0} → (ℕ → R → R) → (Item → List R) �
 all_from moved records (place ∷ places) (item ∷ items) = map (moved place) (records item) ++ all_from moved records places items
 all_from moved records _ _ = []
 
+-- what is recorded of finished code beside traps
+abbrev pub records_with : Code → Records
+records_with code = record {
+  relocs = code.relocs.items;
+  calls = code.calls.items;
+  patchable = code.patchable.items;
+  maps = code.maps.items;
+}
+
 module _ (frame : FrameLayout) (flags : EmitFlags) (items : List Item) where
   -- an item has a trap at this place of the code
   pub record IsTrapOf (places : List ℕ) (place : ℕ) (code : TrapCode) : Type 0 where
@@ -70,6 +81,7 @@ module _ (frame : FrameLayout) (flags : EmitFlags) (items : List Item) where
 
   -- the code has the records of its items, and no others, by place: a deferred trap has its own at its trap word
   pub record HasRecords (code : Code) : Type 0 where
+    pub by_place : AreRecordedByPlace (length code.bytes.items) code.traps.items (records_with code)
     pub relocs : code.relocs.items ≡ all_from reloc_from (relocs_of frame flags) code.places.items items
     pub traps_ordered : IsStrictlyIncreasing (map (λ t. t.0) code.traps.items)
     pub traps : (place : ℕ) (trap : TrapCode) → Contains code.traps.items (place, trap) ↔ (IsTrapOf code.places.items place trap ⊎ IsDeferredTrap code place trap)
