@@ -1,28 +1,21 @@
 -- What has a name stands where its name leads.
-use Rattle.std.specs.Prelude.{◌≡◌, map, Bool, true, Option, Some, refl}
+use Rattle.std.specs.Prelude.{◌≡◌, map, Option, Some, refl}
 use Rattle.a64_ops.specs.declared.operator.ALUOp.{ALUOp}
 use Rattle.a64_ops.specs.declared.operator.ALUOp.TheVariants as alu_ops
 use Rattle.a64_ops.specs.declared.operator.ALUOp3.{ALUOp3}
 use Rattle.a64_ops.specs.declared.operator.ALUOp3.TheVariants as alu_op3s
 use Rattle.a64_ops.specs.declared.operator.BitOp.{BitOp}
 use Rattle.a64_ops.specs.declared.operator.BitOp.TheVariants as bit_ops
-use Rattle.a64_ops.specs.declared.operator.BfmOp.{BfmOp}
-use Rattle.a64_ops.specs.declared.operator.BfmOp.TheVariants as bfm_ops
-use Rattle.a64_ops.specs.declared.operator.MoveWideOp.{MoveWideOp}
-use Rattle.a64_ops.specs.declared.operator.MoveWideOp.TheVariants as move_wide_ops
 use Rattle.a64_base.specs.declared.shift.ShiftOp.{ShiftOp}
 use Rattle.a64_base.specs.declared.shift.ShiftOp.TheVariants as shift_ops
 use Rattle.a64_base.specs.declared.shift.ExtendOp.{ExtendOp}
 use Rattle.a64_base.specs.declared.shift.ExtendOp.TheVariants as extends
 use Rattle.a64_base.specs.declared.cond.Cond.{Cond}
 use Rattle.a64_base.specs.declared.cond.Cond.TheVariants as conds
-use Rattle.a64_base.specs.declared.cond.TestBitAndBranchKind.{TestBitAndBranchKind}
-use Rattle.a64_base.specs.declared.cond.TestBitAndBranchKind.TheVariants as bit_tests
 use Rattle.a64_base.specs.declared.convention.CallConv.{CallConv}
 use Rattle.a64_base.specs.declared.convention.CallConv.TheVariants as conventions
 use Rattle.a64_base.specs.declared.key.APIKey.{APIKey}
 use Rattle.a64_base.specs.declared.key.APIKey.TheVariants as keys
-use Rattle.a64_read.specs.declared.branch_name.TheConstants.{TEST_BIT_HOMES, TEST_BITS}
 use Rattle.a64_read.specs.declared.convention.TheConstants.{CONVENTION_HOMES, CONVENTIONS, KEY_HOMES, KEYS}
 use Rattle.a64_base.specs.declared.ir_type.IrType.{IrType}
 use Rattle.a64_base.specs.declared.ir_type.IrType.TheVariants as types
@@ -36,10 +29,10 @@ use Rattle.a64_read.specs.declared.emit_flag.TheConstants.{EMIT_FLAG_HOMES, EMIT
 use Rattle.a64_read.specs.declared.frame_field.FrameField.{FrameField}
 use Rattle.a64_read.specs.declared.frame_field.FrameField.TheVariants as frame_fields
 use Rattle.a64_read.specs.declared.frame_field.TheConstants.{FRAME_FIELD_HOMES, FRAME_FIELDS}
-use Rattle.a64_read.specs.declared.operator.TheConstants.{ALU_OP_HOMES, ALU_OPS, ALU_OP3_HOMES, ALU_OP3S, BIT_OP_HOMES, BIT_OPS, BFM_OP_HOMES, BFM_OPS, MOVE_WIDE_OP_HOMES, MOVE_WIDE_OPS}
-use Rattle.a64_read.specs.declared.modifier.TheConstants.{SHIFT_OP_HOMES, SHIFT_OPS, EXTEND_HOMES, EXTENDS, COND_HOMES, CONDS, BOOL_HOMES, BOOLS}
+use Rattle.a64_read.specs.declared.operator.TheConstants.{ALU_OP_HOMES, ALU_OPS, ALU_OP3_HOMES, ALU_OP3S, BIT_OP_HOMES, BIT_OPS}
+use Rattle.a64_read.specs.declared.modifier.TheConstants.{SHIFT_OP_HOMES, SHIFT_OPS, EXTEND_HOMES, EXTENDS, COND_HOMES, CONDS}
 use Rattle.a64_read.specs.Hash.{look_up}
-use Rattle.a64_read.specs.Operators.{alu_op_text, alu_op3_text, bit_op_text, bfm_op_text, move_wide_op_text, shift_op_text, extend_text, cond_text, bool_text, emit_flag_text, frame_field_text, mem_label_name_text, test_bit_text}
+use Rattle.a64_read.specs.Operators.{alu_op_text, alu_op3_text, bit_op_text, shift_op_text, extend_text, cond_text, emit_flag_text, frame_field_text, mem_label_name_text}
 use Rattle.a64_read.specs.Conventions.{convention_text, key_text}
 use Rattle.a64_read.specs.Types.{type_text}
 
@@ -55,14 +48,6 @@ pub bit_op_found : (x : BitOp) → look_up BIT_OP_HOMES (map (λ row. row.2) BIT
 bit_op_found bit_ops.RBit = refl
 bit_op_found _ = refl
 
-pub bfm_op_found : (x : BfmOp) → look_up BFM_OP_HOMES (map (λ row. row.2) BFM_OPS) (bfm_op_text x) ≡ Some x
-bfm_op_found bfm_ops.UBfm = refl
-bfm_op_found _ = refl
-
-pub move_wide_op_found : (x : MoveWideOp) → look_up MOVE_WIDE_OP_HOMES (map (λ row. row.2) MOVE_WIDE_OPS) (move_wide_op_text x) ≡ Some x
-move_wide_op_found move_wide_ops.MovZ = refl
-move_wide_op_found _ = refl
-
 pub shift_op_found : (x : ShiftOp) → look_up SHIFT_OP_HOMES (map (λ row. row.2) SHIFT_OPS) (shift_op_text x) ≡ Some x
 shift_op_found shift_ops.LSL = refl
 shift_op_found _ = refl
@@ -74,14 +59,6 @@ extend_found _ = refl
 pub cond_found : (x : Cond) → look_up COND_HOMES (map (λ row. row.2) CONDS) (cond_text x) ≡ Some x
 cond_found conds.Eq = refl
 cond_found _ = refl
-
-pub test_bit_found : (x : TestBitAndBranchKind) → look_up TEST_BIT_HOMES (map (λ row. row.2) TEST_BITS) (test_bit_text x) ≡ Some x
-test_bit_found bit_tests.Z = refl
-test_bit_found _ = refl
-
-pub bool_found : (x : Bool) → look_up BOOL_HOMES (map (λ row. row.2) BOOLS) (bool_text x) ≡ Some x
-bool_found true = refl
-bool_found _ = refl
 
 pub frame_field_found : (x : FrameField) → look_up FRAME_FIELD_HOMES (map (λ row. row.2) FRAME_FIELDS) (frame_field_text x) ≡ Some x
 frame_field_found frame_fields.SetupAreaSize = refl

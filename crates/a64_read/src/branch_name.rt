@@ -1,12 +1,12 @@
 //! The names of what branches test, each with the kinds of its fields.
 
-ghost use Rattle.std.specs.Prelude.{List, [], map};
-ghost use Rattle.a64_read.specs.declared.branch_name.TheConstants.{COND_BR_HOMES, COND_BRS, TEST_BIT_HOMES, TEST_BITS};
+ghost use Rattle.std.specs.Prelude.{List, map};
+ghost use Rattle.a64_read.specs.declared.branch_name.TheConstants.{COND_BR_HOMES, COND_BRS};
 ghost use Rattle.a64_read.specs.Branches.{cond_br_name_text, cond_br_kinds, cond_br_name_of, cond_br_fields, IsOwnCondBr};
 ghost use Rattle.a64_read.specs.BranchMakes.{MakesCondBr};
 ghost use Rattle.a64_read.specs.BranchLaws.{cond_br_found, few_cond_br_kinds, cond_br_apart, some_cond_br_field, cond_br_made_some, cond_br_made_only, cond_br_fields_kinds};
 ghost use Rattle.a64_read.specs.Operators.{test_bit_text};
-ghost use Rattle.a64_read.specs.Found.{test_bit_found};
+ghost use Rattle.a64_read.specs.Reads.{Reads, Always};
 
 use crate::at;
 use crate::call::Call;
@@ -91,27 +91,14 @@ impl Call for CondBrName {
     ghost fields_kinds = { cond_br_fields_kinds };
 }
 
-/// For each remainder of a hash, the row of the name that has it.
-pub static TEST_BIT_HOMES: [u8; 2] = [1, 0];
-
-/// What a branch on one bit tests.
-pub static TEST_BITS: [Row<TestBitAndBranchKind>; 2] = [
-    (b"Z", &[], TestBitAndBranchKind::Z),
-    (b"NZ", &[], TestBitAndBranchKind::NZ),
-];
-
-impl Named for TestBitAndBranchKind {
-    ghost text = { test_bit_text };
-
-    ghost kinds_of = { λ _. [] };
-
-    ghost homes = { TEST_BIT_HOMES };
-
-    ghost rows = { map (λ row. row.2) TEST_BITS };
-
-    fn table() -> (&'static [u8], &'static [Row<TestBitAndBranchKind>]) {
-        (&TEST_BIT_HOMES, &TEST_BITS)
+/// What a branch on one bit tests, by its name.
+#[tactic(auto, using(std::proofs::lemmas::Slice::Eq::text_from_reads))]
+pub fn read_test_bit(token: &[u8]) -> Option<TestBitAndBranchKind>
+    ensures { Reads Always test_bit_text token.now result }
+{
+    match token {
+        b"Z" => Some(TestBitAndBranchKind::Z),
+        b"NZ" => Some(TestBitAndBranchKind::NZ),
+        _ => None,
     }
-
-    ghost found = { test_bit_found };
 }

@@ -1,9 +1,10 @@
 //! The names of shifts, extensions, conditions and truth values.
 
 ghost use Rattle.std.specs.Prelude.{List, [], map};
-ghost use Rattle.a64_read.specs.declared.modifier.TheConstants.{SHIFT_OP_HOMES, SHIFT_OPS, EXTEND_HOMES, EXTENDS, COND_HOMES, CONDS, BOOL_HOMES, BOOLS};
+ghost use Rattle.a64_read.specs.declared.modifier.TheConstants.{SHIFT_OP_HOMES, SHIFT_OPS, EXTEND_HOMES, EXTENDS, COND_HOMES, CONDS};
 ghost use Rattle.a64_read.specs.Operators.{shift_op_text, extend_text, cond_text, bool_text};
-ghost use Rattle.a64_read.specs.Found.{shift_op_found, extend_found, cond_found, bool_found};
+ghost use Rattle.a64_read.specs.Reads.{Reads, Always};
+ghost use Rattle.a64_read.specs.Found.{shift_op_found, extend_found, cond_found};
 
 use crate::named::{Named, Row};
 use a64_base::{Cond, ExtendOp, ShiftOp};
@@ -120,24 +121,14 @@ impl Named for Cond {
     ghost found = { cond_found };
 }
 
-/// For each remainder of a hash, the row of the name that has it.
-pub static BOOL_HOMES: [u8; 2] = [0, 1];
-
-/// The truth values.
-pub static BOOLS: [Row<bool>; 2] = [(b"false", &[], false), (b"true", &[], true)];
-
-impl Named for bool {
-    ghost text = { bool_text };
-
-    ghost kinds_of = { λ _. [] };
-
-    ghost homes = { BOOL_HOMES };
-
-    ghost rows = { map (λ row. row.2) BOOLS };
-
-    fn table() -> (&'static [u8], &'static [Row<bool>]) {
-        (&BOOL_HOMES, &BOOLS)
+/// The truth value that the token names.
+#[tactic(auto, using(std::proofs::lemmas::Slice::Eq::text_from_reads))]
+pub fn read_bool(token: &[u8]) -> Option<bool>
+    ensures { Reads Always bool_text token.now result }
+{
+    match token {
+        b"false" => Some(false),
+        b"true" => Some(true),
+        _ => None,
     }
-
-    ghost found = { bool_found };
 }

@@ -1,9 +1,10 @@
 //! The names of operators.
 
 ghost use Rattle.std.specs.Prelude.{List, [], map};
-ghost use Rattle.a64_read.specs.declared.operator.TheConstants.{ALU_OP_HOMES, ALU_OPS, ALU_OP3_HOMES, ALU_OP3S, BIT_OP_HOMES, BIT_OPS, BFM_OP_HOMES, BFM_OPS, MOVE_WIDE_OP_HOMES, MOVE_WIDE_OPS};
+ghost use Rattle.a64_read.specs.declared.operator.TheConstants.{ALU_OP_HOMES, ALU_OPS, ALU_OP3_HOMES, ALU_OP3S, BIT_OP_HOMES, BIT_OPS};
 ghost use Rattle.a64_read.specs.Operators.{alu_op_text, alu_op3_text, bit_op_text, bfm_op_text, move_wide_op_text};
-ghost use Rattle.a64_read.specs.Found.{alu_op_found, alu_op3_found, bit_op_found, bfm_op_found, move_wide_op_found};
+ghost use Rattle.a64_read.specs.Reads.{Reads, Always};
+ghost use Rattle.a64_read.specs.Found.{alu_op_found, alu_op3_found, bit_op_found};
 
 use crate::named::{Named, Row};
 use a64_ops::{ALUOp, ALUOp3, BfmOp, BitOp, MoveWideOp};
@@ -116,55 +117,26 @@ impl Named for BitOp {
     ghost found = { bit_op_found };
 }
 
-/// For each remainder of a hash, the row of the name that has it.
-pub static BFM_OP_HOMES: [u8; 64] = [
-    0, 0, 0, 0, 0, 0, 0, 0, 0, 0, 0, 0, 0, 0, 0, 0, 0, 0, 0, 0, 0, 0, 0, 0, 0, 0, 0, 0, 0, 0, 0, 0,
-    0, 0, 0, 0, 0, 0, 0, 0, 0, 0, 0, 0, 0, 0, 0, 0, 0, 0, 0, 0, 1, 0, 0, 0, 0, 0, 0, 0, 0, 0, 0, 0,
-];
-
-/// The moves of a bitfield.
-pub static BFM_OPS: [Row<BfmOp>; 2] = [(b"UBfm", &[], BfmOp::UBfm), (b"SBfm", &[], BfmOp::SBfm)];
-
-impl Named for BfmOp {
-    ghost text = { bfm_op_text };
-
-    ghost kinds_of = { λ _. [] };
-
-    ghost homes = { BFM_OP_HOMES };
-
-    ghost rows = { map (λ row. row.2) BFM_OPS };
-
-    fn table() -> (&'static [u8], &'static [Row<BfmOp>]) {
-        (&BFM_OP_HOMES, &BFM_OPS)
+/// The move of a bitfield that the token names.
+#[tactic(auto, using(std::proofs::lemmas::Slice::Eq::text_from_reads))]
+pub fn read_bfm_op(token: &[u8]) -> Option<BfmOp>
+    ensures { Reads Always bfm_op_text token.now result }
+{
+    match token {
+        b"UBfm" => Some(BfmOp::UBfm),
+        b"SBfm" => Some(BfmOp::SBfm),
+        _ => None,
     }
-
-    ghost found = { bfm_op_found };
 }
 
-/// For each remainder of a hash, the row of the name that has it.
-pub static MOVE_WIDE_OP_HOMES: [u8; 64] = [
-    0, 0, 0, 0, 0, 0, 0, 0, 0, 0, 0, 0, 0, 0, 0, 0, 0, 0, 0, 0, 0, 0, 0, 0, 0, 0, 0, 0, 1, 0, 0, 0,
-    0, 0, 0, 0, 0, 0, 0, 0, 0, 0, 0, 0, 0, 0, 0, 0, 0, 0, 0, 0, 0, 0, 0, 0, 0, 0, 0, 0, 0, 0, 0, 0,
-];
-
-/// The wide moves.
-pub static MOVE_WIDE_OPS: [Row<MoveWideOp>; 2] = [
-    (b"MovZ", &[], MoveWideOp::MovZ),
-    (b"MovN", &[], MoveWideOp::MovN),
-];
-
-impl Named for MoveWideOp {
-    ghost text = { move_wide_op_text };
-
-    ghost kinds_of = { λ _. [] };
-
-    ghost homes = { MOVE_WIDE_OP_HOMES };
-
-    ghost rows = { map (λ row. row.2) MOVE_WIDE_OPS };
-
-    fn table() -> (&'static [u8], &'static [Row<MoveWideOp>]) {
-        (&MOVE_WIDE_OP_HOMES, &MOVE_WIDE_OPS)
+/// The wide move that the token names.
+#[tactic(auto, using(std::proofs::lemmas::Slice::Eq::text_from_reads))]
+pub fn read_move_wide_op(token: &[u8]) -> Option<MoveWideOp>
+    ensures { Reads Always move_wide_op_text token.now result }
+{
+    match token {
+        b"MovZ" => Some(MoveWideOp::MovZ),
+        b"MovN" => Some(MoveWideOp::MovN),
+        _ => None,
     }
-
-    ghost found = { move_wide_op_found };
 }

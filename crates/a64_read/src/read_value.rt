@@ -3,7 +3,7 @@
 ghost use Rattle.a64_read.specs.ReadsParts.{ReadsPart};
 ghost use Rattle.a64_read.specs.Values.{ReadsKind};
 
-use crate::branch_name::CondBrName;
+use crate::branch_name::{CondBrName, read_test_bit};
 use crate::call::read_made;
 use crate::decimal::{read_u8, read_u32, read_u64};
 use crate::emit_flag::EmitFlag;
@@ -14,15 +14,17 @@ use crate::label::{read_label, read_target};
 use crate::list_text::read_list_text;
 use crate::map::read_map;
 use crate::mode_name::{MemLabelName, ModeName, PairModeName};
+use crate::modifier::read_bool;
 use crate::named::read_named;
 use crate::offset::{read_i32, read_i64, read_offset9, read_pair_offset};
+use crate::operator::{read_bfm_op, read_move_wide_op};
 use crate::register::{read_preg, read_reg};
 use crate::shift::read_shift;
 use crate::size::read_size;
 use crate::value::{Kind, Value};
 use crate::wide::read_wide;
-use a64_base::{APIKey, CallConv, Cond, ExtendOp, IrType, TestBitAndBranchKind};
-use a64_ops::{ALUOp, ALUOp3, BfmOp, BitOp, MoveWideOp};
+use a64_base::{APIKey, CallConv, Cond, ExtendOp, IrType};
+use a64_ops::{ALUOp, ALUOp3, BitOp};
 
 /// Reads an integer operator.
 #[tactic(auto, unfolding(crate::specs::Values::ReadsKind))]
@@ -54,7 +56,7 @@ fn bit_op(token: &[u8]) -> Option<Value<'_>>
 fn bfm_op(token: &[u8]) -> Option<Value<'_>>
     ensures { ReadsKind Kind.BfmOp token.now result }
 {
-    Some(Value::BfmOp(read_named::<BfmOp>(token)?))
+    Some(Value::BfmOp(read_bfm_op(token)?))
 }
 
 /// Reads a wide move.
@@ -62,7 +64,7 @@ fn bfm_op(token: &[u8]) -> Option<Value<'_>>
 fn move_wide_op(token: &[u8]) -> Option<Value<'_>>
     ensures { ReadsKind Kind.MoveWideOp token.now result }
 {
-    Some(Value::MoveWideOp(read_named::<MoveWideOp>(token)?))
+    Some(Value::MoveWideOp(read_move_wide_op(token)?))
 }
 
 /// Reads the size of operands.
@@ -168,7 +170,7 @@ fn nzcv(token: &[u8]) -> Option<Value<'_>>
 fn truth(token: &[u8]) -> Option<Value<'_>>
     ensures { ReadsKind Kind.Bool token.now result }
 {
-    Some(Value::Bool(read_named::<bool>(token)?))
+    Some(Value::Bool(read_bool(token)?))
 }
 
 /// Reads a number below 2^8.
@@ -314,7 +316,7 @@ fn cond_br_kind(token: &[u8]) -> Option<Value<'_>>
 fn test_bit_kind(token: &[u8]) -> Option<Value<'_>>
     ensures { ReadsKind Kind.TestBitAndBranchKind token.now result }
 {
-    Some(Value::TestBitAndBranchKind(read_named::<TestBitAndBranchKind>(token)?))
+    Some(Value::TestBitAndBranchKind(read_test_bit(token)?))
 }
 
 /// Reads a list as it is written.
