@@ -18,7 +18,6 @@ pub mod Pieces
 pub mod OwnStops
 pub mod Emitting
 pub mod Walks
-pub mod Bytes
 pub mod Settling
 pub mod Uses
 pub mod Sounds

@@ -1,16 +1,17 @@
 -- How the words of uses come to lead to their stops, one after another.
-use Rattle.std.proofs.Common.{ℕ, ◌≡◌, ◌≢◌, ◌⊎◌, ◌+◌, ◌-◌, ◌*◌, ◌/◌, ◌%◌, ◌<◌, ◌≤◌, List, [], length, get_or, set, take, drop, Some, None, IfSome, All, refl, sym, ◌∙◌, ap, subst, arith, inl, inr}
+use Rattle.std.proofs.Common.{ℕ, zero, suc, ◌≡◌, ◌≢◌, ◌⊎◌, ◌+◌, ◌-◌, ◌*◌, ◌/◌, ◌%◌, ◌<◌, ◌≤◌, List, [], ◌∷◌, length, get_or, set, take, drop, Some, None, IfSome, All, refl, sym, ◌∙◌, ap, subst, arith, inl, inr}
 use Rattle.std.specs.Int.{w32, from_le_bytes}
 use Rattle.std.proofs.lemmas.Bool.{cases_eq, cases_lt}
 use Rattle.std.proofs.lemmas.Slice.{take-put_mid_below, drop-put_mid, between-put_mid}
 use borrow.Rule.Slice.PartMut.{put_mid}
-use Rattle.std.proofs.lemmas.List.{get_or-take, length-take, take-take, get_or_default, drop-take, length-take-le, length-drop, length-set, get_or-set_same, get_or-set_other}
+use Rattle.std.proofs.lemmas.List.{get_or-take, length-take, take-take, get_or_default, drop-drop, drop-take, length-take-le, length-drop, length-set, get_or-set_same, get_or-set_other}
 use Rattle.std.proofs.lemmas.List.Elements.{All-nil, All-more, All-take}
-use Rattle.a64_buffer.specs.Word.{outside, word_at}
+use Rattle.a64_buffer.specs.Word.{outside, word_at, words_of}
 use Rattle.a64_buffer.specs.declared.site.Use.{Use}
 use Rattle.a64_buffer.specs.Kinds.{Kinds, GoesTo}
 use Rattle.a64_buffer.specs.Buffer.{IsFree}
 use Rattle.a64_buffer.specs.Sound.{IsPlaced, AreApart}
+use Rattle.a64_buffer.proofs.WordLists.{words_whole}
 use Rattle.a64_buffer.specs.Settled.{IsCodeOf, Reaches, MayLead, Patches, PatchesCode, IsLed, AreSettled, IsSettledCode}
 
 -- four bytes were written into code
@@ -23,6 +24,25 @@ word_here code four at h n =
 pub word_apart : (code four : List ℕ) (at p : ℕ) → at + 4 ≤ length code → length four ≡ 4 → (p + 4 ≤ at) ⊎ (at + 4 ≤ p) → word_at (put_mid at 4 code four) p ≡ word_at code p
 word_apart code four at p h n (inl le) = ap (from_le_bytes w32) (sym (drop-take p 4 (put_mid at 4 code four)) ∙ (ap (drop p) (take-put_mid_below at 4 code four (p + 4) le (omega arith)) ∙ drop-take p 4 code))
 word_apart code four at p h n (inr ge) = ap (λ bs. from_le_bytes w32 (take 4 bs)) (drop-put_mid at 4 code four p ge (omega arith) n)
+
+-- bytes are code of the words that they are
+words_stand : (bytes : List ℕ) (i : ℕ) → i < length (words_of bytes) → word_at bytes (4 * i) ≡ get_or (words_of bytes) i 0
+words_stand [] i h = absurd (omega arith)
+words_stand (a ∷ []) i h = absurd (omega arith)
+words_stand (a ∷ b ∷ []) i h = absurd (omega arith)
+words_stand (a ∷ b ∷ c ∷ []) i h = absurd (omega arith)
+words_stand (a ∷ b ∷ c ∷ d ∷ bytes) zero h = refl
+words_stand (a ∷ b ∷ c ∷ d ∷ bytes) (suc i) h =
+    let e : 4 * suc i ≡ 4 + 4 * i = omega arith in
+    ap (word_at (a ∷ b ∷ c ∷ d ∷ bytes)) e
+    ∙ (ap (λ bs. from_le_bytes w32 (take 4 bs)) (sym (drop-drop (4 * i) 4 (a ∷ b ∷ c ∷ d ∷ bytes))) ∙ words_stand bytes i (omega arith))
+
+pub code_of_words : (bytes : List ℕ) → length bytes % 4 ≡ 0 → IsCodeOf (words_of bytes) bytes
+code_of_words bytes whole = record { same_length = sym (words_whole bytes whole); at = words_stand bytes }
+
+-- uses on words of code
+pub placed_words : {K : Type 0} (bytes : List ℕ) (uses : List (Use K)) → length bytes % 4 ≡ 0 → All (IsPlaced (length bytes)) uses → All (IsPlaced (4 * length (words_of bytes))) uses
+placed_words bytes uses whole = subst (λ n. All (IsPlaced n) uses) (sym (words_whole bytes whole))
 
 module _ {K : Type 0} (r : Kinds K) where
   module _ (put : List ℕ) (uses : List (Use K)) (placed : All (IsPlaced (4 * length put)) uses) (apart : AreApart uses) (n : ℕ) (d : Use K) (within : n < length uses) where

@@ -1,9 +1,12 @@
 -- Bytes as words.
-use Rattle.std.proofs.Common.{ℕ, zero, suc, ◌≡◌, ◌+◌, ◌*◌, ◌%◌, ◌≤◌, cond, List, [], ◌∷◌, ◌++◌, length, take, drop, replicate, refl, sym, ap, ◌∙◌, subst, arith}
+use Rattle.std.proofs.Common.{ℕ, zero, suc, ◌≡◌, ◌+◌, ◌*◌, ◌%◌, ◌^◌, ◌<◌, ◌≤◌, cond, List, [], ◌∷◌, ◌++◌, length, take, drop, replicate, refl, sym, ap, ◌∙◌, subst, arith}
 use Rattle.std.specs.Prelude.{MatchBool}
+use Rattle.std.specs.Int.{w32, to_le_bytes, from_le_bytes}
 use Rattle.std.proofs.lemmas.Bool.{eq-eqb}
 use Rattle.std.proofs.lemmas.List.{length-drop, length-take-le, append_assoc}
+use Rattle.std.proofs.lemmas.Nat.{from_le_bytes-to_le_bytes_4}
 use Rattle.a64_buffer.specs.Word.{words_of, word_at, StandAt}
+use Rattle.a64_buffer.specs.Words.{HeldWords, held}
 use Rattle.a64_buffer.specs.Kinds.{Kinds, IsVeneer, IsFarVeneer, IsJumpVeneer, veneer_bytes}
 
 pub words_short : (bytes : List ℕ) → 4 * length (words_of bytes) ≤ length bytes
@@ -81,3 +84,27 @@ zeros_length size h = length-take-le size (replicate {A = ℕ} 20 0) h
 -- two words, one after the other
 pub two_more : (xs rs ys zs : List ℕ) (a b : ℕ) → rs ≡ xs → ys ≡ rs ++ a ∷ [] → zs ≡ ys ++ b ∷ [] → zs ≡ xs ++ a ∷ b ∷ []
 two_more xs rs ys zs a b p q s = s ∙ (ap (λ ws. ws ++ b ∷ []) (q ∙ ap (λ ws. ws ++ a ∷ []) p) ∙ append_assoc xs (a ∷ []) (b ∷ []))
+
+-- the words of the first bytes
+pub words_taken : (size : ℕ) (bytes : List ℕ) → size % 4 ≡ 0 → size ≤ length bytes → 4 * length (words_of (take size bytes)) ≡ size
+words_taken size bytes whole h = words_whole (take size bytes) (ap (λ n. n % 4) (length-take-le size bytes h) ∙ whole) ∙ length-take-le size bytes h
+
+-- the words of bytes, and then those of the bytes behind them
+pub words_append : (xs ys : List ℕ) → length xs % 4 ≡ 0 → words_of (xs ++ ys) ≡ words_of xs ++ words_of ys
+words_append [] ys h = refl
+words_append (a ∷ []) ys h = absurd (omega (arith, h))
+words_append (a ∷ b ∷ []) ys h = absurd (omega (arith, h))
+words_append (a ∷ b ∷ c ∷ []) ys h = absurd (omega (arith, h))
+words_append (a ∷ b ∷ c ∷ d ∷ xs) ys h = ap (λ ws. from_le_bytes w32 (a ∷ b ∷ c ∷ d ∷ []) ∷ ws) (words_append xs ys (omega (arith, h)))
+
+-- the word of its own bytes
+pub words_one : (word : ℕ) → word < 2 ^ 32 → words_of (to_le_bytes w32 word) ≡ word ∷ []
+words_one word h = ap (λ w. w ∷ []) (from_le_bytes-to_le_bytes_4 word h)
+
+-- bytes were written behind the first ones
+pub words_written : (size : ℕ) (bytes part bytes' : List ℕ) → size % 4 ≡ 0 → size ≤ length bytes → take (size + length part) bytes' ≡ take size bytes ++ part → words_of (take (size + length part) bytes') ≡ words_of (take size bytes) ++ words_of part
+words_written size bytes part bytes' whole h e = ap words_of e ∙ words_append (take size bytes) part (ap (λ n. n % 4) (length-take-le size bytes h) ∙ whole)
+
+-- words whose bytes are the first of those that there is memory for
+pub held_size : (size : ℕ) (bytes : List ℕ) (w : HeldWords) → size % 4 ≡ 0 → size ≤ length bytes → held size bytes ≡ w → 4 * length w.items ≡ size
+held_size size bytes w whole h is = ap (λ (v : HeldWords). 4 * length v.items) (sym is) ∙ words_taken size bytes whole h

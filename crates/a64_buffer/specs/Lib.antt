@@ -1,4 +1,5 @@
 pub mod Word
+pub mod Words
 pub mod Constants
 pub mod Kinds
 pub mod Buffer

@@ -9,7 +9,7 @@ use Rattle.a64_buffer.specs.Sound.{seen}
 
 -- the capacities stayed
 pub record SameRoom {K : Type 0} (p p' : Parts K) : Type 0 where
-  pub words : vec_capacity p'.words ≡ vec_capacity p.words
+  pub words : p'.words.capacity ≡ p.words.capacity
   pub uses : vec_capacity p'.uses ≡ vec_capacity p.uses
   pub earlier : vec_capacity p'.earlier ≡ vec_capacity p.earlier
   pub traps : vec_capacity p'.traps ≡ vec_capacity p.traps
@@ -17,7 +17,7 @@ pub record SameRoom {K : Type 0} (p p' : Parts K) : Type 0 where
 
 -- each vector has room for what all open uses add to it
 pub record HasSpace {K : Type 0} (r : Kinds K) (p : Parts K) : Type 0 where
-  pub words : end_of (seen p) + owed r (seen p) ≤ 4 * vec_capacity p.words
+  pub words : end_of (seen p) + owed r (seen p) ≤ 4 * p.words.capacity
   pub uses : length p.uses.items + weight_of r veneer_uses p.uses.items ≤ vec_capacity p.uses
   pub earlier : length p.uses.items + weight_of r veneer_uses p.uses.items ≤ vec_capacity p.earlier
   pub traps : length p.traps.items + weight_of r trap_words p.uses.items ≤ vec_capacity p.traps
@@ -28,7 +28,7 @@ HasVeneerRoom r p more = HaveRoomFor (weight_of r veneer_uses p.uses.items + mor
 
 -- and besides for the jump of an island, and for the island
 pub record HasSpaceForMore {K : Type 0} (r : Kinds K) (p : Parts K) : Type 0 where
-  pub words : end_of (seen p) + owed r (seen p) + 4 ≤ 4 * vec_capacity p.words
+  pub words : end_of (seen p) + owed r (seen p) + 4 ≤ 4 * p.words.capacity
   pub uses : length p.uses.items + weight_of r veneer_uses p.uses.items + 1 ≤ vec_capacity p.uses
   pub earlier : length p.uses.items + weight_of r veneer_uses p.uses.items + 1 ≤ vec_capacity p.earlier
   pub traps : length p.traps.items + weight_of r trap_words p.uses.items ≤ vec_capacity p.traps

@@ -10,11 +10,11 @@ ghost use Rattle.a64_buffer.specs.Steps.{stopped, waits_for, GivesCopy};
 
 use crate::chain::{empty_chain, last_use};
 use crate::class::Class;
-use crate::give::push_words;
 use crate::label_use::MachInstLabelUse;
 use crate::parts::Parts;
 use crate::room::Burdens;
 use crate::site::Use;
+use crate::words::Words;
 use a64_base::VCodeConstant;
 use a64_label_map::LabelMap;
 
@@ -27,10 +27,10 @@ fn padding(place: u32, size: u32) -> u32
 }
 
 /// Adds zero words to words that have room for them.
-fn push_zeros(words: &mut Vec<u32>, count: u32)
-    requires { vec_len words.old + count ≤ vec_capacity words.old }
+fn push_zeros(words: &mut Words, count: u32)
+    requires { length words.old.items + count ≤ words.old.capacity }
     ensures items { words.new.items ≡ words.old.items ++ replicate count 0 }
-    ensures capacity { vec_capacity words.new ≡ vec_capacity words.old }
+    ensures capacity { words.new.capacity ≡ words.old.capacity }
 {
     for _i in 0..count {
         words.push_reserved(0);
@@ -91,7 +91,7 @@ impl<'c, K: MachInstLabelUse> Parts<'c, K> {
     pub fn give_copy(&mut self, constant: VCodeConstant)
         requires known { IsSome (finmap.get (seen self.old).constants constant.0) }
         requires short { end_of (seen self.old) + 28 < 2 ^ 31 }
-        requires words { vec_len self.old.words + 7 ≤ vec_capacity self.old.words }
+        requires words { length self.old.words.items + 7 ≤ self.old.words.capacity }
         requires chained { AreChained self.old.uses.items self.old.earlier.items self.old.heads self.old.loads }
         requires burdens { AreBurdens K.kinds self.old.uses.items self.old.burdens }
         ensures gives { IfSome (finmap.get (seen self.old).constants constant.0) (λ content. GivesCopy K.kinds constant.0 content (seen self.old) (seen self.new)) }
@@ -107,7 +107,7 @@ impl<'c, K: MachInstLabelUse> Parts<'c, K> {
         let zeros = padding(self.end(), bytes.len() as u32);
         push_zeros(&mut self.words, zeros);
         let place = self.end();
-        push_words(&mut self.words, bytes);
+        self.words.extend_reserved(bytes);
         self.stop_loads(constant.0, place);
     }
 }

@@ -12,37 +12,24 @@ use crate::class::Class;
 use crate::label_use::MachInstLabelUse;
 use crate::parts::{Parts, target_label};
 use crate::site::{Target, Use};
+use crate::words::Words;
 use a64_base::{MachLabel, TrapCode};
-
-/// Adds the words that bytes are to words that have room for them.
-pub fn push_words(words: &mut Vec<u32>, bytes: &[u8])
-    requires whole { length bytes.now % 4 ≡ 0 }
-    requires room { vec_len words.old + length bytes.now / 4 ≤ vec_capacity words.old }
-    ensures items { words.new.items ≡ words.old.items ++ words_of bytes.now }
-    ensures capacity { vec_capacity words.new ≡ vec_capacity words.old }
-{
-    for i in 0..bytes.len() / 4 {
-        let mut word = [0; 4];
-        word.copy_from_slice(&bytes[4 * i..4 * i + 4]);
-        words.push_reserved(u32::from_le_bytes(word));
-    }
-}
 
 /// Adds the words of a far veneer that stands at a place to words that have room for them, and
 /// answers the place and the kind of the use that its last word is.
-fn push_far_words<K: MachInstLabelUse>(words: &mut Vec<u32>, kind: K, place: u32) -> (u32, K)
+fn push_far_words<K: MachInstLabelUse>(words: &mut Words, kind: K, place: u32) -> (u32, K)
     requires veneers { IsTrue (K.kinds.veneers kind) }
     requires urgency { K.kinds.urgency kind ≡ 3 }
     requires low { place ≤ 2 ^ 31 }
-    requires room { vec_len words.old + length K.kinds.far_words + 1 ≤ vec_capacity words.old }
+    requires room { length words.old.items + length K.kinds.far_words + 1 ≤ words.old.capacity }
     ensures items { words.new.items ≡ words.old.items ++ (K.kinds.far_words ++ 0 ∷ []) }
-    ensures capacity { vec_capacity words.new ≡ vec_capacity words.old }
+    ensures capacity { words.new.capacity ≡ words.old.capacity }
     ensures last { result ≡ (place + 4 * length K.kinds.far_words, K.kinds.far_use) }
 {
     let mut bytes = [0; 20];
     let veneer = &mut bytes[..kind.veneer_size() as usize];
     let last = kind.generate_veneer(veneer, place);
-    push_words(words, veneer);
+    words.extend_reserved(veneer);
     last
 }
 
@@ -124,7 +111,7 @@ impl<'c, K: MachInstLabelUse> Parts<'c, K> {
         requires label { (d : _) → (slice_index_or self.old.uses.items index d).target ≡ Label label }
         requires class { (d : _) → IsWaitingClass K.kinds (slice_index_or self.old.uses.items index d) class }
         requires short { end_of (seen self.old) + 4 < 2 ^ 31 }
-        requires words { vec_len self.old.words < vec_capacity self.old.words }
+        requires words { length self.old.words.items < self.old.words.capacity }
         requires uses { vec_len self.old.uses < vec_capacity self.old.uses }
         requires earlier { vec_len self.old.earlier < vec_capacity self.old.earlier }
         requires chained { AreChained self.old.uses.items self.old.earlier.items self.old.heads self.old.loads }
@@ -162,7 +149,8 @@ impl<'c, K: MachInstLabelUse> Parts<'c, K> {
         requires veneers { (d : _) → IsTrue (K.kinds.veneers (slice_index_or self.old.uses.items index d).kind) }
         requires urgency { (d : _) → K.kinds.urgency (slice_index_or self.old.uses.items index d).kind ≡ 3 }
         requires short { end_of (seen self.old) + 20 < 2 ^ 31 }
-        requires words { vec_len self.old.words + length K.kinds.far_words + 1 ≤ vec_capacity self.old.words }
+        requires words { length self.old.words.items + length K.kinds.far_words + 1
+            ≤ self.old.words.capacity }
         requires uses { vec_len self.old.uses < vec_capacity self.old.uses }
         requires earlier { vec_len self.old.earlier < vec_capacity self.old.earlier }
         requires chained { AreChained self.old.uses.items self.old.earlier.items self.old.heads self.old.loads }
@@ -198,7 +186,7 @@ impl<'c, K: MachInstLabelUse> Parts<'c, K> {
         requires target { (d : _) → constant_of (slice_index_or self.old.uses.items index d).target ≡ None }
         requires class { (d : _) → IsWaitingClass K.kinds (slice_index_or self.old.uses.items index d) Trapping }
         requires short { end_of (seen self.old) + 4 < 2 ^ 31 }
-        requires words { vec_len self.old.words < vec_capacity self.old.words }
+        requires words { length self.old.words.items < self.old.words.capacity }
         requires traps { vec_len self.old.traps < vec_capacity self.old.traps }
         requires chained { AreChained self.old.uses.items self.old.earlier.items self.old.heads self.old.loads }
         requires burdens { AreBurdens K.kinds self.old.uses.items self.old.burdens }

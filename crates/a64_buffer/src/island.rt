@@ -193,7 +193,7 @@ impl<'c, K: MachInstLabelUse> Parts<'c, K> {
     /// for nothing, so it is in no queue.
     fn begin_island(&mut self, jump: bool)
         requires short { end_of (seen self.old) + 4 < 2 ^ 31 }
-        requires words { vec_len self.old.words < vec_capacity self.old.words }
+        requires words { length self.old.words.items < self.old.words.capacity }
         requires uses { vec_len self.old.uses < vec_capacity self.old.uses }
         requires earlier { vec_len self.old.earlier < vec_capacity self.old.earlier }
         requires chained { HasChains self.old }

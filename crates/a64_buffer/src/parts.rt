@@ -10,14 +10,14 @@ ghost use Rattle.a64_buffer.specs.Buffer.{label_of};
 use crate::chain::{close_label, reached};
 use crate::constants::Constants;
 use crate::finish::Finished;
-use crate::give::push_words;
 use crate::label_use::MachInstLabelUse;
 use crate::queue::Queue;
 use crate::queues::{no_queues, reserve_queue};
 use crate::records::Records;
 use crate::room::Burdens;
-use crate::settle::{code_of, labels_in_order};
+use crate::settle::{labels_in_order, settle};
 use crate::site::{Target, Use};
+use crate::words::Words;
 use a64_base::{MachLabel, TrapCode};
 use a64_label_map::LabelMap;
 use std::alloc::{AllocError, Global};
@@ -26,7 +26,7 @@ use std::alloc::{AllocError, Global};
 #[derive(Drop)]
 pub struct Parts<'c, K> {
     /// The words, as they were put.
-    pub words: Vec<u32>,
+    pub words: Words,
     /// The uses, in the order in which they were made.
     pub uses: Vec<Use<K>>,
     /// The places of the bound labels by number, in bytes from the start of the code.
@@ -102,7 +102,7 @@ impl<'c, K: MachInstLabelUse> Parts<'c, K> {
         ensures sound { AreSound K.kinds result }
     {
         Parts {
-            words: Vec::new(alloc),
+            words: Words::new(alloc),
             uses: Vec::new(alloc),
             labels: LabelMap::new(alloc),
             earlier: Vec::new(alloc),
@@ -141,7 +141,7 @@ impl<'c, K: MachInstLabelUse> Parts<'c, K> {
         requires { end_of (seen self.now) < 2 ^ 31 }
         ensures { result ≡ end_of (seen self.now) }
     {
-        4 * self.words.len() as u32
+        self.words.size() as u32
     }
 
     /// Adds a word.
@@ -155,8 +155,7 @@ impl<'c, K: MachInstLabelUse> Parts<'c, K> {
         ensures err { OnErr result (seen self.new ≡ seen self.old) }
         ensures later { OnOk result (IsLater (seen self.old) (seen self.new)) }
     {
-        reserve_one(&mut self.words)?;
-        self.words.push_reserved(word);
+        self.words.push(word)?;
         Ok(())
     }
 
@@ -188,7 +187,7 @@ impl<'c, K: MachInstLabelUse> Parts<'c, K> {
         ensures later { OnOk result (IsLater (seen self.old) (seen self.new)) }
     {
         self.words.reserve(bytes.len() / 4)?;
-        push_words(&mut self.words, bytes);
+        self.words.extend_reserved(bytes);
         Ok(())
     }
 
@@ -376,8 +375,10 @@ impl<'c, K: MachInstLabelUse> Parts<'c, K> {
             patchable,
             maps,
         } = records;
+        let mut bytes = words.into_bytes();
+        settle(&mut bytes, &uses);
         Ok(Finished {
-            bytes: code_of(alloc, &words, &uses)?,
+            bytes,
             labels: labels_in_order(alloc, &labels)?,
             islands,
             pool,

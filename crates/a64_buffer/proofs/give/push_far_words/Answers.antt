@@ -8,6 +8,6 @@ returns-clause-items g c =
     let veneer = far_of g.K.MachInstLabelUse.kinds c.args.kind c.args.place _ c.generate_veneer-last.new.buffer c.generate_veneer-last.result c.requires.urgency c.generate_veneer-last.ensures in
     let size : c.veneer_size.result ≡ 4 * length g.K.MachInstLabelUse.kinds.far_words + 4 = c.veneer_size.ensures ∙ far_size g.K.MachInstLabelUse.kinds c.args.kind c.requires.urgency in
     let few = g.met.K.MachInstLabelUse.lawful.far_length in
-    c.push_words.ensures.items
+    c.extend_reserved.ensures.items
     ∙ ap (λ ws. c.args.words.now.items ++ ws)
     (far_words_are g.K.MachInstLabelUse.kinds.far_words c.generate_veneer-last.new.buffer (omega (arith, c.generate_veneer-last.auto.buffer, size, few, zeros_length c.veneer_size.result (omega (arith, size, few)))) veneer.words (veneer.last ∙ zero_word (length g.K.MachInstLabelUse.kinds.far_words) c.veneer_size.result few size))

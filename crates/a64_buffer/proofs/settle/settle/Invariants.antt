@@ -1,9 +1,10 @@
 use Rattle.std.proofs.Common.{◌≡◌, length, take}
+use Rattle.a64_buffer.specs.Word.{words_of}
 use Rattle.a64_buffer.specs.Settled.{IsSettledCode}
 use Rattle.a64_buffer.proofs.settle.settle.Given as goal
 
 abbrev pub invariant-loop-site : goal.invariant-loop-site
 invariant-loop-site g l = record {
-  settled : IsSettledCode g.K.MachInstLabelUse.kinds l.words (take l.site-index l.uses) l.bytes;
+  settled : IsSettledCode g.K.MachInstLabelUse.kinds (words_of l.fn.bytes) (take l.site-index l.uses) l.bytes;
   long : length l.bytes ≡ length l.fn.bytes;
 }

@@ -10,7 +10,7 @@ pub give_jump-requires-clause-short : goal.give_jump-requires-clause-short
 give_jump-requires-clause-short g c = omega (arith, c.requires.ready.may.short, (jump_kept g.K.MachInstLabelUse.kinds g.met.K.MachInstLabelUse.lawful c.args.self.now c.args.index c.requires.ready c.args.class c.requires.class c.in-Near.is).0)
 
 pub give_jump-requires-clause-words : goal.give_jump-requires-clause-words
-give_jump-requires-clause-words g c = omega (arith, c.requires.ready.space.words, c.args.self.now.words.ok.0, (jump_kept g.K.MachInstLabelUse.kinds g.met.K.MachInstLabelUse.lawful c.args.self.now c.args.index c.requires.ready c.args.class c.requires.class c.in-Near.is).0)
+give_jump-requires-clause-words g c = omega (arith, c.requires.ready.space.words, (jump_kept g.K.MachInstLabelUse.kinds g.met.K.MachInstLabelUse.lawful c.args.self.now c.args.index c.requires.ready c.args.class c.requires.class c.in-Near.is).0)
 
 pub give_jump-requires-clause-uses : goal.give_jump-requires-clause-uses
 give_jump-requires-clause-uses g c = omega (arith, c.requires.ready.space.uses, c.args.self.now.uses.ok.0, (jump_kept g.K.MachInstLabelUse.kinds g.met.K.MachInstLabelUse.lawful c.args.self.now c.args.index c.requires.ready c.args.class c.requires.class c.in-Near.is).1)
@@ -22,7 +22,7 @@ pub give_far-requires-clause-short : goal.give_far-requires-clause-short
 give_far-requires-clause-short g c = omega (arith, c.requires.ready.may.short, (far_kept g.K.MachInstLabelUse.kinds g.met.K.MachInstLabelUse.lawful c.args.self.now c.args.index c.requires.ready c.args.class c.requires.class c.in-Far.is).0)
 
 pub give_far-requires-clause-words : goal.give_far-requires-clause-words
-give_far-requires-clause-words g c = omega (arith, c.requires.ready.space.words, c.args.self.now.words.ok.0, g.met.K.MachInstLabelUse.lawful.far_length, (far_kept g.K.MachInstLabelUse.kinds g.met.K.MachInstLabelUse.lawful c.args.self.now c.args.index c.requires.ready c.args.class c.requires.class c.in-Far.is).0)
+give_far-requires-clause-words g c = omega (arith, c.requires.ready.space.words, g.met.K.MachInstLabelUse.lawful.far_length, (far_kept g.K.MachInstLabelUse.kinds g.met.K.MachInstLabelUse.lawful c.args.self.now c.args.index c.requires.ready c.args.class c.requires.class c.in-Far.is).0)
 
 pub give_far-requires-clause-uses : goal.give_far-requires-clause-uses
 give_far-requires-clause-uses g c = omega (arith, c.requires.ready.space.uses, c.args.self.now.uses.ok.0, (far_kept g.K.MachInstLabelUse.kinds g.met.K.MachInstLabelUse.lawful c.args.self.now c.args.index c.requires.ready c.args.class c.requires.class c.in-Far.is).1)

@@ -1,4 +1,4 @@
-use Rattle.std.proofs.Common.{◌++◌, [], ◌∷◌, sym, ◌∙◌, ap, subst}
+use Rattle.std.proofs.Common.{[], ◌∷◌, sym, subst}
 use Rattle.a64_buffer.specs.Later.{IsLater}
 use Rattle.a64_buffer.specs.Sound.{seen, IsWhole}
 use Rattle.a64_buffer.proofs.Sounds.{put_later, whole_put}
@@ -6,12 +6,12 @@ use Rattle.a64_buffer.proofs.parts.Parts.put.Goals as goal
 
 pub returns-clause-sound : goal.returns-clause-sound
 returns-clause-sound g c = record {
-  whole = subst (λ ws. IsWhole g.K.MachInstLabelUse.kinds (record (seen c.args.self.now) { words = ws })) (sym (c.push_reserved.ensures.items ∙ ap (λ ws. ws ++ c.args.word ∷ []) c.reserve_one.ensures.items)) (whole_put g.K.MachInstLabelUse.kinds g.met.K.MachInstLabelUse.lawful (seen c.args.self.now) c.requires.sound.whole (c.args.word ∷ []) c.requires.short c.requires.fits);
+  whole = subst (λ ws. IsWhole g.K.MachInstLabelUse.kinds (record (seen c.args.self.now) { words = ws })) (sym c.in_ok-push.ensures.ok) (whole_put g.K.MachInstLabelUse.kinds g.met.K.MachInstLabelUse.lawful (seen c.args.self.now) c.requires.sound.whole (c.args.word ∷ []) c.requires.short c.requires.fits);
   chained = c.requires.sound.chained;
   waiting = c.requires.sound.waiting;
 }
 
 pub returns-clause-later : goal.returns-clause-later
 returns-clause-later g c =
-    subst (λ ws. IsLater (seen c.args.self.now) (record (seen c.args.self.now) { words = ws })) (sym (c.push_reserved.ensures.items ∙ ap (λ ws. ws ++ c.args.word ∷ []) c.reserve_one.ensures.items))
+    subst (λ ws. IsLater (seen c.args.self.now) (record (seen c.args.self.now) { words = ws })) (sym c.in_ok-push.ensures.ok)
     (put_later g.K.MachInstLabelUse.kinds g.met.K.MachInstLabelUse.lawful (seen c.args.self.now) c.requires.sound.whole (c.args.word ∷ []))

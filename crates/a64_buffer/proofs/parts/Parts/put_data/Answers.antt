@@ -11,7 +11,7 @@ use Rattle.a64_buffer.proofs.parts.Parts.put_data.Goals as goal
 pub returns-clause-sound : goal.returns-clause-sound
 returns-clause-sound g c =
     let size : 4 * length (words_of c.args.bytes.now) ≡ length c.args.bytes.now = words_whole c.args.bytes.now c.requires.whole in
-    let words = c.push_words.ensures.items ∙ ap (λ ws. ws ++ words_of c.args.bytes.now) c.in_ok-reserve.ensures.items in
+    let words = c.extend_reserved.ensures.items ∙ ap (λ ws. ws ++ words_of c.args.bytes.now) c.in_ok-reserve.ensures.items in
     record {
       whole = subst (λ ws. IsWhole g.K.MachInstLabelUse.kinds (record (seen c.args.self.now) { words = ws })) (sym words)
           (whole_put g.K.MachInstLabelUse.kinds g.met.K.MachInstLabelUse.lawful (seen c.args.self.now) c.requires.sound.whole (words_of c.args.bytes.now)
@@ -23,6 +23,6 @@ returns-clause-sound g c =
 
 pub returns-clause-later : goal.returns-clause-later
 returns-clause-later g c =
-    let words = c.push_words.ensures.items ∙ ap (λ ws. ws ++ words_of c.args.bytes.now) c.in_ok-reserve.ensures.items in
+    let words = c.extend_reserved.ensures.items ∙ ap (λ ws. ws ++ words_of c.args.bytes.now) c.in_ok-reserve.ensures.items in
     subst (λ ws. IsLater (seen c.args.self.now) (record (seen c.args.self.now) { words = ws })) (sym words)
     (put_later g.K.MachInstLabelUse.kinds g.met.K.MachInstLabelUse.lawful (seen c.args.self.now) c.requires.sound.whole (words_of c.args.bytes.now))

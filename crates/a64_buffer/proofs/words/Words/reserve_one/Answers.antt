@@ -1,0 +1,14 @@
+use Rattle.std.proofs.Common.{ap, arith}
+use Rattle.a64_buffer.specs.Words.{HeldWords}
+use Rattle.a64_buffer.proofs.WordLists.{held_size}
+use Rattle.a64_buffer.proofs.words.Words.reserve_one.Goals as goal
+
+pub returns-then-self-len-clause-ok : goal.returns-then-self-len-clause-ok
+returns-then-self-len-clause-ok c = omega (
+  arith,
+  held_size c.self.inside.size c.self.inside.bytes.items c.args.self.now c.self.invariant.0 c.self.invariant.1 c.self.view_is,
+  ap (λ (v : HeldWords). v.capacity) c.self.view_is,
+  c.if-self-len.true,
+  c.len.ensures,
+  c.self.inside.bytes.ok.0,
+)
