@@ -1,6 +1,6 @@
 //! Islands, and what gives open uses what they wait for.
 
-ghost use Rattle.std.specs.Prelude.{◌≡◌, ◌⊎◌, ◌+◌, ◌*◌, ◌^◌, ◌<◌, ◌≤◌, All, MatchBool, OnOk, OnErr, true, slice_index_or, vec_len, vec_capacity};
+ghost use Rattle.std.specs.Prelude.{◌≡◌, ◌⊎◌, ◌+◌, ◌*◌, ◌^◌, ◌<◌, ◌≤◌, All, MatchBool, OnOk, OnErr, true, slice_index_or, vec_len, vec_capacity, length};
 ghost use Rattle.a64_buffer.specs.Buffer.{end_of};
 ghost use Rattle.a64_buffer.specs.Classes.{owed, Fits};
 ghost use Rattle.a64_buffer.specs.declared.force.ForceVeneers.TheVariants.{No, Yes};
