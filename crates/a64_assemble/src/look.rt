@@ -34,7 +34,7 @@ fn constant_size(inst: &Inst, group: Group, constants: &Constants) -> Option<u32
 {
     match group {
         Group::Memory => constants.size_of(inst.constant()?),
-        Group::Immediate | Group::Register | Group::Control | Group::Sequence | Group::Call => None,
+        Group::Plain(_) | Group::Control | Group::Sequence | Group::Call => None,
     }
 }
 

@@ -1,19 +1,15 @@
 -- What is known of the modes and the steps of loads and stores without a fault.
-use Rattle.std.proofs.Common.{ℕ, ℤ, pos, negsuc, ◌≡◌, ◌/◌, ◌%◌, ◌^◌, ◌⊎◌, inl, inr, Bool, true, false, List, [], ◌∷◌, length, get_or, map, Option, None, Some, refl, sym, ap, ◌∙◌, subst, arith, rules, suc, nat_cmp}
+use Rattle.std.proofs.Common.{ℕ, ℤ, pos, negsuc, ◌≡◌, ◌/◌, ◌%◌, ◌^◌, ◌⊎◌, inl, inr, Bool, true, false, List, [], ◌∷◌, length, get_or, map, Option, None, Some, refl, sym, ap, subst, arith, rules, suc, nat_cmp}
 use Rattle.std.specs.Prelude.{All, ◌&&◌, ◌||◌, nat_eq, nat_lt, if◌then◌else◌, is_none, is_some, option_map, option_and_then, IfSome, IsSome}
 use Rattle.std.specs.FinMap.{FinMap, empty, get}
-use Rattle.std.proofs.lemmas.Bool.{false≢true, and_parts, and_from, eq-eqb, or_right, or_left, or_cases, ltb-true, ltb-false, lt-ltb}
+use Rattle.std.proofs.lemmas.Bool.{false≢true, and_parts, and_from, eq-eqb, or_right, or_cases, ltb-true, ltb-false, lt-ltb}
 use Rattle.std.proofs.lemmas.Int.{ints}
 use Rattle.std.proofs.lemmas.List.{get_or-map}
 use Rattle.a64_base.specs.declared.entity.VCodeConstant.{VCodeConstant}
 use Rattle.a64_base.specs.declared.reg.Reg.{Reg}
 use Rattle.std.specs.Int.RustNames.{unsigned_abs}
-use Rattle.a64_base.specs.declared.reg.Reg.TheVariants.{Real, Virtual}
 use Rattle.a64_base.specs.declared.shift.ExtendOp.TheVariants.{SXTX}
-use Rattle.a64_base.specs.declared.size.OperandSize.TheVariants.{Size64}
 use Rattle.a64_base.specs.Registers.{integer_register}
-use Rattle.a64_imms.specs.declared.imm12.Imm12.{Imm12}
-use Rattle.a64_ops.specs.declared.operator.ALUOp.TheVariants.{Add}
 use Rattle.a64_base.specs.declared.ir_type.IrType.TheVariants.{I8}
 use Rattle.a64_imms.specs.Offsets.{IsOffset9}
 use Rattle.a64_imms.specs.Scales.{type_bytes}
@@ -36,11 +32,11 @@ use Rattle.a64_inst.specs.Faults.{first_of, named_constant, constant_size, has_o
 use Rattle.a64_inst.specs.FinalModes.{FinalMode, SignedOffset, ScaledOffset, Other, held_mode, parts_of, placed_mode, final_mode}
 use Rattle.a64_inst.specs.Modes.{BaseOffset, base_offset_of, is_offset9, is_scaled_offset, IsAccessSize}
 use Rattle.a64_inst.specs.MemoryOperands.{is_addend, are_mode_parts, are_mode_operands, has_units, has_access_mode}
-use Rattle.a64_inst.specs.Operands.{is_int, is_imm12, is_register, is_register_or_stack, is_register_or_zero}
-use Rattle.a64_inst.specs.IntegerOperands.{is_add_sub_result, are_alu_rrr_operands, are_alu_rr_imm12_operands, are_mov_operands, are_alu_rrr_extend_operands}
+use Rattle.a64_inst.specs.Operands.{is_imm12, is_logic_of, is_register_or_stack, is_register_or_zero, is_same_register, is_wide_in}
+use Rattle.a64_inst.specs.IntegerOperands.{is_kept}
 use Rattle.a64_inst.proofs.Constants.{steps_good}
 use Rattle.a64_inst.proofs.Good.{first_passed, operands_good}
-use Rattle.a64_emit.specs.MemoryForms.{sum_op, addend}
+use Rattle.a64_emit.specs.MemoryForms.{addend}
 use Rattle.a64_emit.specs.Words.{CanStep, IsThere, are_held_parts}
 
 -- ---- the mode of an instruction without a fault exists
@@ -151,11 +147,14 @@ held_good op frame mem operands units mode = parts_good op frame mem (and_parts 
 
 -- ---- the steps of a plan can be made
 
-can_step : (frame : FrameLayout) (flags : EmitFlags) (rd : Reg) (step : ConstStep) → has_operands frame flags Refused (step_into rd step) ≡ true → CanStep rd step
-can_step frame flags rd (steps.MovZ imm size) e = e
-can_step frame flags rd (steps.MovN imm size) e = e
-can_step frame flags rd (steps.MovK imm size) e = e
-can_step frame flags rd (steps.Orr imm) e = e
+can_step : (frame : FrameLayout) (flags : EmitFlags) (rd : Reg) (step : ConstStep) → has_operands frame flags Refused (step_into rd step) ≡ true → CanStep step
+can_step frame flags rd (steps.MovZ imm size) e = (and_parts (is_register_or_zero Refused rd) (is_wide_in size imm) e).1
+can_step frame flags rd (steps.MovN imm size) e = (and_parts (is_register_or_zero Refused rd) (is_wide_in size imm) e).1
+can_step frame flags rd (steps.MovK imm size) e =
+    let (_, rest) = and_parts (is_register_or_zero Refused rd) (is_register_or_zero Refused rd && is_kept rd rd imm size) e in
+    let (_, kept) = and_parts (is_register_or_zero Refused rd) (is_kept rd rd imm size) rest in
+    (and_parts (is_same_register rd rd) (is_wide_in size imm) kept).1
+can_step frame flags rd (steps.Orr imm) e = (and_parts (is_register_or_stack Refused rd) (is_logic_of imm.size imm) e).1
 
 -- any frame and settings
 abbrev some_frame : FrameLayout
@@ -164,15 +163,19 @@ some_frame = record { setup_area_size = 0; tail_args_size = 0; clobber_size = 0;
 abbrev some_flags : EmitFlags
 some_flags = record { enable_probestack = false; enable_table_access_spectre_mitigation = false; use_csdb = false }
 
-pub can_steps : (rd : Reg) (plan : List ConstStep) → is_register Refused rd ≡ true → (plan ≡ []) ⊎ IsShape plan → All (CanStep rd) plan
-can_steps rd plan numbered (inl none) = λ k d w. absurd (omega (arith, w, ap length none))
-can_steps rd plan numbered (inr is) = λ k d w.
-    let good = steps_good rd plan numbered is some_frame some_flags empty Refused k (step_into rd d) (omega (arith, w, length_map plan)) in
-    let there = get_or-map (step_into rd) plan k d (step_into rd d) w in
-    can_step some_frame some_flags rd (get_or plan k d)
-    (operands_good some_frame some_flags empty Refused (step_into rd (get_or plan k d)) (subst (λ (i : Inst). inst_fault some_frame some_flags empty Refused i ≡ None) there good))
+-- any register
+abbrev some_register : Reg
+some_register = integer_register 0
+
+pub can_steps : (plan : List ConstStep) → (plan ≡ []) ⊎ IsShape plan → All CanStep plan
+can_steps plan (inl none) = λ k d w. absurd (omega (arith, w, ap length none))
+can_steps plan (inr is) = λ k d w.
+    let good = steps_good some_register plan refl is some_frame some_flags empty Refused k (step_into some_register d) (omega (arith, w, length_map plan)) in
+    let there = get_or-map (step_into some_register) plan k d (step_into some_register d) w in
+    can_step some_frame some_flags some_register (get_or plan k d)
+    (operands_good some_frame some_flags empty Refused (step_into some_register (get_or plan k d)) (subst (λ (i : Inst). inst_fault some_frame some_flags empty Refused i ≡ None) there good))
   where
-    length_map : (xs : List ConstStep) → length (map (step_into rd) xs) ≡ length xs
+    length_map : (xs : List ConstStep) → length (map (step_into some_register) xs) ≡ length xs
     length_map [] = refl
     length_map (x ∷ xs) = ap suc (length_map xs)
 
@@ -210,24 +213,7 @@ address_good frame mem operands = go (base_offset_of frame mem) refl
     go None e = subst (λ o. are_address_parts (elim o [ None ↦ parts_of (held_mode true mem) | Some place ↦ placed_mode I8 place ]) ≡ true) (sym e) (kept_address mem parts)
     go (Some place) e = subst (λ o. are_address_parts (elim o [ None ↦ parts_of (held_mode true mem) | Some p ↦ placed_mode I8 p ]) ≡ true) (sym e) (placed_address place (base_good frame mem place e parts))
 
--- ---- the operands of additions
-
-pub numbered_stack : (reg : Reg) → is_register Refused reg ≡ true → is_register_or_stack Refused reg ≡ true
-numbered_stack (Real p) e = let (int, low) = and_parts (is_int p.class) (nat_lt p.number 31) e in and_from (is_int p.class) _ int (or_left (nat_lt p.number 31) (nat_eq p.number 63) low)
-numbered_stack (Virtual index class) e = e
-
-pub numbered_zero : (reg : Reg) → is_register Refused reg ≡ true → is_register_or_zero Refused reg ≡ true
-numbered_zero (Real p) e = let (int, low) = and_parts (is_int p.class) (nat_lt p.number 31) e in let less = ltb-true p.number 31 low in and_from (is_int p.class) _ int (lt-ltb p.number 32 (omega arith))
-numbered_zero (Virtual index class) e = e
-
-sum_result : (offset : ℤ) (rd : Reg) → is_register Refused rd ≡ true → is_add_sub_result Refused (sum_op offset) rd ≡ true
-sum_result (pos n) rd e = numbered_stack rd e
-sum_result (negsuc n) rd e = numbered_stack rd e
-
-pub sum_good : (offset : ℤ) (rd rn rm : Reg) → is_register Refused rd ≡ true → is_register_or_zero Refused rn ≡ true → is_register_or_zero Refused rm ≡ true → are_alu_rrr_operands Refused (sum_op offset) Size64 rd rn rm ≡ true
-unfolding are_alu_rrr_operands
-sum_good (pos n) rd rn rm d b m = and_from _ true (and_from (is_register_or_zero Refused rd) _ (numbered_zero rd d) (and_from (is_register_or_zero Refused rn) (is_register_or_zero Refused rm) b m)) refl
-sum_good (negsuc n) rd rn rm d b m = and_from _ true (and_from (is_register_or_zero Refused rd) _ (numbered_zero rd d) (and_from (is_register_or_zero Refused rn) (is_register_or_zero Refused rm) b m)) refl
+-- ---- the immediate of an addition
 
 pub addend_good : (n : ℕ) → is_addend n ≡ true → is_imm12 (addend n) ≡ true
 addend_good n e = go (nat_lt n 4096) refl
@@ -238,23 +224,3 @@ addend_good n e = go (nat_lt n 4096) refl
       | inl t ↦ let a = ltb-true n 4096 t in let b = ltb-false n 4096 f in absurd (omega (arith, a, b))
       | inr t ↦ let a = ltb-true n (2 ^ 24) (and_parts (nat_lt n (2 ^ 24)) (nat_eq (n % 4096) 0) t).0 in omega (arith, a)
     ])
-
-pub addend_operands : (offset : ℤ) (rd rn : Reg) (imm : Imm12) → is_register Refused rd ≡ true → is_register_or_stack Refused rn ≡ true → is_addend (unsigned_abs offset) ≡ true → imm ≡ addend (unsigned_abs offset) → are_alu_rr_imm12_operands Refused (sum_op offset) rd rn imm ≡ true
-unfolding are_alu_rr_imm12_operands
-addend_operands offset rd rn imm d b a e =
-    and_from (is_add_sub_result Refused (sum_op offset) rd) _ (sum_result offset rd d)
-    (and_from (is_register_or_stack Refused rn) (is_imm12 imm) b (ap is_imm12 e ∙ addend_good (unsigned_abs offset) a))
-
-pub move_good : (rd rn : Reg) → is_register Refused rd ≡ true → is_register_or_stack Refused rn ≡ true → are_mov_operands Refused Size64 rd rn ≡ true
-unfolding are_mov_operands
-move_good rd (Real p) d b =
-    let (int, either) = and_parts (is_int p.class) (nat_lt p.number 31 || nat_eq p.number 63) b in
-    elim (or_cases (nat_lt p.number 31) (nat_eq p.number 63) either) [
-      | inl low ↦ or_left _ _ (and_from (is_register_or_zero Refused rd) _ (numbered_zero rd d) (numbered_zero (Real p) (and_from (is_int p.class) (nat_lt p.number 31) int low)))
-      | inr stack ↦ or_right _ _ (and_from (is_register Refused rd) _ d (and_from (is_int p.class) (nat_eq p.number 63) int stack))
-    ]
-move_good rd (Virtual index class) d b = absurd cc
-
-pub extend_good : (rd rn rm : Reg) → is_register Refused rd ≡ true → is_register_or_stack Refused rn ≡ true → is_register_or_zero Refused rm ≡ true → are_alu_rrr_extend_operands Refused Add rd rn rm ≡ true
-unfolding are_alu_rrr_extend_operands
-extend_good rd rn rm d b m = and_from (is_register_or_stack Refused rd) _ (numbered_stack rd d) (and_from (is_register_or_stack Refused rn) (is_register_or_zero Refused rm) b m)

@@ -1,45 +1,17 @@
 -- The operands of the words of calls are in their sets.
-use Rattle.std.proofs.Common.{ℕ, ℤ, pos, ◌≡◌, ◌≤◌, ◌%◌, ◌^◌, ◌⊎◌, inl, inr, Bool, true, List, refl, ap}
-use Rattle.std.specs.Prelude.{All, ◌&&◌, nat_eq, nat_le, nat_lt}
+use Rattle.std.proofs.Common.{ℕ, ℤ, pos, ◌≡◌, ◌≤◌, ◌%◌, ◌^◌, Bool, true, List}
+use Rattle.std.specs.Prelude.{◌&&◌, nat_eq, nat_le, nat_lt}
 use Rattle.std.proofs.lemmas.Bool.{and_from, and_parts, eq-eqb, eqb-true, le-leb, leb-true}
 use Rattle.a64_base.specs.declared.ir_type.IrType.TheVariants.{I64}
 use Rattle.a64_base.specs.declared.reg.Reg.{Reg}
 use Rattle.a64_base.specs.Registers.{integer_register}
-use Rattle.a64_imms.specs.declared.imm12.Imm12.{Imm12}
-use Rattle.a64_ops.specs.declared.operator.ALUOp.{ALUOp}
-use Rattle.a64_ops.specs.declared.operator.ALUOp.TheVariants.{Add, Sub}
 use Rattle.a64_inst.specs.declared.call.CallArgPair.{CallArgPair}
 use Rattle.a64_inst.specs.declared.call.CallRetPair.{CallRetPair}
 use Rattle.a64_inst.specs.declared.frame.FrameLayout.{FrameLayout}
 use Rattle.a64_inst.specs.declared.mode.PairAMode.TheVariants.{SPPostIndexed}
 use Rattle.a64_inst.specs.declared.virtuals.VirtualRegisters.TheVariants.{Refused}
 use Rattle.a64_inst.specs.CallOperands.{are_call_defs, are_call_operands, are_call_uses, are_return_operands, has_return_frame}
-use Rattle.a64_inst.specs.IntegerOperands.{are_alu_rr_imm12_operands, are_alu_rrr_extend_operands}
 use Rattle.a64_inst.specs.MemoryOperands.{are_pair_operands}
-use Rattle.a64_inst.specs.Operands.{is_imm12, is_register}
-use Rattle.a64_plan.specs.declared.step.ConstStep.{ConstStep}
-use Rattle.a64_plan.specs.Shapes.{IsShape}
-use Rattle.a64_emit.specs.MemoryForms.{offset_register}
-use Rattle.a64_emit.specs.Words.{CanStep}
-use Rattle.a64_emit.proofs.Accesses.{can_steps}
-
--- the stack pointer moves by an immediate
-pub near_good : (op : ALUOp) (rd rn : Reg) (imm : Imm12) → (op ≡ Add) ⊎ (op ≡ Sub) → rd ≡ integer_register 63 → rn ≡ integer_register 63 → is_imm12 imm ≡ true
-    → are_alu_rr_imm12_operands Refused op rd rn imm ≡ true
-unfolding are_alu_rr_imm12_operands
-near_good op rd rn imm (inl add) d n good = rw (add, d, n) good
-near_good op rd rn imm (inr sub) d n good = rw (sub, d, n) good
-
--- or by a register
-pub far_good : (op : ALUOp) (rd rn rm : Reg) → (op ≡ Add) ⊎ (op ≡ Sub) → rd ≡ integer_register 63 → rn ≡ integer_register 63 → rm ≡ offset_register
-    → are_alu_rrr_extend_operands Refused op rd rn rm ≡ true
-unfolding are_alu_rrr_extend_operands
-far_good op rd rn rm (inl add) d n m = rw (add, d, n, m) refl
-far_good op rd rn rm (inr sub) d n m = rw (sub, d, n, m) refl
-
--- which gets its value by the steps of a plan
-pub plan_good : (rd : Reg) (plan : List ConstStep) → rd ≡ offset_register → IsShape plan → All (CanStep rd) plan
-plan_good rd plan d is = can_steps rd plan (ap (is_register Refused) d) (inr is)
 
 -- the saved frame pointer and return address are restored
 pub frame_good : (rt rt2 : Reg) (setup : ℕ) (amount : ℤ) → rt ≡ integer_register 29 → rt2 ≡ integer_register 30 → amount ≡ pos setup → setup ≤ 504 → setup % 8 ≡ 0

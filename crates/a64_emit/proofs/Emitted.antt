@@ -18,8 +18,10 @@ use Rattle.a64_inst.specs.Groups.{group_of}
 use Rattle.a64_inst.specs.MemoryOperands.{is_addend}
 use Rattle.a64_inst.specs.Operands.{is_same_register}
 use Rattle.a64_rows.specs.Forms.{Form}
-use Rattle.a64_buffer.specs.Buffer.{Buffer}
+use Rattle.a64_buffer.specs.Buffer.{Buffer, end_of}
+use Rattle.a64_buffer.specs.Classes as classes
 use Rattle.a64_label_use.specs.declared.label_use.LabelUse.{LabelUse}
+use Rattle.a64_label_use.specs.LabelUses.{label_kinds}
 use Rattle.a64_emit.specs.IntegerForms.{mov_form}
 use Rattle.a64_emit.specs.MemoryForms.{step_forms, addend_form, addend_register, sum_form, offset_register}
 use Rattle.a64_emit.specs.Bounds.{asked_of}
@@ -28,6 +30,7 @@ use Rattle.a64_emit.specs.Emission.{appended, IsAppendedInPart, IsReady, HasRoom
 use Rattle.a64_emit.specs.Words.{as_put, put_cell, put_for}
 use Rattle.a64_emit.proofs.AsPut.{word_put, other_put, put_appended, put_part, put_room, put_fits}
 use Rattle.a64_emit.proofs.Asked.{plain_asked}
+use Rattle.a64_emit.proofs.Fitting.{before_word}
 use Rattle.a64_emit.proofs.Keeping.{keep_room, keep_fits}
 use Rattle.a64_emit.proofs.KeptWords.{other_kept}
 
@@ -98,6 +101,12 @@ module _ (frame : FrameLayout) (flags : EmitFlags) (inst : Inst) (word : ℕ) (i
     asked = plain_asked frame flags inst word is;
     same = word_put (shape_of frame flags inst) word is;
   }
+
+  -- there is room for it
+  pub word_fits : CellsFit b (inst_cells frame flags inst) → classes.HasRoom label_kinds (end_of b) b.uses 4
+  word_fits h =
+      before_word b (put_cell word None None)
+      (cells_fit inst (inst_cells frame flags inst) (put_cell word None None ∷ []) one_put b h)
 
   -- a part of it is one of the instruction's
   pub word_in_part : (b' : Buffer LabelUse) → IsAppendedInPart b b' (put_cell word None None ∷ []) → IsAppendedInPart b b' (inst_cells frame flags inst)

@@ -1,7 +1,7 @@
 -- The form of an integer operation with an immediate that has no fault of its own is a form of its row.
 use Rattle.std.proofs.Common.{ℕ, ℤ, ◌≡◌, ◌<◌, ◌^◌, true, refl, lit<, arith, rules}
 use Rattle.std.specs.Prelude.{◌==◌, not}
-use Rattle.std.proofs.lemmas.Bool.{leb-true, le-leb, ltb-true}
+use Rattle.std.proofs.lemmas.Bool.{and_parts, leb-true, le-leb, ltb-true}
 use Rattle.a64_base.specs.declared.reg.Reg.{Reg}
 use Rattle.a64_base.specs.declared.size.OperandSize.{OperandSize}
 use Rattle.a64_base.specs.declared.size.OperandSize.TheVariants.{Size32, Size64}
@@ -17,8 +17,8 @@ use Rattle.a64_ops.specs.declared.operator.BfmOp.{BfmOp}
 use Rattle.a64_ops.specs.declared.operator.BfmOp.TheVariants.{UBfm, SBfm}
 use Rattle.a64_ops.specs.declared.operator.MoveWideOp.{MoveWideOp}
 use Rattle.a64_ops.specs.declared.operator.MoveWideOp.TheVariants.{MovZ, MovN}
-use Rattle.a64_inst.specs.Operands.{is_bit_of, is_imm12, is_wide_in}
-use Rattle.a64_inst.specs.IntegerOperands.{is_shift}
+use Rattle.a64_inst.specs.Operands.{is_bit_of, is_imm12, is_same_register, is_wide_in}
+use Rattle.a64_inst.specs.IntegerOperands.{is_bitfield, is_kept_bitfield, is_shift}
 use Rattle.a64_plan.specs.Shapes.{IsWithin}
 use Rattle.a64_rows.specs.Forms.{IsFormOf}
 use Rattle.a64_rows.specs.DataProcessing.{bitfield, move_wide}
@@ -27,7 +27,7 @@ use Rattle.a64_enc_int.specs.Operators.{move_wide_opc}
 use Rattle.a64_enc_int.specs.Registers.{register_field}
 use Rattle.a64_enc_int.proofs.Immediates.{residue_below}
 use Rattle.a64_enc_int.proofs.Registers.{field_below}
-use Rattle.a64_emit.specs.IntegerForms.{two_registers, alu_rr_imm12_form, mov_wide_form, mov_k_form, shift_opc, shift_immr, shift_imms, alu_rr_imm_shift_form, bfm_opc, bitfield_move_form, bitfield_move_mod_form, adr_form, adrp_form}
+use Rattle.a64_emit.specs.IntegerForms.{two_registers, alu_rr_imm12_form, mov_wide_form, mov_k_form, shift_opc, shift_immr, shift_imms, alu_rr_imm_shift_form, bfm_opc, adr_form, adrp_form}
 use Rattle.a64_emit.proofs.Operands.{bit_below, bit_in, bit_number}
 use Rattle.a64_emit.proofs.OneWord.{registers_within, extraction_within, field_widths}
 
@@ -81,15 +81,17 @@ bfm_opc_below : (op : BfmOp) → (bfm_opc op < 2 ^ 2) × (not (bfm_opc op == 3) 
 bfm_opc_below SBfm = (lit< tt, refl)
 bfm_opc_below UBfm = (lit< tt, refl)
 
-pub bitfield_move_is_form : (size : OperandSize) (op : BfmOp) (rd rn : Reg) (immr imms : UImm6) → is_bit_of size immr.imm ≡ true → is_bit_of size imms.imm ≡ true
-    → IsFormOf (bitfield_move_form size op rd rn immr imms)
-unfolding bitfield_move_form
-bitfield_move_is_form size op rd rn immr imms first last =
+pub bitfield_is_form : (size : OperandSize) (op : BfmOp) (rd rn : Reg) (immr imms : UImm6) → is_bitfield size immr imms ≡ true
+    → IsFormOf (bitfield (record { sf = sf_of size; opc = bfm_opc op; immr = immr.imm; imms = imms.imm; rn = register_field rn; rd = register_field rd }))
+bitfield_is_form size op rd rn immr imms good =
+    let (first, last) = and_parts (is_bit_of size immr.imm) (is_bit_of size imms.imm) good in
     bitfield_within size (bfm_opc op) immr.imm imms.imm rn rd (bfm_opc_below op).0 (bfm_opc_below op).1 (bit_below size immr.imm first) (bit_below size imms.imm last)
 
-pub bitfield_move_mod_is_form : (size : OperandSize) (rd rn : Reg) (immr imms : UImm6) → is_bit_of size immr.imm ≡ true → is_bit_of size imms.imm ≡ true → IsFormOf (bitfield_move_mod_form size rd rn immr imms)
-unfolding bitfield_move_mod_form
-bitfield_move_mod_is_form size rd rn immr imms first last =
+pub kept_bitfield_is_form : (size : OperandSize) (rd ri rn : Reg) (immr imms : UImm6) → is_kept_bitfield rd ri size immr imms ≡ true
+    → IsFormOf (bitfield (record { sf = sf_of size; opc = 1; immr = immr.imm; imms = imms.imm; rn = register_field rn; rd = register_field rd }))
+kept_bitfield_is_form size rd ri rn immr imms good =
+    let (_, bits) = and_parts (is_same_register rd ri) (is_bitfield size immr imms) good in
+    let (first, last) = and_parts (is_bit_of size immr.imm) (is_bit_of size imms.imm) bits in
     bitfield_within size 1 immr.imm imms.imm rn rd (lit< tt) refl (bit_below size immr.imm first) (bit_below size imms.imm last)
 
 -- ---- shifts
@@ -106,7 +108,8 @@ shift_is_form : (op : ALUOp) (size : OperandSize) (rd rn : Reg) (amount : ℕ) �
 shift_is_form op size rd rn amount b =
     bitfield_within size (shift_opc op) (shift_immr op size amount) (shift_imms op size amount) rn rd (shift_opc_below op).0 (shift_opc_below op).1 (shifted_bits op size amount b).0 (shifted_bits op size amount b).1
 
-pub alu_rr_imm_shift_is_form : (op : ALUOp) (size : OperandSize) (rd rn : Reg) (immshift : ImmShift) → is_shift op ≡ true → is_bit_of size immshift.imm ≡ true → IsFormOf (alu_rr_imm_shift_form op size rd rn immshift)
+pub alu_rr_imm_shift_is_form : (op : ALUOp) (size : OperandSize) (rd rn : Reg) (immshift : ImmShift) → is_shift op ≡ true → is_bit_of size immshift.imm ≡ true
+    → IsFormOf (alu_rr_imm_shift_form op size rd rn immshift)
 unfolding alu_rr_imm_shift_form
 alu_rr_imm_shift_is_form alu.Extr size rd rn immshift kind bit =
     let below = bit_below size immshift.imm bit in
@@ -132,5 +135,5 @@ pub adrp_is_form : (rd : Reg) (off : ℤ) → IsFormOf (adrp_form rd off)
 unfolding adrp_form
 adrp_is_form rd off = search (rules, field_below, low_below, high_below)
 
--- those of operations with an immediate
-pub ruleset immediate_forms = (alu_rr_imm12_is_form, alu_rr_imm_shift_is_form, mov_wide_is_form, mov_k_is_form, bitfield_move_is_form, bitfield_move_mod_is_form, adr_is_form, adrp_is_form)
+-- those of operations with an immediate that the widths of their fields do not give
+pub ruleset immediate_forms = (alu_rr_imm12_is_form, adr_is_form, adrp_is_form)

@@ -33,10 +33,10 @@ use Rattle.a64_inst.specs.CallOperands.{are_call_defs, is_result_at}
 use Rattle.a64_inst.specs.Faults.{can_restore, has_plain_operands, has_other_operands, has_operands, has_other_mode, has_mode, has_scratch, inst_fault, is_restorable}
 use Rattle.a64_inst.specs.FinalModes.{FinalMode, SignedOffset, ScaledOffset, Other, final_mode, final_steps}
 use Rattle.a64_inst.specs.ControlOperands.{are_test_bit_operands}
-use Rattle.a64_inst.specs.IntegerOperands.{are_alu_rr_imm12_operands, are_alu_rr_imm_logic_operands, are_alu_rr_imm_shift_operands, are_alu_rrr_shift_operands, are_bit_rr_operands, are_mov_wide_operands, are_mov_k_operands, are_bitfield_move_operands, are_bitfield_move_mod_operands}
+use Rattle.a64_inst.specs.IntegerOperands.{is_add_sub, is_logic, is_shift}
 use Rattle.a64_inst.specs.Lone.{is_lone}
 use Rattle.a64_inst.specs.MemoryOperands.{is_addend, needs_x17_beside, are_mode_parts, are_mode_operands, are_address_operands, are_access_operands, has_access_mode, is_data_register}
-use Rattle.a64_inst.specs.Operands.{is_register, is_register_or_zero, is_same_register}
+use Rattle.a64_inst.specs.Operands.{is_bit_of, is_imm12, is_logic_of, is_register, is_register_or_zero, is_same_register, is_wide_in}
 use Rattle.a64_inst.specs.declared.item.Item.{Item}
 use Rattle.a64_inst.specs.declared.item.Item.TheVariants.{Bind, Emit}
 use Rattle.a64_inst.proofs.Good.{operands_good}
@@ -49,7 +49,7 @@ use Rattle.a64_emit.specs.Cells.{Cell, Shape, OneWord, Several, Words, plain, la
 use Rattle.a64_emit.specs.FormCells.{IsFormBody, IsFormCell, HasHalfword, RestoresHalfwords, HoldsHalfword}
 use Rattle.a64_emit.specs.Faults.{item_fault}
 use Rattle.a64_emit.specs.ControlForms.{jump_form, ret_form, brk_form}
-use Rattle.a64_emit.specs.IntegerForms.{mov_form, csneg_form, cset_form, csetm_form, ccmp_form, ccmp_imm_form, mov_to_nzcv_form, mov_from_nzcv_form}
+use Rattle.a64_emit.specs.IntegerForms.{mov_form, mov_to_nzcv_form, mov_from_nzcv_form}
 use Rattle.a64_emit.specs.MemoryForms.{step_forms, addend_register, offset_register, addend, addend_form, sum_form, sum_op}
 use Rattle.a64_emit.proofs.Accesses.{mode_good, byte_size, addend_good}
 use Rattle.a64_emit.proofs.AccessForms.{HoldsOffset, final_holds, plan_forms, final_steps_forms, parts_are_form, access_is_form, access_steps_forms, pair_is_form}
@@ -63,6 +63,7 @@ use Rattle.a64_emit.proofs.ImmediateForms.{immediate_forms}
 use Rattle.a64_emit.proofs.LogicForms.{alu_rr_imm_logic_within}
 use Rattle.a64_emit.proofs.OneWord.{field_widths}
 use Rattle.a64_emit.proofs.Operands.{parts}
+use Rattle.a64_emit.proofs.PlainOperands.{rest_of}
 use Rattle.a64_emit.proofs.RegisterForms as register
 use Rattle.a64_emit.proofs.RegisterForms.{register_forms}
 use Rattle.a64_emit.proofs.SequenceForms.{plain_forms, sequences}
@@ -127,13 +128,37 @@ branch_pair form kind taken not_taken is = two_cells (branch form kind taken) (b
 -- ---- instructions that are no calls
 
 -- a form is one of its row by the widths of its fields, or by its own lemma where they are not enough
-ruleset inst_rules = (rules, parts, field_widths, register_forms, immediate_forms, alu_rr_imm_logic_within, branch_forms, sequences, pair_is_form, address_forms, All-nil, one_cell, two_cells, branch_pair)
+ruleset inst_rules = (rules, parts, field_widths, register_forms, immediate_forms, branch_forms, sequences, pair_is_form, address_forms, All-nil, one_cell, two_cells, branch_pair)
 
 module _ (frame : FrameLayout) (flags : EmitFlags) where
   plain_shape_forms : (inst : Inst) → HasHalfword inst → has_plain_operands frame flags Refused inst ≡ true → AreForms (plain_shape frame flags inst)
-  unfolding csneg_form cset_form csetm_form ccmp_form ccmp_imm_form mov_to_nzcv_form mov_from_nzcv_form ret_form brk_form
-      are_alu_rr_imm12_operands are_alu_rr_imm_logic_operands are_alu_rr_imm_shift_operands are_alu_rrr_shift_operands are_bit_rr_operands are_mov_wide_operands are_mov_k_operands are_bitfield_move_operands are_bitfield_move_mod_operands are_test_bit_operands
+  unfolding mov_to_nzcv_form mov_from_nzcv_form ret_form brk_form are_test_bit_operands
   plain_shape_forms insts.Nop4 fits good = control.nop4_is_form
+  plain_shape_forms (insts.AluRRImm12 alu_op size rd rn imm12) fits good =
+      immediate.alu_rr_imm12_is_form alu_op size rd rn imm12
+      (and_parts (is_add_sub alu_op) (is_imm12 imm12) (rest_of (insts.AluRRImm12 alu_op size rd rn imm12) good)).1
+  plain_shape_forms (insts.AluRRImmLogic alu_op size rd rn imml) fits good =
+      alu_rr_imm_logic_within alu_op size rd rn imml
+      (and_parts (is_logic alu_op) (is_logic_of size imml) (rest_of (insts.AluRRImmLogic alu_op size rd rn imml) good)).1
+  plain_shape_forms (insts.AluRRImmShift alu_op size rd rn immshift) fits good =
+      let (shift, bit) = and_parts (is_shift alu_op) (is_bit_of size immshift.imm) (rest_of (insts.AluRRImmShift alu_op size rd rn immshift) good) in
+      immediate.alu_rr_imm_shift_is_form alu_op size rd rn immshift shift bit
+  plain_shape_forms (insts.MovWide op rd imm size) fits good =
+      immediate.mov_wide_is_form op rd imm size (rest_of (insts.MovWide op rd imm size) good) fits
+  plain_shape_forms (insts.MovK rd rn imm size) fits good =
+      immediate.mov_k_is_form rd imm size
+      (and_parts (is_same_register rd rn) (is_wide_in size imm) (rest_of (insts.MovK rd rn imm size) good)).1 fits
+  plain_shape_forms (insts.Extend rd rn signed from_bits to_bits) fits good =
+      register.extend_is_form rd rn signed from_bits to_bits (rest_of (insts.Extend rd rn signed from_bits to_bits) good)
+  plain_shape_forms (insts.BitfieldMove size bfm_op rd rn immr imms) fits good =
+      immediate.bitfield_is_form size bfm_op rd rn immr imms (rest_of (insts.BitfieldMove size bfm_op rd rn immr imms) good)
+  plain_shape_forms (insts.BitfieldMoveMod size rd ri rn immr imms) fits good =
+      immediate.kept_bitfield_is_form size rd ri rn immr imms (rest_of (insts.BitfieldMoveMod size rd ri rn immr imms) good)
+  plain_shape_forms (insts.AluRRRR alu_op size rd rn rm ra) fits good = register.product_is_form alu_op size rd rn rm ra
+  plain_shape_forms (insts.AluRRRShift alu_op size rd rn rm shiftop) fits good =
+      register.shifted_is_form alu_op size rd rn rm shiftop (rest_of (insts.AluRRRShift alu_op size rd rn rm shiftop) good)
+  plain_shape_forms (insts.BitRR op size rd rn) fits good =
+      register.bit_op_is_form op size rd rn (rest_of (insts.BitRR op size rd rn) good)
   plain_shape_forms _ fits good = search inst_rules
 
 module _ (frame : FrameLayout) where

@@ -16,6 +16,7 @@ pub mod Several
 pub mod Targets
 pub mod Accesses
 pub mod Operands
+pub mod PlainOperands
 pub mod OneWord
 pub mod ImmediateForms
 pub mod RegisterForms

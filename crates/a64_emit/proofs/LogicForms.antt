@@ -1,6 +1,6 @@
 -- The form of a logical operation with an immediate that has no fault of its own is a form of its row.
 use Rattle.std.proofs.Common.{◌≡◌, ◌+◌, ◌-◌, ◌<◌, true, false, refl, ap, ◌∙◌, arith, rules}
-use Rattle.std.specs.Prelude.{◌&&◌, ◌==◌, nat_eq}
+use Rattle.std.specs.Prelude.{◌==◌, nat_eq}
 use Rattle.std.proofs.lemmas.Bool.{and_parts, and_from, eqb-true}
 use Rattle.std.proofs.lemmas.Nat.{mod_below}
 use Rattle.a64_base.specs.declared.reg.Reg.{Reg}
@@ -15,9 +15,7 @@ use Rattle.a64_imms.specs.LogicLaws.{r_fits, s_fits}
 use Rattle.a64_imms.proofs.LogicRuns.{narrow, passed, passed_run}
 use Rattle.a64_ops.specs.declared.operator.ALUOp.{ALUOp}
 use Rattle.a64_ops.specs.declared.operator.ALUOp.TheVariants as alu
-use Rattle.a64_inst.specs.declared.virtuals.VirtualRegisters.TheVariants.{Refused}
-use Rattle.a64_inst.specs.Operands.{is_register_or_zero, is_same_size, is_logic_of}
-use Rattle.a64_inst.specs.IntegerOperands.{is_logic_result, are_alu_rr_imm_logic_operands}
+use Rattle.a64_inst.specs.Operands.{is_same_size, is_logic_of}
 use Rattle.a64_rows.specs.Forms.{IsFormOf}
 use Rattle.a64_rows.specs.Limits.{is_bitmask, is_bitmask_of}
 use Rattle.a64_rows.specs.DataProcessing.{logic_imm}
@@ -49,13 +47,10 @@ lawful_fields : (size : OperandSize) (imm : ImmLogic) → imm.size ≡ size → 
 lawful_fields size imm same is = record { r = r_fits imm.size imm is; s = s_fits imm.size imm is; bitmask = logic_within size imm same is }
 
 -- of the immediate that the word has
-pub alu_rr_imm_logic_is_form : (op : ALUOp) (size : OperandSize) (rd rn : Reg) (imml imm : ImmLogic) → are_alu_rr_imm_logic_operands Refused op size rd rn imml ≡ true
+pub alu_rr_imm_logic_is_form : (op : ALUOp) (size : OperandSize) (rd rn : Reg) (imml imm : ImmLogic) → is_logic_of size imml ≡ true
     → imm ≡ taken op imml → IsImmLogic imm
     → IsFormOf (logic_imm (logic_fields op size rd rn imm))
-unfolding are_alu_rr_imm_logic_operands
-alu_rr_imm_logic_is_form op size rd rn imml imm none is lawful =
-    let (_, others) = and_parts (is_logic_result Refused op rd) (is_register_or_zero Refused rn && is_logic_of size imml) none in
-    let (_, of_size) = and_parts (is_register_or_zero Refused rn) (is_logic_of size imml) others in
+alu_rr_imm_logic_is_form op size rd rn imml imm of_size is lawful =
     let same : imm.size ≡ size = ap (λ (i : ImmLogic). i.size) is ∙ taken_size op imml ∙ same_size imml.size size (and_parts (is_same_size imml.size size) (is_imm_logic imml) of_size).0 in
     fields_within op size rd rn imm (lawful_fields size imm same lawful)
 
@@ -91,21 +86,17 @@ inverted_fields size imm same e =
           (λ small. narrow imm.size (logic_value imm) (run_in imm) (same ∙ small) is (eqb-true (number (run_in imm)) (seen imm.size (logic_value imm)) numbers));
     }
 
-taken_fields : (op : ALUOp) (size : OperandSize) (rd : Reg) (imm : ImmLogic) → is_logic_result Refused op rd ≡ true → imm.size ≡ size → is_imm_logic imm ≡ true → AreFields size (taken op imm)
-taken_fields alu.And size rd imm kind same e = lawful_fields size imm same (passed imm e)
-taken_fields alu.Orr size rd imm kind same e = lawful_fields size imm same (passed imm e)
-taken_fields alu.Eor size rd imm kind same e = lawful_fields size imm same (passed imm e)
-taken_fields alu.AndS size rd imm kind same e = lawful_fields size imm same (passed imm e)
-taken_fields alu.AndNot size rd imm kind same e = inverted_fields size imm same e
-taken_fields alu.OrrNot size rd imm kind same e = inverted_fields size imm same e
-taken_fields alu.EorNot size rd imm kind same e = inverted_fields size imm same e
-taken_fields _ size rd imm kind same e = absurd cc
+taken_fields : (op : ALUOp) (size : OperandSize) (imm : ImmLogic) → imm.size ≡ size → is_imm_logic imm ≡ true → AreFields size (taken op imm)
+taken_fields alu.AndNot size imm same e = inverted_fields size imm same e
+taken_fields alu.OrrNot size imm same e = inverted_fields size imm same e
+taken_fields alu.EorNot size imm same e = inverted_fields size imm same e
+taken_fields _ size imm same e = lawful_fields size imm same (passed imm e)
 
-pub alu_rr_imm_logic_within : (op : ALUOp) (size : OperandSize) (rd rn : Reg) (imml : ImmLogic) → is_logic_result Refused op rd ≡ true → is_logic_of size imml ≡ true → IsFormOf (alu_rr_imm_logic_form op size rd rn imml)
+pub alu_rr_imm_logic_within : (op : ALUOp) (size : OperandSize) (rd rn : Reg) (imml : ImmLogic) → is_logic_of size imml ≡ true → IsFormOf (alu_rr_imm_logic_form op size rd rn imml)
 unfolding alu_rr_imm_logic_form
-alu_rr_imm_logic_within op size rd rn imml result of_size =
+alu_rr_imm_logic_within op size rd rn imml of_size =
     let (same, is) = and_parts (is_same_size imml.size size) (is_imm_logic imml) of_size in
-    fields_within op size rd rn (taken op imml) (taken_fields op size rd imml result (same_size imml.size size same) is)
+    fields_within op size rd rn (taken op imml) (taken_fields op size imml (same_size imml.size size same) is)
 
 -- and of a lawful immediate an or
 pub orr_is_form : (rd rn : Reg) (imm : ImmLogic) → IsImmLogic imm → IsFormOf (alu_rr_imm_logic_form alu.Orr imm.size rd rn imm)

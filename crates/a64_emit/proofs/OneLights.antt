@@ -1,62 +1,46 @@
--- What instructions add to code that are one word without a use.
-use Rattle.std.proofs.Common.{◌≡◌, ◌⊎◌, inl, inr, [], ◌∷◌, Option, None, refl}
+-- What instructions add to code that are one plain word.
+use Rattle.std.proofs.Common.{◌≡◌, ◌+◌, List, [], ◌∷◌, Option, None, Some, refl, sym, subst}
 use Rattle.a64_base.specs.declared.entity.UserStackMap.{UserStackMap}
 use Rattle.a64_inst.specs.declared.emission.EmitFlags.{EmitFlags}
 use Rattle.a64_inst.specs.declared.frame.FrameLayout.{FrameLayout}
-use Rattle.a64_inst.specs.declared.group.Group.TheVariants.{Immediate, Register}
+use Rattle.a64_inst.specs.declared.group.Group.TheVariants.{Plain}
+use Rattle.a64_inst.specs.declared.group.PlainGroup.{PlainGroup}
 use Rattle.a64_inst.specs.declared.inst.Inst.{Inst}
 use Rattle.a64_inst.specs.declared.inst.Inst.TheVariants as insts
 use Rattle.a64_inst.specs.declared.item.Item.TheVariants.{Emit}
 use Rattle.a64_inst.specs.Groups.{group_of}
 use Rattle.a64_rows.specs.Forms.{Form}
 use Rattle.a64_emit.specs.declared.extent.Light.{Light}
-use Rattle.a64_emit.specs.Bounds.{asked_of, growth_of}
-use Rattle.a64_emit.specs.Cells.{plain, cells_of}
+use Rattle.a64_emit.specs.Bounds.{asked_of, charge_of, growth_of, size_of}
+use Rattle.a64_emit.specs.Cells.{Cell, plain, cells_of, inst_cells}
 use Rattle.a64_emit.specs.Lights.{IsLight}
+use Rattle.a64_emit.specs.PlainForms.{plain_form}
+use Rattle.a64_emit.proofs.Asked.{kept_light}
 
 abbrev pub one_word : Light
 one_word = record { growth = 8; first = None; second = None; range = None }
 
 -- none of them asks for space
-pub one_unasked : (inst : Inst) → (group_of inst ≡ Immediate) ⊎ (group_of inst ≡ Register) → asked_of inst ≡ None
-one_unasked (insts.EmitIsland needed_space) (inl e) = absurd cc
-one_unasked (insts.EmitIsland needed_space) (inr e) = absurd cc
-one_unasked _ e = refl
+pub one_unasked : (inst : Inst) (group : PlainGroup) → group_of inst ≡ Plain group → asked_of inst ≡ None
+one_unasked (insts.EmitIsland needed_space) group e = absurd cc
+one_unasked _ group e = refl
 
-plain_light : (form : Form) → IsLight (plain form ∷ []) 8 one_word
-plain_light form = record { uses = refl; far = refl; growth_is = refl; range_is = refl }
+-- cells are the one of a form
+abbrev IsCell : Option Form → List Cell → Type 0
+IsCell None cells = ⊥
+IsCell (Some form) cells = cells ≡ plain form ∷ []
+
+cell_light : (o : Option Form) (cells : List Cell) → IsCell o cells → IsLight cells (size_of cells + charge_of cells) one_word
+cell_light None cells is = elim is [ ]
+cell_light (Some form) cells is =
+    subst (λ (all : List Cell). IsLight all (size_of all + charge_of all) one_word) (sym is)
+    (record { uses = refl; far = refl; growth_is = refl; range_is = refl })
 
 module _ (frame : FrameLayout) (flags : EmitFlags) where
-  immediate_light : (inst : Inst) (kept : Option UserStackMap) → group_of inst ≡ Immediate → IsLight (cells_of frame flags (Emit inst kept)) (growth_of frame flags (Emit inst kept)) one_word
-  immediate_light (insts.AluRRImm12 alu_op size rd rn imm12) kept e = plain_light _
-  immediate_light (insts.AluRRImmLogic alu_op size rd rn imml) kept e = plain_light _
-  immediate_light (insts.AluRRImmShift alu_op size rd rn immshift) kept e = plain_light _
-  immediate_light (insts.MovWide op rd imm size) kept e = plain_light _
-  immediate_light (insts.MovK rd rn imm size) kept e = plain_light _
-  immediate_light (insts.Extend rd rn signed from_bits to_bits) kept e = plain_light _
-  immediate_light (insts.BitfieldMove size bfm_op rd rn immr imms) kept e = plain_light _
-  immediate_light (insts.BitfieldMoveMod size rd ri rn immr imms) kept e = plain_light _
-  immediate_light (insts.Adr rd off) kept e = plain_light _
-  immediate_light (insts.Adrp rd off) kept e = plain_light _
-  immediate_light _ kept e = absurd cc
+  plain_cells : (inst : Inst) (group : PlainGroup) → group_of inst ≡ Plain group → IsCell (plain_form inst) (inst_cells frame flags inst)
+  plain_cells insts.Nop0 group e = absurd cc
+  plain_cells _ group e = cc
 
-  register_light : (inst : Inst) (kept : Option UserStackMap) → group_of inst ≡ Register → IsLight (cells_of frame flags (Emit inst kept)) (growth_of frame flags (Emit inst kept)) one_word
-  register_light (insts.AluRRR alu_op size rd rn rm) kept e = plain_light _
-  register_light (insts.AluRRRR alu_op size rd rn rm ra) kept e = plain_light _
-  register_light (insts.AluRRRShift alu_op size rd rn rm shiftop) kept e = plain_light _
-  register_light (insts.AluRRRExtend alu_op size rd rn rm extendop) kept e = plain_light _
-  register_light (insts.BitRR op size rd rn) kept e = plain_light _
-  register_light (insts.Mov size rd rm) kept e = plain_light _
-  register_light (insts.MovFromPReg rd rm) kept e = plain_light _
-  register_light (insts.MovToPReg rd rm) kept e = plain_light _
-  register_light (insts.CSel rd rn rm cond) kept e = plain_light _
-  register_light (insts.CSNeg rd rn rm cond) kept e = plain_light _
-  register_light (insts.CSet rd cond) kept e = plain_light _
-  register_light (insts.CSetm rd cond) kept e = plain_light _
-  register_light (insts.CCmp size rn rm nzcv cond) kept e = plain_light _
-  register_light (insts.CCmpImm size rn imm nzcv cond) kept e = plain_light _
-  register_light _ kept e = absurd cc
-
-  pub one_light : (inst : Inst) (kept : Option UserStackMap) → (group_of inst ≡ Immediate) ⊎ (group_of inst ≡ Register) → IsLight (cells_of frame flags (Emit inst kept)) (growth_of frame flags (Emit inst kept)) one_word
-  one_light inst kept (inl e) = immediate_light inst kept e
-  one_light inst kept (inr e) = register_light inst kept e
+  pub one_light : (inst : Inst) (kept : Option UserStackMap) (group : PlainGroup) → group_of inst ≡ Plain group → IsLight (cells_of frame flags (Emit inst kept)) (growth_of frame flags (Emit inst kept)) one_word
+  one_light inst kept group e =
+      kept_light frame flags inst kept one_word (one_unasked inst group e) (cell_light (plain_form inst) (inst_cells frame flags inst) (plain_cells inst group e))

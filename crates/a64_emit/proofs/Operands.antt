@@ -1,7 +1,7 @@
 -- What is known of the operands of instructions without a fault.
 use Rattle.std.proofs.Common.{ℕ, ℤ, pos, negsuc, ◌≡◌, ◌+◌, ◌-◌, ◌<◌, ◌^◌, Bool, true, false, inl, inr, refl, lit<, arith}
 use Rattle.std.specs.Prelude.{◌&&◌, ◌||◌, ◌==◌, not, nat_lt, nat_eq, if◌then◌else◌}
-use Rattle.std.proofs.lemmas.Bool.{and_parts, or_cases, both_ways, ltb-true}
+use Rattle.std.proofs.lemmas.Bool.{and_parts, or_cases, ltb-true}
 use Rattle.std.proofs.lemmas.Bool.Decides.{nat_tests}
 use Rattle.std.proofs.lemmas.Int.{ints}
 use Rattle.a64_base.specs.declared.cond.CondBrKind.{CondBrKind}
@@ -15,7 +15,6 @@ use Rattle.a64_base.specs.declared.size.OperandSize.{OperandSize}
 use Rattle.a64_base.specs.declared.size.OperandSize.TheVariants.{Size32, Size64}
 use Rattle.a64_base.specs.OperandSizes.{sf_of, operand_bits}
 use Rattle.a64_base.specs.RegisterNumbers.{RealRegister}
-use Rattle.a64_base.specs.Registers.{integer_register}
 use Rattle.a64_base.specs.Target.{IsWithinField}
 use Rattle.a64_imms.specs.declared.imm_logic.ImmLogic.{ImmLogic}
 use Rattle.a64_imms.specs.Logic.{is_imm_logic, IsImmLogic}
@@ -25,7 +24,8 @@ use Rattle.a64_ops.specs.declared.operator.ALUOp.TheVariants as alu
 use Rattle.a64_inst.specs.declared.virtuals.VirtualRegisters.TheVariants.{Refused}
 use Rattle.a64_inst.specs.ControlOperands.{are_jump_operands, are_cond_br_operands, are_test_bit_operands, is_target, is_test}
 use Rattle.a64_inst.specs.Operands.{is_int, is_register, is_register_or_zero, is_register_or_stack, is_stack_pointer, is_same_size, is_bit_of, is_logic_of, is_near}
-use Rattle.a64_inst.specs.IntegerOperands.{is_add_sub_result, is_logic_result, is_fixed_operand, is_fixed_result, is_extension, is_extend_result, are_alu_rrr_operands, are_alu_rr_imm12_operands, are_move_registers, are_mov_operands, are_mov_from_preg_operands, are_mov_to_preg_operands, are_extend_operands}
+use Rattle.a64_inst.specs.IntegerOperands.{add_sub_class, logic_class, is_fixed_operand, is_fixed_result, are_move_registers, is_move, is_move_from, is_move_to, is_extension, is_extend_result, is_extended}
+use Rattle.a64_inst.specs.Sheets.{is_of}
 use Rattle.a64_rows.specs.Forms.{IsFormOf}
 use Rattle.a64_rows.specs.Limits.{is_bit_number}
 use Rattle.a64_rows.specs.DataProcessing.{bitfield}
@@ -68,22 +68,19 @@ pub stack_general : (reg : Reg) → is_register_or_stack Refused reg ≡ true �
 stack_general (Real p) e = int_class p.class (and_parts (is_int p.class) (nat_lt p.number 31 || nat_eq p.number 63) e).0
 stack_general (Virtual index class) e = absurd cc
 
-pub add_sub_general : (op : ALUOp) (rd : Reg) → is_add_sub_result Refused op rd ≡ true → IsGeneral rd
-add_sub_general alu.Add rd e = stack_general rd e
-add_sub_general alu.Sub rd e = stack_general rd e
-add_sub_general alu.AddS rd e = general rd e
-add_sub_general alu.SubS rd e = general rd e
-add_sub_general _ rd e = absurd cc
+pub stack_real : (reg : Reg) → is_register_or_stack Refused reg ≡ true → IsReal reg
+stack_real (Real p) e = tt
+stack_real (Virtual index class) e = absurd cc
 
-pub logic_general : (op : ALUOp) (rd : Reg) → is_logic_result Refused op rd ≡ true → IsGeneral rd
-logic_general alu.And rd e = stack_general rd e
-logic_general alu.Orr rd e = stack_general rd e
-logic_general alu.Eor rd e = stack_general rd e
-logic_general alu.AndNot rd e = stack_general rd e
-logic_general alu.OrrNot rd e = stack_general rd e
-logic_general alu.EorNot rd e = stack_general rd e
-logic_general alu.AndS rd e = general rd e
-logic_general _ rd e = absurd cc
+-- the result of an operator by the class that it has
+pub add_sub_real : (op : ALUOp) (rd : Reg) → is_of Refused (add_sub_class op) rd ≡ true → IsReal rd
+add_sub_real alu.Add rd e = stack_real rd e
+add_sub_real alu.Sub rd e = stack_real rd e
+add_sub_real _ rd e = real rd e
+
+pub logic_real : (op : ALUOp) (rd : Reg) → is_of Refused (logic_class op) rd ≡ true → IsReal rd
+logic_real alu.AndS rd e = real rd e
+logic_real _ rd e = stack_real rd e
 
 -- ---- moves
 
@@ -95,30 +92,12 @@ pub register_zero : (reg : Reg) → is_register Refused reg ≡ true → is_regi
 register_zero (Real p) e = zero_of_register p.class p.number e
 register_zero (Virtual index class) e = absurd cc
 
-stack_of_register : (class : RegClass) (n : ℕ) → (is_int class && nat_lt n 31) ≡ true → (is_int class && (nat_lt n 31 || nat_eq n 63)) ≡ true
-stack_of_register Int n e = grind (arith, nat_tests)
-stack_of_register Float n e = absurd cc
+pub numbered_real : (reg : Reg) → is_register Refused reg ≡ true → IsReal reg
+numbered_real reg e = real reg (register_zero reg e)
 
-pub register_stack : (reg : Reg) → is_register Refused reg ≡ true → is_register_or_stack Refused reg ≡ true
-register_stack (Real p) e = stack_of_register p.class p.number e
-register_stack (Virtual index class) e = absurd cc
-
-not_zero_number : (class : RegClass) (n : ℕ) → (is_int class && nat_eq n 63) ≡ true → (is_int class && nat_lt n 32) ≡ true → ⊥
-not_zero_number Int n e f = grind (arith, nat_tests)
-not_zero_number Float n e f = absurd cc
-
--- the stack pointer is no register that another operand may be
-not_zero : (reg : Reg) → is_stack_pointer Refused reg ≡ true → is_register_or_zero Refused reg ≡ true → ⊥
-not_zero (Real p) e f = not_zero_number p.class p.number e f
-not_zero (Virtual index class) e f = absurd cc
-
-stack_of_number : (class : RegClass) (n : ℕ) → (is_int class && nat_eq n 63) ≡ true → (is_int class && (nat_lt n 31 || nat_eq n 63)) ≡ true
-stack_of_number Int n e = grind (arith, nat_tests)
-stack_of_number Float n e = absurd cc
-
-stack_stack : (reg : Reg) → is_stack_pointer Refused reg ≡ true → is_register_or_stack Refused reg ≡ true
-stack_stack (Real p) e = stack_of_number p.class p.number e
-stack_stack (Virtual index class) e = absurd cc
+pointer_real : (reg : Reg) → is_stack_pointer Refused reg ≡ true → IsReal reg
+pointer_real (Real p) e = tt
+pointer_real (Virtual index class) e = absurd cc
 
 stack_number_field : (class : RegClass) (n : ℕ) → (is_int class && nat_eq n 63) ≡ true → register_field (Real (record { number = n; class = class })) ≡ 31
 stack_number_field Int n e = grind (arith, nat_tests)
@@ -129,40 +108,39 @@ pub stack_field : (reg : Reg) → is_stack_pointer Refused reg ≡ true → regi
 stack_field (Real p) e = stack_number_field p.class p.number e
 stack_field (Virtual index class) e = absurd cc
 
--- a move out of the stack pointer is an addition of 0
-pub moved_from_stack : (size : OperandSize) (rd rm : Reg) → are_mov_operands Refused size rd rm ≡ true → is_stack_pointer Refused rm ≡ true
-    → are_alu_rr_imm12_operands Refused alu.Add rd rm (record { bits = 0; shift12 = false }) ≡ true
-unfolding are_mov_operands are_alu_rr_imm12_operands
-moved_from_stack Size32 rd rm e stack = absurd (not_zero rm stack (and_parts (is_register Refused rd) (is_register_or_zero Refused rm) e).1)
-moved_from_stack Size64 rd rm e stack = elim (or_cases (is_register_or_zero Refused rd && is_register_or_zero Refused rm) (is_register Refused rd && is_stack_pointer Refused rm) e) [
-  | inl registers ↦ absurd (not_zero rm stack (and_parts (is_register_or_zero Refused rd) (is_register_or_zero Refused rm) registers).1)
-  | inr out ↦
-      let result = register_stack rd (and_parts (is_register Refused rd) (is_stack_pointer Refused rm) out).0 in
-      rw (result, stack_stack rm stack) refl
-]
+-- the registers of a move are of the machine
+at_64_bits : (rd rm : Reg) → are_move_registers Refused rd rm ≡ true → IsReal rd × IsReal rm
+at_64_bits rd rm e =
+    elim (or_cases (is_register_or_zero Refused rd && is_register_or_zero Refused rm) (is_register Refused rd && is_stack_pointer Refused rm) e) [
+      | inl registers ↦
+          let (result, operand) = and_parts (is_register_or_zero Refused rd) (is_register_or_zero Refused rm) registers in
+          (real rd result, real rm operand)
+      | inr out ↦
+          let (result, operand) = and_parts (is_register Refused rd) (is_stack_pointer Refused rm) out in
+          (numbered_real rd result, pointer_real rm operand)
+    ]
 
--- any other move is an or with the zero register
-pub moved_from_register : (size : OperandSize) (rd zero rm : Reg) → are_mov_operands Refused size rd rm ≡ true → is_stack_pointer Refused rm ≡ false → zero ≡ integer_register 31
-    → are_alu_rrr_operands Refused alu.Orr size rd zero rm ≡ true
-unfolding are_mov_operands are_alu_rrr_operands
-moved_from_register Size32 rd zero rm e other is =
+moved : (size : OperandSize) (rd rm : Reg) → is_move Refused size rd rm ≡ true → IsReal rd × IsReal rm
+unfolding is_move
+moved Size32 rd rm e =
     let (result, operand) = and_parts (is_register Refused rd) (is_register_or_zero Refused rm) e in
-    rw (register_zero rd result, is, operand) refl
-moved_from_register Size64 rd zero rm e other is = elim (or_cases (is_register_or_zero Refused rd && is_register_or_zero Refused rm) (is_register Refused rd && is_stack_pointer Refused rm) e) [
-  | inl registers ↦
-      let (result, operand) = and_parts (is_register_or_zero Refused rd) (is_register_or_zero Refused rm) registers in
-      rw (result, is, operand) refl
-  | inr out ↦ absurd (both_ways (is_stack_pointer Refused rm) other (and_parts (is_register Refused rd) (is_stack_pointer Refused rm) out).1)
-]
+    (numbered_real rd result, real rm operand)
+moved Size64 rd rm e = at_64_bits rd rm e
 
--- the moves out of fixed registers, and into them, are moves at 64 bits
-pub moved_from : (rd : Reg) (rm : RealRegister) → are_mov_from_preg_operands Refused rd rm ≡ true → are_mov_operands Refused Size64 rd (Real rm) ≡ true
-unfolding are_mov_from_preg_operands are_mov_operands
-moved_from rd rm e = (and_parts (is_fixed_operand rm) (are_move_registers Refused rd (Real rm)) e).1
+pub moved_result : (size : OperandSize) (rd rm : Reg) → is_move Refused size rd rm ≡ true → IsReal rd
+moved_result size rd rm e = (moved size rd rm e).0
 
-pub moved_to : (rd : RealRegister) (rm : Reg) → are_mov_to_preg_operands Refused rd rm ≡ true → are_mov_operands Refused Size64 (Real rd) rm ≡ true
-unfolding are_mov_to_preg_operands are_mov_operands
-moved_to rd rm e = (and_parts (is_fixed_result rd) (are_move_registers Refused (Real rd) rm) e).1
+pub moved_operand : (size : OperandSize) (rd rm : Reg) → is_move Refused size rd rm ≡ true → IsReal rm
+moved_operand size rd rm e = (moved size rd rm e).1
+
+-- and those of moves out of fixed registers, and into them
+pub moved_from : (rd : Reg) (rm : RealRegister) → is_move_from Refused rd rm ≡ true → IsReal rd
+unfolding is_move_from
+moved_from rd rm e = (at_64_bits rd (Real rm) (and_parts (is_fixed_operand rm) (are_move_registers Refused rd (Real rm)) e).1).0
+
+pub moved_to : (rd : RealRegister) (rm : Reg) → is_move_to Refused rd rm ≡ true → IsReal rm
+unfolding is_move_to
+moved_to rd rm e = (at_64_bits (Real rd) rm (and_parts (is_fixed_result rd) (are_move_registers Refused (Real rd) rm) e).1).1
 
 -- ---- immediates and offsets
 
@@ -193,11 +171,25 @@ near_fits (negsuc n) e = let small : n + 1 < 2 ^ 20 = ltb-true (n + 1) (2 ^ 20) 
 
 -- ---- extensions
 
--- the extension of 32 bits to 64 without a sign is a move of 32 bits
-pub moved_extension : (rd rn : Reg) (signed : Bool) (from_bits to_bits : ℕ) → are_extend_operands Refused rd rn signed from_bits to_bits ≡ true → signed ≡ false → from_bits ≡ 32 → to_bits ≡ 64
-    → are_mov_operands Refused Size32 rd rn ≡ true
-unfolding are_extend_operands are_mov_operands
-moved_extension rd rn signed from_bits to_bits e unsigned from to = rw (unsigned, from, to) at e
+pub extended : (rd : Reg) (signed : Bool) (from_bits to_bits : ℕ) → is_extended Refused rd signed from_bits to_bits ≡ true
+    → is_extension signed from_bits to_bits ≡ true
+unfolding is_extended
+extended rd signed from_bits to_bits e =
+    (and_parts (is_extension signed from_bits to_bits) (is_extend_result Refused signed from_bits to_bits rd) e).0
+
+-- the result of an extension, whichever operation it is
+pub extended_general : (rd : Reg) (signed : Bool) (from_bits to_bits : ℕ) → is_extended Refused rd signed from_bits to_bits ≡ true → IsGeneral rd
+unfolding is_extended
+extended_general rd signed from_bits to_bits e =
+    go (not signed && nat_eq from_bits 1) (not signed && (nat_eq from_bits 32 && nat_eq to_bits 64))
+    (and_parts (is_extension signed from_bits to_bits) (is_extend_result Refused signed from_bits to_bits rd) e).1
+  where
+    go : (one word : Bool)
+        → (if one then is_register_or_stack Refused rd else if word then is_register Refused rd else is_register_or_zero Refused rd) ≡ true
+        → IsGeneral rd
+    go true word f = stack_general rd f
+    go false true f = general rd (register_zero rd f)
+    go false false f = general rd f
 
 -- the highest bit of what is extended is below the size of the bitfield move
 extension_bit : (signed : Bool) (from_bits to_bits : ℕ) (size : OperandSize) → is_extension signed from_bits to_bits ≡ true → sf_of size ≡ (if signed && nat_lt 32 to_bits then 1 else 0)
@@ -212,12 +204,10 @@ opc_number true opc e = rw e (lit< tt, refl)
 opc_number false opc e = rw e (lit< tt, refl)
 
 -- any other extension is a bitfield move
-pub extension_is_form : (rd rn : Reg) (signed : Bool) (from_bits to_bits : ℕ) (size : OperandSize) (opc : ℕ) → are_extend_operands Refused rd rn signed from_bits to_bits ≡ true
+pub extension_is_form : (rd rn : Reg) (signed : Bool) (from_bits to_bits : ℕ) (size : OperandSize) (opc : ℕ) → is_extension signed from_bits to_bits ≡ true
     → sf_of size ≡ (if signed && nat_lt 32 to_bits then 1 else 0) → opc ≡ (if signed then 0 else 2)
     → IsFormOf (bitfield (record { sf = sf_of size; opc = opc; immr = 0; imms = from_bits - 1; rn = register_field rn; rd = register_field rd }))
-unfolding are_extend_operands
-extension_is_form rd rn signed from_bits to_bits size opc e size_is opc_is =
-    let (extension, _) = and_parts (is_extension signed from_bits to_bits) (is_extend_result Refused signed from_bits to_bits rd && is_register_or_zero Refused rn) e in
+extension_is_form rd rn signed from_bits to_bits size opc extension size_is opc_is =
     let bit = extension_bit signed from_bits to_bits size extension size_is in
     let lowest : 0 < operand_bits size = omega (arith, bit) in
     let opc_good = opc_number signed opc opc_is in (

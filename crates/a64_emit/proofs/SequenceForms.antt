@@ -1,7 +1,7 @@
 -- The cells of sequences around tables, symbols and the stack that have no fault are forms of their rows, or data.
 use Rattle.std.proofs.Common.{ℕ, ℤ, pos, ◌≡◌, ◌+◌, ◌-◌, ◌*◌, ◌≤◌, ◌^◌, Bool, true, false, List, [], ◌∷◌, ◌++◌, length, map, Option, None, Some, inl, inr, refl, sym, subst, lit<, arith, rules}
 use Rattle.std.specs.Prelude.{All, ◌&&◌, if◌then◌else◌, option_map}
-use Rattle.std.proofs.lemmas.Bool.{cases_lt}
+use Rattle.std.proofs.lemmas.Bool.{and_parts, cases_lt}
 use Rattle.std.proofs.lemmas.List.Elements.{All-nil, All-cons, All-append, All-map}
 use Rattle.a64_base.specs.declared.cond.Cond.TheVariants.{Lo}
 use Rattle.a64_base.specs.declared.entity.ExternalName.{ExternalName}
@@ -22,6 +22,7 @@ use Rattle.a64_plan.specs.Shapes.{IsShape}
 use Rattle.a64_plan.proofs.Shortest.{plan_shortest}
 use Rattle.a64_inst.specs.declared.emission.EmitFlags.{EmitFlags}
 use Rattle.a64_inst.specs.declared.virtuals.VirtualRegisters.TheVariants.{Refused}
+use Rattle.a64_inst.specs.Operands.{is_imm12, is_register, is_register_or_zero}
 use Rattle.a64_inst.specs.SequenceOperands.{are_probe_operands}
 use Rattle.a64_rows.specs.Forms.{Form, IsFormOf}
 use Rattle.a64_emit.specs.Cells.{Data, plain, last_cell, entry_site, table_labels, table_cells, barrier_forms, table_forms, table_jump, got_cells, near_cells, far_cells, probe_forms}
@@ -33,7 +34,6 @@ use Rattle.a64_emit.proofs.AccessForms.{shape_forms, indexed_is_form, unsigned_i
 use Rattle.a64_emit.proofs.BranchForms.{branch_forms}
 use Rattle.a64_emit.proofs.ImmediateForms.{immediate_forms}
 use Rattle.a64_emit.proofs.RegisterForms.{csel_is_form, register_forms}
-use Rattle.a64_emit.proofs.SequenceOperands.{probe_parts}
 
 -- ---- lists of forms
 
@@ -115,8 +115,9 @@ pub far_are_forms : (rd : Reg) (name : ExternalName) (offset : ℤ) → All IsFo
 far_are_forms rd name offset = search (rules, lists)
 
 pub probe_are_forms : (flags : EmitFlags) (start end : Reg) (step : Imm12) → are_probe_operands flags Refused start end step ≡ true → All IsFormCell (map plain (probe_forms start end step))
+unfolding are_probe_operands
 probe_are_forms flags start end step good =
-    let amount = (probe_parts flags start end step good).amount in
+    let amount = (and_parts (flags.enable_probestack && is_register Refused start && is_register_or_zero Refused end) (is_imm12 step) good).1 in
     plain_forms (probe_forms start end step) (search (rules, lists, amount) depth 8)
 
 -- those of the words of sequences

@@ -33,7 +33,6 @@ use Rattle.a64_inst.specs.FinalModes.{FinalMode, SignedOffset, ScaledOffset, Oth
 use Rattle.a64_inst.specs.MemoryOperands.{is_addend}
 use Rattle.a64_inst.specs.Operands.{is_same_register}
 use Rattle.std.specs.List.{flat_map, filter_map}
-use Rattle.a64_base.specs.declared.reg.Reg.TheVariants.{Real}
 use Rattle.a64_base.specs.declared.size.OperandSize.TheVariants.{Size64}
 use Rattle.a64_base.specs.declared.target.BranchTarget.{BranchTarget}
 use Rattle.a64_base.specs.declared.target.BranchTarget.TheVariants as branch_targets
@@ -56,6 +55,7 @@ use Rattle.a64_rows.specs.Forms.{Form, form_word}
 use Rattle.a64_emit.specs.IntegerForms as integer
 use Rattle.a64_emit.specs.ControlForms as control
 use Rattle.a64_emit.specs.MemoryForms as memory
+use Rattle.a64_emit.specs.PlainForms.{plain_form}
 
 -- what a word is: a form of a row, or data
 pub data Body : Type 0 where
@@ -253,36 +253,12 @@ probe_forms start end step =
     ∷ control.jump_form (branch_targets.ResolvedOffset (pos 4)) ∷ []
 
 -- an instruction that is no call, and no load or store of one register. Those have the shape of their access, calls their words, and
--- neither has one here.
+-- neither has one here: what is left at the end has the form of its plain word, if it is one.
 abbrev pub plain_shape : FrameLayout → EmitFlags → Inst → Shape
 plain_shape frame flags insts.Nop0 = Words []
 plain_shape frame flags insts.Nop4 = OneWord integer.nop4_form
-plain_shape frame flags (insts.AluRRR alu_op size rd rn rm) = OneWord (integer.alu_rrr_form alu_op size rd rn rm)
-plain_shape frame flags (insts.AluRRRR alu_op size rd rn rm ra) = OneWord (integer.alu_rrrr_form alu_op size rd rn rm ra)
-plain_shape frame flags (insts.AluRRImm12 alu_op size rd rn imm12) = OneWord (integer.alu_rr_imm12_form alu_op size rd rn imm12)
-plain_shape frame flags (insts.AluRRImmLogic alu_op size rd rn imml) = OneWord (integer.alu_rr_imm_logic_form alu_op size rd rn imml)
-plain_shape frame flags (insts.AluRRImmShift alu_op size rd rn immshift) = OneWord (integer.alu_rr_imm_shift_form alu_op size rd rn immshift)
-plain_shape frame flags (insts.AluRRRShift alu_op size rd rn rm shiftop) = OneWord (integer.alu_rrr_shift_form alu_op size rd rn rm shiftop)
-plain_shape frame flags (insts.AluRRRExtend alu_op size rd rn rm extendop) = OneWord (integer.alu_rrr_extend_form alu_op size rd rn rm extendop)
-plain_shape frame flags (insts.BitRR op size rd rn) = OneWord (integer.bit_rr_form op size rd rn)
-plain_shape frame flags (insts.Mov size rd rm) = OneWord (integer.mov_form size rd rm)
-plain_shape frame flags (insts.MovFromPReg rd rm) = OneWord (integer.mov_form Size64 rd (Real rm))
-plain_shape frame flags (insts.MovToPReg rd rm) = OneWord (integer.mov_form Size64 (Real rd) rm)
-plain_shape frame flags (insts.MovWide op rd imm size) = OneWord (integer.mov_wide_form op rd imm size)
-plain_shape frame flags (insts.MovK rd rn imm size) = OneWord (integer.mov_k_form rd imm size)
-plain_shape frame flags (insts.CSel rd rn rm cond) = OneWord (integer.csel_form rd rn rm cond)
-plain_shape frame flags (insts.CSNeg rd rn rm cond) = OneWord (integer.csneg_form rd rn rm cond)
-plain_shape frame flags (insts.CSet rd cond) = OneWord (integer.cset_form rd cond)
-plain_shape frame flags (insts.CSetm rd cond) = OneWord (integer.csetm_form rd cond)
-plain_shape frame flags (insts.CCmp size rn rm nzcv cond) = OneWord (integer.ccmp_form size rn rm nzcv cond)
-plain_shape frame flags (insts.CCmpImm size rn imm nzcv cond) = OneWord (integer.ccmp_imm_form size rn imm nzcv cond)
-plain_shape frame flags (insts.Extend rd rn signed from_bits to_bits) = OneWord (integer.extend_form rd rn signed from_bits to_bits)
-plain_shape frame flags (insts.BitfieldMove size bfm_op rd rn immr imms) = OneWord (integer.bitfield_move_form size bfm_op rd rn immr imms)
-plain_shape frame flags (insts.BitfieldMoveMod size rd ri rn immr imms) = OneWord (integer.bitfield_move_mod_form size rd rn immr imms)
 plain_shape frame flags (insts.MovToNZCV rn) = OneWord (integer.mov_to_nzcv_form rn)
 plain_shape frame flags (insts.MovFromNZCV rd) = OneWord (integer.mov_from_nzcv_form rd)
-plain_shape frame flags (insts.Adr rd off) = OneWord (integer.adr_form rd off)
-plain_shape frame flags (insts.Adrp rd off) = OneWord (integer.adrp_form rd off)
 plain_shape frame flags insts.Ret = OneWord control.ret_form
 plain_shape frame flags (insts.Jump dest) = Words (branch (control.jump_form dest) uses.Branch26 dest ∷ [])
 plain_shape frame flags (insts.CondBr taken not_taken kind) = Words (branches (control.cond_br_form taken kind) uses.Branch19 taken not_taken)
@@ -307,29 +283,7 @@ plain_shape frame flags (insts.StackProbeLoop start end step) = Words (map plain
 plain_shape frame flags (insts.LoadP64 rt rt2 mem trap) = Several [] (FormOf (memory.pair_form 1 rt rt2 mem)) None trap
 plain_shape frame flags (insts.StoreP64 rt rt2 mem trap) = Several [] (FormOf (memory.pair_form 0 rt rt2 mem)) None trap
 plain_shape frame flags (insts.LoadAddr rd mem) = address_shape rd (memory.step_forms memory.offset_register (final_steps frame I8 mem)) (final_mode frame I8 mem)
-plain_shape frame flags (insts.ULoad8 rd mem trap) = Words []
-plain_shape frame flags (insts.SLoad8 rd mem trap) = Words []
-plain_shape frame flags (insts.ULoad16 rd mem trap) = Words []
-plain_shape frame flags (insts.SLoad16 rd mem trap) = Words []
-plain_shape frame flags (insts.ULoad32 rd mem trap) = Words []
-plain_shape frame flags (insts.SLoad32 rd mem trap) = Words []
-plain_shape frame flags (insts.ULoad64 rd mem trap) = Words []
-plain_shape frame flags (insts.FpuLoad16 rd mem trap) = Words []
-plain_shape frame flags (insts.FpuLoad32 rd mem trap) = Words []
-plain_shape frame flags (insts.FpuLoad64 rd mem trap) = Words []
-plain_shape frame flags (insts.FpuLoad128 rd mem trap) = Words []
-plain_shape frame flags (insts.Store8 rd mem trap) = Words []
-plain_shape frame flags (insts.Store16 rd mem trap) = Words []
-plain_shape frame flags (insts.Store32 rd mem trap) = Words []
-plain_shape frame flags (insts.Store64 rd mem trap) = Words []
-plain_shape frame flags (insts.FpuStore16 rd mem trap) = Words []
-plain_shape frame flags (insts.FpuStore32 rd mem trap) = Words []
-plain_shape frame flags (insts.FpuStore64 rd mem trap) = Words []
-plain_shape frame flags (insts.FpuStore128 rd mem trap) = Words []
-plain_shape frame flags (insts.Call info) = Words []
-plain_shape frame flags (insts.CallInd info) = Words []
-plain_shape frame flags (insts.ReturnCall info) = Words []
-plain_shape frame flags (insts.ReturnCallInd info) = Words []
+plain_shape frame flags inst = elim (plain_form inst) [ None ↦ Words [] | Some form ↦ OneWord form ]
 
 abbrev pub shape_cells : Shape → List Cell
 shape_cells (OneWord form) = plain form ∷ []

@@ -1,6 +1,6 @@
--- The forms of integer instructions that are one word each (Arm Architecture Reference Manual, DDI 0487, C4.1, "Data Processing
--- -- Immediate", "Data Processing -- Register", and of "Branches, Exception Generating and System instructions" the hints and the
--- moves of the flags).
+-- The fields of integer instructions that operators give, and the forms of those that are irregular or stand in sequences too (Arm
+-- Architecture Reference Manual, DDI 0487, C4.1, "Data Processing -- Immediate", "Data Processing -- Register", and of "Branches,
+-- Exception Generating and System instructions" the hints and the moves of the flags). PlainForms has the form of each instruction.
 use Rattle.std.specs.Prelude.{ℕ, ℤ, ◌-◌, ◌%◌, Bool, not, ◌&&◌, nat_eq, nat_lt, if◌then◌else◌}
 use Rattle.a64_base.specs.declared.cond.Cond.{Cond}
 use Rattle.a64_base.specs.declared.reg.Reg.{Reg}
@@ -8,7 +8,7 @@ use Rattle.a64_base.specs.declared.shift.ExtendOp.{ExtendOp}
 use Rattle.a64_base.specs.declared.shift.ShiftOp.TheVariants.{LSL}
 use Rattle.a64_base.specs.declared.size.OperandSize.{OperandSize}
 use Rattle.a64_base.specs.declared.size.OperandSize.TheVariants.{Size32}
-use Rattle.a64_base.specs.Conditions.{condition_bits, inverse_of}
+use Rattle.a64_base.specs.Conditions.{condition_bits}
 use Rattle.a64_base.specs.OperandSizes.{sf_of, operand_bits}
 use Rattle.a64_base.specs.ShiftParts.{Shift}
 use Rattle.a64_base.specs.Shifts.{shift_bits, extend_bits}
@@ -21,25 +21,20 @@ use Rattle.a64_ops.specs.declared.operator.BfmOp.TheVariants.{UBfm, SBfm}
 use Rattle.a64_ops.specs.declared.operator.BitOp.{BitOp}
 use Rattle.a64_ops.specs.declared.operator.BitOp.TheVariants.{RBit, Clz, Cls, Rev16, Rev32, Rev64}
 use Rattle.a64_ops.specs.declared.operator.MoveWideOp.{MoveWideOp}
-use Rattle.a64_imms.specs.declared.flags.NZCV.{NZCV}
 use Rattle.a64_imms.specs.declared.imm12.Imm12.{Imm12}
 use Rattle.a64_imms.specs.declared.imm_logic.ImmLogic.{ImmLogic}
 use Rattle.a64_imms.specs.declared.move_wide.MoveWideConst.{MoveWideConst}
 use Rattle.a64_imms.specs.declared.unsigned.ImmShift.{ImmShift}
-use Rattle.a64_imms.specs.declared.unsigned.UImm5.{UImm5}
-use Rattle.a64_imms.specs.declared.unsigned.UImm6.{UImm6}
-use Rattle.a64_imms.specs.Flags.{flags_of, nzcv_bits}
 use Rattle.a64_imms.specs.Logic.{inverted}
-use Rattle.a64_imms.specs.Unsigned.{uimm5_value}
 use Rattle.a64_inst.specs.declared.virtuals.VirtualRegisters.TheVariants.{Refused}
 use Rattle.a64_inst.specs.Operands.{is_stack_pointer}
 use Rattle.a64_enc_int.specs.Branches.{distance_low, distance_high}
 use Rattle.a64_enc_int.specs.Operators.{bit_of, move_wide_opc}
 use Rattle.a64_enc_int.specs.Registers.{register_field}
-use Rattle.a64_emit.specs.declared.word.integer.operator.TwoRegisters.{TwoRegisters}
+use Rattle.a64_emit.specs.declared.word.plain.operator.TwoRegisters.{TwoRegisters}
 use Rattle.a64_rows.specs.Forms.{Form}
 use Rattle.a64_rows.specs.Control.{hint, nzcv}
-use Rattle.a64_rows.specs.DataProcessing.{AddSubRegFields, add_sub_reg, LogicRegFields, logic_reg, add_sub_ext, AddSubCarryFields, add_sub_carry, DataProc2Fields, data_proc2, MulHighFields, mul_high, mul_add, mul_add_long, add_sub_imm, LogicImmFields, logic_imm, bitfield, extract, data_proc1, move_wide, cond_select, cond_compare, adr}
+use Rattle.a64_rows.specs.DataProcessing.{AddSubRegFields, add_sub_reg, LogicRegFields, logic_reg, add_sub_ext, AddSubCarryFields, add_sub_carry, DataProc2Fields, data_proc2, MulHighFields, mul_high, mul_add, mul_add_long, add_sub_imm, LogicImmFields, logic_imm, bitfield, extract, move_wide, cond_select, adr}
 
 -- ---- fields that operators give
 
@@ -148,7 +143,7 @@ alu_form Extr shift r = data_proc2 (two_sources Extr r)
 alu_form SMulH shift r = mul_high (high_product 0 r)
 alu_form UMulH shift r = mul_high (high_product 1 r)
 
--- ---- one definition for each instruction: operations on registers
+-- ---- operations on registers
 
 unfoldable pub alu_rrr_form : ALUOp → OperandSize → Reg → Reg → Reg → Form
 alu_rrr_form op size rd rn rm = alu_form op no_shift (two_registers size rd rn rm)
@@ -161,9 +156,6 @@ extraction lowest r = extract (record { sf = r.sf; rm = r.rm; imms = lowest; rn 
 abbrev pub shifted_form : ALUOp → Shift → TwoRegisters → Form
 shifted_form Extr shift r = extraction shift.amount r
 shifted_form op shift r = alu_form op shift r
-
-unfoldable pub alu_rrr_shift_form : ALUOp → OperandSize → Reg → Reg → Reg → Shift → Form
-alu_rrr_shift_form op size rd rn rm shiftop = shifted_form op shiftop (two_registers size rd rn rm)
 
 -- an addition or subtraction of a register that is extended
 abbrev pub extended_form : ALUOp → ExtendOp → TwoRegisters → Form
@@ -189,10 +181,6 @@ product_form MSub ra r = mul_add (record { sf = r.sf; rm = r.rm; sub = 1; ra = r
 product_form SMAddL ra r = mul_add_long (record { u = 0; rm = r.rm; ra = ra; rn = r.rn; rd = r.rd })
 product_form UMAddL ra r = mul_add_long (record { u = 1; rm = r.rm; ra = ra; rn = r.rn; rd = r.rd })
 
--- Data-processing (3 source)
-unfoldable pub alu_rrrr_form : ALUOp3 → OperandSize → Reg → Reg → Reg → Reg → Form
-alu_rrrr_form op size rd rn rm ra = product_form op (register_field ra) (two_registers size rd rn rm)
-
 -- the field opcode of operations on one source
 abbrev pub bit_opcode : BitOp → ℕ
 bit_opcode RBit = 0
@@ -201,10 +189,6 @@ bit_opcode Rev32 = 2
 bit_opcode Rev64 = 3
 bit_opcode Clz = 4
 bit_opcode Cls = 5
-
--- an operation on the bits of one register (Data-processing (1 source))
-unfoldable pub bit_rr_form : BitOp → OperandSize → Reg → Reg → Form
-bit_rr_form op size rd rn = data_proc1 (record { sf = sf_of size; op6 = bit_opcode op; rn = register_field rn; rd = register_field rd })
 
 -- a move: an or with the zero register (Logical (shifted register)), or out of the stack pointer, which no such
 -- operation reads, an addition of 0 (Add/subtract (immediate))
@@ -236,50 +220,6 @@ csel_form rd rn rm cond =
       o2 = 0;
       rn = register_field rn;
       rd = register_field rd;
-    })
-
--- Conditional select, CSNEG
-unfoldable pub csneg_form : Reg → Reg → Reg → Cond → Form
-csneg_form rd rn rm cond =
-    cond_select (record {
-      op = 1;
-      rm = register_field rm;
-      cond = condition_bits cond;
-      o2 = 1;
-      rn = register_field rn;
-      rd = register_field rd;
-    })
-
--- 1 where the condition holds: where its inverse fails, the zero register plus 1 (Conditional select, CSINC)
-unfoldable pub cset_form : Reg → Cond → Form
-cset_form rd cond = cond_select (record { op = 0; rm = 31; cond = condition_bits (inverse_of cond); o2 = 1; rn = 31; rd = register_field rd })
-
--- all ones where the condition holds: where its inverse fails, the zero register inverted (Conditional select, CSINV)
-unfoldable pub csetm_form : Reg → Cond → Form
-csetm_form rd cond = cond_select (record { op = 1; rm = 31; cond = condition_bits (inverse_of cond); o2 = 0; rn = 31; rd = register_field rd })
-
--- Conditional compare (register)
-unfoldable pub ccmp_form : OperandSize → Reg → Reg → NZCV → Cond → Form
-ccmp_form size rn rm flags cond =
-    cond_compare (record {
-      sf = sf_of size;
-      rm = register_field rm;
-      cond = condition_bits cond;
-      imm = 0;
-      rn = register_field rn;
-      nzcv = nzcv_bits (flags_of flags);
-    })
-
--- Conditional compare (immediate)
-unfoldable pub ccmp_imm_form : OperandSize → Reg → UImm5 → NZCV → Cond → Form
-ccmp_imm_form size rn imm flags cond =
-    cond_compare (record {
-      sf = sf_of size;
-      rm = uimm5_value imm;
-      cond = condition_bits cond;
-      imm = 1;
-      rn = register_field rn;
-      nzcv = nzcv_bits (flags_of flags);
     })
 
 -- ---- with immediates
@@ -384,30 +324,6 @@ extend_form rd rn signed from_bits to_bits =
 abbrev pub bfm_opc : BfmOp → ℕ
 bfm_opc SBfm = 0
 bfm_opc UBfm = 2
-
--- Bitfield, SBFM and UBFM
-unfoldable pub bitfield_move_form : OperandSize → BfmOp → Reg → Reg → UImm6 → UImm6 → Form
-bitfield_move_form size op rd rn immr imms =
-    bitfield (record {
-      sf = sf_of size;
-      opc = bfm_opc op;
-      immr = immr.imm;
-      imms = imms.imm;
-      rn = register_field rn;
-      rd = register_field rd;
-    })
-
--- Bitfield, BFM
-unfoldable pub bitfield_move_mod_form : OperandSize → Reg → Reg → UImm6 → UImm6 → Form
-bitfield_move_mod_form size rd rn immr imms =
-    bitfield (record {
-      sf = sf_of size;
-      opc = 1;
-      immr = immr.imm;
-      imms = imms.imm;
-      rn = register_field rn;
-      rd = register_field rd;
-    })
 
 -- ---- addresses
 

@@ -10,10 +10,8 @@ use Rattle.a64_base.specs.declared.entity.UserStackMap.{UserStackMap}
 use Rattle.a64_base.specs.declared.reg.Reg.{Reg}
 use Rattle.a64_base.specs.declared.target.BranchTarget.{BranchTarget}
 use Rattle.a64_base.specs.declared.target.BranchTarget.TheVariants as targets
-use Rattle.a64_base.specs.Registers.{integer_register}
 use Rattle.a64_imms.specs.Scales.{type_bytes}
 use Rattle.a64_ops.specs.declared.access.AccessOp.{AccessOp}
-use Rattle.a64_ops.specs.declared.operator.ALUOp.TheVariants.{Orr}
 use Rattle.a64_plan.specs.declared.step.ConstStep.{ConstStep}
 use Rattle.a64_plan.specs.declared.step.ConstStep.TheVariants as steps
 use Rattle.a64_inst.specs.declared.emission.EmitFlags.{EmitFlags}
@@ -23,10 +21,9 @@ use Rattle.a64_inst.specs.declared.virtuals.VirtualRegisters.TheVariants.{Refuse
 use Rattle.a64_inst.specs.Accesses.{access_type}
 use Rattle.a64_inst.specs.Faults.{named_constant}
 use Rattle.a64_inst.specs.FinalModes.{FinalMode, SignedOffset, ScaledOffset, Other}
-use Rattle.a64_inst.specs.IntegerOperands as integer
 use Rattle.a64_inst.specs.MemoryOperands as memory
 use Rattle.a64_inst.specs.Modes.{is_offset9}
-use Rattle.a64_inst.specs.Operands.{is_register_or_stack, is_register_or_zero}
+use Rattle.a64_inst.specs.Operands.{is_logic_of, is_register_or_stack, is_register_or_zero, is_wide_in}
 use Rattle.a64_rows.specs.Forms.{form_word}
 use Rattle.a64_buffer.specs.declared.site.Target.TheVariants.{Label, Constant, Trap, IslandEnd}
 use Rattle.a64_label_use.specs.declared.label_use.LabelUse.{LabelUse}
@@ -38,12 +35,12 @@ use Rattle.a64_emit.specs.declared.call.Callee.{Callee}
 use Rattle.a64_emit.specs.declared.call.Callee.TheVariants.{Symbol, Address}
 use Rattle.a64_emit.specs.Cells.{Data, Cell, Shape, OneWord, Several, Words, body_word, call_marks, cell_word, last_cell, branch_site, trap_site, shape_of, other_cells}
 
--- the operands of a step into a register are in their sets
-abbrev pub CanStep : Reg → ConstStep → Type 0
-CanStep rd (steps.MovZ imm size) = integer.are_mov_wide_operands Refused rd imm size ≡ true
-CanStep rd (steps.MovN imm size) = integer.are_mov_wide_operands Refused rd imm size ≡ true
-CanStep rd (steps.MovK imm size) = integer.are_mov_k_operands Refused rd rd imm size ≡ true
-CanStep rd (steps.Orr imm) = integer.are_alu_rr_imm_logic_operands Refused Orr imm.size rd (integer_register 31) imm ≡ true
+-- the immediate of a step is in its set
+abbrev pub CanStep : ConstStep → Type 0
+CanStep (steps.MovZ imm size) = is_wide_in size imm ≡ true
+CanStep (steps.MovN imm size) = is_wide_in size imm ≡ true
+CanStep (steps.MovK imm size) = is_wide_in size imm ≡ true
+CanStep (steps.Orr imm) = is_logic_of imm.size imm ≡ true
 
 -- the parts of a mode that stands in an instruction are in their sets, and the access has the mode
 abbrev pub are_held_parts : AccessOp → FinalMode → Bool

@@ -1,7 +1,7 @@
 //! Emission of single instructions.
 
 ghost use Rattle.std.specs.Prelude.{◌≡◌, ◌≢◌, ◌⊎◌, ◌+◌, ◌*◌, ◌/◌, ◌%◌, ◌^◌, ◌<◌, [], ◌∷◌, ◌++◌, length, map, OnOk, OnErr, IfSome, true, None};
-ghost use Rattle.a64_inst.specs.declared.group.Group.TheVariants.{Call, Control, Immediate, Memory, Register};
+ghost use Rattle.a64_inst.specs.declared.group.Group.TheVariants.{Call, Control, Memory, Plain};
 ghost use Rattle.a64_inst.specs.declared.emission.EmitFlags.{EmitFlags};
 ghost use Rattle.a64_inst.specs.declared.virtuals.VirtualRegisters.TheVariants.{Refused};
 ghost use Rattle.a64_inst.specs.Faults.{has_operands, has_mode};
@@ -28,14 +28,14 @@ use crate::word::control::{
     UDF_WORD, cond_br_word, jump_word, label_address_word, only_control_word,
     test_bit_and_branch_word, trap_if_word,
 };
-use crate::word::integer::{only_immediate_word, only_register_word};
 use crate::word::memory::{SeveralWords, held_memory_word, memory_words};
+use crate::word::plain::plain_word;
 use a64_base::{
     BranchTarget, CondBrKind, ExternalName, MachLabel, Reg, Reloc, TestBitAndBranchKind, TrapCode,
     UserStackMap, Writable,
 };
 use a64_buffer::{ForceVeneers, MachBuffer, Target};
-use a64_inst::{EmitInfo, EmitState, FrameLayout, Group, Inst};
+use a64_inst::{EmitInfo, EmitState, FrameLayout, Group, Inst, PlainGroup};
 use a64_label_use::LabelUse;
 use std::alloc::AllocError;
 
@@ -75,8 +75,7 @@ fn only_word(inst: &Inst, frame: &FrameLayout, info: &EmitInfo) -> Option<u32>
     ensures { result ≡ only_word (shape_of frame.now info.now inst.now) }
 {
     match inst.group() {
-        Group::Immediate => only_immediate_word(inst, frame, info),
-        Group::Register => only_register_word(inst, frame, info),
+        Group::Plain(group) => Some(plain_word(inst, group, frame, info)),
         Group::Control => only_control_word(inst, frame, info),
         Group::Sequence | Group::Call | Group::Memory => None,
     }
@@ -468,7 +467,7 @@ fn emit_other(
         Group::Memory => emit_memory(inst, sink, info, frame),
         Group::Control => emit_control(inst, sink, info, frame),
         Group::Sequence => emit_sequence(inst, sink, info, frame),
-        Group::Immediate | Group::Register => Ok(()),
+        Group::Plain(_) => Ok(()),
         Group::Call => unreachable!(),
     }
 }
@@ -495,42 +494,21 @@ pub fn emit_plain_inst(
     }
 }
 
-/// An operation on integers with an immediate: one word without a use.
+/// An instruction that is one plain word.
 #[inline(always)]
-fn emit_immediate(
+fn emit_plain_group(
     inst: &Inst,
     sink: &mut MachBuffer<'_, LabelUse>,
     info: &EmitInfo,
     frame: &FrameLayout,
+    group: PlainGroup,
 ) -> Result<(), AllocError>
-    requires group { group_of inst.now ≡ Immediate }
+    requires group { group_of inst.now ≡ Plain group }
     requires ready { IsReady sink.old frame.now info.now inst.now }
     ensures ok { OnOk result (Puts (asked_of inst.now) (inst_cells frame.now info.now inst.now) sink.old sink.new) }
     ensures err { OnErr result (IsAppendedInPart sink.old sink.new (inst_cells frame.now info.now inst.now)) }
 {
-    match only_immediate_word(inst, frame, info) {
-        Some(word) => emit_plain(sink, word),
-        None => unreachable!(),
-    }
-}
-
-/// An operation on integers in registers: one word without a use.
-#[inline(always)]
-fn emit_register(
-    inst: &Inst,
-    sink: &mut MachBuffer<'_, LabelUse>,
-    info: &EmitInfo,
-    frame: &FrameLayout,
-) -> Result<(), AllocError>
-    requires group { group_of inst.now ≡ Register }
-    requires ready { IsReady sink.old frame.now info.now inst.now }
-    ensures ok { OnOk result (Puts (asked_of inst.now) (inst_cells frame.now info.now inst.now) sink.old sink.new) }
-    ensures err { OnErr result (IsAppendedInPart sink.old sink.new (inst_cells frame.now info.now inst.now)) }
-{
-    match only_register_word(inst, frame, info) {
-        Some(word) => emit_plain(sink, word),
-        None => unreachable!(),
-    }
+    emit_plain(sink, plain_word(inst, group, frame, info))
 }
 
 /// A branch, a hint, an address, data, or a place for an island.
@@ -572,8 +550,7 @@ fn emit_by_group(
         Group::Memory => emit_memory(inst, sink, info, frame),
         Group::Call => emit_calling(inst, sink, info, frame, kept),
         Group::Sequence => emit_sequence(inst, sink, info, frame),
-        Group::Immediate => emit_immediate(inst, sink, info, frame),
-        Group::Register => emit_register(inst, sink, info, frame),
+        Group::Plain(group) => emit_plain_group(inst, sink, info, frame, group),
         Group::Control => emit_control_inst(inst, sink, info, frame),
     }
 }

@@ -194,7 +194,7 @@ fn words_burden<'a>(inst: &'a Inst, frame: &FrameLayout, info: &EmitInfo) -> Bur
     ensures uses { inst_uses frame.now info.now inst.now ≡ listed_uses result.uses }
 {
     match inst.group() {
-        Group::Immediate | Group::Register => Burden {
+        Group::Plain(_) => Burden {
             extent: quiet_extent(1),
             uses: only_use(None),
         },
@@ -391,7 +391,7 @@ pub fn inst_light(inst: &Inst, group: Group, frame: &FrameLayout, info: &EmitInf
     ensures place { IfSome result (λ _. asked_of inst.now ≡ None) }
 {
     match group {
-        Group::Immediate | Group::Register => Some(without_use(8)),
+        Group::Plain(_) => Some(without_use(8)),
         Group::Control => control_light(inst, frame, info),
         Group::Sequence | Group::Call => None,
         Group::Memory => memory_light(inst, frame, info),

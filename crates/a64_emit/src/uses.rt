@@ -221,7 +221,7 @@ pub fn uses_in<'a>(inst: &'a Inst, frame: &FrameLayout, info: &EmitInfo) -> Uses
     ensures { inst_uses frame.now info.now inst.now ≡ listed_uses result }
 {
     match inst.group() {
-        Group::Immediate | Group::Register => only_use(None),
+        Group::Plain(_) => only_use(None),
         Group::Control => control_uses(inst, frame, info),
         Group::Sequence => sequence_uses(inst, frame, info),
         Group::Call => call_uses(inst, frame, info),

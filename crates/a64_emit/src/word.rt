@@ -2,6 +2,7 @@
 
 pub mod call;
 pub mod control;
-pub mod integer;
 pub mod memory;
+pub mod plain;
 pub mod sequence;
+pub mod system;

@@ -1,12 +1,11 @@
 //! The words of calls, and of returns that call another function.
 
-ghost use Rattle.std.specs.Prelude.{ℤ, pos, ◌≡◌, ◌⊎◌, ◌+◌, ◌≤◌, ◌%◌, [], ◌∷◌, ◌++◌, length, map, true};
+ghost use Rattle.std.specs.Prelude.{ℤ, pos, ◌≡◌, ◌+◌, ◌≤◌, ◌%◌, [], ◌∷◌, ◌++◌, length, map, true};
 ghost use Rattle.std.specs.Int.RustNames.{unsigned_abs};
 ghost use Rattle.a64_base.specs.declared.ir_type.IrType.TheVariants.{I64};
 ghost use Rattle.a64_base.specs.declared.shift.ExtendOp.TheVariants.{UXTX};
 ghost use Rattle.a64_base.specs.declared.size.OperandSize.TheVariants.{Size64};
 ghost use Rattle.a64_base.specs.Registers.{integer_register};
-ghost use Rattle.a64_ops.specs.declared.operator.ALUOp.TheVariants.{Add, Sub};
 ghost use Rattle.a64_plan.specs.Plans.{plan_of};
 ghost use Rattle.a64_inst.specs.declared.mode.PairAMode.TheVariants.{SPPostIndexed};
 ghost use Rattle.a64_inst.specs.declared.virtuals.VirtualRegisters.TheVariants.{Refused};
@@ -22,11 +21,11 @@ ghost use Rattle.a64_emit.specs.MemoryForms.{offset_register, step_forms, sum_op
 
 use crate::call::Callee;
 use crate::word::control::{indirect_br_word, jump_word};
-use crate::word::integer::immediate::alu_rr_imm12_word;
-use crate::word::integer::register::alu_rrr_extend_word;
 use crate::word::memory::access::pair_word;
 use crate::word::memory::address::addend;
 use crate::word::memory::step::step_words;
+use crate::word::plain::immediate::alu_rr_imm12_word;
+use crate::word::plain::register::alu_rrr_extend_word;
 use a64_base::{
     APIKey, BranchTarget, ExtendOp, IrType, OperandSize, Reg, fp_reg, link_reg, spilltmp_reg,
     stack_reg, writable_spilltmp_reg, writable_stack_reg,
@@ -79,17 +78,14 @@ pub fn return_word(callee: Callee) -> u32
 
 /// The operator that moves the stack pointer up, or down.
 fn adjust_op(down: bool) -> ALUOp
-    ensures is { (amount : ℤ) → is_negative amount ≡ down → result ≡ sum_op amount }
-    ensures either { (result ≡ Add) ⊎ (result ≡ Sub) }
+    ensures { (amount : ℤ) → is_negative amount ≡ down → result ≡ sum_op amount }
 {
     if down { ALUOp::Sub } else { ALUOp::Add }
 }
 
 /// The word that moves the stack pointer by an amount that an addition holds.
-#[tactic(auto, using(crate::proofs::CallOperands::near_good))]
 fn near_adjust_word(op: ALUOp, imm12: Imm12) -> u32
-    requires op { (op ≡ Add) ⊎ (op ≡ Sub) }
-    requires imm12 { is_imm12 imm12 ≡ true }
+    requires { is_imm12 imm12 ≡ true }
     ensures { result ≡ form_word (alu_rr_imm12_form op Size64 (integer_register 63) (integer_register 63) imm12) }
 {
     alu_rr_imm12_word(
@@ -102,9 +98,7 @@ fn near_adjust_word(op: ALUOp, imm12: Imm12) -> u32
 }
 
 /// The word that moves the stack pointer by the amount in x16.
-#[tactic(auto, using(crate::proofs::CallOperands::far_good))]
 fn far_adjust_word(op: ALUOp) -> u32
-    requires op { (op ≡ Add) ⊎ (op ≡ Sub) }
     ensures { result ≡ form_word (alu_rrr_extend_form op Size64 (integer_register 63) (integer_register 63) offset_register UXTX) }
 {
     alu_rrr_extend_word(
@@ -129,8 +123,7 @@ fn push_all(words: &mut ArrayVec<u32, 8>, more: &[u32])
 
 /// Adds the words that move the stack pointer by an amount that no addition holds.
 fn push_far_adjust(words: &mut ArrayVec<u32, 8>, op: ALUOp, amount: u32)
-    requires op { (op ≡ Add) ⊎ (op ≡ Sub) }
-    requires few { length words.old.items ≤ 1 }
+    requires { length words.old.items ≤ 1 }
     ensures few { length words.new.items ≤ length words.old.items + 5 }
     ensures words { words.new.items ≡ words.old.items ++ map form_word (step_forms offset_register (plan_of amount) ++ alu_rrr_extend_form op Size64 (integer_register 63) (integer_register 63) offset_register UXTX ∷ []) }
 {

@@ -12,8 +12,8 @@ ghost use Rattle.a64_emit.specs.Cells.{shape_of, only_word};
 ghost use Rattle.a64_emit.specs.ControlForms as forms;
 ghost use Rattle.a64_emit.specs.ControlForms.{ret_form, jump_form};
 
-use crate::word::integer::immediate::adr_word;
-use crate::word::integer::system::{mov_from_nzcv_word, mov_to_nzcv_word, nop4_word};
+use crate::word::plain::immediate::adr_word;
+use crate::word::system::{mov_from_nzcv_word, mov_to_nzcv_word, nop4_word};
 use a64_base::{BranchTarget, CondBrKind, Reg, TestBitAndBranchKind, Writable};
 use a64_enc_int::{enc_br, enc_conditional_br, enc_jump26, enc_test_bit_and_branch};
 use a64_inst::{EmitInfo, FrameLayout, Inst};
@@ -120,7 +120,7 @@ fn brk_word() -> u32
 }
 
 /// The word of a `LabelAddress`, whose distance is zero as long as the label has no place.
-#[tactic(auto, unfolding(crate::specs::ControlForms::label_address_form, a64_inst::specs::IntegerOperands::are_adr_operands))]
+#[tactic(auto, unfolding(crate::specs::ControlForms::label_address_form))]
 pub fn label_address_word(dst: Writable<Reg>) -> u32
     requires { is_register_or_zero Refused dst ≡ true }
     ensures { result ≡ form_word (forms.label_address_form dst) }

@@ -16,10 +16,10 @@ ghost use Rattle.a64_emit.specs.IntegerForms.{csel_form, alu_rrr_form, alu_rr_im
 ghost use Rattle.a64_emit.specs.MemoryForms.{indexed_form, unsigned_form, literal_form};
 
 use crate::word::control::{cond_br_word, indirect_br_word, jump_word};
-use crate::word::integer::immediate::{adr_word, adrp_word, alu_rr_imm12_word};
-use crate::word::integer::register::{alu_rrr_word, csel_word};
 use crate::word::memory::access::{indexed_word, literal_word, unsigned_word};
 use crate::word::memory::step::step_words;
+use crate::word::plain::immediate::{adr_word, adrp_word, alu_rr_imm12_word};
+use crate::word::plain::register::{alu_rrr_word, csel_word};
 use a64_base::{
     BranchTarget, Cond, CondBrKind, ExtendOp, IrType, OperandSize, Reg, Writable, stack_reg,
     writable_zero_reg, zero_reg,
@@ -46,7 +46,7 @@ pub fn has_barrier(info: &EmitInfo) -> bool
 }
 
 /// The word of the choice between an index and the number of targets, which a register holds.
-#[tactic(auto, using(crate::proofs::SequenceOperands::choice_good))]
+#[tactic(auto, using(crate::proofs::Operands::register_zero))]
 fn choice_word(ridx: Reg, rtmp2: Writable<Reg>) -> u32
     requires ridx { is_register_or_zero Refused ridx ≡ true }
     requires rtmp2 { is_register Refused rtmp2 ≡ true }
@@ -74,7 +74,7 @@ fn entry_word(rtmp1: Writable<Reg>, rtmp2: Writable<Reg>) -> u32
 }
 
 /// The word of the sum of a table's address and an entry.
-#[tactic(auto, using(crate::proofs::SequenceOperands::addition_good))]
+#[tactic(auto, using(crate::proofs::Operands::numbered_real))]
 fn sum_word(rtmp1: Writable<Reg>, rtmp2: Writable<Reg>) -> u32
     requires rtmp1 { is_register Refused rtmp1 ≡ true }
     requires rtmp2 { is_register Refused rtmp2 ≡ true }
@@ -112,7 +112,7 @@ fn push_barrier(words: &mut ArrayVec<u32, 10>, info: &EmitInfo)
 }
 
 /// Adds the words that jump to the entry of a table, which stands behind them.
-#[tactic(auto, using(crate::proofs::SequenceOperands::page_good, crate::proofs::Operands::register_zero))]
+#[tactic(auto, using(crate::proofs::Operands::register_zero))]
 fn push_jump(words: &mut ArrayVec<u32, 10>, rtmp1: Writable<Reg>, rtmp2: Writable<Reg>)
     requires few { length words.old.items ≤ 6 }
     requires rtmp1 { is_register Refused rtmp1 ≡ true }
@@ -147,7 +147,7 @@ pub fn table_words(
 
 /// The word of the address of a symbol's page, or of that of its entry in the global offset table, which is
 /// zero as long as the symbol has no place.
-#[tactic(auto, using(crate::proofs::SequenceOperands::page_good))]
+#[tactic(auto, using(crate::proofs::Operands::register_zero))]
 pub fn page_word(rd: Writable<Reg>) -> u32
     requires { is_register Refused rd ≡ true }
     ensures { result ≡ form_word (adrp_form rd (pos 0)) }
@@ -171,7 +171,7 @@ pub fn offset_entry_word(rd: Writable<Reg>) -> u32
 }
 
 /// The word of the sum of a symbol's page and its place there, which is zero as long as the symbol has none.
-#[tactic(auto, using(crate::proofs::SequenceOperands::step_good))]
+#[tactic(auto, using(crate::proofs::Operands::numbered_real))]
 pub fn place_word(rd: Writable<Reg>) -> u32
     requires { is_register Refused rd ≡ true }
     ensures { result ≡ form_word (alu_rr_imm12_form Add Size64 rd rd (record { bits = 0; shift12 = false })) }
@@ -198,7 +198,7 @@ pub fn far_words(rd: Writable<Reg>) -> [u32; 2]
 }
 
 /// The words of a loop that stores to the stack at each step.
-#[tactic(auto, unfolding(a64_inst::specs::ControlOperands::are_jump_operands))]
+#[tactic(auto, using(crate::proofs::Operands::numbered_real, crate::proofs::Operands::real, crate::proofs::SequenceOperands::numbered_general), unfolding(a64_inst::specs::ControlOperands::are_jump_operands, a64_inst::specs::SequenceOperands::are_probe_operands))]
 pub fn probe_words(info: &EmitInfo, start: Writable<Reg>, end: Reg, step: Imm12) -> [u32; 5]
     requires { are_probe_operands info.now Refused start end step ≡ true }
     ensures { result ≡ map form_word (probe_forms start end step) }

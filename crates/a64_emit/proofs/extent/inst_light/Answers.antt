@@ -1,7 +1,5 @@
-use Rattle.std.proofs.Common.{◌≡◌, ◌⊎◌, sym, subst}
+use Rattle.std.proofs.Common.{◌∙◌, sym, subst}
 use Rattle.std.proofs.lemmas.Option.{IfSome_then}
-use Rattle.a64_inst.specs.declared.group.Group.{Group}
-use Rattle.a64_inst.specs.declared.group.Group.TheVariants.{Immediate, Register}
 use Rattle.a64_inst.specs.declared.item.Item.TheVariants.{Emit}
 use Rattle.a64_emit.specs.declared.extent.Light.{Light}
 use Rattle.a64_emit.specs.Bounds.{growth_of}
@@ -11,16 +9,16 @@ use Rattle.a64_emit.proofs.Asked.{kept_light}
 use Rattle.a64_emit.proofs.OneLights.{one_light, one_unasked}
 use Rattle.a64_emit.proofs.extent.inst_light.Goals as goal
 
-pub returns-in-Immediate-clause-light : goal.returns-in-Immediate-clause-light
-returns-in-Immediate-clause-light c = λ map.
+pub returns-in-Plain-clause-light : goal.returns-in-Plain-clause-light
+returns-in-Plain-clause-light c = λ map.
     let frame = c.args.frame.now in
     let flags = c.args.info.now in
     let inst = c.args.inst.now in
     subst (λ (light : Light). IsLight (cells_of frame flags (Emit inst map)) (growth_of frame flags (Emit inst map)) light) (sym c.without_use.ensures)
-    (one_light frame flags inst map (subst (λ (g : Group). (g ≡ Immediate) ⊎ (g ≡ Register)) c.requires c.in-Immediate.is))
+    (one_light frame flags inst map _ (sym c.requires ∙ c.in-Plain.is))
 
-pub returns-in-Immediate-clause-place : goal.returns-in-Immediate-clause-place
-returns-in-Immediate-clause-place c = one_unasked c.args.inst.now (subst (λ (g : Group). (g ≡ Immediate) ⊎ (g ≡ Register)) c.requires c.in-Immediate.is)
+pub returns-in-Plain-clause-place : goal.returns-in-Plain-clause-place
+returns-in-Plain-clause-place c = one_unasked c.args.inst.now _ (sym c.requires ∙ c.in-Plain.is)
 
 pub returns-in-Control-clause-light : goal.returns-in-Control-clause-light
 returns-in-Control-clause-light c =

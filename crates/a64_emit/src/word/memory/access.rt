@@ -18,7 +18,7 @@ ghost use Rattle.a64_enc_int.specs.Registers.{IsGeneral};
 ghost use Rattle.a64_emit.specs.MemoryForms as forms;
 ghost use Rattle.a64_emit.specs.Words.{are_held_parts};
 
-use crate::word::integer::system::nop4_word;
+use crate::word::system::nop4_word;
 use a64_base::{ExtendOp, Reg, stack_reg};
 use a64_enc_int::{enc_ldst_pair, register_field};
 use a64_imms::{SImm7Scaled, SImm9, UImm12Scaled};

@@ -13,10 +13,10 @@ ghost use Rattle.a64_emit.specs.Cells.{Words, quiet, sum_shape, address_shape, s
 ghost use Rattle.a64_emit.specs.MemoryForms as forms;
 ghost use Rattle.a64_emit.specs.Words.{AreSeveral};
 
-use crate::word::integer::immediate::alu_rr_imm12_word;
-use crate::word::integer::register::{alu_rrr_extend_word, alu_rrr_word, mov_word};
 use crate::word::memory::SeveralWords;
 use crate::word::memory::step::step_words;
+use crate::word::plain::immediate::alu_rr_imm12_word;
+use crate::word::plain::register::{alu_rrr_extend_word, alu_rrr_word, mov_word};
 use a64_base::{
     IrType, OperandSize, Reg, Writable, tmp2_reg, writable_spilltmp_reg, writable_tmp2_reg,
 };
@@ -82,6 +82,7 @@ pub fn addend(n: u32) -> Option<Imm12>
 }
 
 /// The words of a base and an offset that no addition holds.
+#[tactic(auto, using(crate::proofs::Operands::numbered_real, crate::proofs::Operands::real))]
 fn far_sum(rd: Writable<Reg>, rn: Reg, offset: i32) -> SeveralWords
     requires rd { operands.is_register Refused rd ≡ true }
     requires rn { operands.is_register_or_zero Refused rn ≡ true }
@@ -98,6 +99,7 @@ fn far_sum(rd: Writable<Reg>, rn: Reg, offset: i32) -> SeveralWords
 }
 
 /// The words of a base and an offset, where there are any.
+#[tactic(auto, using(crate::proofs::Operands::numbered_real, crate::proofs::Operands::stack_real))]
 fn sum_words(rd: Writable<Reg>, rn: Reg, offset: i32) -> Option<SeveralWords>
     requires rd { operands.is_register Refused rd ≡ true }
     requires rn { operands.is_register_or_stack Refused rn ≡ true }

@@ -1,4 +1,4 @@
-use Rattle.std.proofs.Common.{List, [], ◌∷◌, ◌++◌, map, sym, ap, ap₂, ◌∙◌, subst}
+use Rattle.std.proofs.Common.{List, [], ◌∷◌, ◌++◌, map, inr, sym, ap, ap₂, ◌∙◌, subst}
 use Rattle.std.specs.Prelude.{All}
 use Rattle.a64_plan.specs.declared.step.ConstStep.{ConstStep}
 use Rattle.a64_plan.specs.Plans.{plan_of}
@@ -6,13 +6,13 @@ use Rattle.a64_rows.specs.Forms.{form_word}
 use Rattle.a64_emit.specs.MemoryForms.{step_forms}
 use Rattle.a64_emit.specs.Words.{CanStep}
 use Rattle.a64_emit.proofs.Adjustments.{far_words}
-use Rattle.a64_emit.proofs.CallOperands.{plan_good}
+use Rattle.a64_emit.proofs.Accesses.{can_steps}
 use Rattle.a64_emit.proofs.word.call.push_far_adjust.Goals as goal
 
 pub step_words-steps-requires-clause-steps : goal.step_words-steps-requires-clause-steps
 step_words-steps-requires-clause-steps c =
-    subst (λ (plan : List ConstStep). All (CanStep c.writable_spilltmp_reg.result) plan) (sym c.as_slice.ensures.value)
-    (plan_good c.writable_spilltmp_reg.result c.const_plan-plan.result.items c.writable_spilltmp_reg.ensures c.const_plan-plan.ensures.shape)
+    subst (λ (plan : List ConstStep). All CanStep plan) (sym c.as_slice.ensures.value)
+    (can_steps c.const_plan-plan.result.items (inr c.const_plan-plan.ensures.shape))
 
 pub returns-clause-words : goal.returns-clause-words
 returns-clause-words c =

@@ -8,7 +8,6 @@ use Rattle.a64_inst.specs.declared.access.Access.{Access}
 use Rattle.a64_inst.specs.Accesses.{access_type}
 use Rattle.a64_inst.specs.FinalModes.{final_mode, final_steps}
 use Rattle.a64_inst.specs.MemoryOperands.{are_access_operands, are_mode_operands, has_access_mode, is_data_register, has_units}
-use Rattle.a64_inst.specs.Operands.{is_register}
 use Rattle.a64_rows.specs.Forms.{form_word}
 use Rattle.a64_emit.specs.MemoryForms.{step_forms, offset_register, held_form}
 use Rattle.a64_emit.specs.Cells.{access_shape}
@@ -18,8 +17,8 @@ use Rattle.a64_emit.proofs.word.memory.access_words.Goals as goal
 
 pub step_words-requires-clause-steps : goal.step_words-requires-clause-steps
 step_words-requires-clause-steps c =
-    subst (λ (plan : List ConstStep). All (CanStep c.writable_spilltmp_reg.result) plan) (sym c.as_slice.ensures.value)
-    (can_steps c.writable_spilltmp_reg.result c.final_steps-steps.result.items (ap (is_register Refused) c.writable_spilltmp_reg.ensures) c.final_steps-steps.ensures.shape)
+    subst (λ (plan : List ConstStep). All CanStep plan) (sym c.as_slice.ensures.value)
+    (can_steps c.final_steps-steps.result.items c.final_steps-steps.ensures.shape)
 
 pub held_word-requires-clause-mode : goal.held_word-requires-clause-mode
 unfolding are_access_operands

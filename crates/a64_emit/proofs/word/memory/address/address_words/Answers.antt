@@ -12,7 +12,8 @@ use Rattle.a64_rows.specs.Forms.{form_word}
 use Rattle.a64_emit.specs.Cells.{address_shape}
 use Rattle.a64_emit.specs.MemoryForms.{step_forms, offset_register}
 use Rattle.a64_emit.specs.Words.{CanStep, AreSeveral}
-use Rattle.a64_emit.proofs.Accesses.{can_steps, are_address_parts, address_good, extend_good}
+use Rattle.a64_emit.proofs.Accesses.{can_steps, are_address_parts, address_good}
+use Rattle.a64_emit.proofs.Operands.{numbered_real, real, stack_real}
 use Rattle.a64_emit.proofs.word.memory.address.address_words.Goals as goal
 
 pub sum_words-requires-clause-rn : goal.sum_words-requires-clause-rn
@@ -35,8 +36,8 @@ sum_words-requires-in-UnsignedOffset-clause-rn c =
 
 pub step_words-requires-clause-steps : goal.step_words-requires-clause-steps
 step_words-requires-clause-steps c =
-    subst (λ (plan : List ConstStep). All (CanStep c.writable_spilltmp_reg.result) plan) (sym c.as_slice.ensures.value)
-    (can_steps c.writable_spilltmp_reg.result c.final_steps-steps.result.items (ap (is_register Refused) c.writable_spilltmp_reg.ensures) c.final_steps-steps.ensures.shape)
+    subst (λ (plan : List ConstStep). All CanStep plan) (sym c.as_slice.ensures.value)
+    (can_steps c.final_steps-steps.result.items c.final_steps-steps.ensures.shape)
 
 pub alu_rrr_extend_word-requires : goal.alu_rrr_extend_word-requires
 unfolding are_address_operands
@@ -47,7 +48,11 @@ alu_rrr_extend_word-requires c =
     let operands = (and_parts (are_mode_operands frame Refused mem) (not (needs_x17_beside 63 (final_mode frame I8 mem))) rest).0 in
     let parts = subst (λ (m : AMode). are_address_parts (parts_of m) ≡ true) c.in-RegExtended.is (ap are_address_parts c.final_mode.ensures ∙ address_good frame mem operands) in
     let (base, index) = and_parts (is_register_or_stack Refused c.in-RegExtended.rn) (is_register_or_zero Refused c.in-RegExtended.rm) parts in
-    extend_good c.args.rd c.in-RegExtended.rn c.in-RegExtended.rm numbered base index
+    record {
+      rd = numbered_real c.args.rd numbered;
+      rn = stack_real c.in-RegExtended.rn base;
+      rm = real c.in-RegExtended.rm index;
+    }
 
 pub returns-in-RegExtended : goal.returns-in-RegExtended
 returns-in-RegExtended c =

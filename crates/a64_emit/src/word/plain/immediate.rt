@@ -4,24 +4,25 @@
 ghost use Rattle.std.specs.Prelude.{◌≡◌, ◌<◌, ◌&&◌, nat_lt, if◌then◌else◌, true};
 ghost use Rattle.a64_base.specs.OperandSizes.{operand_bits, sf_of};
 ghost use Rattle.a64_inst.specs.declared.virtuals.VirtualRegisters.TheVariants.{Refused};
-ghost use Rattle.a64_inst.specs.Operands.{is_register_or_zero};
-ghost use Rattle.a64_inst.specs.IntegerOperands as sets;
+ghost use Rattle.a64_inst.specs.Operands.{is_imm12, is_logic_of, is_near, is_register_or_zero, is_wide_in};
+ghost use Rattle.a64_inst.specs.IntegerOperands.{is_extended, is_shift_by};
 ghost use Rattle.a64_imms.specs.Logic.{IsImmLogic};
 ghost use Rattle.a64_rows.specs.Forms.{form_word};
+ghost use Rattle.a64_enc_int.specs.Registers.{IsReal};
 ghost use Rattle.a64_emit.specs.IntegerForms as forms;
 
-use crate::word::integer::operator::{bfm_opc_bits, extract_word, op_bit, opc_bits, s_bit};
-use crate::word::integer::register::{mov_word, two_registers};
+use crate::word::plain::operator::{extract_word, op_bit, opc_bits, s_bit};
+use crate::word::plain::register::{mov_word, two_registers};
 use a64_base::{OperandSize, Reg, Writable};
 use a64_enc_int::{
     enc_adr, enc_adrp, enc_arith_rr_imml, enc_bfm, enc_move_wide, enc_movk, register_field,
 };
-use a64_imms::{Imm12, ImmLogic, ImmShift, MoveWideConst, UImm6};
-use a64_ops::{ALUOp, BfmOp, MoveWideOp};
+use a64_imms::{Imm12, ImmLogic, ImmShift, MoveWideConst};
+use a64_ops::{ALUOp, MoveWideOp};
 use a64_rows::{Row, pack};
 
 /// The word of an `AluRRImm12`.
-#[tactic(auto, using(crate::proofs::Operands::stack_general, crate::proofs::Operands::add_sub_general), unfolding(crate::specs::IntegerForms::alu_rr_imm12_form, a64_inst::specs::IntegerOperands::are_alu_rr_imm12_operands))]
+#[tactic(auto, unfolding(crate::specs::IntegerForms::alu_rr_imm12_form))]
 pub fn alu_rr_imm12_word(
     op: ALUOp,
     size: OperandSize,
@@ -29,7 +30,9 @@ pub fn alu_rr_imm12_word(
     rn: Reg,
     imm12: Imm12,
 ) -> u32
-    requires { sets.are_alu_rr_imm12_operands Refused op rd rn imm12 ≡ true }
+    requires rd { IsReal rd }
+    requires rn { IsReal rn }
+    requires imm12 { is_imm12 imm12 ≡ true }
     ensures { result ≡ form_word (forms.alu_rr_imm12_form op size rd rn imm12) }
 {
     let (op, s) = (op_bit(op), s_bit(op));
@@ -52,7 +55,7 @@ fn logic_imm(op: ALUOp, imml: ImmLogic) -> ImmLogic
 }
 
 /// The word of an `AluRRImmLogic`.
-#[tactic(auto, using(crate::proofs::Operands::general, crate::proofs::Operands::logic_general, crate::proofs::Operands::logic_lawful), unfolding(crate::specs::IntegerForms::alu_rr_imm_logic_form, a64_inst::specs::IntegerOperands::are_alu_rr_imm_logic_operands))]
+#[tactic(auto, using(crate::proofs::Operands::logic_lawful), unfolding(crate::specs::IntegerForms::alu_rr_imm_logic_form))]
 pub fn alu_rr_imm_logic_word(
     op: ALUOp,
     size: OperandSize,
@@ -60,7 +63,9 @@ pub fn alu_rr_imm_logic_word(
     rn: Reg,
     imml: ImmLogic,
 ) -> u32
-    requires { sets.are_alu_rr_imm_logic_operands Refused op size rd rn imml ≡ true }
+    requires rd { IsReal rd }
+    requires rn { IsReal rn }
+    requires imml { is_logic_of size imml ≡ true }
     ensures { result ≡ form_word (forms.alu_rr_imm_logic_form op size rd rn imml) }
 {
     let imml = logic_imm(op, imml);
@@ -73,23 +78,25 @@ pub fn alu_rr_imm_logic_word(
 }
 
 /// The word of a `MovWide`.
-#[tactic(auto, using(crate::proofs::Operands::general, a64_inst::proofs::Good::shift_in), unfolding(crate::specs::IntegerForms::mov_wide_form, a64_inst::specs::IntegerOperands::are_mov_wide_operands))]
+#[tactic(auto, using(crate::proofs::Operands::general, a64_inst::proofs::Good::shift_in), unfolding(crate::specs::IntegerForms::mov_wide_form))]
 pub fn mov_wide_word(
     op: MoveWideOp,
     rd: Writable<Reg>,
     imm: MoveWideConst,
     size: OperandSize,
 ) -> u32
-    requires { sets.are_mov_wide_operands Refused rd imm size ≡ true }
+    requires rd { is_register_or_zero Refused rd ≡ true }
+    requires imm { is_wide_in size imm ≡ true }
     ensures { result ≡ form_word (forms.mov_wide_form op rd imm size) }
 {
     enc_move_wide(op, rd, imm, size)
 }
 
 /// The word of a `MovK`.
-#[tactic(auto, using(crate::proofs::Operands::general, a64_inst::proofs::Good::shift_in), unfolding(crate::specs::IntegerForms::mov_k_form, a64_inst::specs::IntegerOperands::are_mov_k_operands))]
-pub fn mov_k_word(rd: Writable<Reg>, rn: Reg, imm: MoveWideConst, size: OperandSize) -> u32
-    requires { sets.are_mov_k_operands Refused rd rn imm size ≡ true }
+#[tactic(auto, using(crate::proofs::Operands::general, a64_inst::proofs::Good::shift_in), unfolding(crate::specs::IntegerForms::mov_k_form))]
+pub fn mov_k_word(rd: Writable<Reg>, imm: MoveWideConst, size: OperandSize) -> u32
+    requires rd { is_register_or_zero Refused rd ≡ true }
+    requires imm { is_wide_in size imm ≡ true }
     ensures { result ≡ form_word (forms.mov_k_form rd imm size) }
 {
     enc_movk(rd, imm, size)
@@ -108,7 +115,7 @@ fn rotate_word(size: OperandSize, rd: Writable<Reg>, rn: Reg, amount: u8) -> u32
 }
 
 /// The word of an `AluRRImmShift`.
-#[tactic(auto, using(crate::proofs::Operands::general), unfolding(crate::specs::IntegerForms::alu_rr_imm_shift_form, a64_inst::specs::IntegerOperands::are_alu_rr_imm_shift_operands))]
+#[tactic(auto, using(crate::proofs::Operands::general), unfolding(crate::specs::IntegerForms::alu_rr_imm_shift_form))]
 pub fn alu_rr_imm_shift_word(
     op: ALUOp,
     size: OperandSize,
@@ -116,7 +123,9 @@ pub fn alu_rr_imm_shift_word(
     rn: Reg,
     immshift: ImmShift,
 ) -> u32
-    requires { sets.are_alu_rr_imm_shift_operands Refused op size rd rn immshift ≡ true }
+    requires rd { is_register_or_zero Refused rd ≡ true }
+    requires rn { is_register_or_zero Refused rn ≡ true }
+    requires immshift { is_shift_by op size immshift ≡ true }
     ensures { result ≡ form_word (forms.alu_rr_imm_shift_form op size rd rn immshift) }
 {
     let amount = immshift.imm;
@@ -149,9 +158,10 @@ fn extend_opc(signed: bool) -> u8
 }
 
 /// The word of an `Extend`.
-#[tactic(auto, using(crate::proofs::Operands::general), unfolding(crate::specs::IntegerForms::extend_form, a64_inst::specs::IntegerOperands::are_extend_operands))]
+#[tactic(auto, using(crate::proofs::Operands::general, crate::proofs::Operands::extended_general), unfolding(crate::specs::IntegerForms::extend_form, a64_inst::specs::IntegerOperands::is_extended))]
 pub fn extend_word(rd: Writable<Reg>, rn: Reg, signed: bool, from_bits: u8, to_bits: u8) -> u32
-    requires { sets.are_extend_operands Refused rd rn signed from_bits to_bits ≡ true }
+    requires rd { is_extended Refused rd signed from_bits to_bits ≡ true }
+    requires rn { is_register_or_zero Refused rn ≡ true }
     ensures { result ≡ form_word (forms.extend_form rd rn signed from_bits to_bits) }
 {
     if !signed && from_bits == 1 {
@@ -164,51 +174,21 @@ pub fn extend_word(rd: Writable<Reg>, rn: Reg, signed: bool, from_bits: u8, to_b
     enc_bfm(extend_opc(signed), size, rd, rn, 0, from_bits - 1)
 }
 
-/// The word of a `BitfieldMove`.
-#[tactic(auto, using(crate::proofs::Operands::general), unfolding(crate::specs::IntegerForms::bitfield_move_form, a64_inst::specs::IntegerOperands::are_bitfield_move_operands))]
-pub fn bitfield_move_word(
-    size: OperandSize,
-    op: BfmOp,
-    rd: Writable<Reg>,
-    rn: Reg,
-    immr: UImm6,
-    imms: UImm6,
-) -> u32
-    requires { sets.are_bitfield_move_operands Refused size rd rn immr imms ≡ true }
-    ensures { result ≡ form_word (forms.bitfield_move_form size op rd rn immr imms) }
-{
-    enc_bfm(bfm_opc_bits(op), size, rd, rn, immr.imm, imms.imm)
-}
-
-/// The word of a `BitfieldMoveMod`.
-#[tactic(auto, using(crate::proofs::Operands::general), unfolding(crate::specs::IntegerForms::bitfield_move_mod_form, a64_inst::specs::IntegerOperands::are_bitfield_move_mod_operands, a64_inst::specs::IntegerOperands::are_bitfield_move_operands))]
-pub fn bitfield_move_mod_word(
-    size: OperandSize,
-    rd: Writable<Reg>,
-    ri: Reg,
-    rn: Reg,
-    immr: UImm6,
-    imms: UImm6,
-) -> u32
-    requires { sets.are_bitfield_move_mod_operands Refused size rd ri rn immr imms ≡ true }
-    ensures { result ≡ form_word (forms.bitfield_move_mod_form size rd rn immr imms) }
-{
-    enc_bfm(1, size, rd, rn, immr.imm, imms.imm)
-}
-
 /// The word of an `Adr`.
-#[tactic(auto, using(crate::proofs::Operands::general, crate::proofs::Operands::near_fits), unfolding(crate::specs::IntegerForms::adr_form, a64_inst::specs::IntegerOperands::are_adr_operands))]
+#[tactic(auto, using(crate::proofs::Operands::general, crate::proofs::Operands::near_fits), unfolding(crate::specs::IntegerForms::adr_form))]
 pub fn adr_word(rd: Writable<Reg>, off: i32) -> u32
-    requires { sets.are_adr_operands Refused rd off ≡ true }
+    requires rd { is_register_or_zero Refused rd ≡ true }
+    requires off { is_near off ≡ true }
     ensures { result ≡ form_word (forms.adr_form rd off) }
 {
     enc_adr(off, rd)
 }
 
 /// The word of an `Adrp`.
-#[tactic(auto, using(crate::proofs::Operands::general, crate::proofs::Operands::near_fits), unfolding(crate::specs::IntegerForms::adrp_form, a64_inst::specs::IntegerOperands::are_adr_operands))]
+#[tactic(auto, using(crate::proofs::Operands::general, crate::proofs::Operands::near_fits), unfolding(crate::specs::IntegerForms::adrp_form))]
 pub fn adrp_word(rd: Writable<Reg>, off: i32) -> u32
-    requires { sets.are_adr_operands Refused rd off ≡ true }
+    requires rd { is_register_or_zero Refused rd ≡ true }
+    requires off { is_near off ≡ true }
     ensures { result ≡ form_word (forms.adrp_form rd off) }
 {
     enc_adrp(off, rd)

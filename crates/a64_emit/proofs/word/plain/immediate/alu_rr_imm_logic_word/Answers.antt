@@ -1,7 +1,7 @@
 use Rattle.std.proofs.Common.{ℕ, ◌≡◌, Bool, true, false}
 use Rattle.a64_enc_int.specs.Operators.{bit_of}
 use Rattle.a64_emit.proofs.LogicForms.{alu_rr_imm_logic_is_form}
-use Rattle.a64_emit.proofs.word.integer.immediate.alu_rr_imm_logic_word.Goals as goal
+use Rattle.a64_emit.proofs.word.plain.immediate.alu_rr_imm_logic_word.Goals as goal
 
 -- a flag as a number
 as_bit : (flag : Bool) (n : ℕ) → n ≡ (elim flag [ false ↦ 0 | true ↦ 1 ]) → n ≡ bit_of flag
@@ -11,5 +11,5 @@ as_bit true n e = e
 pub pack-requires : goal.pack-requires
 pack-requires c =
     let imm = c.logic_imm-imml.result in
-    let formed = alu_rr_imm_logic_is_form c.args.op c.args.size c.args.rd c.args.rn c.args.imml imm c.requires c.logic_imm-imml.ensures.value c.logic_imm-imml.ensures.lawful in
+    let formed = alu_rr_imm_logic_is_form c.args.op c.args.size c.args.rd c.args.rn c.args.imml imm c.requires.imml c.logic_imm-imml.ensures.value c.logic_imm-imml.ensures.lawful in
     rw (c.sf_bit.ensures, c.opc_bits.ensures.value, as_bit imm.n c.from-n.result c.from-n.ensures, c.from-immr.ensures, c.from-imms.ensures, c.register_field-rn.ensures.value, c.register_field-rd.ensures.value, c.to_reg.ensures) formed

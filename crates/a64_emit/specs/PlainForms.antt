@@ -1,0 +1,113 @@
+-- The form of each instruction that is one plain word (Arm Architecture Reference Manual, DDI 0487, C4.1, "Data Processing --
+-- Immediate" and "Data Processing -- Register").
+use Rattle.std.specs.Prelude.{Option, None, Some}
+use Rattle.a64_base.specs.declared.reg.Reg.TheVariants.{Real}
+use Rattle.a64_base.specs.declared.size.OperandSize.TheVariants.{Size64}
+use Rattle.a64_base.specs.Conditions.{condition_bits, inverse_of}
+use Rattle.a64_base.specs.OperandSizes.{sf_of}
+use Rattle.a64_imms.specs.Flags.{flags_of, nzcv_bits}
+use Rattle.a64_imms.specs.Unsigned.{uimm5_value}
+use Rattle.a64_inst.specs.declared.inst.Inst.{Inst}
+use Rattle.a64_inst.specs.declared.inst.Inst.TheVariants as insts
+use Rattle.a64_rows.specs.Forms.{Form}
+use Rattle.a64_rows.specs.DataProcessing.{bitfield, cond_compare, cond_select, data_proc1}
+use Rattle.a64_enc_int.specs.Registers.{register_field}
+use Rattle.a64_emit.specs.IntegerForms as integer
+use Rattle.a64_emit.specs.IntegerForms.{bfm_opc, bit_opcode, product_form, shifted_form, two_registers}
+
+abbrev pub plain_form : Inst → Option Form
+-- ---- integer operations with immediates
+plain_form (insts.AluRRImm12 alu_op size rd rn imm12) = Some (integer.alu_rr_imm12_form alu_op size rd rn imm12)
+plain_form (insts.AluRRImmLogic alu_op size rd rn imml) = Some (integer.alu_rr_imm_logic_form alu_op size rd rn imml)
+plain_form (insts.AluRRImmShift alu_op size rd rn immshift) = Some (integer.alu_rr_imm_shift_form alu_op size rd rn immshift)
+plain_form (insts.MovWide op rd imm size) = Some (integer.mov_wide_form op rd imm size)
+plain_form (insts.MovK rd rn imm size) = Some (integer.mov_k_form rd imm size)
+plain_form (insts.Extend rd rn signed from_bits to_bits) = Some (integer.extend_form rd rn signed from_bits to_bits)
+-- Bitfield, SBFM and UBFM
+plain_form (insts.BitfieldMove size bfm_op rd rn immr imms) =
+    Some (bitfield (record {
+      sf = sf_of size;
+      opc = bfm_opc bfm_op;
+      immr = immr.imm;
+      imms = imms.imm;
+      rn = register_field rn;
+      rd = register_field rd;
+    }))
+-- Bitfield, BFM
+plain_form (insts.BitfieldMoveMod size rd ri rn immr imms) =
+    Some (bitfield (record {
+      sf = sf_of size;
+      opc = 1;
+      immr = immr.imm;
+      imms = imms.imm;
+      rn = register_field rn;
+      rd = register_field rd;
+    }))
+plain_form (insts.Adr rd off) = Some (integer.adr_form rd off)
+plain_form (insts.Adrp rd off) = Some (integer.adrp_form rd off)
+-- ---- integer operations on registers
+plain_form (insts.AluRRR alu_op size rd rn rm) = Some (integer.alu_rrr_form alu_op size rd rn rm)
+-- Data-processing (3 source)
+plain_form (insts.AluRRRR alu_op size rd rn rm ra) = Some (product_form alu_op (register_field ra) (two_registers size rd rn rm))
+plain_form (insts.AluRRRShift alu_op size rd rn rm shiftop) = Some (shifted_form alu_op shiftop (two_registers size rd rn rm))
+plain_form (insts.AluRRRExtend alu_op size rd rn rm extendop) = Some (integer.alu_rrr_extend_form alu_op size rd rn rm extendop)
+-- Data-processing (1 source)
+plain_form (insts.BitRR op size rd rn) =
+    Some (data_proc1 (record { sf = sf_of size; op6 = bit_opcode op; rn = register_field rn; rd = register_field rd }))
+plain_form (insts.Mov size rd rm) = Some (integer.mov_form size rd rm)
+plain_form (insts.MovFromPReg rd rm) = Some (integer.mov_form Size64 rd (Real rm))
+plain_form (insts.MovToPReg rd rm) = Some (integer.mov_form Size64 (Real rd) rm)
+-- Conditional select, CSEL
+plain_form (insts.CSel rd rn rm cond) = Some (integer.csel_form rd rn rm cond)
+-- Conditional select, CSNEG
+plain_form (insts.CSNeg rd rn rm cond) =
+    Some (cond_select (record {
+      op = 1;
+      rm = register_field rm;
+      cond = condition_bits cond;
+      o2 = 1;
+      rn = register_field rn;
+      rd = register_field rd;
+    }))
+-- 1 where the condition holds: where its inverse fails, the zero register plus 1 (Conditional select, CSINC)
+plain_form (insts.CSet rd cond) =
+    Some (cond_select (record {
+      op = 0;
+      rm = 31;
+      cond = condition_bits (inverse_of cond);
+      o2 = 1;
+      rn = 31;
+      rd = register_field rd;
+    }))
+-- all ones where the condition holds: where its inverse fails, the zero register inverted (Conditional select, CSINV)
+plain_form (insts.CSetm rd cond) =
+    Some (cond_select (record {
+      op = 1;
+      rm = 31;
+      cond = condition_bits (inverse_of cond);
+      o2 = 0;
+      rn = 31;
+      rd = register_field rd;
+    }))
+-- Conditional compare (register)
+plain_form (insts.CCmp size rn rm nzcv cond) =
+    Some (cond_compare (record {
+      sf = sf_of size;
+      rm = register_field rm;
+      cond = condition_bits cond;
+      imm = 0;
+      rn = register_field rn;
+      nzcv = nzcv_bits (flags_of nzcv);
+    }))
+-- Conditional compare (immediate)
+plain_form (insts.CCmpImm size rn imm nzcv cond) =
+    Some (cond_compare (record {
+      sf = sf_of size;
+      rm = uimm5_value imm;
+      cond = condition_bits cond;
+      imm = 1;
+      rn = register_field rn;
+      nzcv = nzcv_bits (flags_of nzcv);
+    }))
+-- the others are no plain words
+plain_form _ = None

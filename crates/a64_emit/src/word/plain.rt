@@ -1,0 +1,94 @@
+//! The words of instructions that are one plain word.
+
+pub mod immediate;
+mod operator;
+pub mod register;
+
+ghost use Rattle.std.specs.Prelude.{◌≡◌, Some, true};
+ghost use Rattle.a64_inst.specs.declared.group.Group.TheVariants.{Plain};
+ghost use Rattle.a64_inst.specs.declared.group.PlainGroup.TheVariants.{Immediate, Register};
+ghost use Rattle.a64_inst.specs.declared.virtuals.VirtualRegisters.TheVariants.{Refused};
+ghost use Rattle.a64_inst.specs.Groups.{group_of};
+ghost use Rattle.a64_inst.specs.Faults.{has_operands};
+ghost use Rattle.a64_emit.specs.Cells.{shape_of, only_word};
+
+use crate::word::plain::immediate::{
+    adr_word, adrp_word, alu_rr_imm_logic_word, alu_rr_imm_shift_word, alu_rr_imm12_word,
+    extend_word, mov_k_word, mov_wide_word,
+};
+use crate::word::plain::operator::{bfm_opc_bits, bit_opcode_bits, product_word, shifted_word};
+use crate::word::plain::register::{
+    alu_rrr_extend_word, alu_rrr_word, csel_word, mov_word, two_registers,
+};
+use a64_base::{OperandSize, Reg, Writable, zero_reg};
+use a64_enc_int::{enc_bfm, enc_bit_rr, enc_ccmp, enc_ccmp_imm, enc_csel, register_field};
+use a64_inst::{EmitInfo, FrameLayout, Inst, PlainGroup};
+
+/// The word of an instruction, by its fields.
+macro_rules! word_arms {
+    ($inst:expr; $($name:ident { $($field:ident),* } => $word:expr;)+) => {
+        match $inst {
+            $(Inst::$name { $($field),* } => $word,)+
+            _ => unreachable!(),
+        }
+    };
+}
+
+/// The word of an integer operation with an immediate.
+#[tactic(auto, using(crate::proofs::Operands::general, crate::proofs::Operands::real, crate::proofs::Operands::stack_real, crate::proofs::Operands::add_sub_real, crate::proofs::Operands::logic_real))]
+pub fn immediate_word(inst: &Inst, frame: &FrameLayout, info: &EmitInfo) -> u32
+    requires group { group_of inst.now ≡ Plain Immediate }
+    requires good { has_operands frame.now info.now Refused inst.now ≡ true }
+    ensures { Some result ≡ only_word (shape_of frame.now info.now inst.now) }
+{
+    word_arms!(inst;
+        AluRRImm12 { alu_op, size, rd, rn, imm12 } => alu_rr_imm12_word(*alu_op, *size, *rd, *rn, *imm12);
+        AluRRImmLogic { alu_op, size, rd, rn, imml } => alu_rr_imm_logic_word(*alu_op, *size, *rd, *rn, *imml);
+        AluRRImmShift { alu_op, size, rd, rn, immshift } => alu_rr_imm_shift_word(*alu_op, *size, *rd, *rn, *immshift);
+        MovWide { op, rd, imm, size } => mov_wide_word(*op, *rd, *imm, *size);
+        MovK { rd, rn, imm, size } => mov_k_word(*rd, *imm, *size);
+        Extend { rd, rn, signed, from_bits, to_bits } => extend_word(*rd, *rn, *signed, *from_bits, *to_bits);
+        BitfieldMove { size, bfm_op, rd, rn, immr, imms } => enc_bfm(bfm_opc_bits(*bfm_op), *size, *rd, *rn, immr.imm, imms.imm);
+        BitfieldMoveMod { size, rd, ri, rn, immr, imms } => enc_bfm(1, *size, *rd, *rn, immr.imm, imms.imm);
+        Adr { rd, off } => adr_word(*rd, *off);
+        Adrp { rd, off } => adrp_word(*rd, *off);
+    )
+}
+
+/// The word of an integer operation on registers.
+#[tactic(auto, using(crate::proofs::Operands::general, crate::proofs::Operands::real, crate::proofs::Operands::stack_real, crate::proofs::Operands::add_sub_real, crate::proofs::Operands::moved_result, crate::proofs::Operands::moved_operand, crate::proofs::Operands::moved_from, crate::proofs::Operands::moved_to))]
+pub fn register_word(inst: &Inst, frame: &FrameLayout, info: &EmitInfo) -> u32
+    requires group { group_of inst.now ≡ Plain Register }
+    requires good { has_operands frame.now info.now Refused inst.now ≡ true }
+    ensures { Some result ≡ only_word (shape_of frame.now info.now inst.now) }
+{
+    word_arms!(inst;
+        AluRRR { alu_op, size, rd, rn, rm } => alu_rrr_word(*alu_op, *size, *rd, *rn, *rm);
+        AluRRRR { alu_op, size, rd, rn, rm, ra } => product_word(*alu_op, register_field(*ra), two_registers(*size, *rd, *rn, *rm));
+        AluRRRShift { alu_op, size, rd, rn, rm, shiftop } => shifted_word(*alu_op, *shiftop, two_registers(*size, *rd, *rn, *rm));
+        AluRRRExtend { alu_op, size, rd, rn, rm, extendop } => alu_rrr_extend_word(*alu_op, *size, *rd, *rn, *rm, *extendop);
+        BitRR { op, size, rd, rn } => enc_bit_rr(size.sf_bit(), 0, bit_opcode_bits(*op), *rn, *rd);
+        Mov { size, rd, rm } => mov_word(*size, *rd, *rm);
+        MovFromPReg { rd, rm } => mov_word(OperandSize::Size64, *rd, Reg::from_real_reg(*rm));
+        MovToPReg { rd, rm } => mov_word(OperandSize::Size64, Writable::from_reg(Reg::from_real_reg(*rd)), *rm);
+        CSel { rd, rn, rm, cond } => csel_word(*rd, *rn, *rm, *cond);
+        CSNeg { rd, rn, rm, cond } => enc_csel(*rd, *rn, *rm, *cond, 1, 1);
+        CSet { rd, cond } => enc_csel(*rd, zero_reg(), zero_reg(), cond.invert(), 0, 1);
+        CSetm { rd, cond } => enc_csel(*rd, zero_reg(), zero_reg(), cond.invert(), 1, 0);
+        CCmp { size, rn, rm, nzcv, cond } => enc_ccmp(*size, *rn, *rm, *nzcv, *cond);
+        CCmpImm { size, rn, imm, nzcv, cond } => enc_ccmp_imm(*size, *rn, *imm, *nzcv, *cond);
+    )
+}
+
+/// The word of an instruction of a group of plain words.
+#[inline(always)]
+pub fn plain_word(inst: &Inst, group: PlainGroup, frame: &FrameLayout, info: &EmitInfo) -> u32
+    requires group { group_of inst.now ≡ Plain group }
+    requires good { has_operands frame.now info.now Refused inst.now ≡ true }
+    ensures { Some result ≡ only_word (shape_of frame.now info.now inst.now) }
+{
+    match group {
+        PlainGroup::Immediate => immediate_word(inst, frame, info),
+        PlainGroup::Register => register_word(inst, frame, info),
+    }
+}
