@@ -55,7 +55,8 @@ pub fn read_line<'t, N: Named, const M: usize>(
     values: &mut ArrayVec<Value<'t>, M>,
 ) -> Option<(N, Option<&'t [u8]>)>
     requires few { (name : N) → length (N.kinds_of name) ≤ M }
-    ensures read { Reads {X = N × List Value} (λ p. AreFields IsValue (N.kinds_of p.0) p.1) (λ p. N.text p.0 ∷ texts p.1)
+    ensures read { Reads {X = N × List Value}
+        (λ p. AreFields IsValue (N.kinds_of p.0) p.1) (λ p. N.text p.0 ∷ texts p.1)
         (line_tokens text.now) (option_map (λ r. (r.0, values.new.items)) result) }
     ensures lines { IfSome result (λ r. of_text lines_of r.1 ≡ lines_behind text.now) }
 {
