@@ -2,9 +2,9 @@
 
 pub mod call;
 pub mod control;
-pub mod plain;
 pub mod lone;
 pub mod memory;
+pub mod plain;
 pub mod sequence;
 
 /// What is wrong with an instruction by itself: the first of these that applies.

@@ -78,7 +78,10 @@ pub static NAMES: [Row<Name>; 79] = [
     row!(b"Args", Name::Sequence(SequenceName::Args), List),
     row!(b"Rets", Name::Sequence(SequenceName::Rets), List),
     row!(b"DummyUse", Name::Sequence(SequenceName::DummyUse), Reg),
-    row!(b"SequencePoint", Name::Sequence(SequenceName::SequencePoint)),
+    row!(
+        b"SequencePoint",
+        Name::Sequence(SequenceName::SequencePoint)
+    ),
     row!(b"JTSequence", Name::Sequence(SequenceName::JTSequence), Label List Reg Reg Reg),
     row!(b"LoadExtNameGot", Name::Sequence(SequenceName::LoadExtNameGot), Reg U32),
     row!(b"LoadExtNameNear", Name::Sequence(SequenceName::LoadExtNameNear), Reg U32 I64),

@@ -12,8 +12,8 @@ ghost use Rattle.a64_inst.specs.Faults.{has_operands};
 use crate::class::{Class, is_of};
 use crate::emission::EmitInfo;
 use crate::fault::plain::immediate::{
-    is_add_sub_imm12, is_bitfield, is_extended, is_kept, is_kept_bitfield, is_logic_imm, is_shift_by,
-    logic_class,
+    is_add_sub_imm12, is_bitfield, is_extended, is_kept, is_kept_bitfield, is_logic_imm,
+    is_shift_by, logic_class,
 };
 use crate::fault::plain::register::{
     add_sub_class, is_add_sub, is_bit_op_at, is_long_product_at, is_move, is_move_from, is_move_to,
