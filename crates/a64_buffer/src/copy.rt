@@ -1,6 +1,6 @@
 //! Copies of constants in islands.
 
-ghost use Rattle.std.specs.Prelude.{◌≡◌, ◌+◌, ◌*◌, ◌/◌, ◌%◌, ◌^◌, ◌<◌, ◌≤◌, ◌++◌, [], IfSome, IsSome, length, map, replicate, vec_len, vec_capacity};
+ghost use Rattle.std.specs.Prelude.{◌≡◌, ◌+◌, ◌*◌, ◌/◌, ◌%◌, ◌^◌, ◌<◌, ◌≤◌, ◌++◌, [], IfSome, IsSome, length, map, replicate, vec_capacity};
 ghost use Rattle.std.specs.FinMap as finmap;
 ghost use Rattle.a64_buffer.specs.Buffer.{end_of};
 ghost use Rattle.a64_buffer.specs.Chain.{loads_of, IsChained};

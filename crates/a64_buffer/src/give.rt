@@ -1,9 +1,8 @@
 //! What an island gives to an open use.
 
-ghost use Rattle.std.specs.Prelude.{◌≡◌, ◌+◌, ◌*◌, ◌/◌, ◌%◌, ◌^◌, ◌<◌, ◌≤◌, [], ◌∷◌, ◌++◌, IsTrue, IfSome, IsSome, None, Some, length, map, slice_index_or, slice_set, vec_len, vec_capacity};
+ghost use Rattle.std.specs.Prelude.{◌≡◌, ◌+◌, ◌*◌, ◌^◌, ◌<◌, ◌≤◌, [], ◌∷◌, ◌++◌, IsTrue, IfSome, IsSome, None, Some, length, map, slice_index_or, slice_set, vec_len, vec_capacity};
 ghost use Rattle.std.specs.Option.{unwrap_or};
 ghost use Rattle.std.specs.FinMap as finmap;
-ghost use Rattle.a64_buffer.specs.Word.{words_of};
 ghost use Rattle.a64_buffer.specs.Buffer.{end_of, label_of};
 ghost use Rattle.a64_buffer.specs.declared.class.Class.TheVariants.{Trapping, Far};
 ghost use Rattle.a64_buffer.specs.declared.site.Target.TheVariants.{Label};
