@@ -17,7 +17,7 @@ use Rattle.a64_buffer.specs.Pieces.{content_of, stop_for}
 use Rattle.a64_buffer.specs.Word.{word_at}
 use Rattle.a64_emit.specs.declared.code.Code.{Code}
 use Rattle.a64_emit.specs.declared.site.Site.{Site}
-use Rattle.a64_label_use.specs.LabelUses.{adds_distance}
+use Rattle.a64_label_use.specs.LabelUses.{label_kinds, adds_distance}
 use Rattle.a64_emit.proofs.Burdens.{target_kinded}
 use Rattle.a64_emit.proofs.Targets.{IsCodeSite}
 use Rattle.a64_emit.specs.Cells.{Cell}
