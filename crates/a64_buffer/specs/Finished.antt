@@ -39,8 +39,14 @@ module _ {K : Type 0} (r : Kinds K) where
     pub same_length : length code.bytes.items ≡ end_of final
     pub free : (i : ℕ) → i < length final.words → IsFree final.uses (4 * i) → word_at code.bytes.items (4 * i) ≡ slice_index final.words i
     pub settled : All (λ u. IsSettled (slice_index final.words (u.offset / 4)) u (word_at code.bytes.items u.offset)) final.uses
-    pub leads : All (λ u. MatchOption u.stop (u.target ≡ IslandEnd) (TargetLeads r code.bytes.items (b.islands ++ (end_of b, end_of final) ∷ []) b.labels b.constants code.traps.items u.kind u.target)) final.uses
-    pub given : (k : ℕ) (d : Use K) → length b.uses ≤ k → k < length final.uses → IsVeneerUse r b (slice_index_or final.uses k d)
+    pub leads :
+        All (λ u. MatchOption u.stop
+        (u.target ≡ IslandEnd)
+        (TargetLeads r code.bytes.items (b.islands ++ (end_of b, end_of final) ∷ [])
+        b.labels b.constants code.traps.items u.kind u.target)) final.uses
+    pub given :
+        (k : ℕ) (d : Use K) → length b.uses ≤ k → k < length final.uses
+        → IsVeneerUse r b (slice_index_or final.uses k d)
     pub served : List (Use K)
     pub serves : Serves r b.labels b.constants served b final
     pub own_stops : HaveOwnStops b.labels final.uses

@@ -8,8 +8,8 @@ use Rattle.a64_buffer.specs.declared.site.Target.TheVariants.{IslandEnd}
 use Rattle.a64_buffer.specs.Buffer.{Records, Buffer, end_of, goal_of}
 use Rattle.a64_buffer.specs.ByPlace.{AreByPlace}
 
--- a use later on: the same use; a stop that it has stays, and one that it gets is at the end from which
--- it waited, or behind it
+-- a use later on: the same use; a stop that it has stays, and one that it gets is at the end from
+-- which it waited, or behind it
 pub record IsSameUse {K : Type 0} (end : ℕ) (u v : Use K) : Type 0 where
   pub offset : v.offset ≡ u.offset
   pub target : v.target ≡ u.target
@@ -35,15 +35,20 @@ pub record HasMoreRecords (records records' : Records) : Type 0 where
   pub patchable : HasMore records.patchable records'.patchable
   pub maps : HasMore records.maps records'.maps
 
--- a buffer later on: its words, uses, labels, traps and records stay, new uses stand at a place or behind it,
--- and new traps at its old end or behind it
+-- a buffer later on: its words, uses, labels, traps and records stay, new uses stand at a place or
+-- behind it, and new traps at its old end or behind it
 pub record IsLaterFrom {K : Type 0} (from : ℕ) (b b' : Buffer K) : Type 0 where
   pub end : end_of b ≤ end_of b'
   pub words : (i : ℕ) → i < length b.words → slice_index b'.words i ≡ slice_index b.words i
   pub count : length b.uses ≤ length b'.uses
-  pub uses : (k : ℕ) (d : Use K) → k < length b.uses → IsSameUse (end_of b) (slice_index_or b.uses k d) (slice_index_or b'.uses k d)
-  pub fresh : (k : ℕ) (d : Use K) → length b.uses ≤ k → k < length b'.uses → from ≤ (slice_index_or b'.uses k d).offset
-  pub labels : (label place : ℕ) → get b.labels label ≡ Some place → get b'.labels label ≡ Some place
+  pub uses :
+      (k : ℕ) (d : Use K) → k < length b.uses
+      → IsSameUse (end_of b) (slice_index_or b.uses k d) (slice_index_or b'.uses k d)
+  pub fresh :
+      (k : ℕ) (d : Use K) → length b.uses ≤ k → k < length b'.uses
+      → from ≤ (slice_index_or b'.uses k d).offset
+  pub labels :
+      (label place : ℕ) → get b.labels label ≡ Some place → get b'.labels label ≡ Some place
   pub constants : b'.constants ≡ b.constants
   pub traps : HasMoreTraps (end_of b) (end_of b') b.traps b'.traps
   pub records : HasMoreRecords b.records b'.records
@@ -52,7 +57,9 @@ pub record IsLaterFrom {K : Type 0} (from : ℕ) (b b' : Buffer K) : Type 0 wher
 abbrev pub IsLater : {K : Type 0} → Buffer K → Buffer K → Type 0
 IsLater b b' = IsLaterFrom (end_of b) b b'
 
--- a use that has a stop leads below an end, to its label's place, or, where it is the jump over an island,
--- to the end of that
+-- a use that has a stop leads below an end, to its label's place, or, where it is the jump over an
+-- island, to the end of that
 abbrev pub HasStopBelow : {K : Type 0} → ℕ → FinMap nat_cmp ℕ → Use K → Type 0
-HasStopBelow end labels u = IfSome u.stop (λ stop. (stop < end) ⊎ (goal_of labels u.target ≡ Some stop) ⊎ (u.target ≡ IslandEnd))
+HasStopBelow end labels u =
+    IfSome u.stop
+    (λ stop. (stop < end) ⊎ (goal_of labels u.target ≡ Some stop) ⊎ (u.target ≡ IslandEnd))

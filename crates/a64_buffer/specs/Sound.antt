@@ -32,7 +32,9 @@ pub record IsPlaced {K : Type 0} (end : ℕ) (u : Use K) : Type 0 where
 
 -- no two uses stand on one word
 abbrev pub AreApart : {K : Type 0} → List (Use K) → Type 0
-AreApart {K} uses = (j k : ℕ) (d : Use K) → j < k → k < length uses → (slice_index_or uses j d).offset ≢ (slice_index_or uses k d).offset
+AreApart {K} uses =
+    (j k : ℕ) (d : Use K) → j < k → k < length uses
+    → (slice_index_or uses j d).offset ≢ (slice_index_or uses k d).offset
 
 -- a target is a trap
 abbrev pub IsTrap : Target → Type 0
@@ -41,19 +43,20 @@ IsTrap (Constant constant) = ⊥
 IsTrap (Trap code) = Unit {0}
 IsTrap IslandEnd = ⊥
 
--- a stop that a use may share with any other: the place of its label, or, where it is the jump over an
--- island, the end of that
+-- a stop that a use may share with any other: the place of its label, or, where it is the jump over
+-- an island, the end of that
 abbrev pub IsShared : FinMap nat_cmp ℕ → Target → ℕ → Type 0
 IsShared labels target stop = (goal_of labels target ≡ Some stop) ⊎ (target ≡ IslandEnd)
 
--- uses of two targets may stop at one place: they load one constant, or one of them may share that stop
+-- uses of two targets may stop at one place: they load one constant, or one of them may share that
+-- stop
 abbrev pub MayShare : FinMap nat_cmp ℕ → ℕ → Target → Target → Type 0
 MayShare labels stop s t =
     (IsSome (constant_of s) × (s ≡ t))
     ⊎ IsShared labels s stop ⊎ IsShared labels t stop
 
--- no two uses stop at one place, but for loads of one constant, uses that stop at the place of their
--- label, and jumps over islands
+-- no two uses stop at one place, but for loads of one constant, uses that stop at the place of
+-- their label, and jumps over islands
 abbrev pub HaveOwnStops : {K : Type 0} → FinMap nat_cmp ℕ → List (Use K) → Type 0
 HaveOwnStops {K} labels uses =
     (j k stop : ℕ) (d : Use K) → j < k → k < length uses
@@ -90,7 +93,8 @@ module _ {K : Type 0} (r : Kinds K) where
       pub use' : HasUse b.uses place target r.jump
       pub area : InArea areas place 4
 
-    -- from a place on stand the words of a far veneer, of which the last alone is a use, of the target
+    -- from a place on stand the words of a far veneer, of which the last alone is a use, of the
+    -- target
     pub record IsFar (target : Target) (place : ℕ) : Type 0 where
       pub stands : Stands b areas place r.far_words (4 * length r.far_words + 4)
       pub last : slice_index b.words (place / 4 + length r.far_words) ≡ 0
@@ -112,8 +116,11 @@ module _ {K : Type 0} (r : Kinds K) where
 
     -- what stands where a use stops: its target, or a veneer for it
     abbrev pub LeadsOn : K → Target → ℕ → Type 0
-    LeadsOn kind (Label label) stop = (get b.labels label.0 ≡ Some stop) ⊎ (IsTrue (r.veneers kind) × IsVeneerFor kind (Label label) stop)
-    LeadsOn kind (Constant constant) stop = IsSomeAnd (get b.constants constant.0) (λ content. IsCopy content stop)
+    LeadsOn kind (Label label) stop =
+        (get b.labels label.0 ≡ Some stop)
+        ⊎ (IsTrue (r.veneers kind) × IsVeneerFor kind (Label label) stop)
+    LeadsOn kind (Constant constant) stop =
+        IsSomeAnd (get b.constants constant.0) (λ content. IsCopy content stop)
     LeadsOn kind (Trap code) stop = IsTrapWord code stop
     LeadsOn kind IslandEnd stop = stop ≤ end_of b
 
@@ -124,20 +131,25 @@ module _ {K : Type 0} (r : Kinds K) where
 
     -- a use without a stop does not reach its label, if that is bound
     abbrev pub IsRightlyOpen : Target → K → ℕ → Type 0
-    IsRightlyOpen target kind offset = IfSome (goal_of b.labels target) (λ place. is_within r kind offset place ≡ false)
+    IsRightlyOpen target kind offset =
+        IfSome (goal_of b.labels target) (λ place. is_within r kind offset place ≡ false)
 
     abbrev pub IsStoppedOrOpen : Use K → Type 0
-    IsStoppedOrOpen u = MatchOption u.stop (IsRightlyOpen u.target u.kind u.offset) (IsStop u.target u.kind u.offset)
+    IsStoppedOrOpen u =
+        MatchOption u.stop
+        (IsRightlyOpen u.target u.kind u.offset)
+        (IsStop u.target u.kind u.offset)
 
-    -- the code is short; uses stand apart on words of it, and stop at their targets or at veneers for
-    -- them; labels are bound to places of words
+    -- the code is short; uses stand apart on words of it, and stop at their targets or at veneers
+    -- for them; labels are bound to places of words
     pub record IsSound : Type 0 where
       pub short : end_of b < 2 ^ 31
       pub placed : All (IsPlaced (end_of b)) b.uses
       pub apart : AreApart b.uses
       pub kinded : All (λ u. IsKinded u.target u.kind) b.uses
       pub known : All (λ u. IsKnown b.constants u.target) b.uses
-      pub bound : (label : ℕ) → IfSome (get b.labels label) (λ place. (place % 4 ≡ 0) × (place ≤ end_of b))
+      pub bound :
+          (label : ℕ) → IfSome (get b.labels label) (λ place. (place % 4 ≡ 0) × (place ≤ end_of b))
       pub stops : All IsStoppedOrOpen b.uses
 
   -- the jump at the start of an island leads to its end
@@ -157,7 +169,9 @@ module _ {K : Type 0} (r : Kinds K) where
   -- the islands of code, which stand one behind another
   pub record AreIslands (b : Buffer K) : Type 0 where
     pub each : All (IsIsland b) b.islands
-    pub in_order : (j k : ℕ) → j < k → k < length b.islands → (slice_index_or b.islands j (0, 0)).1 ≤ (slice_index_or b.islands k (0, 0)).0
+    pub in_order :
+        (j k : ℕ) → j < k → k < length b.islands
+        → (slice_index_or b.islands j (0, 0)).1 ≤ (slice_index_or b.islands k (0, 0)).0
 
   -- a buffer between two calls
   pub record IsWhole (b : Buffer K) : Type 0 where

@@ -54,13 +54,21 @@ trapped (Some code) b place = record b { traps = b.traps ++ (place, code) ∷ []
 
 -- a buffer with the symbol of a call recorded at its end, where the call goes to one
 abbrev pub linked : Callee → Buffer LabelUse → Buffer LabelUse
-linked (Symbol name) b = record b { records = record b.records { relocs = b.records.relocs ++ (end_of b, Arm64Call, name, pos 0) ∷ [] } }
+linked (Symbol name) b = record b {
+  records = record b.records {
+    relocs = b.records.relocs ++ (end_of b, Arm64Call, name, pos 0) ∷ [];
+  };
+}
 linked (Address reg) b = b
 
 -- a buffer with a map of the stack recorded at its end, where there is one
 abbrev pub mapped : Option UserStackMap → Buffer LabelUse → Buffer LabelUse
 mapped None b = b
-mapped (Some kept) b = record b { records = record b.records { maps = b.records.maps ++ (end_of b, kept) ∷ [] } }
+mapped (Some kept) b = record b {
+  records = record b.records {
+    maps = b.records.maps ++ (end_of b, kept) ∷ [];
+  };
+}
 
 -- a buffer that has got the first so many of some words
 pub record PutsInPart (b b' : Buffer LabelUse) (words : List ℕ) : Type 0 where
@@ -68,8 +76,9 @@ pub record PutsInPart (b b' : Buffer LabelUse) (words : List ℕ) : Type 0 where
   pub few : count ≤ length words
   pub is : b' ≡ record b { words = b.words ++ take count words }
 
--- a first part of some cells: the words of the first so many, and their uses, but maybe not that of the last of these words; what is
--- recorded at them, and maybe at the next word: traps, and relocations; and what is recorded behind them, but maybe not all of it
+-- a first part of some cells: the words of the first so many, and their uses, but maybe not that of
+-- the last of these words; what is recorded at them, and maybe at the next word: traps, and
+-- relocations; and what is recorded behind them, but maybe not all of it
 pub record Parts (cells : List Cell) : Type 0 where
   pub count : ℕ
   pub used : ℕ
@@ -116,13 +125,16 @@ abbrev pub Puts : Option ℕ → List Cell → Buffer LabelUse → Buffer LabelU
 Puts None cells b b' = b' ≡ appended b cells
 Puts (Some space) cells b b' = IslandsIfNeeded space b b'
 
--- an instruction was emitted: its cells stand at the end; or, where it is a place for an island, one that is needed
+-- an instruction was emitted: its cells stand at the end; or, where it is a place for an island, one
+-- that is needed
 abbrev pub Emits : EmitFlags → State → Inst → Buffer LabelUse → Buffer LabelUse → Type 0
-Emits flags state inst b b' = Puts (asked_of inst) (kept_cells state.frame flags inst state.map) b b'
+Emits flags state inst b b' =
+    Puts (asked_of inst) (kept_cells state.frame flags inst state.map) b b'
 
 -- an instruction was emitted in part
 abbrev pub EmitsInPart : EmitFlags → State → Inst → Buffer LabelUse → Buffer LabelUse → Type 0
-EmitsInPart flags state inst b b' = IsAppendedInPart b b' (kept_cells state.frame flags inst state.map)
+EmitsInPart flags state inst b b' =
+    IsAppendedInPart b b' (kept_cells state.frame flags inst state.map)
 
 -- there is room for cells at the end of the buffer
 abbrev pub HasRoom : Buffer LabelUse → List Cell → Type 0
@@ -130,7 +142,10 @@ HasRoom b cells = end_of b + 4 * length cells < 2 ^ 31
 
 -- with cells at the end, all open uses still reach what they get in an island behind these cells
 abbrev pub CellsFit : Buffer LabelUse → List Cell → Type 0
-CellsFit b cells = classes.HasRoom label_kinds (end_of b) (b.uses ++ uses_from b.labels (end_of b) cells) (4 * length cells)
+CellsFit b cells =
+    classes.HasRoom label_kinds (end_of b)
+    (b.uses ++ uses_from b.labels (end_of b) cells)
+    (4 * length cells)
 
 -- there is room for an island
 abbrev pub HasIslandRoom : Buffer LabelUse → Type 0

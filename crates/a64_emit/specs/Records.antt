@@ -17,7 +17,8 @@ use Rattle.a64_emit.specs.Cells.{Cell, cell_word, cells_of}
 use Rattle.a64_emit.specs.Leads.{StopsAt}
 use Rattle.a64_emit.specs.Layout.{placed, standing, relocs_in, calls_in, patchable_in, maps_in, traps_in}
 
--- the records of an item, by their offsets from the item's place; those of deferred traps are where these stop
+-- the records of an item, by their offsets from the item's place; those of deferred traps are where
+-- these stop
 module _ (frame : FrameLayout) (flags : EmitFlags) where
   abbrev pub relocs_of : Item → List (ℕ × Reloc × ExternalName × ℤ)
   relocs_of item = relocs_in (placed 0 (cells_of frame flags item))
@@ -46,7 +47,8 @@ map_from place r = (place + r.0, r.1)
 
 -- the records of all items, each at its place
 abbrev pub all_from : {R : Type 0} → (ℕ → R → R) → (Item → List R) → List ℕ → List Item → List R
-all_from moved records (place ∷ places) (item ∷ items) = map (moved place) (records item) ++ all_from moved records places items
+all_from moved records (place ∷ places) (item ∷ items) =
+    map (moved place) (records item) ++ all_from moved records places items
 all_from moved records _ _ = []
 
 -- what is recorded of finished code beside traps
@@ -75,16 +77,24 @@ module _ (frame : FrameLayout) (flags : EmitFlags) (items : List Item) where
     pub from : ℕ
     pub cell : Cell
     pub kind : LabelUse
-    pub stands : Contains (standing (map (cells_of frame flags) items) code.places.items) (from, cell)
+    pub stands :
+        Contains (standing (map (cells_of frame flags) items) code.places.items) (from, cell)
     pub site_is : cell.site ≡ Some (record { kind = kind; target = Trap trap })
     pub stops : StopsAt code kind (cell_word cell) from place
 
-  -- the code has the records of its items, and no others, by place: a deferred trap has its own at its trap word
+  -- the code has the records of its items, and no others, by place: a deferred trap has its own at its
+  -- trap word
   pub record HasRecords (code : Code) : Type 0 where
     pub by_place : AreRecordedByPlace (length code.bytes.items) code.traps.items (records_with code)
-    pub relocs : code.relocs.items ≡ all_from reloc_from (relocs_of frame flags) code.places.items items
+    pub relocs :
+        code.relocs.items ≡ all_from reloc_from (relocs_of frame flags) code.places.items items
     pub traps_ordered : IsStrictlyIncreasing (map (λ t. t.0) code.traps.items)
-    pub traps : (place : ℕ) (trap : TrapCode) → Contains code.traps.items (place, trap) ↔ (IsTrapOf code.places.items place trap ⊎ IsDeferredTrap code place trap)
+    pub traps :
+        (place : ℕ) (trap : TrapCode)
+        → Contains code.traps.items (place, trap)
+        ↔ (IsTrapOf code.places.items place trap ⊎ IsDeferredTrap code place trap)
     pub calls : code.calls.items ≡ all_from ◌+◌ (calls_of frame flags) code.places.items items
-    pub patchable : code.patchable.items ≡ all_from number_from (patchable_of frame flags) code.places.items items
+    pub patchable :
+        code.patchable.items
+        ≡ all_from number_from (patchable_of frame flags) code.places.items items
     pub maps : code.maps.items ≡ all_from map_from (maps_of frame flags) code.places.items items
