@@ -1,5 +1,5 @@
 //! Tests of what no clause says and no file of cases reaches: texts of small values, words that no
-//! instruction has yet, a second machine's uses of labels, adapters of streams, and refused memory.
+//! instruction has yet, a second machine's uses of labels, and refused memory.
 #![tactic(auto)]
 
 #[cfg(test)]
@@ -8,8 +8,6 @@ mod bit_runs;
 mod distances;
 #[cfg(test)]
 mod encoders;
-#[cfg(test)]
-mod errors;
 #[cfg(test)]
 mod immediates;
 #[cfg(test)]
@@ -26,5 +24,3 @@ mod registers;
 mod rows;
 #[cfg(test)]
 mod short_use;
-#[cfg(test)]
-mod streams;
