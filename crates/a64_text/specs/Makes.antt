@@ -70,6 +70,22 @@ abbrev pub memory_of : MemoryName → List Value → Inst
 memory_of memory.LoadP64 values = insts.LoadP64 (reg_at values 0) (reg_at values 1) (pair_mode_at values 2) (flags_at values 3)
 memory_of memory.StoreP64 values = insts.StoreP64 (reg_at values 0) (reg_at values 1) (pair_mode_at values 2) (flags_at values 3)
 memory_of memory.LoadAddr values = insts.LoadAddr (reg_at values 0) (mode_at values 1)
+memory_of memory.AtomicRMW values =
+    insts.AtomicRMW (type_at values 0) (atomic_rmw_op_at values 1) (reg_at values 2) (reg_at values 3) (reg_at values 4) (flags_at values 5)
+memory_of memory.AtomicCAS values =
+    insts.AtomicCAS (reg_at values 0) (reg_at values 1) (reg_at values 2) (reg_at values 3) (type_at values 4) (flags_at values 5)
+memory_of memory.AtomicCAS128 values = insts.AtomicCAS128 (record {
+  rd_lo = reg_at values 0;
+  rd_hi = reg_at values 1;
+  rs_lo = reg_at values 2;
+  rs_hi = reg_at values 3;
+  rt_lo = reg_at values 4;
+  rt_hi = reg_at values 5;
+  rn = reg_at values 6;
+  flags = flags_at values 7;
+})
+memory_of memory.LoadAcquire values = insts.LoadAcquire (type_at values 0) (reg_at values 1) (reg_at values 2) (flags_at values 3)
+memory_of memory.StoreRelease values = insts.StoreRelease (type_at values 0) (reg_at values 1) (reg_at values 2) (flags_at values 3)
 
 -- the jump through a table of these fields, with these targets
 abbrev pub jump_of : List Value → List MachLabel → Inst
