@@ -28,7 +28,7 @@ use Rattle.a64_text.specs.declared.name.SequenceName.TheVariants as sequence
 use Rattle.a64_text.specs.declared.name.Name.{Name}
 use Rattle.a64_text.specs.declared.name.Name.TheVariants as names
 use Rattle.a64_read.specs.declared.value.Value.{Value}
-use Rattle.a64_read.specs.At.{cond_br_kind_at, convention_at, emit_flag_at, flags_at, frame_field_at, i64_at, imm12_at, key_at, label_at, list_at, map_at, mode_at, pair_mode_at, reg_at, target_at, test_bit_kind_at, truth_at, u32_at, u64_at, u8_at}
+use Rattle.a64_read.specs.At.{atomic_rmw_op_at, cond_br_kind_at, convention_at, emit_flag_at, flags_at, frame_field_at, i64_at, imm12_at, key_at, label_at, list_at, map_at, mode_at, pair_mode_at, reg_at, target_at, test_bit_kind_at, truth_at, type_at, u32_at, u64_at, u8_at}
 use Rattle.a64_read.specs.Calls.{call_arg_text, call_lists_text, AreCallLists, CallLists, IsCallArg}
 use Rattle.a64_read.specs.Fields.{label_text, IsLabel}
 use Rattle.a64_read.specs.Hex.{hex_text}
