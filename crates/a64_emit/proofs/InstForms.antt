@@ -53,6 +53,7 @@ use Rattle.a64_emit.specs.IntegerForms.{mov_form, mov_to_nzcv_form, mov_from_nzc
 use Rattle.a64_emit.specs.MemoryForms.{step_forms, addend_register, offset_register, addend, addend_form, sum_form, sum_op}
 use Rattle.a64_emit.proofs.Accesses.{mode_good, byte_size, addend_good}
 use Rattle.a64_emit.proofs.AccessForms.{HoldsOffset, final_holds, plan_forms, final_steps_forms, parts_are_form, access_is_form, access_steps_forms, pair_is_form}
+use Rattle.a64_emit.proofs.AtomicForms as atomic
 use Rattle.a64_emit.proofs.BranchForms as control
 use Rattle.a64_emit.proofs.BranchForms.{branch_forms}
 use Rattle.a64_emit.proofs.CallForms.{adjust_are_forms, call_is_form, leave_are_forms, return_is_form}
@@ -159,6 +160,11 @@ module _ (frame : FrameLayout) (flags : EmitFlags) where
       register.shifted_is_form alu_op size rd rn rm shiftop (rest_of (insts.AluRRRShift alu_op size rd rn rm shiftop) good)
   plain_shape_forms (insts.BitRR op size rd rn) fits good =
       register.bit_op_is_form op size rd rn (rest_of (insts.BitRR op size rd rn) good)
+  plain_shape_forms (insts.AtomicRMW ty op rs rt rn trap) fits good = (All-nil IsFormOf, atomic.rmw_is_form ty op rs rt rn)
+  plain_shape_forms (insts.AtomicCAS rd rs rt rn ty trap) fits good = (All-nil IsFormOf, atomic.cas_is_form ty rd rt rn)
+  plain_shape_forms (insts.AtomicCAS128 args) fits good = (All-nil IsFormOf, atomic.cas128_is_form args good)
+  plain_shape_forms (insts.LoadAcquire access_ty rt rn trap) fits good = (All-nil IsFormOf, atomic.load_acquire_is_form access_ty rt rn)
+  plain_shape_forms (insts.StoreRelease access_ty rt rn trap) fits good = (All-nil IsFormOf, atomic.store_release_is_form access_ty rt rn)
   plain_shape_forms _ fits good = search inst_rules
 
 module _ (frame : FrameLayout) where

@@ -23,6 +23,7 @@ pub mod RegisterForms
 pub mod BranchForms
 pub mod LogicForms
 pub mod AccessForms
+pub mod AtomicForms
 pub mod SequenceOperands
 pub mod CallOperands
 pub mod Adjustments

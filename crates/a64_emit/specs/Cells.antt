@@ -52,6 +52,7 @@ use Rattle.a64_emit.specs.declared.site.Uses.{Uses}
 use Rattle.a64_inst.specs.declared.item.Item.{Item}
 use Rattle.a64_inst.specs.declared.item.Item.TheVariants.{Bind, Emit}
 use Rattle.a64_rows.specs.Forms.{Form, form_word}
+use Rattle.a64_emit.specs.AtomicForms as atomic
 use Rattle.a64_emit.specs.IntegerForms as integer
 use Rattle.a64_emit.specs.ControlForms as control
 use Rattle.a64_emit.specs.MemoryForms as memory
@@ -282,6 +283,11 @@ plain_shape frame flags (insts.LoadExtNameFar rd name offset) = Words (far_cells
 plain_shape frame flags (insts.StackProbeLoop start end step) = Words (map plain (probe_forms start end step))
 plain_shape frame flags (insts.LoadP64 rt rt2 mem trap) = Several [] (FormOf (memory.pair_form 1 rt rt2 mem)) None trap
 plain_shape frame flags (insts.StoreP64 rt rt2 mem trap) = Several [] (FormOf (memory.pair_form 0 rt rt2 mem)) None trap
+plain_shape frame flags (insts.AtomicRMW ty op rs rt rn trap) = Several [] (FormOf (atomic.rmw_form ty op rs rt rn)) None trap
+plain_shape frame flags (insts.AtomicCAS rd rs rt rn ty trap) = Several [] (FormOf (atomic.cas_form ty rd rt rn)) None trap
+plain_shape frame flags (insts.AtomicCAS128 args) = Several [] (FormOf (atomic.cas128_form args)) None args.flags
+plain_shape frame flags (insts.LoadAcquire access_ty rt rn trap) = Several [] (FormOf (atomic.load_acquire_form access_ty rt rn)) None trap
+plain_shape frame flags (insts.StoreRelease access_ty rt rn trap) = Several [] (FormOf (atomic.store_release_form access_ty rt rn)) None trap
 plain_shape frame flags (insts.LoadAddr rd mem) = address_shape rd (memory.step_forms memory.offset_register (final_steps frame I8 mem)) (final_mode frame I8 mem)
 plain_shape frame flags inst = elim (plain_form inst) [ None ↦ Words [] | Some form ↦ OneWord form ]
 

@@ -2,6 +2,7 @@ pub mod IntegerForms
 pub mod PlainForms
 pub mod ControlForms
 pub mod MemoryForms
+pub mod AtomicForms
 pub mod Cells
 pub mod FormCells
 pub mod Words

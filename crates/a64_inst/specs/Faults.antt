@@ -11,6 +11,7 @@ use Rattle.a64_inst.specs.declared.inst.Inst.TheVariants as insts
 use Rattle.a64_inst.specs.declared.fault.OwnFault.{OwnFault}
 use Rattle.a64_inst.specs.declared.fault.OwnFault.TheVariants as own
 use Rattle.a64_inst.specs.Operands.{is_any_register, is_register, is_register_or_zero}
+use Rattle.a64_inst.specs.AtomicOperands as atomic
 use Rattle.a64_inst.specs.ControlOperands as control
 use Rattle.a64_inst.specs.MemoryOperands as memory
 use Rattle.a64_inst.specs.SequenceOperands as sequence
@@ -87,6 +88,11 @@ module _ (frame : FrameLayout) (flags : EmitFlags) (virtuals : VirtualRegisters)
   has_plain_operands (insts.LoadP64 rt rt2 mem flags) = memory.are_pair_operands virtuals rt rt2 mem
   has_plain_operands (insts.StoreP64 rt rt2 mem flags) = memory.are_pair_operands virtuals rt rt2 mem
   has_plain_operands (insts.LoadAddr rd mem) = memory.are_address_operands frame virtuals rd mem
+  has_plain_operands (insts.AtomicRMW ty op rs rt rn flags) = atomic.are_rmw_operands virtuals ty rs rt rn
+  has_plain_operands (insts.AtomicCAS rd rs rt rn ty flags) = atomic.are_cas_operands virtuals rd rs rt rn ty
+  has_plain_operands (insts.AtomicCAS128 args) = atomic.are_cas128_operands virtuals args
+  has_plain_operands (insts.LoadAcquire access_ty rt rn flags) = atomic.are_ordered_operands virtuals access_ty rt rn
+  has_plain_operands (insts.StoreRelease access_ty rt rn flags) = atomic.are_ordered_operands virtuals access_ty rt rn
   has_plain_operands inst = is_plain (group_of inst) && fields_fit virtuals (sheet inst) (has_rest virtuals inst)
 
   -- a frame can restore an instruction: it is one word without a use, and no call, and has no fault of its operands, its mode and its

@@ -16,3 +16,4 @@ pub mod Addresses
 pub mod Accesses
 pub mod FinalModes
 pub mod MemoryOperands
+pub mod AtomicOperands

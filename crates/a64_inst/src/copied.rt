@@ -169,7 +169,12 @@ fn copied_memory(inst: &Inst) -> Result<Inst, AllocError>
     copied!(inst;
         LoadP64 { rt, rt2, mem, flags },
         StoreP64 { rt, rt2, mem, flags },
-        LoadAddr { rd, mem }
+        LoadAddr { rd, mem },
+        AtomicRMW { ty, op, rs, rt, rn, flags },
+        AtomicCAS { rd, rs, rt, rn, ty, flags },
+        AtomicCAS128 { args },
+        LoadAcquire { access_ty, rt, rn, flags },
+        StoreRelease { access_ty, rt, rn, flags }
     )
 }
 

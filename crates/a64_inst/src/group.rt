@@ -116,6 +116,11 @@ impl Inst {
             Inst::LoadP64 { .. }
             | Inst::StoreP64 { .. }
             | Inst::LoadAddr { .. }
+            | Inst::AtomicRMW { .. }
+            | Inst::AtomicCAS { .. }
+            | Inst::AtomicCAS128 { .. }
+            | Inst::LoadAcquire { .. }
+            | Inst::StoreRelease { .. }
             | Inst::ULoad8 { .. }
             | Inst::SLoad8 { .. }
             | Inst::ULoad16 { .. }

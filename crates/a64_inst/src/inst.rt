@@ -2,20 +2,22 @@
 
 ghost use Rattle.std.specs.Prelude.{◌≡◌};
 
+use crate::atomic::AtomicCAS128Args;
 use crate::boxed::Boxed;
 use crate::call::{CallInfo, ReturnCallInfo};
 use crate::fpu_op::{FPUOpRI, FPUOpRIMod};
 use crate::mode::{AMode, PairAMode};
 use crate::pair::{ArgPair, RetPair};
 use a64_base::{
-    BranchTarget, Cond, CondBrKind, ExtendOp, ExternalName, MachLabel, MemFlagsData, OperandSize,
-    PReg, Reg, ScalarSize, ShiftOpAndAmt, TestBitAndBranchKind, TrapCode, VectorSize, Writable,
+    BranchTarget, Cond, CondBrKind, ExtendOp, ExternalName, IrType, MachLabel, MemFlagsData,
+    OperandSize, PReg, Reg, ScalarSize, ShiftOpAndAmt, TestBitAndBranchKind, TrapCode, VectorSize,
+    Writable,
 };
 use a64_imms::{ASIMDFPModImm, Imm12, ImmLogic, ImmShift, MoveWideConst, NZCV, UImm5, UImm6};
 use a64_list::ListVec;
 use a64_ops::{
-    ALUOp, ALUOp3, BfmOp, BitOp, FPUOp1, FPUOp2, FPUOp3, FpuRoundMode, FpuToIntOp, IntToFpuOp,
-    MoveWideOp,
+    ALUOp, ALUOp3, AtomicRMWOp, BfmOp, BitOp, FPUOp1, FPUOp2, FPUOp3, FpuRoundMode, FpuToIntOp,
+    IntToFpuOp, MoveWideOp,
 };
 use std::alloc::Global;
 use std::default::MadeWith;
@@ -689,6 +691,64 @@ pub enum Inst {
         rd: Writable<Reg>,
         /// The addressing mode.
         mem: AMode,
+    },
+    /// An atomic operation on a register and memory, with acquire and release: `ldaddal` and its like, and
+    /// `swpal`.
+    AtomicRMW {
+        /// The type of the value: 8, 16, 32 or 64 bits.
+        ty: IrType,
+        /// The operator.
+        op: AtomicRMWOp,
+        /// The operand.
+        rs: Reg,
+        /// What was there before, x0 to x30.
+        rt: Writable<Reg>,
+        /// The address: x0 to x30, or the stack pointer.
+        rn: Reg,
+        /// What is known of the access.
+        flags: MemFlagsData,
+    },
+    /// `casal`: a compare and swap with acquire and release.
+    AtomicCAS {
+        /// What was there before: the register of `rs`.
+        rd: Writable<Reg>,
+        /// The value that is awaited.
+        rs: Reg,
+        /// The new value, which is stored where the awaited one was there.
+        rt: Reg,
+        /// The address: x0 to x30, or the stack pointer.
+        rn: Reg,
+        /// The type of the value: 8, 16, 32 or 64 bits.
+        ty: IrType,
+        /// What is known of the access.
+        flags: MemFlagsData,
+    },
+    /// `caspal`: a compare and swap of 128 bits with acquire and release.
+    AtomicCAS128 {
+        /// The registers, and what is known of the access.
+        args: AtomicCAS128Args,
+    },
+    /// A load with acquire: `ldarb`, `ldarh` or `ldar`.
+    LoadAcquire {
+        /// The type of the value: 8, 16, 32 or 64 bits.
+        access_ty: IrType,
+        /// The result.
+        rt: Writable<Reg>,
+        /// The address: x0 to x30, or the stack pointer.
+        rn: Reg,
+        /// What is known of the access.
+        flags: MemFlagsData,
+    },
+    /// A store with release: `stlrb`, `stlrh` or `stlr`.
+    StoreRelease {
+        /// The type of the value: 8, 16, 32 or 64 bits.
+        access_ty: IrType,
+        /// What is stored.
+        rt: Reg,
+        /// The address: x0 to x30, or the stack pointer.
+        rn: Reg,
+        /// What is known of the access.
+        flags: MemFlagsData,
     },
     /// Load of an unsigned byte, with zeros above it.
     ULoad8 {

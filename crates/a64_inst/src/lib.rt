@@ -2,6 +2,7 @@
 #![tactic(auto)]
 
 mod access;
+mod atomic;
 mod boxed;
 mod call;
 mod class;
@@ -29,6 +30,7 @@ pub use a64_ops::{
 };
 pub use a64_plan::{ConstStep, const_plan};
 pub use access::{Access, AccessRef};
+pub use atomic::AtomicCAS128Args;
 pub use boxed::Boxed;
 pub use call::{CallArgPair, CallInfo, CallRetPair, RetLocation, ReturnCallInfo};
 pub use class::Class;

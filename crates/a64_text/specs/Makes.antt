@@ -28,7 +28,7 @@ use Rattle.a64_text.specs.declared.name.SequenceName.TheVariants as sequence
 use Rattle.a64_text.specs.declared.name.Name.{Name}
 use Rattle.a64_text.specs.declared.name.Name.TheVariants as names
 use Rattle.a64_read.specs.declared.value.Value.{Value}
-use Rattle.a64_read.specs.At.{cond_br_kind_at, convention_at, emit_flag_at, flags_at, frame_field_at, i64_at, imm12_at, key_at, label_at, list_at, map_at, mode_at, pair_mode_at, reg_at, target_at, test_bit_kind_at, truth_at, u32_at, u64_at, u8_at}
+use Rattle.a64_read.specs.At.{atomic_rmw_op_at, cond_br_kind_at, convention_at, emit_flag_at, flags_at, frame_field_at, i64_at, imm12_at, key_at, label_at, list_at, map_at, mode_at, pair_mode_at, reg_at, target_at, test_bit_kind_at, truth_at, type_at, u32_at, u64_at, u8_at}
 use Rattle.a64_read.specs.Calls.{call_arg_text, call_lists_text, AreCallLists, CallLists, IsCallArg}
 use Rattle.a64_read.specs.Fields.{label_text, IsLabel}
 use Rattle.a64_read.specs.Hex.{hex_text}
@@ -70,6 +70,22 @@ abbrev pub memory_of : MemoryName → List Value → Inst
 memory_of memory.LoadP64 values = insts.LoadP64 (reg_at values 0) (reg_at values 1) (pair_mode_at values 2) (flags_at values 3)
 memory_of memory.StoreP64 values = insts.StoreP64 (reg_at values 0) (reg_at values 1) (pair_mode_at values 2) (flags_at values 3)
 memory_of memory.LoadAddr values = insts.LoadAddr (reg_at values 0) (mode_at values 1)
+memory_of memory.AtomicRMW values =
+    insts.AtomicRMW (type_at values 0) (atomic_rmw_op_at values 1) (reg_at values 2) (reg_at values 3) (reg_at values 4) (flags_at values 5)
+memory_of memory.AtomicCAS values =
+    insts.AtomicCAS (reg_at values 0) (reg_at values 1) (reg_at values 2) (reg_at values 3) (type_at values 4) (flags_at values 5)
+memory_of memory.AtomicCAS128 values = insts.AtomicCAS128 (record {
+  rd_lo = reg_at values 0;
+  rd_hi = reg_at values 1;
+  rs_lo = reg_at values 2;
+  rs_hi = reg_at values 3;
+  rt_lo = reg_at values 4;
+  rt_hi = reg_at values 5;
+  rn = reg_at values 6;
+  flags = flags_at values 7;
+})
+memory_of memory.LoadAcquire values = insts.LoadAcquire (type_at values 0) (reg_at values 1) (reg_at values 2) (flags_at values 3)
+memory_of memory.StoreRelease values = insts.StoreRelease (type_at values 0) (reg_at values 1) (reg_at values 2) (flags_at values 3)
 
 -- the jump through a table of these fields, with these targets
 abbrev pub jump_of : List Value → List MachLabel → Inst

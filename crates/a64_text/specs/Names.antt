@@ -98,6 +98,14 @@ abbrev pub memory_heading : MemoryName → Heading
 memory_heading memory.LoadP64 = record { text = codes "LoadP64"; kinds = kinds.Reg ∷ kinds.Reg ∷ kinds.PairMode ∷ kinds.Flags ∷ [] }
 memory_heading memory.StoreP64 = record { text = codes "StoreP64"; kinds = kinds.Reg ∷ kinds.Reg ∷ kinds.PairMode ∷ kinds.Flags ∷ [] }
 memory_heading memory.LoadAddr = record { text = codes "LoadAddr"; kinds = kinds.Reg ∷ kinds.Mode ∷ [] }
+memory_heading memory.AtomicRMW = record { text = codes "AtomicRMW"; kinds = kinds.Type ∷ kinds.AtomicRmwOp ∷ kinds.Reg ∷ kinds.Reg ∷ kinds.Reg ∷ kinds.Flags ∷ [] }
+memory_heading memory.AtomicCAS = record { text = codes "AtomicCAS"; kinds = kinds.Reg ∷ kinds.Reg ∷ kinds.Reg ∷ kinds.Reg ∷ kinds.Type ∷ kinds.Flags ∷ [] }
+memory_heading memory.AtomicCAS128 = record {
+  text = codes "AtomicCAS128";
+  kinds = kinds.Reg ∷ kinds.Reg ∷ kinds.Reg ∷ kinds.Reg ∷ kinds.Reg ∷ kinds.Reg ∷ kinds.Reg ∷ kinds.Flags ∷ [];
+}
+memory_heading memory.LoadAcquire = record { text = codes "LoadAcquire"; kinds = kinds.Type ∷ kinds.Reg ∷ kinds.Reg ∷ kinds.Flags ∷ [] }
+memory_heading memory.StoreRelease = record { text = codes "StoreRelease"; kinds = kinds.Type ∷ kinds.Reg ∷ kinds.Reg ∷ kinds.Flags ∷ [] }
 
 -- loads and stores of one register have the same fields
 abbrev pub access_text : AccessOp → List ℕ

@@ -79,6 +79,28 @@ inst_parts (insts.ReturnCall info) = return_call_parts call.ReturnCall (values.U
 inst_parts (insts.ReturnCallInd info) = return_call_parts call.ReturnCallInd (values.Reg info.dest) info
 inst_parts (insts.LoadP64 rt rt2 mem flags) = record { name = names.Memory memory.LoadP64; fields = values.Reg rt ∷ values.Reg rt2 ∷ values.PairMode mem ∷ values.Flags flags ∷ [] }
 inst_parts (insts.StoreP64 rt rt2 mem flags) = record { name = names.Memory memory.StoreP64; fields = values.Reg rt ∷ values.Reg rt2 ∷ values.PairMode mem ∷ values.Flags flags ∷ [] }
+inst_parts (insts.AtomicRMW ty op rs rt rn flags) = record {
+  name = names.Memory memory.AtomicRMW;
+  fields = values.Type ty ∷ values.AtomicRmwOp op ∷ values.Reg rs ∷ values.Reg rt ∷ values.Reg rn ∷ values.Flags flags ∷ [];
+}
+inst_parts (insts.AtomicCAS rd rs rt rn ty flags) = record {
+  name = names.Memory memory.AtomicCAS;
+  fields = values.Reg rd ∷ values.Reg rs ∷ values.Reg rt ∷ values.Reg rn ∷ values.Type ty ∷ values.Flags flags ∷ [];
+}
+inst_parts (insts.AtomicCAS128 args) = record {
+  name = names.Memory memory.AtomicCAS128;
+  fields =
+      values.Reg args.rd_lo ∷ values.Reg args.rd_hi ∷ values.Reg args.rs_lo ∷ values.Reg args.rs_hi
+      ∷ values.Reg args.rt_lo ∷ values.Reg args.rt_hi ∷ values.Reg args.rn ∷ values.Flags args.flags ∷ [];
+}
+inst_parts (insts.LoadAcquire access_ty rt rn flags) = record {
+  name = names.Memory memory.LoadAcquire;
+  fields = values.Type access_ty ∷ values.Reg rt ∷ values.Reg rn ∷ values.Flags flags ∷ [];
+}
+inst_parts (insts.StoreRelease access_ty rt rn flags) = record {
+  name = names.Memory memory.StoreRelease;
+  fields = values.Type access_ty ∷ values.Reg rt ∷ values.Reg rn ∷ values.Flags flags ∷ [];
+}
 inst_parts (insts.LoadAddr rd mem) = record { name = names.Memory memory.LoadAddr; fields = values.Reg rd ∷ values.Mode mem ∷ [] }
 inst_parts (insts.ULoad8 rd mem flags) = access_parts ops.ULoad8 rd mem flags
 inst_parts (insts.SLoad8 rd mem flags) = access_parts ops.SLoad8 rd mem flags

@@ -147,6 +147,16 @@ pub enum MemoryName {
     StoreP64,
     /// `LoadAddr`.
     LoadAddr,
+    /// `AtomicRMW`.
+    AtomicRMW,
+    /// `AtomicCAS`.
+    AtomicCAS,
+    /// `AtomicCAS128`.
+    AtomicCAS128,
+    /// `LoadAcquire`.
+    LoadAcquire,
+    /// `StoreRelease`.
+    StoreRelease,
 }
 
 /// The name with which a line begins.

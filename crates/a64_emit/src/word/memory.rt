@@ -2,6 +2,7 @@
 
 pub mod access;
 pub mod address;
+pub mod atomic;
 pub mod step;
 
 ghost use Rattle.std.specs.Prelude.{◌≡◌, [], length, true, false, is_some, option_map, IfSome, MatchOption};
@@ -18,6 +19,9 @@ use crate::site::Site;
 use crate::uses::{mode_site, mode_target};
 use crate::word::memory::access::{held_word, in_code_word, pair_word};
 use crate::word::memory::address::{address_count, address_words};
+use crate::word::memory::atomic::{
+    cas_word, cas128_word, load_acquire_word, rmw_word, store_release_word,
+};
 use crate::word::memory::step::step_words;
 use a64_base::{TrapCode, writable_spilltmp_reg};
 use a64_buffer::Target;
@@ -144,6 +148,35 @@ pub fn memory_words(inst: &Inst, frame: &FrameLayout, info: &EmitInfo) -> Option
             flags,
         } => (pair_word(0, *rt, *rt2, mem), flags),
         Inst::LoadAddr { rd, mem } => return address_words(*rd, frame, mem),
+        Inst::AtomicRMW {
+            ty,
+            op,
+            rs,
+            rt,
+            rn,
+            flags,
+        } => (rmw_word(*ty, *op, *rs, *rt, *rn), flags),
+        Inst::AtomicCAS {
+            rd,
+            rs,
+            rt,
+            rn,
+            ty,
+            flags,
+        } => (cas_word(*rd, *rs, *rt, *rn, *ty), flags),
+        Inst::AtomicCAS128 { args } => (cas128_word(args), &args.flags),
+        Inst::LoadAcquire {
+            access_ty,
+            rt,
+            rn,
+            flags,
+        } => (load_acquire_word(*access_ty, *rt, *rn), flags),
+        Inst::StoreRelease {
+            access_ty,
+            rt,
+            rn,
+            flags,
+        } => (store_release_word(*access_ty, *rt, *rn), flags),
         _ => unreachable!(),
     };
     Some(SeveralWords {

@@ -1,5 +1,6 @@
 //! What is wrong with loads and stores by themselves.
 
+mod atomic;
 mod constant;
 mod mode;
 pub mod operand;
@@ -76,7 +77,7 @@ fn access_fault(
     None
 }
 
-/// Whether the operands of a pair, or of the address of a mode, are in their sets.
+/// Whether the operands of a pair, of the address of a mode or of an atomic access are in their sets.
 fn has_operands(
     inst: &Inst,
     frame: &FrameLayout,
@@ -101,6 +102,35 @@ fn has_operands(
             flags: _,
         } => operand::pair(virtuals, *rt, *rt2, mem),
         Inst::LoadAddr { rd, mem } => operand::address(frame, virtuals, rd.to_reg(), mem),
+        Inst::AtomicRMW {
+            ty,
+            op: _,
+            rs,
+            rt,
+            rn,
+            flags: _,
+        } => atomic::rmw(virtuals, *ty, *rs, rt.to_reg(), *rn),
+        Inst::AtomicCAS {
+            rd,
+            rs,
+            rt,
+            rn,
+            ty,
+            flags: _,
+        } => atomic::cas(virtuals, rd.to_reg(), *rs, *rt, *rn, *ty),
+        Inst::AtomicCAS128 { args } => atomic::cas128(virtuals, args),
+        Inst::LoadAcquire {
+            access_ty,
+            rt,
+            rn,
+            flags: _,
+        } => atomic::ordered(virtuals, *access_ty, rt.to_reg(), *rn),
+        Inst::StoreRelease {
+            access_ty,
+            rt,
+            rn,
+            flags: _,
+        } => atomic::ordered(virtuals, *access_ty, *rt, *rn),
         _ => unreachable!(),
     }
 }
@@ -128,7 +158,7 @@ fn has_scratch(inst: &Inst, frame: &FrameLayout) -> bool
     }
 }
 
-/// What is wrong with a pair, or with the address of a mode, by itself.
+/// What is wrong with a pair, with the address of a mode or with an atomic access by itself.
 fn other_fault(
     inst: &Inst,
     frame: &FrameLayout,

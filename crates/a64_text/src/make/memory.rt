@@ -8,7 +8,7 @@ ghost use Rattle.a64_text.specs.Puts.{Puts};
 use crate::make::emit;
 use crate::name::MemoryName;
 use a64_base::Writable;
-use a64_inst::{Access, AccessOp, Inst, Item};
+use a64_inst::{Access, AccessOp, AtomicCAS128Args, Inst, Item};
 use a64_read::at;
 use a64_read::value::Value;
 
@@ -59,6 +59,61 @@ pub fn put_memory(items: &mut Vec<Item>, name: MemoryName, values: &[Value]) -> 
             Inst::LoadAddr {
                 rd: Writable::from_reg(at::get(values, 0)),
                 mem: at::get(values, 1),
+            },
+        ),
+        MemoryName::AtomicRMW => emit(
+            items,
+            Inst::AtomicRMW {
+                ty: at::get(values, 0),
+                op: at::get(values, 1),
+                rs: at::get(values, 2),
+                rt: Writable::from_reg(at::get(values, 3)),
+                rn: at::get(values, 4),
+                flags: at::get(values, 5),
+            },
+        ),
+        MemoryName::AtomicCAS => emit(
+            items,
+            Inst::AtomicCAS {
+                rd: Writable::from_reg(at::get(values, 0)),
+                rs: at::get(values, 1),
+                rt: at::get(values, 2),
+                rn: at::get(values, 3),
+                ty: at::get(values, 4),
+                flags: at::get(values, 5),
+            },
+        ),
+        MemoryName::AtomicCAS128 => emit(
+            items,
+            Inst::AtomicCAS128 {
+                args: AtomicCAS128Args {
+                    rd_lo: Writable::from_reg(at::get(values, 0)),
+                    rd_hi: Writable::from_reg(at::get(values, 1)),
+                    rs_lo: at::get(values, 2),
+                    rs_hi: at::get(values, 3),
+                    rt_lo: at::get(values, 4),
+                    rt_hi: at::get(values, 5),
+                    rn: at::get(values, 6),
+                    flags: at::get(values, 7),
+                },
+            },
+        ),
+        MemoryName::LoadAcquire => emit(
+            items,
+            Inst::LoadAcquire {
+                access_ty: at::get(values, 0),
+                rt: Writable::from_reg(at::get(values, 1)),
+                rn: at::get(values, 2),
+                flags: at::get(values, 3),
+            },
+        ),
+        MemoryName::StoreRelease => emit(
+            items,
+            Inst::StoreRelease {
+                access_ty: at::get(values, 0),
+                rt: at::get(values, 1),
+                rn: at::get(values, 2),
+                flags: at::get(values, 3),
             },
         ),
     }
