@@ -33,3 +33,4 @@ pub mod Listed
 pub mod Final
 pub mod Known
 pub mod Clients
+pub mod Contents

@@ -101,10 +101,23 @@ words_append (a ∷ b ∷ c ∷ d ∷ xs) ys h = ap (λ ws. from_le_bytes w32 (a
 pub words_one : (word : ℕ) → word < 2 ^ 32 → words_of (to_le_bytes w32 word) ≡ word ∷ []
 words_one word h = ap (λ w. w ∷ []) (from_le_bytes-to_le_bytes_4 word h)
 
--- bytes were written behind the first ones
+-- bytes were written behind the first ones, also where a word was
 pub words_written : (size : ℕ) (bytes part bytes' : List ℕ) → size % 4 ≡ 0 → size ≤ length bytes → take (size + length part) bytes' ≡ take size bytes ++ part → words_of (take (size + length part) bytes') ≡ words_of (take size bytes) ++ words_of part
 words_written size bytes part bytes' whole h e = ap words_of e ∙ words_append (take size bytes) part (ap (λ n. n % 4) (length-take-le size bytes h) ∙ whole)
 
--- words whose bytes are the first of those that there is memory for
-pub held_size : (size : ℕ) (bytes : List ℕ) (w : HeldWords) → size % 4 ≡ 0 → size ≤ length bytes → held size bytes ≡ w → 4 * length w.items ≡ size
-held_size size bytes w whole h is = ap (λ (v : HeldWords). 4 * length v.items) (sym is) ∙ words_taken size bytes whole h
+pub word_written : (size word : ℕ) (bytes bytes' : List ℕ) → size % 4 ≡ 0 → size ≤ length bytes → word < 2 ^ 32 → take (size + 4) bytes' ≡ take size bytes ++ to_le_bytes w32 word → words_of (take (size + 4) bytes') ≡ words_of (take size bytes) ++ word ∷ []
+word_written size word bytes bytes' whole h fits e =
+    words_written size bytes (to_le_bytes w32 word) bytes' whole h e ∙ ap (λ ws. words_of (take size bytes) ++ ws) (words_one word fits)
+
+-- words whose bytes are the first of some, where there is memory for so many bytes
+pub held_size : (size : ℕ) (bytes : List ℕ) (room : ℕ) (w : HeldWords) → size % 4 ≡ 0 → size ≤ length bytes → held size bytes room ≡ w → 4 * length w.items ≡ size
+held_size size bytes room w whole h is = ap (λ (v : HeldWords). 4 * length v.items) (sym is) ∙ words_taken size bytes whole h
+
+-- there is memory for so many words more
+pub held_room : (size : ℕ) (bytes : List ℕ) (room : ℕ) (w : HeldWords) (more : ℕ) → size % 4 ≡ 0 → size ≤ length bytes → held size bytes room ≡ w → length w.items + more ≤ w.capacity → size + 4 * more ≤ room
+held_room size bytes room w more whole h is le =
+    omega (arith, held_size size bytes room w whole h is, ap (λ (v : HeldWords). v.capacity) is)
+
+pub room_held : (size : ℕ) (bytes : List ℕ) (room : ℕ) (w : HeldWords) (more : ℕ) → size % 4 ≡ 0 → size ≤ length bytes → held size bytes room ≡ w → size + 4 * more ≤ room → length w.items + more ≤ w.capacity
+room_held size bytes room w more whole h is le =
+    omega (arith, held_size size bytes room w whole h is, ap (λ (v : HeldWords). v.capacity) is)

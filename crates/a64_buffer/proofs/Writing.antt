@@ -401,7 +401,7 @@ module _ {K : Type 0} (r : Kinds K) (limit : ℕ) (five : limit ≤ 5) (start p 
   writing_next d p' g = writing_step r limit (seen start) (seen p) (seen p') (class r (get_or p.uses.items index d)) five w g (ranks d).0 (λ fars. fars index d next.0 (next.1 d).0)
 
 pub same_room_none : {K : Type 0} (p : Parts K) → SameRoom p p
-same_room_none p = record { words = refl; uses = refl; earlier = refl; traps = refl; islands = refl }
+same_room_none p = record { words = omega arith; uses = refl; earlier = refl; traps = refl; islands = refl }
 
 pub same_room_trans : {K : Type 0} (p q s : Parts K) → SameRoom p q → SameRoom q s → SameRoom p s
-same_room_trans p q s a c = record { words = c.words ∙ a.words; uses = c.uses ∙ a.uses; earlier = c.earlier ∙ a.earlier; traps = c.traps ∙ a.traps; islands = c.islands ∙ a.islands }
+same_room_trans p q s a c = record { words = omega (arith, a.words, c.words); uses = c.uses ∙ a.uses; earlier = c.earlier ∙ a.earlier; traps = c.traps ∙ a.traps; islands = c.islands ∙ a.islands }

@@ -1,7 +1,9 @@
 -- Constants by their numbers.
-use Rattle.std.specs.Prelude.{ℕ, ◌≡◌, ◌⊎◌, List, length, IfSome, option_map, is_some, if◌then◌else◌}
+use Rattle.std.specs.Prelude.{ℕ, ◌≡◌, ◌⊎◌, List, length, map, IfSome, is_some, if◌then◌else◌}
 use Rattle.std.specs.Ordering.{nat_cmp}
-use Rattle.std.specs.FinMap.{FinMap, get, insert}
+use Rattle.std.specs.FinMap.{FinMap, get, insert, entries, from_entries}
+use Rattle.a64_buffer.specs.declared.constants.Content.{Content}
+use Rattle.a64_buffer.specs.declared.constants.Content.TheVariants.{Word, Doubleword, Quadword}
 
 -- the bytes of a constant: 4, 8 or 16
 abbrev pub IsConstant : List ℕ → Type 0
@@ -10,10 +12,15 @@ IsConstant content = (length content ≡ 4) ⊎ (length content ≡ 8) ⊎ (leng
 abbrev pub AreConstants : FinMap nat_cmp (List ℕ) → Type 0
 AreConstants constants = (number : ℕ) → IfSome (get constants number) IsConstant
 
--- constants, and how many bytes each has
-pub record HaveSizes (constants : FinMap nat_cmp (List ℕ)) (sizes : FinMap nat_cmp ℕ) : Type 0 where
-  pub are : AreConstants constants
-  pub sizes_are : (number : ℕ) → get sizes number ≡ option_map length (get constants number)
+-- the bytes of a content
+abbrev pub content_bytes : Content → List ℕ
+content_bytes (Word bytes) = bytes
+content_bytes (Doubleword bytes) = bytes
+content_bytes (Quadword bytes) = bytes
+
+-- the bytes of the contents of a map
+abbrev pub contents_bytes : FinMap nat_cmp Content → FinMap nat_cmp (List ℕ)
+contents_bytes contents = from_entries (map (λ e. (e.0, content_bytes e.1)) (entries contents))
 
 -- constants with one more, where its number has none
 abbrev pub inserted : FinMap nat_cmp (List ℕ) → ℕ → List ℕ → FinMap nat_cmp (List ℕ)

@@ -7,9 +7,9 @@ use Rattle.a64_buffer.specs.Classes.{veneer_uses, trap_words, weight_of, owed}
 use Rattle.a64_buffer.specs.Queues.{HaveRoomFor}
 use Rattle.a64_buffer.specs.Sound.{seen}
 
--- the capacities stayed
+-- the capacities stayed, and that for words at least
 pub record SameRoom {K : Type 0} (p p' : Parts K) : Type 0 where
-  pub words : p'.words.capacity ≡ p.words.capacity
+  pub words : p.words.capacity ≤ p'.words.capacity
   pub uses : vec_capacity p'.uses ≡ vec_capacity p.uses
   pub earlier : vec_capacity p'.earlier ≡ vec_capacity p.earlier
   pub traps : vec_capacity p'.traps ≡ vec_capacity p.traps

@@ -1,5 +1,5 @@
 -- Words, and the memory for them.
-use Rattle.std.specs.Prelude.{ℕ, ◌/◌, List, length, take}
+use Rattle.std.specs.Prelude.{ℕ, ◌/◌, List, take}
 use Rattle.a64_buffer.specs.Word.{words_of}
 
 -- words, and how many there is memory for
@@ -7,6 +7,6 @@ pub record HeldWords : Type 0 where
   pub items : List ℕ
   pub capacity : ℕ
 
--- the words that the first of some bytes are, where all of the bytes are the memory for words
-abbrev pub held : ℕ → List ℕ → HeldWords
-held size bytes = record { items = words_of (take size bytes); capacity = length bytes / 4 }
+-- the words that the first of some bytes are, where there is memory for so many bytes
+abbrev pub held : ℕ → List ℕ → ℕ → HeldWords
+held size bytes room = record { items = words_of (take size bytes); capacity = room / 4 }

@@ -3,40 +3,76 @@
 ghost use Rattle.std.specs.Prelude.{◌≡◌, ◌^◌, ◌<◌, ◌⊎◌, length, option_map, IfSome, IsSome, is_some, not, IfOk, OnOk, OnErr, if◌then◌else◌};
 ghost use Rattle.std.specs.FinMap as map;
 ghost use Rattle.a64_buffer.specs.Constants as constants;
-ghost use Rattle.a64_buffer.specs.Constants.{IsConstant, inserted};
+ghost use Rattle.a64_buffer.specs.Constants.{IsConstant, content_bytes, inserted};
 
 use a64_base::VCodeConstant;
 use a64_label_map::LabelMap;
-use a64_list::ListVec;
 use std::alloc::{AllocError, Global};
-use std::collections::BTreeMap;
 use std::marker::Model;
+
+/// The bytes of a constant.
+#[derive(Clone, Copy)]
+pub enum Content {
+    /// 4 bytes.
+    Word([u8; 4]),
+    /// 8 bytes.
+    Doubleword([u8; 8]),
+    /// 16 bytes.
+    Quadword([u8; 16]),
+}
+
+impl Content {
+    /// The content of these bytes.
+    fn new(bytes: &[u8]) -> Content
+        requires { IsConstant bytes.now }
+        ensures { content_bytes result ≡ bytes.now }
+    {
+        if let Ok(word) = <[u8; 4]>::try_from(bytes) {
+            return Content::Word(word);
+        }
+        if let Ok(doubleword) = <[u8; 8]>::try_from(bytes) {
+            return Content::Doubleword(doubleword);
+        }
+        match <[u8; 16]>::try_from(bytes) {
+            Ok(quadword) => Content::Quadword(quadword),
+            Err(_) => unreachable!(),
+        }
+    }
+
+    /// The bytes.
+    #[inline(always)]
+    fn as_slice(&self) -> &[u8]
+        ensures { result.now ≡ content_bytes self.now }
+    {
+        match self {
+            Content::Word(bytes) => bytes.as_slice(),
+            Content::Doubleword(bytes) => bytes.as_slice(),
+            Content::Quadword(bytes) => bytes.as_slice(),
+        }
+    }
+}
 
 /// The constants that code may load, by their numbers.
 #[derive(Drop)]
 pub struct Constants {
-    /// The bytes of each.
-    bytes: BTreeMap<u32, ListVec<u8>>,
-    /// How many bytes each has, so that a load of one costs a step of a table.
-    sizes: LabelMap<u32>,
-    /// Where memory comes from.
-    alloc: Global,
+    /// The bytes of each, so that a load of one costs a step of a table.
+    contents: LabelMap<Content>,
 }
 
 impl Model for Constants {
     ghost use Rattle.std.specs.Prelude.{ℕ, List};
     ghost use Rattle.std.specs.Ordering.{nat_cmp};
-    ghost use Rattle.std.specs.FinMap.{FinMap, from_entries, code};
+    ghost use Rattle.std.specs.FinMap.{FinMap, code};
     ghost use Rattle.std.specs.Coded.{coded_ℕ, coded_list};
-    ghost use Rattle.a64_buffer.specs.Constants.{HaveSizes};
+    ghost use Rattle.a64_buffer.specs.Constants.{AreConstants, contents_bytes};
 
     ghost Value = { FinMap nat_cmp (List ℕ) };
 
     ghost coded = { code {R = nat_cmp} coded_ℕ (coded_list coded_ℕ) };
 
-    ghost view = { λ c. from_entries c.bytes.entries };
+    ghost view = { λ c. contents_bytes c.contents };
 
-    ghost invariant = { λ c. HaveSizes (from_entries c.bytes.entries) c.sizes };
+    ghost invariant = { λ c. AreConstants (contents_bytes c.contents) };
 }
 
 impl Constants {
@@ -45,9 +81,7 @@ impl Constants {
         ensures { result ≡ map.empty }
     {
         Constants {
-            bytes: BTreeMap::new(alloc),
-            sizes: LabelMap::new(alloc),
-            alloc,
+            contents: LabelMap::new(alloc),
         }
     }
 
@@ -63,28 +97,21 @@ impl Constants {
         ensures ok { OnOk result (self.new ≡ inserted self.old constant.0 bytes.now) }
         ensures err { OnErr result (self.new ≡ self.old) }
     {
-        if self.sizes.contains(constant.0) {
+        if self.contents.contains(constant.0) {
             return Ok(false);
         }
-        let mut items = Vec::new(self.alloc);
-        items.extend_from_slice(bytes)?;
-        self.bytes.insert(constant.0, ListVec::from_vec(items))?;
-        match self.sizes.insert(constant.0, bytes.len() as u32) {
-            Ok(_) => Ok(true),
-            Err(error) => {
-                self.bytes.remove(&constant.0);
-                Err(error)
-            }
-        }
+        self.contents.insert(constant.0, Content::new(bytes))?;
+        Ok(true)
     }
 
     /// The bytes of a constant; `None` where its number has none.
+    #[inline(always)]
     pub fn bytes_of(&self, constant: VCodeConstant) -> Option<&[u8]>
         ensures is { option_map (λ b. b.now) result ≡ map.get self.now constant.0 }
         ensures sized { IfSome result (λ b. IsConstant b.now) }
     {
-        match self.bytes.get(&constant.0) {
-            Some(bytes) => Some(bytes.as_slice()),
+        match self.contents.get_ref(constant.0) {
+            Some(content) => Some(content.as_slice()),
             None => None,
         }
     }
@@ -94,7 +121,7 @@ impl Constants {
     pub fn are_sized(&self)
         ensures { constants.AreConstants self.now }
     {
-        let _ = &self.bytes;
+        let _ = &self.contents;
     }
 
     /// How many bytes a constant has; `None` where its number has none.
@@ -102,6 +129,7 @@ impl Constants {
     pub fn size_of(&self, constant: VCodeConstant) -> Option<u32>
         ensures { result ≡ option_map length (map.get self.now constant.0) }
     {
-        self.sizes.get(constant.0)
+        let bytes = self.bytes_of(constant)?;
+        Some(bytes.len() as u32)
     }
 }

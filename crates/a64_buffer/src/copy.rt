@@ -30,7 +30,7 @@ fn padding(place: u32, size: u32) -> u32
 fn push_zeros(words: &mut Words, count: u32)
     requires { length words.old.items + count ≤ words.old.capacity }
     ensures items { words.new.items ≡ words.old.items ++ replicate count 0 }
-    ensures capacity { words.new.capacity ≡ words.old.capacity }
+    ensures capacity { words.old.capacity ≤ words.new.capacity }
 {
     for _i in 0..count {
         words.push_reserved(0);

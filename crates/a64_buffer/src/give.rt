@@ -22,7 +22,7 @@ fn push_far_words<K: MachInstLabelUse>(words: &mut Words, kind: K, place: u32) -
     requires low { place ≤ 2 ^ 31 }
     requires room { length words.old.items + length K.kinds.far_words + 1 ≤ words.old.capacity }
     ensures items { words.new.items ≡ words.old.items ++ (K.kinds.far_words ++ 0 ∷ []) }
-    ensures capacity { words.new.capacity ≡ words.old.capacity }
+    ensures capacity { words.old.capacity ≤ words.new.capacity }
     ensures last { result ≡ (place + 4 * length K.kinds.far_words, K.kinds.far_use) }
 {
     let mut bytes = [0; 20];

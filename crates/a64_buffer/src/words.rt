@@ -1,6 +1,6 @@
 //! The words of code, as the bytes that they are in the end.
 
-ghost use Rattle.std.specs.Prelude.{◌≡◌, ◌+◌, ◌*◌, ◌/◌, ◌%◌, ◌<◌, ◌≤◌, ◌++◌, [], ◌∷◌, OnOk, OnErr, length, take};
+ghost use Rattle.std.specs.Prelude.{◌≡◌, ◌+◌, ◌*◌, ◌/◌, ◌%◌, ◌<◌, ◌≤◌, ◌++◌, [], ◌∷◌, ℕ, OnOk, OnErr, length, take, vec_capacity};
 ghost use Rattle.std.specs.Int.{w32, to_le_bytes};
 ghost use Rattle.a64_buffer.specs.Word.{words_of};
 
@@ -8,30 +8,58 @@ use std::alloc::{AllocError, Global};
 use std::marker::Model;
 use std::simd::u8x4;
 
-/// How many bytes the memory for words grows by at least.
-const LEAST_GROWTH: usize = 16;
-
-/// How many bytes it grows by at most, where no more are asked for: so few are filled ahead.
-const MOST_GROWTH: usize = 4096;
+/// How many bytes are filled with zeros at a time: few, so that they are still at hand when words are
+/// written over them.
+const FILLED_AHEAD: usize = 1024;
 
 /// The words of code, as bytes: each word with its least byte first.
 #[derive(Drop)]
 pub struct Words {
-    /// The bytes of the words, and behind them zeros for words that come.
+    /// The bytes of the words, and behind them zeros for words that come, where there is memory.
     bytes: Vec<u8>,
     /// How many bytes the words have.
     size: usize,
 }
 
 impl Model for Words {
-    ghost use Rattle.std.specs.Prelude.{◌≡◌, ◌%◌, ◌≤◌, length};
+    ghost use Rattle.std.specs.Prelude.{◌≡◌, ◌%◌, ◌≤◌, length, vec_capacity};
     ghost use Rattle.a64_buffer.specs.Words.{HeldWords, held};
 
     ghost Value = { HeldWords };
 
-    ghost view = { λ w. held w.size w.bytes.items };
+    ghost view = { λ w. held w.size w.bytes.items (vec_capacity w.bytes) };
 
     ghost invariant = { λ w. (w.size % 4 ≡ 0) × (w.size ≤ length w.bytes.items) };
+}
+
+/// Fills memory behind bytes with zeros, up to a place at least.
+#[cold]
+#[inline(never)]
+fn fill(bytes: &mut Vec<u8>, end: usize)
+    requires { end ≤ vec_capacity bytes.old }
+    ensures end { end ≤ length bytes.new.items }
+    ensures kept { (n : ℕ) → n ≤ length bytes.old.items → take n bytes.new.items ≡ take n bytes.old.items }
+    ensures capacity { vec_capacity bytes.old ≤ vec_capacity bytes.new }
+{
+    let ahead = bytes.len().saturating_add(FILLED_AHEAD);
+    let len = ahead.min(bytes.capacity()).max(end);
+    match bytes.resize(len, 0) {
+        Ok(()) => {}
+        Err(_) => unreachable!(),
+    }
+}
+
+/// Makes bytes reach to a place, for which there is memory: zeros stand behind them.
+#[inline(always)]
+fn reach(bytes: &mut Vec<u8>, end: usize)
+    requires { end ≤ vec_capacity bytes.old }
+    ensures end { end ≤ length bytes.new.items }
+    ensures kept { (n : ℕ) → n ≤ length bytes.old.items → take n bytes.new.items ≡ take n bytes.old.items }
+    ensures capacity { vec_capacity bytes.old ≤ vec_capacity bytes.new }
+{
+    if bytes.len() < end {
+        fill(bytes, end);
+    }
 }
 
 /// Writes a word in the place of the four bytes from a place on, its least byte first. As a vector of
@@ -71,8 +99,7 @@ impl Words {
         self.size
     }
 
-    /// Takes the memory for so many words more, where there is none yet, and for as many again as there
-    /// is already, within bounds.
+    /// Takes the memory for so many words more, and more than that where there is little yet.
     #[cold]
     #[inline(never)]
     fn grow(&mut self, words: usize) -> Result<(), AllocError>
@@ -82,8 +109,7 @@ impl Words {
     {
         let end = words.saturating_mul(4).saturating_add(self.size);
         let len = self.bytes.len();
-        let least = len + len.clamp(LEAST_GROWTH, MOST_GROWTH);
-        self.bytes.resize(end.max(least), 0)?;
+        self.bytes.reserve(end.saturating_sub(len))?;
         Ok(())
     }
 
@@ -94,22 +120,10 @@ impl Words {
         ensures ok { OnOk result (length self.new.items + words ≤ self.new.capacity) }
         ensures err { OnErr result (self.new ≡ self.old) }
     {
-        if words <= (self.bytes.len() - self.size) / 4 {
+        if words <= (self.bytes.capacity() - self.size) / 4 {
             return Ok(());
         }
         self.grow(words)
-    }
-
-    /// Takes the memory for one word more, where there is none yet.
-    #[inline(always)]
-    fn reserve_one(&mut self) -> Result<(), AllocError>
-        ensures items { self.new.items ≡ self.old.items }
-        ensures ok { OnOk result (length self.new.items < self.new.capacity) }
-    {
-        if self.size + 4 <= self.bytes.len() {
-            return Ok(());
-        }
-        self.grow(1)
     }
 
     /// Adds a word, for which there is memory.
@@ -117,11 +131,24 @@ impl Words {
     pub fn push_reserved(&mut self, word: u32)
         requires { length self.old.items < self.old.capacity }
         ensures items { self.new.items ≡ self.old.items ++ word ∷ [] }
-        ensures capacity { self.new.capacity ≡ self.old.capacity }
+        ensures capacity { self.old.capacity ≤ self.new.capacity }
     {
         let end = self.size + 4;
+        reach(&mut self.bytes, end);
         write_word(&mut self.bytes, self.size, word);
         self.size = end;
+    }
+
+    /// Adds a word behind which there are no zeros yet.
+    #[cold]
+    #[inline(never)]
+    fn push_behind(&mut self, word: u32) -> Result<(), AllocError>
+        ensures ok { OnOk result (self.new.items ≡ self.old.items ++ word ∷ []) }
+        ensures err { OnErr result (self.new.items ≡ self.old.items) }
+    {
+        self.reserve(1)?;
+        self.push_reserved(word);
+        Ok(())
     }
 
     /// Adds a word.
@@ -130,8 +157,12 @@ impl Words {
         ensures ok { OnOk result (self.new.items ≡ self.old.items ++ word ∷ []) }
         ensures err { OnErr result (self.new.items ≡ self.old.items) }
     {
-        self.reserve_one()?;
-        self.push_reserved(word);
+        let end = self.size + 4;
+        if self.bytes.len() < end {
+            return self.push_behind(word);
+        }
+        write_word(&mut self.bytes, self.size, word);
+        self.size = end;
         Ok(())
     }
 
@@ -140,9 +171,10 @@ impl Words {
         requires whole { length bytes.now % 4 ≡ 0 }
         requires room { length self.old.items + length bytes.now / 4 ≤ self.old.capacity }
         ensures items { self.new.items ≡ self.old.items ++ words_of bytes.now }
-        ensures capacity { self.new.capacity ≡ self.old.capacity }
+        ensures capacity { self.old.capacity ≤ self.new.capacity }
     {
         let end = self.size + bytes.len();
+        reach(&mut self.bytes, end);
         write(&mut self.bytes, self.size, bytes);
         self.size = end;
     }

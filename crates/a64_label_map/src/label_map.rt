@@ -1,10 +1,10 @@
 //! A map from numbers.
 
-ghost use Rattle.std.specs.Prelude.{◌≡◌, ◌*◌, ◌^◌, ◌<◌, ◌≤◌, IfOk, OnOk, OnErr, IsSome};
+ghost use Rattle.std.specs.Prelude.{◌≡◌, ◌*◌, ◌^◌, ◌<◌, ◌≤◌, IfOk, OnOk, OnErr, IsSome, option_copied};
 ghost use Rattle.std.specs.FinMap as map;
 ghost use Rattle.std.specs.Ordering.{nat_cmp};
 
-use crate::shared::{extend, list_others, list_table, put, value_at};
+use crate::shared::{extend, list_others, list_table, place_of, put, value_at};
 use std::alloc::{AllocError, Global};
 use std::collections::BTreeMap;
 use std::marker::Model;
@@ -80,6 +80,14 @@ impl<V: Copy> LabelMap<V> {
         ensures { result ≡ map.get self.now number }
     {
         value_at(&self.table, &self.others, number)
+    }
+
+    /// The value of a number, where it stands; `None` where the number has none.
+    #[inline(always)]
+    pub fn get_ref(&self, number: u32) -> Option<&V>
+        ensures { option_copied result ≡ map.get self.now number }
+    {
+        place_of(&self.table, &self.others, number)
     }
 
     /// Whether a number has a value.

@@ -1,6 +1,6 @@
 //! A map from numbers as a table and a tree.
 
-ghost use Rattle.std.specs.Prelude.{◌≡◌, ◌<◌, ◌≤◌, ◌^◌, ◌++◌, [], ◌∷◌, ℕ, None, IfOk, OnOk, OnErr, length, max, slice_index_or, vec_len, vec_capacity};
+ghost use Rattle.std.specs.Prelude.{◌≡◌, ◌<◌, ◌≤◌, ◌^◌, ◌++◌, [], ◌∷◌, ℕ, None, IfOk, OnOk, OnErr, length, max, option_copied, slice_index_or, vec_len, vec_capacity};
 ghost use Rattle.std.specs.FinMap as map;
 ghost use Rattle.std.specs.Ordering.{nat_cmp};
 ghost use Rattle.std.specs.BTreeMap.{IsOrdered};
@@ -20,6 +20,23 @@ pub fn value_at<V: Copy>(table: &[Option<V>], others: &BTreeMap<u32, V>, number:
         return table[index];
     }
     others.get(&number).copied()
+}
+
+/// The value of a number, where it stands.
+#[inline(always)]
+pub fn place_of<'m, V>(
+    table: &'m [Option<V>],
+    others: &'m BTreeMap<u32, V>,
+    number: u32,
+) -> Option<&'m V>
+    requires { AreShared table.now others.now }
+    ensures { option_copied result ≡ map.get (whole table.now others.now) number }
+{
+    let index = number as usize;
+    if index < table.len() {
+        return table[index].as_ref();
+    }
+    others.get(&number)
 }
 
 /// Lengthens a table that has room, by numbers without a value.

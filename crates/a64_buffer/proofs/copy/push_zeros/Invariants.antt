@@ -5,5 +5,5 @@ abbrev pub invariant-loop-i : goal.invariant-loop-i
 invariant-loop-i l = record {
   items : l.words.items ≡ l.fn.words.items ++ replicate l._i 0;
   room : length l.words.items + (l.count - l._i) ≤ l.words.capacity;
-  capacity : l.words.capacity ≡ l.fn.words.capacity;
+  capacity : l.fn.words.capacity ≤ l.words.capacity;
 }

@@ -1,26 +1,21 @@
-use Rattle.std.proofs.Common.{◌≡◌, ◌+◌, ◌++◌, length, take, ◌∙◌, ap, arith}
-use Rattle.std.specs.Int.{w32, to_le_bytes}
+use Rattle.std.proofs.Common.{◌≡◌, ◌+◌, ◌++◌, ◌∷◌, [], length, take, vec_capacity, ◌∙◌, ap, arith}
 use Rattle.std.proofs.lemmas.List.{with_items_is}
 use Rattle.a64_buffer.specs.Word.{words_of}
 use Rattle.a64_buffer.specs.Words.{HeldWords}
-use Rattle.a64_buffer.proofs.WordLists.{held_size, words_one, words_written}
+use Rattle.a64_buffer.proofs.WordLists.{held_room, word_written}
 use Rattle.a64_buffer.proofs.words.Words.push_reserved.Goals as goal
 
-pub write_word-requires : goal.write_word-requires
-write_word-requires c = omega (
-  arith,
-  held_size c.self.inside.size c.self.inside.bytes.items c.args.self.now c.self.invariant.0 c.self.invariant.1 c.self.view_is,
-  ap (λ (v : HeldWords). v.capacity) c.self.view_is,
-  c.requires,
-  ap length c.deref_mut.ensures.value,
-)
+pub reach-requires : goal.reach-requires
+reach-requires c =
+    held_room c.self.inside.size c.self.inside.bytes.items (vec_capacity c.self.inside.bytes) c.args.self.now 1 c.self.invariant.0 c.self.invariant.1 c.self.view_is
+    (omega (arith, c.requires))
 
 pub returns-clause-items : goal.returns-clause-items
 returns-clause-items c =
     let size = c.self.inside.size in
-    let part = to_le_bytes w32 c.args.word in
-    let long : length c.write_word.new.bytes ≡ c.self.inside.bytes.len = omega (arith, c.write_word.auto.bytes, c.deref_mut.ensures.len) in
-    ap (λ bytes. words_of (take (size + 4) bytes)) (with_items_is c.self.inside.bytes c.write_word.new.bytes long)
-    ∙ (words_written size c.deref_mut.result.now part c.write_word.new.bytes c.self.invariant.0 (omega (arith, c.self.invariant.1, ap length c.deref_mut.ensures.value)) c.write_word.ensures
-    ∙ (ap (λ bytes. words_of (take size bytes) ++ words_of part) c.deref_mut.ensures.value
-    ∙ (ap (λ (v : HeldWords). v.items ++ words_of part) c.self.view_is ∙ ap (λ ws. c.args.self.now.items ++ ws) (words_one c.args.word c.ranges.word.fits))))
+    let long : length c.write_word.new.bytes ≡ c.reach.new.bytes.len = omega (arith, c.write_word.auto.bytes, c.deref_mut.ensures.len) in
+    ap (λ bytes. words_of (take (size + 4) bytes)) (with_items_is c.reach.new.bytes c.write_word.new.bytes long)
+    ∙ (word_written size c.args.word c.deref_mut.result.now c.write_word.new.bytes c.self.invariant.0 (omega (arith, c.reach.ensures.end, ap length c.deref_mut.ensures.value)) c.ranges.word.fits c.write_word.ensures
+    ∙ (ap (λ bytes. words_of (take size bytes) ++ c.args.word ∷ []) c.deref_mut.ensures.value
+    ∙ (ap (λ bytes. words_of bytes ++ c.args.word ∷ []) (c.reach.ensures.kept size c.self.invariant.1)
+    ∙ ap (λ (v : HeldWords). v.items ++ c.args.word ∷ []) c.self.view_is)))
