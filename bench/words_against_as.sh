@@ -1,5 +1,6 @@
 #!/usr/bin/env bash
-# Holds the words of the program against those of GNU as: random integer instructions, loads and stores, branches, data and labels.
+# Holds the words of the program against those of GNU as: random instructions on integers and scalar floats, loads and stores, branches,
+# hints, data and labels.
 # `Adrp` is left out: of it GNU as leaves the offset to the linker. Branches on conditions go to labels in files of at most 100,000
 # items, branches on bits in files of at most 2,000, and addresses are those of labels in files of at most 150,000: in longer
 # ones a label could be out of reach.
@@ -315,10 +316,72 @@ def load_address(labels):
         (f"LoadAddr x{rd} RegExtended({base[0]},x{index},{extend})", f"add x{rd}, {base[1]}, {letter}{index}, {extend.lower()}"),
     ])
 
+# The letters of the registers that hold floats of so many bits.
+FLOATS = {16: "h", 32: "s", 64: "d"}
+
+def vector():
+    return random.randrange(32)
+
+def float_move(labels):
+    rd, rn, (size, letter) = vector(), vector(), random.choice(list(FLOATS.items()))
+    lane, lanes, index = random.choice([("s", "32x2", random.randrange(2)), ("s", "32x4", random.randrange(4)), ("d", "64x2", random.randrange(2))])
+    general = named("x" if size == 64 else "w", True) if size == 64 or random.randrange(2) else (f"x{(number := random.randrange(31))}", f"w{number}")
+    if general[0] == "sp":
+        general = ("xzr", "xzr" if size == 64 else "wzr")
+    return random.choice([
+        (f"FpuMove32 v{rd} v{rn}", f"fmov s{rd}, s{rn}"), (f"FpuMove64 v{rd} v{rn}", f"fmov d{rd}, d{rn}"),
+        (f"FpuMove128 v{rd} v{rn}", f"mov v{rd}.16b, v{rn}.16b"), (f"FpuExtend v{rd} v{rn} {size}", f"fmov {letter}{rd}, {letter}{rn}"),
+        (f"FpuMoveFromVec v{rd} v{rn} {index} {lanes}", f"mov {lane}{rd}, v{rn}.{lane}[{index}]"),
+        (f"MovToFpu v{rd} {general[0]} {size}", f"fmov {letter}{rd}, {general[1]}"),
+    ])
+
+def float_operation(labels):
+    rd, rn, rm, ra, (size, letter) = vector(), vector(), vector(), vector(), random.choice(list(FLOATS.items()))
+    one, two = random.choice(["Abs", "Neg", "Sqrt"]), random.choice(["Add", "Sub", "Mul", "Div", "Max", "Min"])
+    three, cond = random.choice(["MAdd", "MSub", "NMAdd", "NMSub"]), random.choice(CONDITIONS)
+    first = f"{letter}{rd}, {letter}{rn}"
+    return random.choice([
+        (f"FpuRR {one} {size} v{rd} v{rn}", f"f{one.lower()} {first}"),
+        (f"FpuRR Cvt32To64 32 v{rd} v{rn}", f"fcvt d{rd}, s{rn}"), (f"FpuRR Cvt64To32 64 v{rd} v{rn}", f"fcvt s{rd}, d{rn}"),
+        (f"FpuRRR {two} {size} v{rd} v{rn} v{rm}", f"f{two.lower()} {first}, {letter}{rm}"),
+        (f"FpuRRRR {three} {size} v{rd} v{rn} v{rm} v{ra}", f"f{three.lower()} {first}, {letter}{rm}, {letter}{ra}"),
+        (f"FpuCmp {size} v{rd} v{rn}", f"fcmp {first}"),
+        (f"FpuCSel{size} v{rd} v{rn} v{rm} {cond}", f"fcsel {first}, {letter}{rm}, {cond.lower()}"),
+    ])
+
+def conversion(labels):
+    rd, rn, sign = vector(), register(), random.choice("IU")
+    (bits, letter), (size, place) = sized(), random.choice([(32, "s"), (64, "d")])
+    mode, rounding = random.choice([("Minus", "m"), ("Plus", "p"), ("Zero", "z"), ("Nearest", "n")])
+    return random.choice([
+        (f"FpuToInt F{size}To{sign}{bits} x{rn} v{rd}", f"fcvtz{'s' if sign == 'I' else 'u'} {letter}{rn}, {place}{rd}"),
+        (f"IntToFpu {sign}{bits}ToF{size} v{rd} x{rn}", f"{'s' if sign == 'I' else 'u'}cvtf {place}{rd}, {letter}{rn}"),
+        (f"FpuRound {mode}{size} v{rd} v{rd}", f"frint{rounding} {place}{rd}, {place}{rd}"),
+    ])
+
+def float_immediate(labels):
+    rd, rn, imm, (size, letter) = vector(), vector(), random.randrange(256), random.choice(list(FLOATS.items()))
+    # The sign, three bits of the exponent of which the first is inverted, and four bits of the fraction.
+    exponent = (imm >> 4 & 7 ^ 4) - 3
+    value = (-1) ** (imm >> 7) * 2.0 ** exponent * (16 + imm % 16) / 16
+    bits, right, left = random.choice([(32, random.randrange(1, 33), random.randrange(32)), (64, random.randrange(1, 65), random.randrange(64))])
+    operands = f"v{rd}.2s, v{rn}.2s" if bits == 32 else f"d{rd}, d{rn}"
+    return random.choice([
+        (f"FpuMoveFPImm v{rd} {imm} {size}", f"fmov {letter}{rd}, #{value}"),
+        (f"FpuRRI UShr{bits}({right}) v{rd} v{rn}", f"ushr {operands}, #{right}"),
+        (f"FpuRRIMod Sli{bits}({left}) v{rd} v{rd} v{rn}", f"sli {operands}, #{left}"),
+    ])
+
+def system(labels):
+    key, (kind, text) = random.choice(["AZ", "ASP", "BZ", "BSP"]), random.choice([("None", ""), ("C", " c"), ("J", " j"), ("JC", " jc")])
+    return random.choice([
+        ("Csdb", "csdb"), ("Fence", "dmb ish"), ("Xpaclri", "xpaclri"), (f"Paci {key}", f"paci{key.lower()}"), (f"Bti {kind}", f"bti{text}"),
+    ])
+
 KINDS = [
     jump, alone, move_wide, alu_rr_imm12, alu_rr_imm_logic, alu_rrr, alu_rrrr, alu_rr_imm_shift, alu_rrr_shift, alu_rrr_extend,
     bit_rr, move, select, compare, extend, bitfield, address, access, access, literal, pair, load_address, branch,
-    branch_on_bit, near_label, data,
+    branch_on_bit, near_label, data, float_move, float_operation, conversion, float_immediate, system,
 ]
 
 def item(labels):
@@ -336,7 +399,7 @@ with open(f"{work}/items.txt", "w") as ours, open(f"{work}/items.s", "w") as the
 P
 
 crates/a64_cli/out/a64_cli < "$work/items.txt" | awk '$1 == "word" { print $3 }' > "$work/ours"
-aarch64-linux-gnu-as --no-warn "$work/items.s" -o "$work/items.o"
+aarch64-linux-gnu-as -march=armv8.5-a+fp16 --no-warn "$work/items.s" -o "$work/items.o"
 aarch64-linux-gnu-objcopy -O binary --only-section=.text "$work/items.o" "$work/items.bin"
 python3 - "$work" <<'P'
 import struct, sys
