@@ -34,3 +34,4 @@ pub mod Final
 pub mod Known
 pub mod Clients
 pub mod Contents
+pub mod Recording
