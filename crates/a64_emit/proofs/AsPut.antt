@@ -16,7 +16,7 @@ use Rattle.a64_emit.specs.declared.site.Site.{Site}
 use Rattle.a64_label_use.specs.LabelUses.{label_kinds}
 use Rattle.a64_emit.specs.Cells.{Cell, Shape, OneWord, Several, Words, body_word, cell_word, plain, last_cell, branch_site, shape_cells, only_word, other_cells}
 use Rattle.a64_emit.specs.Layout.{placed, reloc_at, call_at, patchable_at, map_at, trap_at, records_in, more_records}
-use Rattle.a64_emit.specs.Emission.{use_at, uses_from, appended, Parts, part_records, IsAppendedInPart, HasRoom, CellsFit}
+use Rattle.a64_emit.specs.Emission.{use_at, uses_from, appended, Parts, part_records, IsAppendedInPart, HasRoom, CellsFit, CanPut}
 use Rattle.a64_emit.specs.Words.{AreSeveral, MayBePut, put_cell, put_cells, as_put}
 use Rattle.a64_emit.proofs.Shapes.{no_word}
 use Rattle.a64_emit.proofs.Holding.{same_holding, same_records}
@@ -97,13 +97,16 @@ module _ (b : Buffer LabelUse) (cells : List Cell) where
     islands = p.islands;
   }
 
-  pub put_room : HasRoom b cells → HasRoom b (map as_put cells)
+  put_room : HasRoom b cells → HasRoom b (map as_put cells)
   put_room h = omega (arith, h, length-map cells as_put)
 
-  pub put_fits : CellsFit b cells → CellsFit b (map as_put cells)
+  put_fits : CellsFit b cells → CellsFit b (map as_put cells)
   put_fits h =
       subst (λ n. classes.HasRoom label_kinds (end_of b) (b.uses ++ uses_from b.labels (end_of b) (map as_put cells)) (4 * n)) (sym (length-map cells as_put))
       (subst (λ (us : List (Use LabelUse)). classes.HasRoom label_kinds (end_of b) (b.uses ++ us) (4 * length cells)) (sym (put_uses b.labels (end_of b) cells)) h)
+
+  pub can_as_put : CanPut b cells → CanPut b (map as_put cells)
+  can_as_put can = record { room = put_room can.room; fits = put_fits can.fits }
 
 -- ---- the word of a branch
 

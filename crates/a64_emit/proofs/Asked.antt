@@ -1,5 +1,5 @@
 -- Places for islands: items without words that ask for space.
-use Rattle.std.proofs.Common.{ℕ, ◌≡◌, ◌+◌, ◌*◌, ◌^◌, ◌<◌, ◌≤◌, true, List, [], length, Option, None, Some, refl, sym, ap, ap₂, ◌∙◌, subst, arith}
+use Rattle.std.proofs.Common.{ℕ, ◌≡◌, ◌+◌, ◌*◌, ◌^◌, ◌<◌, ◌≤◌, true, List, [], ◌∷◌, length, Option, None, Some, refl, sym, ap, ap₂, ◌∙◌, subst, arith}
 use Rattle.std.specs.Prelude.{unwrap_or}
 use Rattle.std.specs.List.{list_any}
 use Rattle.a64_base.specs.declared.entity.UserStackMap.{UserStackMap}
@@ -10,7 +10,7 @@ use Rattle.a64_inst.specs.declared.inst.Inst.TheVariants as insts
 use Rattle.a64_inst.specs.declared.item.Item.{Item}
 use Rattle.a64_inst.specs.declared.item.Item.TheVariants.{Bind, Emit}
 use Rattle.a64_emit.specs.declared.extent.Light.{Light}
-use Rattle.a64_emit.specs.Cells.{shape_of, only_word, inst_cells, kept_by, kept_cells, cells_of}
+use Rattle.a64_emit.specs.Cells.{Cell, shape_of, only_word, inst_cells, kept_by, kept_cells, cells_of}
 use Rattle.a64_emit.specs.Bounds.{AreExtent, IsExtent, ranges_in, size_of, charge_of, asked_of, growth_of, item_charge, item_size, least, saturated}
 use Rattle.a64_emit.specs.Falls.{inst_falls}
 use Rattle.a64_emit.specs.Lights.{IsLight}
@@ -24,7 +24,12 @@ module _ (frame : FrameLayout) (flags : EmitFlags) where
   asked_words (insts.EmitIsland needed_space) space e = refl
   asked_words _ space e = absurd cc
 
-  -- so one word is no such place
+  -- so what has a word is no such place
+  pub worded_asked : (inst : Inst) (cell : Cell) → inst_cells frame flags inst ≡ cell ∷ [] → asked_of inst ≡ None
+  worded_asked (insts.EmitIsland needed_space) cell e = absurd cc
+  worded_asked _ cell e = refl
+
+  -- nor is one word
   pub plain_asked : (inst : Inst) (word : ℕ) → Some word ≡ only_word (shape_of frame flags inst) → asked_of inst ≡ None
   plain_asked (insts.EmitIsland needed_space) word e = absurd cc
   plain_asked _ word e = refl

@@ -13,7 +13,7 @@ use Rattle.a64_label_use.specs.declared.label_use.LabelUse.{LabelUse}
 use Rattle.a64_label_use.specs.LabelUses.{label_kinds}
 use Rattle.a64_emit.specs.Cells.{Data, Cell, call_marks, cell_word, plain, pop_forms, call_form, call_cell, patchable_cells, return_form, return_cell, keep}
 use Rattle.a64_emit.specs.Layout.{placed, relocs_in, calls_in, patchable_in, maps_in, traps_in}
-use Rattle.a64_emit.specs.Emission.{uses_from, appended, linked, mapped, Parts, IsAppendedInPart, CellsFit}
+use Rattle.a64_emit.specs.Emission.{uses_from, appended, linked, mapped, Parts, IsAppendedInPart, CanPut}
 use Rattle.a64_emit.specs.Words.{as_put, put_cell, put_kept}
 use Rattle.a64_emit.proofs.AsPut.{plain_put}
 use Rattle.a64_emit.proofs.Fitting.{before_word}
@@ -77,11 +77,11 @@ module _ (b : Buffer LabelUse) (word : ℕ) (callee : Callee) (kept : Option Use
 
   module _ (b1 : Buffer LabelUse) (e1 : b1 ≡ linked callee b) where
     -- so there is room for the word still
-    pub named_short : end_of b + 4 < 2 ^ 31 → end_of b1 + 4 < 2 ^ 31
-    named_short h = subst (λ (c : Buffer LabelUse). end_of c + 4 < 2 ^ 31) (sym (e1 ∙ with_symbol)) h
+    pub named_short : CanPut b cells → end_of b1 + 4 < 2 ^ 31
+    named_short can = subst (λ (c : Buffer LabelUse). end_of c + 4 < 2 ^ 31) (sym (e1 ∙ with_symbol)) can.room
 
-    pub named_fits : CellsFit b cells → Fits label_kinds b1 4
-    named_fits h = subst (λ (c : Buffer LabelUse). Fits label_kinds c 4) (sym (e1 ∙ with_symbol)) (before_word b (put_kept word callee kept) h)
+    pub named_fits : CanPut b cells → Fits label_kinds b1 4
+    named_fits can = subst (λ (c : Buffer LabelUse). Fits label_kinds c 4) (sym (e1 ∙ with_symbol)) (before_word b (put_kept word callee kept) can.fits)
 
     -- nothing else
     pub call_named : (b' : Buffer LabelUse) → b' ≡ b1 → IsAppendedInPart b b' cells
@@ -189,6 +189,10 @@ module _ (b : Buffer LabelUse) (word : ℕ) (callee : Callee) (kept : Option Use
 
   abbrev all : List Cell
   all = put_patchable callee kept word len ∷ silent words
+
+  -- it needs no more room than another
+  pub can_called : CanPut b all → CanPut b called
+  can_called can = record { room = can.room; fits = can.fits }
 
   -- it is recorded behind its words
   pub patchable_done : (b1 b2 : Buffer LabelUse) → len ≡ 4 * (length words + 1) → b1 ≡ appended b called → b2 ≡ record b1 { records = record b1.records { patchable = b1.records.patchable ++ (end_of b1, len) ∷ [] } } → b2 ≡ appended b all

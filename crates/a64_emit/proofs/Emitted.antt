@@ -1,7 +1,8 @@
 -- Emission of an instruction, by what is put for its words.
-use Rattle.std.proofs.Common.{ℕ, ℤ, pos, ◌≡◌, ◌≢◌, Bool, true, false, if◌then◌else◌, List, [], ◌∷◌, map, Option, None, Some, refl, sym, ap, ◌∙◌, subst}
+use Rattle.std.proofs.Common.{ℕ, ℤ, pos, ◌≡◌, ◌≢◌, OnOk, OnErr, Result, Bool, true, false, if◌then◌else◌, List, [], ◌∷◌, map, Option, None, Some, refl, sym, ap, ◌∙◌, subst}
 use Rattle.std.specs.Ordering.{int_eq}
 use Rattle.std.specs.Int.RustNames.{unsigned_abs}
+use Rattle.std.proofs.lemmas.Result.{on_ok_weaker, on_err_weaker}
 use Rattle.a64_base.specs.declared.entity.UserStackMap.{UserStackMap}
 use Rattle.a64_base.specs.declared.reg.Reg.{Reg}
 use Rattle.a64_base.specs.declared.ir_type.IrType.TheVariants.{I8}
@@ -18,20 +19,17 @@ use Rattle.a64_inst.specs.Groups.{group_of}
 use Rattle.a64_inst.specs.MemoryOperands.{is_addend}
 use Rattle.a64_inst.specs.Operands.{is_same_register}
 use Rattle.a64_rows.specs.Forms.{Form}
-use Rattle.a64_buffer.specs.Buffer.{Buffer, end_of}
-use Rattle.a64_buffer.specs.Classes as classes
+use Rattle.a64_buffer.specs.Buffer.{Buffer}
 use Rattle.a64_label_use.specs.declared.label_use.LabelUse.{LabelUse}
-use Rattle.a64_label_use.specs.LabelUses.{label_kinds}
 use Rattle.a64_emit.specs.IntegerForms.{mov_form}
 use Rattle.a64_emit.specs.MemoryForms.{step_forms, addend_form, addend_register, sum_form, offset_register}
 use Rattle.a64_emit.specs.Bounds.{asked_of}
 use Rattle.a64_emit.specs.Cells.{Cell, Shape, Words, quiet, sum_shape, address_shape, shape_of, only_word, inst_cells, kept_by, kept_cells}
-use Rattle.a64_emit.specs.Emission.{appended, IsAppendedInPart, IsReady, HasRoom, CellsFit, Puts}
+use Rattle.a64_emit.specs.Emission.{appended, CanPut, PutsCells, IsAppendedInPart, IsReady, Puts}
 use Rattle.a64_emit.specs.Words.{as_put, put_cell, put_for}
-use Rattle.a64_emit.proofs.AsPut.{word_put, other_put, put_appended, put_part, put_room, put_fits}
+use Rattle.a64_emit.proofs.AsPut.{word_put, other_put, put_appended, put_part, can_as_put}
 use Rattle.a64_emit.proofs.Asked.{plain_asked}
-use Rattle.a64_emit.proofs.Fitting.{before_word}
-use Rattle.a64_emit.proofs.Keeping.{keep_room, keep_fits}
+use Rattle.a64_emit.proofs.Keeping.{keep_can}
 use Rattle.a64_emit.proofs.KeptWords.{other_kept}
 
 -- ---- what the group of an instruction says
@@ -79,70 +77,60 @@ pub record ArePut (inst : Inst) (own cells : List Cell) : Type 0 where
   pub same : cells ≡ map as_put own
 
 module _ (inst : Inst) (own cells : List Cell) (are : ArePut inst own cells) (b : Buffer LabelUse) where
-  -- there is room for them
-  pub has_room : HasRoom b own → HasRoom b cells
-  has_room h = subst (HasRoom b) (sym are.same) (put_room b own h)
-
-  pub cells_fit : CellsFit b own → CellsFit b cells
-  cells_fit h = subst (CellsFit b) (sym are.same) (put_fits b own h)
+  pub can_these : CanPut b (map as_put own) → CanPut b cells
+  can_these can = subst (CanPut b) (sym are.same) can
 
   -- with them the instruction is emitted, and with a part of them in part
-  pub all_emitted : (b' : Buffer LabelUse) → b' ≡ appended b cells → Puts (asked_of inst) own b b'
-  all_emitted b' e = subst (λ (space : Option ℕ). Puts space own b b') (sym are.asked) (e ∙ ap (appended b) are.same ∙ put_appended b own)
+  module _ {T E : Type 0} (r : Result T E) (b' : Buffer LabelUse) (puts : PutsCells r b b' cells) where
+    pub all_emitted : OnOk r (Puts (asked_of inst) (map as_put own) b b')
+    all_emitted = on_ok_weaker r (λ e. subst (λ (space : Option ℕ). Puts space (map as_put own) b b') (sym are.asked) (e ∙ ap (appended b) are.same)) puts.ok
 
-  pub part_emitted : (b' : Buffer LabelUse) → IsAppendedInPart b b' cells → IsAppendedInPart b b' own
-  part_emitted b' p = put_part b own b' (subst (IsAppendedInPart b b') are.same p)
-
--- ---- one word without a use
-
-module _ (frame : FrameLayout) (flags : EmitFlags) (inst : Inst) (word : ℕ) (is : Some word ≡ only_word (shape_of frame flags inst)) (b : Buffer LabelUse) where
-  one_put : ArePut inst (inst_cells frame flags inst) (put_cell word None None ∷ [])
-  one_put = record {
-    asked = plain_asked frame flags inst word is;
-    same = word_put (shape_of frame flags inst) word is;
-  }
-
-  -- there is room for it
-  pub word_fits : CellsFit b (inst_cells frame flags inst) → classes.HasRoom label_kinds (end_of b) b.uses 4
-  word_fits h =
-      before_word b (put_cell word None None)
-      (cells_fit inst (inst_cells frame flags inst) (put_cell word None None ∷ []) one_put b h)
-
-  -- a part of it is one of the instruction's
-  pub word_in_part : (b' : Buffer LabelUse) → IsAppendedInPart b b' (put_cell word None None ∷ []) → IsAppendedInPart b b' (inst_cells frame flags inst)
-  word_in_part b' p = part_emitted inst (inst_cells frame flags inst) (put_cell word None None ∷ []) one_put b b' p
-
--- ---- other words
+    pub part_emitted : OnErr r (IsAppendedInPart b b' (map as_put own))
+    part_emitted = on_err_weaker r (subst (IsAppendedInPart b b') are.same) puts.err
 
 module _ (frame : FrameLayout) (flags : EmitFlags) (inst : Inst) where
+  -- one word without a use
+  pub one_put : (word : ℕ) → Some word ≡ only_word (shape_of frame flags inst) → ArePut inst (inst_cells frame flags inst) (put_cell word None None ∷ [])
+  one_put word is = record { asked = plain_asked frame flags inst word is; same = word_put (shape_of frame flags inst) word is }
+
   -- a branch, an address or data
   pub control_put : None ≡ only_word (shape_of frame flags inst) → None ≡ asked_of inst → ArePut inst (inst_cells frame flags inst) (put_for frame flags inst)
-  control_put none asked = record {
-    asked = sym asked;
-    same = other_put (shape_of frame flags inst) none;
-  }
+  control_put none asked = record { asked = sym asked; same = other_put (shape_of frame flags inst) none }
 
-  module _ (kept : Option UserStackMap) where
-    -- no map of the stack is kept but at a call
-    words_put : group_of inst ≢ Call → group_of inst ≢ Control → None ≡ only_word (shape_of frame flags inst) → ArePut inst (kept_cells frame flags inst kept) (put_for frame flags inst)
-    words_put other plain none = record {
-      asked = no_space inst plain;
-      same = other_put (shape_of frame flags inst) none ∙ ap (map as_put) (sym (other_kept frame flags inst kept other));
-    }
+  pub memory_put : group_of inst ≡ Memory → ArePut inst (inst_cells frame flags inst) (put_for frame flags inst)
+  memory_put group = control_put (memory_word frame flags inst group) (sym (no_space inst (λ e. absurd cc)))
 
-    pub memory_put : group_of inst ≡ Memory → ArePut inst (kept_cells frame flags inst kept) (put_for frame flags inst)
-    memory_put group = words_put (λ e. absurd cc) (λ e. absurd cc) (memory_word frame flags inst group)
+  pub sequence_put : group_of inst ≡ Sequence → ArePut inst (inst_cells frame flags inst) (put_for frame flags inst)
+  sequence_put group = control_put (sequence_word frame flags inst group) (sym (no_space inst (λ e. absurd cc)))
 
-    pub sequence_put : group_of inst ≡ Sequence → ArePut inst (kept_cells frame flags inst kept) (put_for frame flags inst)
-    sequence_put group = words_put (λ e. absurd cc) (λ e. absurd cc) (sequence_word frame flags inst group)
+-- ---- an instruction's own words, by those that are put
 
-    pub call_put : group_of inst ≡ Call → ArePut inst (kept_cells frame flags inst kept) (map as_put (kept_cells frame flags inst kept))
-    call_put group = record { asked = no_space inst (λ e. absurd cc); same = refl }
+module _ (b : Buffer LabelUse) (own : List Cell) (b' : Buffer LabelUse) where
+  pub own_put : (space : Option ℕ) → Puts space (map as_put own) b b' → Puts space own b b'
+  own_put None e = e ∙ put_appended b own
+  own_put (Some space) h = h
 
-    module _ (b : Buffer LabelUse) where
-      -- with a map there is room too
-      pub kept_room : IsReady b frame flags inst → HasRoom b (kept_cells frame flags inst kept)
-      kept_room ready = keep_room b (kept_by inst kept) (inst_cells frame flags inst) ready.room
+module _ (frame : FrameLayout) (flags : EmitFlags) (inst : Inst) (kept : Option UserStackMap) (b : Buffer LabelUse) where
+  pub can_own : IsReady b frame flags inst → CanPut b (map as_put (inst_cells frame flags inst))
+  can_own ready = can_as_put b (inst_cells frame flags inst) (record { room = ready.room; fits = ready.fits })
 
-      pub kept_fit : IsReady b frame flags inst → CellsFit b (kept_cells frame flags inst kept)
-      kept_fit ready = keep_fits b (kept_by inst kept) (inst_cells frame flags inst) ready.fits
+  -- those of a call, with the map of the stack
+  pub can_kept : IsReady b frame flags inst → CanPut b (map as_put (kept_cells frame flags inst kept))
+  can_kept ready =
+      can_as_put b (kept_cells frame flags inst kept)
+      (keep_can b (kept_by inst kept) (inst_cells frame flags inst) (record { room = ready.room; fits = ready.fits }))
+
+  module _ (b' : Buffer LabelUse) where
+    pub call_emitted : group_of inst ≡ Call → b' ≡ appended b (map as_put (kept_cells frame flags inst kept)) → Puts (asked_of inst) (kept_cells frame flags inst kept) b b'
+    call_emitted group e =
+        subst (λ (space : Option ℕ). Puts space (kept_cells frame flags inst kept) b b') (sym (no_space inst (λ e. absurd cc)))
+        (own_put b (kept_cells frame flags inst kept) b' None e)
+
+    -- no map is kept but at a call
+    pub other_emitted : group_of inst ≢ Call → Puts (asked_of inst) (map as_put (inst_cells frame flags inst)) b b' → Puts (asked_of inst) (kept_cells frame flags inst kept) b b'
+    other_emitted other h =
+        subst (λ cells. Puts (asked_of inst) cells b b') (sym (other_kept frame flags inst kept other))
+        (own_put b (inst_cells frame flags inst) b' (asked_of inst) h)
+
+    pub other_in_part : group_of inst ≢ Call → IsAppendedInPart b b' (map as_put (inst_cells frame flags inst)) → IsAppendedInPart b b' (kept_cells frame flags inst kept)
+    other_in_part other p = subst (IsAppendedInPart b b') (sym (other_kept frame flags inst kept other)) (put_part b (inst_cells frame flags inst) b' p)

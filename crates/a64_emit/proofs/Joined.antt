@@ -1,11 +1,12 @@
 -- Cells that are put behind cells.
-use Rattle.std.proofs.Common.{ℕ, ◌≡◌, ◌+◌, ◌*◌, ◌⊎◌, inl, inr, suc, List, [], ◌∷◌, ◌++◌, length, take, map, Option, sym, ap, ◌∙◌, subst, arith, nat_cmp, append_assoc}
+use Rattle.std.proofs.Common.{ℕ, ◌≡◌, Result, ◌+◌, ◌*◌, ◌⊎◌, inl, inr, suc, List, [], ◌∷◌, ◌++◌, length, take, map, Option, sym, ap, ◌∙◌, subst, arith, nat_cmp, append_assoc}
 use Rattle.std.specs.Prelude.{min}
 use Rattle.std.specs.FinMap.{FinMap}
 use Rattle.std.specs.List.{filter_map}
 use Rattle.std.proofs.lemmas.Bool.{cases_lt}
 use Rattle.std.proofs.lemmas.List.{take-append-le, take_min, length-append, length-map, map-append}
 use Rattle.std.proofs.lemmas.List.Elements.{filter_map-append}
+use Rattle.std.proofs.lemmas.Result.{on_ok_weaker, on_err_weaker}
 use Rattle.a64_buffer.specs.declared.site.Use.{Use}
 use Rattle.a64_buffer.specs.Buffer.{Buffer, end_of}
 use Rattle.a64_buffer.specs.Classes as classes
@@ -15,7 +16,7 @@ use Rattle.a64_label_use.specs.LabelUses.{label_kinds}
 use Rattle.a64_label_use.specs.LabelLaws.{label_kinds_lawful}
 use Rattle.a64_emit.specs.Cells.{Cell, cell_word}
 use Rattle.a64_emit.specs.Layout.{placed, reloc_at, relocs_in, call_at, calls_in, patchable_at, patchable_in, map_at, maps_in, trap_at, traps_in, records_in, more_records}
-use Rattle.a64_emit.specs.Emission.{use_at, uses_from, appended, Parts, part_records, IsAppendedInPart, HasRoom, CellsFit}
+use Rattle.a64_emit.specs.Emission.{use_at, uses_from, appended, Parts, part_records, IsAppendedInPart, HasRoom, CellsFit, CanPut, PutsCells}
 use Rattle.a64_emit.proofs.Holding.{same_holding, same_records, more_twice}
 
 -- ---- what two lists of cells are together
@@ -202,21 +203,32 @@ module _ (b : Buffer LabelUse) (xs ys : List Cell) where
 
   -- ---- room
 
-  pub room_first : HasRoom b (xs ++ ys) → HasRoom b xs
+  room_first : HasRoom b (xs ++ ys) → HasRoom b xs
   room_first h = omega (arith, h, length-append xs ys)
 
-  pub room_second : (b1 : Buffer LabelUse) → b1 ≡ appended b xs → HasRoom b (xs ++ ys) → HasRoom b1 ys
+  room_second : (b1 : Buffer LabelUse) → b1 ≡ appended b xs → HasRoom b (xs ++ ys) → HasRoom b1 ys
   room_second b1 e h = subst (λ (c : Buffer LabelUse). HasRoom c ys) (sym e) (omega (arith, h, length-append xs ys, end_behind))
 
   -- what is open reaches over the first list, if it does over both
-  pub fits_first : CellsFit b (xs ++ ys) → CellsFit b xs
+  fits_first : CellsFit b (xs ++ ys) → CellsFit b xs
   fits_first h =
       let both : classes.HasRoom label_kinds (end_of b) ((b.uses ++ uses_from b.labels (end_of b) xs) ++ uses_from b.labels (end_of (appended b xs)) ys) (4 * length (xs ++ ys)) = subst (λ (us : List (Use LabelUse)). classes.HasRoom label_kinds (end_of b) us (4 * length (xs ++ ys))) (sym (uses_behind ys)) h in
       part_room label_kinds label_kinds_lawful (end_of b) (b.uses ++ uses_from b.labels (end_of b) xs) (uses_from b.labels (end_of (appended b xs)) ys) (4 * length (xs ++ ys)) (end_of b) (4 * length xs) (omega (arith, length-append xs ys)) both
 
   -- and behind the first list over the second
-  pub fits_second : (b1 : Buffer LabelUse) → b1 ≡ appended b xs → CellsFit b (xs ++ ys) → CellsFit b1 ys
+  fits_second : (b1 : Buffer LabelUse) → b1 ≡ appended b xs → CellsFit b (xs ++ ys) → CellsFit b1 ys
   fits_second b1 e h =
       let both : classes.HasRoom label_kinds (end_of b) ((b.uses ++ uses_from b.labels (end_of b) xs) ++ uses_from b.labels (end_of (appended b xs)) ys) (4 * length (xs ++ ys)) = subst (λ (us : List (Use LabelUse)). classes.HasRoom label_kinds (end_of b) us (4 * length (xs ++ ys))) (sym (uses_behind ys)) h in
       subst (λ (c : Buffer LabelUse). CellsFit c ys) (sym e)
       (record { rooms = λ k d w o. let y = both.rooms k d w o in omega (arith, y, end_behind, length-append xs ys) })
+
+  -- both can be put, so the first can, and behind it the second
+  pub can_first : CanPut b (xs ++ ys) → CanPut b xs
+  can_first can = record { room = room_first can.room; fits = fits_first can.fits }
+
+  pub can_second : (b1 : Buffer LabelUse) → b1 ≡ appended b xs → CanPut b (xs ++ ys) → CanPut b1 ys
+  can_second b1 e can = record { room = room_second b1 e can.room; fits = fits_second b1 e can.fits }
+
+  -- a call that puts the second behind the first has put both
+  pub puts_second : {T E : Type 0} (r : Result T E) (b1 b2 : Buffer LabelUse) → b1 ≡ appended b xs → PutsCells r b1 b2 ys → PutsCells r b b2 (xs ++ ys)
+  puts_second r b1 b2 e puts = record { ok = on_ok_weaker r (joined b1 b2 e) puts.ok; err = on_err_weaker r (part_second b1 b2 e) puts.err }

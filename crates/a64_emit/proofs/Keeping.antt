@@ -10,7 +10,7 @@ use Rattle.a64_label_use.specs.LabelUses.{label_kinds}
 use Rattle.a64_emit.specs.Bounds.{ranges_in, size_of, charge_of}
 use Rattle.a64_emit.specs.Cells.{Cell, cell_word, sites_of, uses_of, keep}
 use Rattle.a64_emit.specs.Layout.{placed, relocs_in, calls_in, patchable_in, traps_in}
-use Rattle.a64_emit.specs.Emission.{uses_from, HasRoom, CellsFit}
+use Rattle.a64_emit.specs.Emission.{uses_from, HasRoom, CellsFit, CanPut}
 use Rattle.a64_emit.specs.Words.{as_put}
 
 -- ---- how many words there are
@@ -88,10 +88,13 @@ keep_patchable (Some m) place (c ∷ cs) = refl
 -- ---- room
 
 module _ (b : Buffer LabelUse) (kept : Option UserStackMap) (cells : List Cell) where
-  pub keep_room : HasRoom b cells → HasRoom b (keep kept cells)
+  keep_room : HasRoom b cells → HasRoom b (keep kept cells)
   keep_room h = subst (λ n. end_of b + 4 * n < 2 ^ 31) (sym (keep_length kept cells)) h
 
-  pub keep_fits : CellsFit b cells → CellsFit b (keep kept cells)
+  keep_fits : CellsFit b cells → CellsFit b (keep kept cells)
   keep_fits h =
       subst (λ n. classes.HasRoom label_kinds (end_of b) (b.uses ++ uses_from b.labels (end_of b) (keep kept cells)) (4 * n)) (sym (keep_length kept cells))
       (subst (λ (us : List (Use LabelUse)). classes.HasRoom label_kinds (end_of b) (b.uses ++ us) (4 * length cells)) (sym (keep_uses_from kept b.labels (end_of b) cells)) h)
+
+  pub keep_can : CanPut b cells → CanPut b (keep kept cells)
+  keep_can can = record { room = keep_room can.room; fits = keep_fits can.fits }

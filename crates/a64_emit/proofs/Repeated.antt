@@ -4,8 +4,8 @@ use Rattle.std.proofs.lemmas.List.{append-nil, take_more, take-append-drop}
 use Rattle.a64_buffer.specs.Buffer.{Buffer}
 use Rattle.a64_label_use.specs.declared.label_use.LabelUse.{LabelUse}
 use Rattle.a64_emit.specs.Cells.{Cell}
-use Rattle.a64_emit.specs.Emission.{appended, IsAppendedInPart, HasRoom, CellsFit}
-use Rattle.a64_emit.proofs.Joined.{joined, part_first, part_second, room_first, room_second, fits_first, fits_second}
+use Rattle.a64_emit.specs.Emission.{appended, IsAppendedInPart, CanPut}
+use Rattle.a64_emit.proofs.Joined.{joined, part_first, part_second, can_first, can_second}
 
 -- those of one thing, and of all in a list
 module _ {X : Type 0} (one : X → List Cell) (all : List X → List Cell) (none : all [] ≡ []) (more : (x : X) (xs : List X) → all (x ∷ xs) ≡ one x ++ all xs) where
@@ -31,15 +31,10 @@ module _ {X : Type 0} (one : X → List Cell) (all : List X → List Cell) (none
 
     -- where those of the things before stand at the end
     module _ (b1 : Buffer LabelUse) (e : b1 ≡ appended b (all (take i xs))) where
-      pub one_room : HasRoom b (all xs) → HasRoom b1 (one (get_or xs i d))
-      one_room room =
-          room_second b (all (take i xs)) (one (get_or xs i d)) b1 e
-          (room_first b (all (take i xs) ++ one (get_or xs i d)) (all (drop (i + 1) xs)) (subst (HasRoom b) whole room))
-
-      pub one_fits : CellsFit b (all xs) → CellsFit b1 (one (get_or xs i d))
-      one_fits fits =
-          fits_second b (all (take i xs)) (one (get_or xs i d)) b1 e
-          (fits_first b (all (take i xs) ++ one (get_or xs i d)) (all (drop (i + 1) xs)) (subst (CellsFit b) whole fits))
+      pub can_one : CanPut b (all xs) → CanPut b1 (one (get_or xs i d))
+      can_one can =
+          can_second b (all (take i xs)) (one (get_or xs i d)) b1 e
+          (can_first b (all (take i xs) ++ one (get_or xs i d)) (all (drop (i + 1) xs)) (subst (CanPut b) whole can))
 
       pub one_put : (b2 : Buffer LabelUse) → b2 ≡ appended b1 (one (get_or xs i d)) → b2 ≡ appended b (all (take (i + 1) xs))
       one_put b2 f = joined b (all (take i xs)) (one (get_or xs i d)) b1 b2 e f ∙ ap (appended b) (sym one_more)

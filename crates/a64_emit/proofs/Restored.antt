@@ -38,11 +38,13 @@ use Rattle.a64_plan.specs.Plans.{plan_of}
 use Rattle.a64_plan.specs.declared.step.ConstStep.{ConstStep}
 use Rattle.a64_rows.specs.Forms.{Form}
 use Rattle.a64_emit.specs.declared.site.Site.{Site}
+use Rattle.a64_emit.specs.Bounds.{asked_of}
 use Rattle.a64_emit.specs.Cells.{Body, FormOf, Shape, Words, quiet, mode_site, several, sum_shape, address_shape, access_shape, plain_shape, other_shape, shape_cells, inst_cells, lone_cell, restored_cell}
 use Rattle.a64_emit.specs.IntegerForms.{mov_form, alu_rrr_extend_form}
 use Rattle.a64_emit.specs.MemoryForms.{step_forms, offset_register, addend_register, addend_form, sum_form, access_steps, access_form}
 use Rattle.a64_emit.specs.Words.{IsThere}
 use Rattle.a64_emit.proofs.Accesses.{are_address_parts, address_good}
+use Rattle.a64_emit.proofs.Asked.{worded_asked}
 
 -- a shape of one word, which is no use
 abbrev pub IsLoneShape : Shape → Type 0
@@ -132,6 +134,7 @@ module _ (rd : Reg) (numbered : is_register Refused rd ≡ true) where
 pub record IsRestored (frame : FrameLayout) (flags : EmitFlags) (inst : Inst) : Type 0 where
   pub word : inst_cells frame flags inst ≡ restored_cell frame flags inst ∷ []
   pub other : group_of inst ≢ Call
+  pub asked : asked_of inst ≡ None
   pub good : has_operands frame flags Refused inst ≡ true
   pub mode : has_mode inst ≡ true
   pub named : named_constant inst ≡ None
@@ -184,7 +187,7 @@ module _ (frame : FrameLayout) (flags : EmitFlags) where
       let (lone, rest) = and_parts (is_lone frame inst) _ e in
       let (operands, modes) = and_parts (elim (access_of inst) [ None ↦ has_plain_operands frame flags Refused inst | Some access ↦ are_access_operands frame Refused access ]) _ rest in
       let (word, good, named) = lone_parts inst (access_of inst) lone operands in
-      record { word = word; other = no_call inst lone; good = good; mode = (and_parts (has_mode inst) _ modes).0; named = named }
+      record { word = word; other = no_call inst lone; asked = worded_asked frame flags inst (restored_cell frame flags inst) word; good = good; mode = (and_parts (has_mode inst) _ modes).0; named = named }
 
   pub restored_word : (inst : Inst) → can_restore frame flags Refused inst ≡ true → inst_cells frame flags inst ≡ restored_cell frame flags inst ∷ []
   restored_word inst e = (restored inst e).word

@@ -30,8 +30,10 @@ use Rattle.a64_inst.specs.Faults.{named_constant, has_mode, has_other_mode, has_
 use Rattle.a64_inst.specs.Groups.{group_of}
 use Rattle.a64_inst.specs.MemoryOperands.{is_signed_64, is_data_register, are_mode_operands, are_access_operands, has_access_mode}
 use Rattle.a64_inst.specs.Modes.{constant_in}
+use Rattle.a64_emit.specs.Bounds.{asked_of}
 use Rattle.a64_emit.specs.Cells.{Cell, shape_cells, access_shape, other_shape, inst_cells, load_at, result_load, result_cells}
 use Rattle.a64_emit.specs.Words.{IsThere, as_put}
+use Rattle.a64_emit.proofs.Lights.{access_unasked}
 
 -- ---- an instruction of an operator is its access
 
@@ -60,6 +62,7 @@ load_cells frame o = elim o [ None ↦ [] | Some load ↦ access_cells frame (ac
 -- what is known of it
 pub record IsResultLoad (frame : FrameLayout) (flags : EmitFlags) (load : Inst) : Type 0 where
   pub other : group_of load ≢ Call
+  pub asked : asked_of load ≡ None
   pub good : has_operands frame flags Refused load ≡ true
   pub mode : has_mode load ≡ true
   pub named : named_constant load ≡ None
@@ -85,6 +88,7 @@ module _ (frame : FrameLayout) (flags : EmitFlags) where
     stack_load : IsResultLoad frame flags the_load
     stack_load = record {
       other = λ is. absurd (memory_call (sym (with_group (load_op ty) reg (modes.SPOffset off) None) ∙ is));
+      asked = access_unasked the_load access is_access;
       good = subst (λ o. (elim o [ None ↦ has_other_operands frame flags Refused the_load | Some a ↦ are_access_operands frame Refused a ]) ≡ true) (sym is_access) operands_good;
       mode = subst (λ o. (elim o [ None ↦ has_other_mode the_load | Some a ↦ has_access_mode a.op a.mem ]) ≡ true) (sym is_access) refl;
       named = subst (λ o. access_constant o ≡ None) (sym is_access) refl;

@@ -1,17 +1,17 @@
 -- Tables that are put, one entry behind another.
-use Rattle.std.proofs.Common.{ℕ, ◌≡◌, ◌+◌, ◌*◌, ◌^◌, ◌<◌, List, [], ◌∷◌, ◌++◌, length, take, drop, map, Some, None, refl, sym, ap, ◌∙◌, subst, arith, slice_index_or}
+use Rattle.std.proofs.Common.{ℕ, ◌≡◌, ◌+◌, ◌*◌, ◌<◌, List, [], ◌∷◌, ◌++◌, length, take, drop, map, Some, None, refl, sym, ap, ◌∙◌, subst, arith, slice_index_or}
 use Rattle.std.proofs.lemmas.List.{take_more, take-append-drop, length-take-le}
 use Rattle.a64_base.specs.declared.entity.MachLabel.{MachLabel}
 use Rattle.a64_base.specs.declared.reg.Reg.{Reg}
 use Rattle.a64_inst.specs.declared.emission.EmitFlags.{EmitFlags}
-use Rattle.a64_buffer.specs.Buffer.{Buffer, end_of}
+use Rattle.a64_buffer.specs.Buffer.{Buffer}
 use Rattle.a64_rows.specs.Forms.{form_word}
 use Rattle.a64_label_use.specs.declared.label_use.LabelUse.{LabelUse}
 use Rattle.a64_emit.specs.Cells.{Cell, entry_site, table_labels, table_cells, table_forms, table_jump}
-use Rattle.a64_emit.specs.Emission.{appended, IsAppendedInPart, HasRoom, CellsFit}
+use Rattle.a64_emit.specs.Emission.{appended, IsAppendedInPart, CanPut}
 use Rattle.a64_emit.specs.Words.{put_cell, as_put}
 use Rattle.a64_emit.proofs.Behind.{words_put}
-use Rattle.a64_emit.proofs.Joined.{joined, part_first, part_second, room_first, room_second, fits_first, fits_second}
+use Rattle.a64_emit.proofs.Joined.{joined, part_first, part_second, can_first, can_second}
 use Rattle.a64_emit.proofs.Lasts.{silent}
 
 -- ---- entries
@@ -77,13 +77,9 @@ module _ (b : Buffer LabelUse) (xs : List MachLabel) (i : ℕ) (d : MachLabel) (
       ∙ ap (λ cells. cells ++ rest) one_more
 
   module _ (b1 : Buffer LabelUse) (e : b1 ≡ appended b before) where
-    pub entry_room : HasRoom b (table_cells 0 xs) → end_of b1 + 4 < 2 ^ 31
-    entry_room room =
-        room_second b before (entry (4 * i) label ∷ []) b1 e (room_first b (before ++ entry (4 * i) label ∷ []) rest (subst (HasRoom b) whole room))
-
-    pub entry_fits : CellsFit b (table_cells 0 xs) → CellsFit b1 (entry (4 * i) label ∷ [])
-    entry_fits fits =
-        fits_second b before (entry (4 * i) label ∷ []) b1 e (fits_first b (before ++ entry (4 * i) label ∷ []) rest (subst (CellsFit b) whole fits))
+    pub can_entry : CanPut b (table_cells 0 xs) → CanPut b1 (entry (4 * i) label ∷ [])
+    can_entry can =
+        can_second b before (entry (4 * i) label ∷ []) b1 e (can_first b (before ++ entry (4 * i) label ∷ []) rest (subst (CanPut b) whole can))
 
     pub entry_put : (b2 : Buffer LabelUse) → b2 ≡ appended b1 (entry (4 * i) label ∷ []) → b2 ≡ appended b (table_cells 0 (take (i + 1) xs))
     entry_put b2 f = joined b before (entry (4 * i) label ∷ []) b1 b2 e f ∙ ap (appended b) (sym one_more)

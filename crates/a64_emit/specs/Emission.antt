@@ -1,5 +1,5 @@
 -- What emission does to a buffer.
-use Rattle.std.specs.Prelude.{ℕ, pos, ◌≡◌, ◌⊎◌, ◌+◌, ◌*◌, ◌/◌, ◌%◌, ◌^◌, ◌<◌, ◌≤◌, true, List, [], ◌∷◌, ◌++◌, map, take, length, slice_index, slice_index_or, Option, None, Some, IsSome, MatchOption}
+use Rattle.std.specs.Prelude.{ℕ, pos, ◌≡◌, ◌⊎◌, ◌+◌, ◌*◌, ◌/◌, ◌%◌, ◌^◌, ◌<◌, ◌≤◌, true, List, [], ◌∷◌, ◌++◌, map, take, length, slice_index, slice_index_or, Option, None, Some, IsSome, MatchOption, Result, OnOk, OnErr}
 use Rattle.std.specs.Ordering.{nat_cmp}
 use Rattle.std.specs.FinMap.{FinMap, insert}
 use Rattle.a64_base.specs.declared.entity.MachLabel.{MachLabel}
@@ -146,6 +146,16 @@ CellsFit b cells =
     classes.HasRoom label_kinds (end_of b)
     (b.uses ++ uses_from b.labels (end_of b) cells)
     (4 * length cells)
+
+-- cells can be put at the end: there is room for them, and the open uses still reach
+pub record CanPut (b : Buffer LabelUse) (cells : List Cell) : Type 0 where
+  pub room : HasRoom b cells
+  pub fits : CellsFit b cells
+
+-- what a call leaves that puts cells: they stand at the end, or where it failed, a first part of them
+pub record PutsCells {T E : Type 0} (result : Result T E) (b b' : Buffer LabelUse) (cells : List Cell) : Type 0 where
+  pub ok : OnOk result (b' ≡ appended b cells)
+  pub err : OnErr result (IsAppendedInPart b b' cells)
 
 -- there is room for an island
 abbrev pub HasIslandRoom : Buffer LabelUse → Type 0

@@ -1,6 +1,6 @@
 //! Emission of calls, and of returns that call another function.
 
-ghost use Rattle.std.specs.Prelude.{ℤ, ◌≡◌, ◌+◌, ◌^◌, ◌<◌, [], ◌∷◌, ◌++◌, OnOk, OnErr, map, true};
+ghost use Rattle.std.specs.Prelude.{ℤ, ◌≡◌, ◌^◌, ◌<◌, [], ◌∷◌, ◌++◌, OnOk, OnErr, map, true};
 ghost use Rattle.std.specs.List.{flat_map, list_all};
 ghost use Rattle.a64_base.specs.declared.ir_type.IrType.{IrType};
 ghost use Rattle.a64_inst.specs.declared.call.RetLocation.TheVariants.{Stack};
@@ -10,10 +10,9 @@ ghost use Rattle.a64_inst.specs.CallOperands.{are_call_defs, has_return_frame};
 ghost use Rattle.a64_inst.specs.Faults.{has_operands, is_restorable, can_restore};
 ghost use Rattle.a64_inst.specs.Groups.{group_of};
 ghost use Rattle.a64_inst.specs.MemoryOperands.{is_signed_64};
-ghost use Rattle.a64_buffer.specs.Buffer.{end_of};
 ghost use Rattle.a64_emit.specs.Cells.{plain, keep, kept_cells, result_cells, pop_forms, call_cells, patchable_cells, restored_cell, result_load, leave_forms, return_cell, return_cells};
 ghost use Rattle.a64_emit.specs.Words.{IsCalled, as_put, put_kept};
-ghost use Rattle.a64_emit.specs.Emission.{appended, linked, mapped, IsAppendedInPart, HasRoom, CellsFit};
+ghost use Rattle.a64_emit.specs.Emission.{linked, mapped, CanPut, PutsCells};
 
 use crate::emit::{emit_plain_inst, put_words};
 use crate::one_word::is_one_word;
@@ -68,10 +67,8 @@ fn put_call(
     callee: &Callee,
     kept: Option<UserStackMap>,
 ) -> Result<(), AllocError>
-    requires short { end_of sink.old + 4 < 2 ^ 31 }
-    requires fits { CellsFit sink.old (put_kept word callee.now kept ∷ []) }
-    ensures ok { OnOk result (sink.new ≡ appended sink.old (put_kept word callee.now kept ∷ [])) }
-    ensures err { OnErr result (IsAppendedInPart sink.old sink.new (put_kept word callee.now kept ∷ [])) }
+    requires { CanPut sink.old (put_kept word callee.now kept ∷ []) }
+    ensures { PutsCells result sink.old sink.new (put_kept word callee.now kept ∷ []) }
 {
     record_callee(sink, callee)?;
     sink.put4(word)?;
@@ -117,10 +114,8 @@ fn emit_result(
     pair: &CallRetPair,
 ) -> Result<(), AllocError>
     requires good { are_call_defs Refused (pair.now ∷ []) ≡ true }
-    requires room { HasRoom sink.old (map as_put (result_cells frame.now pair.now)) }
-    requires fits { CellsFit sink.old (map as_put (result_cells frame.now pair.now)) }
-    ensures ok { OnOk result (sink.new ≡ appended sink.old (map as_put (result_cells frame.now pair.now))) }
-    ensures err { OnErr result (IsAppendedInPart sink.old sink.new (map as_put (result_cells frame.now pair.now))) }
+    requires can { CanPut sink.old (map as_put (result_cells frame.now pair.now)) }
+    ensures { PutsCells result sink.old sink.new (map as_put (result_cells frame.now pair.now)) }
 {
     has_offset(pair);
     match load_of_result(pair) {
@@ -137,10 +132,9 @@ fn emit_results(
     defs: &[CallRetPair],
 ) -> Result<(), AllocError>
     requires good { are_call_defs Refused defs.now ≡ true }
-    requires room { HasRoom sink.old (map as_put (flat_map (result_cells frame.now) defs.now)) }
-    requires fits { CellsFit sink.old (map as_put (flat_map (result_cells frame.now) defs.now)) }
-    ensures ok { OnOk result (sink.new ≡ appended sink.old (map as_put (flat_map (result_cells frame.now) defs.now))) }
-    ensures err { OnErr result (IsAppendedInPart sink.old sink.new (map as_put (flat_map (result_cells frame.now) defs.now))) }
+    requires can { CanPut sink.old (map as_put (flat_map (result_cells frame.now) defs.now)) }
+    ensures { PutsCells result sink.old sink.new
+        (map as_put (flat_map (result_cells frame.now) defs.now)) }
 {
     for pair in defs {
         emit_result(sink, info, frame, pair)?;
@@ -158,10 +152,10 @@ fn emit_popped(
 ) -> Result<(), AllocError>
     requires good { are_call_defs Refused defs.now ≡ true }
     requires pop { pop < 2 ^ 31 }
-    requires room { HasRoom sink.old (map as_put (map plain (pop_forms pop) ++ flat_map (result_cells frame.now) defs.now)) }
-    requires fits { CellsFit sink.old (map as_put (map plain (pop_forms pop) ++ flat_map (result_cells frame.now) defs.now)) }
-    ensures ok { OnOk result (sink.new ≡ appended sink.old (map as_put (map plain (pop_forms pop) ++ flat_map (result_cells frame.now) defs.now))) }
-    ensures err { OnErr result (IsAppendedInPart sink.old sink.new (map as_put (map plain (pop_forms pop) ++ flat_map (result_cells frame.now) defs.now))) }
+    requires can { CanPut sink.old
+        (map as_put (map plain (pop_forms pop) ++ flat_map (result_cells frame.now) defs.now)) }
+    ensures { PutsCells result sink.old sink.new
+        (map as_put (map plain (pop_forms pop) ++ flat_map (result_cells frame.now) defs.now)) }
 {
     put_words(sink, pop_words(pop).as_slice())?;
     emit_results(sink, info, frame, defs)
@@ -179,10 +173,10 @@ fn emit_call<T>(
     requires callee { IsCalled callee.now }
     requires good { are_call_defs Refused call.now.defs ≡ true }
     requires pop { call.now.callee_pop_size < 2 ^ 31 }
-    requires room { HasRoom sink.old (map as_put (keep kept (call_cells frame.now callee.now call.now.defs call.now.callee_pop_size))) }
-    requires fits { CellsFit sink.old (map as_put (keep kept (call_cells frame.now callee.now call.now.defs call.now.callee_pop_size))) }
-    ensures ok { OnOk result (sink.new ≡ appended sink.old (map as_put (keep kept (call_cells frame.now callee.now call.now.defs call.now.callee_pop_size)))) }
-    ensures err { OnErr result (IsAppendedInPart sink.old sink.new (map as_put (keep kept (call_cells frame.now callee.now call.now.defs call.now.callee_pop_size)))) }
+    requires can { CanPut sink.old (map as_put (keep kept
+        (call_cells frame.now callee.now call.now.defs call.now.callee_pop_size))) }
+    ensures { PutsCells result sink.old sink.new (map as_put (keep kept
+        (call_cells frame.now callee.now call.now.defs call.now.callee_pop_size))) }
 {
     let word = call_word(*callee);
     let defs = call.defs.as_slice();
@@ -199,10 +193,9 @@ fn emit_patchable(
 ) -> Result<(), AllocError>
     requires callee { IsCalled callee.now }
     requires pop { pop < 2 ^ 31 }
-    requires room { HasRoom sink.old (map as_put (keep kept (patchable_cells callee.now pop))) }
-    requires fits { CellsFit sink.old (map as_put (keep kept (patchable_cells callee.now pop))) }
-    ensures ok { OnOk result (sink.new ≡ appended sink.old (map as_put (keep kept (patchable_cells callee.now pop)))) }
-    ensures err { OnErr result (IsAppendedInPart sink.old sink.new (map as_put (keep kept (patchable_cells callee.now pop)))) }
+    requires can { CanPut sink.old (map as_put (keep kept (patchable_cells callee.now pop))) }
+    ensures { PutsCells result sink.old sink.new
+        (map as_put (keep kept (patchable_cells callee.now pop))) }
 {
     let word = call_word(*callee);
     let words = pop_words(pop);
@@ -219,10 +212,10 @@ fn emit_restored(
     restore: &[Inst],
 ) -> Result<(), AllocError>
     requires good { list_all (can_restore frame.now info.now Refused) restore.now ≡ true }
-    requires room { HasRoom sink.old (map as_put (map (restored_cell frame.now info.now) restore.now)) }
-    requires fits { CellsFit sink.old (map as_put (map (restored_cell frame.now info.now) restore.now)) }
-    ensures ok { OnOk result (sink.new ≡ appended sink.old (map as_put (map (restored_cell frame.now info.now) restore.now))) }
-    ensures err { OnErr result (IsAppendedInPart sink.old sink.new (map as_put (map (restored_cell frame.now info.now) restore.now))) }
+    requires can { CanPut sink.old
+        (map as_put (map (restored_cell frame.now info.now) restore.now)) }
+    ensures { PutsCells result sink.old sink.new
+        (map as_put (map (restored_cell frame.now info.now) restore.now)) }
 {
     for inst in restore {
         is_one_word(inst, frame, info);
@@ -240,10 +233,12 @@ fn emit_leave<T>(
 ) -> Result<(), AllocError>
     requires callee { IsCalled callee.now }
     requires good { has_return_frame frame.now call.now.new_stack_arg_size ≡ true }
-    requires room { HasRoom sink.old (map as_put (map plain (leave_forms frame.now call.now.new_stack_arg_size call.now.key call.now.sign_return_address_all) ++ return_cell callee.now ∷ [])) }
-    requires fits { CellsFit sink.old (map as_put (map plain (leave_forms frame.now call.now.new_stack_arg_size call.now.key call.now.sign_return_address_all) ++ return_cell callee.now ∷ [])) }
-    ensures ok { OnOk result (sink.new ≡ appended sink.old (map as_put (map plain (leave_forms frame.now call.now.new_stack_arg_size call.now.key call.now.sign_return_address_all) ++ return_cell callee.now ∷ []))) }
-    ensures err { OnErr result (IsAppendedInPart sink.old sink.new (map as_put (map plain (leave_forms frame.now call.now.new_stack_arg_size call.now.key call.now.sign_return_address_all) ++ return_cell callee.now ∷ []))) }
+    requires can { CanPut sink.old (map as_put (map plain (leave_forms frame.now
+        call.now.new_stack_arg_size call.now.key call.now.sign_return_address_all)
+        ++ return_cell callee.now ∷ [])) }
+    ensures { PutsCells result sink.old sink.new (map as_put (map plain (leave_forms frame.now
+        call.now.new_stack_arg_size call.now.key call.now.sign_return_address_all)
+        ++ return_cell callee.now ∷ [])) }
 {
     let (size, key) = (call.new_stack_arg_size, call.key);
     let word = return_word(*callee);
@@ -263,10 +258,11 @@ fn emit_return<T>(
     requires callee { IsCalled callee.now }
     requires restorable { is_restorable frame.now info.now Refused ≡ true }
     requires good { has_return_frame frame.now call.now.new_stack_arg_size ≡ true }
-    requires room { HasRoom sink.old (map as_put (return_cells frame.now info.now callee.now call.now.new_stack_arg_size call.now.key call.now.sign_return_address_all)) }
-    requires fits { CellsFit sink.old (map as_put (return_cells frame.now info.now callee.now call.now.new_stack_arg_size call.now.key call.now.sign_return_address_all)) }
-    ensures ok { OnOk result (sink.new ≡ appended sink.old (map as_put (return_cells frame.now info.now callee.now call.now.new_stack_arg_size call.now.key call.now.sign_return_address_all))) }
-    ensures err { OnErr result (IsAppendedInPart sink.old sink.new (map as_put (return_cells frame.now info.now callee.now call.now.new_stack_arg_size call.now.key call.now.sign_return_address_all))) }
+    requires can { CanPut sink.old (map as_put (return_cells frame.now info.now callee.now
+        call.now.new_stack_arg_size call.now.key call.now.sign_return_address_all)) }
+    ensures { PutsCells result sink.old sink.new (map as_put
+        (return_cells frame.now info.now callee.now
+        call.now.new_stack_arg_size call.now.key call.now.sign_return_address_all)) }
 {
     emit_restored(sink, info, frame, frame.restore.as_slice())?;
     emit_leave(sink, frame, callee, call)
@@ -282,11 +278,10 @@ pub fn emit_calling(
     kept: Option<UserStackMap>,
 ) -> Result<(), AllocError>
     requires group { group_of inst.now ≡ groups.Call }
-    requires room { HasRoom sink.old (map as_put (kept_cells frame.now settings.now inst.now kept)) }
-    requires fits { CellsFit sink.old (map as_put (kept_cells frame.now settings.now inst.now kept)) }
     requires good { has_operands frame.now settings.now Refused inst.now ≡ true }
-    ensures ok { OnOk result (sink.new ≡ appended sink.old (map as_put (kept_cells frame.now settings.now inst.now kept))) }
-    ensures err { OnErr result (IsAppendedInPart sink.old sink.new (map as_put (kept_cells frame.now settings.now inst.now kept))) }
+    requires can { CanPut sink.old (map as_put (kept_cells frame.now settings.now inst.now kept)) }
+    ensures { PutsCells result sink.old sink.new
+        (map as_put (kept_cells frame.now settings.now inst.now kept)) }
 {
     match inst {
         Inst::Call { info } => {

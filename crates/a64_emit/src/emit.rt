@@ -1,7 +1,7 @@
 //! Emission of single instructions.
 
-ghost use Rattle.std.specs.Prelude.{◌≡◌, ◌≢◌, ◌⊎◌, ◌+◌, ◌*◌, ◌/◌, ◌%◌, ◌^◌, ◌<◌, [], ◌∷◌, ◌++◌, length, map, OnOk, OnErr, IfSome, true, None};
-ghost use Rattle.a64_inst.specs.declared.group.Group.TheVariants.{Call, Control, Memory, Plain};
+ghost use Rattle.std.specs.Prelude.{◌≡◌, ◌≢◌, ◌⊎◌, ◌+◌, ◌*◌, ◌/◌, ◌%◌, ◌^◌, ◌<◌, [], ◌∷◌, ◌++◌, length, map, OnOk, OnErr, IfSome, IsSome, true, None, Some};
+ghost use Rattle.a64_inst.specs.declared.group.Group.TheVariants.{Call, Control, Memory};
 ghost use Rattle.a64_inst.specs.declared.emission.EmitFlags.{EmitFlags};
 ghost use Rattle.a64_inst.specs.declared.virtuals.VirtualRegisters.TheVariants.{Refused};
 ghost use Rattle.a64_inst.specs.Faults.{has_operands, has_mode};
@@ -14,10 +14,10 @@ ghost use Rattle.a64_buffer.specs.Classes.{Fits};
 ghost use Rattle.a64_label_use.specs.declared.label_use.LabelUse.{LabelUse};
 ghost use Rattle.a64_emit.specs.Bounds.{asked_of};
 ghost use Rattle.a64_emit.specs.Cells as cells;
-ghost use Rattle.a64_emit.specs.Cells.{Data, data_cell, reloc_cell, shape_of, only_word, inst_cells, kept_cells};
+ghost use Rattle.a64_emit.specs.Cells.{Data, data_cell, reloc_cell, inst_cells, kept_cells};
 ghost use Rattle.a64_emit.specs.Words.{MayBePut, IsThere, as_put, put_branches, put_cell, put_cells, put_cond_br, put_for, put_jump, put_label_address, put_test_bit, put_trap_if};
 ghost use Rattle.a64_label_use.specs.LabelUses.{label_kinds};
-ghost use Rattle.a64_emit.specs.Emission.{trapped, PutsInPart, appended, IslandsIfNeeded, Puts, Emits, EmitsInPart, IsAppendedInPart, HasRoom, CellsFit, HasIslandRoom, IsReady};
+ghost use Rattle.a64_emit.specs.Emission.{trapped, CanPut, PutsCells, PutsInPart, IslandsIfNeeded, Puts, Emits, EmitsInPart, IsAppendedInPart, HasIslandRoom, IsReady};
 
 use crate::call::emit_calling;
 use crate::extent::asked_space;
@@ -35,7 +35,7 @@ use a64_base::{
     UserStackMap, Writable,
 };
 use a64_buffer::{ForceVeneers, MachBuffer, Target};
-use a64_inst::{EmitInfo, EmitState, FrameLayout, Group, Inst, PlainGroup};
+use a64_inst::{EmitInfo, EmitState, FrameLayout, Group, Inst};
 use a64_label_use::LabelUse;
 use std::alloc::AllocError;
 
@@ -68,26 +68,11 @@ pub trait MachInstEmit {
         ensures err { OnErr result (emits_in_part self.now info.now state.old sink.old sink.new) };
 }
 
-/// The word of an instruction that is one word without a use.
-#[inline(always)]
-fn only_word(inst: &Inst, frame: &FrameLayout, info: &EmitInfo) -> Option<u32>
-    requires { has_operands frame.now info.now Refused inst.now ≡ true }
-    ensures { result ≡ only_word (shape_of frame.now info.now inst.now) }
-{
-    match inst.group() {
-        Group::Plain(group) => Some(plain_word(inst, group, frame, info)),
-        Group::Control => only_control_word(inst, frame, info),
-        Group::Sequence | Group::Call | Group::Memory => None,
-    }
-}
-
 /// One word without a use.
 #[inline(always)]
 fn emit_plain(sink: &mut MachBuffer<'_, LabelUse>, word: u32) -> Result<(), AllocError>
-    requires short { end_of sink.old + 4 < 2 ^ 31 }
-    requires fits { Fits label_kinds sink.old 4 }
-    ensures ok { OnOk result (sink.new ≡ appended sink.old (put_cell word None None ∷ [])) }
-    ensures err { OnErr result (IsAppendedInPart sink.old sink.new (put_cell word None None ∷ [])) }
+    requires { CanPut sink.old (put_cell word None None ∷ []) }
+    ensures { PutsCells result sink.old sink.new (put_cell word None None ∷ []) }
 {
     sink.put4(word)
 }
@@ -131,10 +116,8 @@ pub fn put_reloc(
     name: ExternalName,
     addend: i64,
 ) -> Result<(), AllocError>
-    requires short { end_of sink.old + 4 < 2 ^ 31 }
-    requires fits { Fits label_kinds sink.old 4 }
-    ensures ok { OnOk result (sink.new ≡ appended sink.old (reloc_cell (Data word) kind name addend ∷ [])) }
-    ensures err { OnErr result (IsAppendedInPart sink.old sink.new (reloc_cell (Data word) kind name addend ∷ [])) }
+    requires { CanPut sink.old (reloc_cell (Data word) kind name addend ∷ []) }
+    ensures { PutsCells result sink.old sink.new (reloc_cell (Data word) kind name addend ∷ []) }
 {
     sink.add_reloc(kind, name, addend)?;
     sink.put4(word)
@@ -148,11 +131,9 @@ pub fn put_using(
     site: Site,
     trap: Option<TrapCode>,
 ) -> Result<(), AllocError>
-    requires short { end_of sink.old + 4 < 2 ^ 31 }
     requires lawful { MayBePut sink.old.constants site }
-    requires fits { CellsFit sink.old (put_cell word (Some site) trap ∷ []) }
-    ensures ok { OnOk result (sink.new ≡ appended sink.old (put_cell word (Some site) trap ∷ [])) }
-    ensures err { OnErr result (IsAppendedInPart sink.old sink.new (put_cell word (Some site) trap ∷ [])) }
+    requires can { CanPut sink.old (put_cell word (Some site) trap ∷ []) }
+    ensures { PutsCells result sink.old sink.new (put_cell word (Some site) trap ∷ []) }
 {
     let offset = sink.cur_offset();
     put_trapping(sink, word, trap)?;
@@ -172,11 +153,9 @@ pub fn emit_last(
     site: Option<Site>,
     trap: Option<TrapCode>,
 ) -> Result<(), AllocError>
-    requires short { end_of sink.old + 4 < 2 ^ 31 }
     requires lawful { IfSome site (MayBePut sink.old.constants) }
-    requires fits { CellsFit sink.old (put_cell word site trap ∷ []) }
-    ensures ok { OnOk result (sink.new ≡ appended sink.old (put_cell word site trap ∷ [])) }
-    ensures err { OnErr result (IsAppendedInPart sink.old sink.new (put_cell word site trap ∷ [])) }
+    requires can { CanPut sink.old (put_cell word site trap ∷ []) }
+    ensures { PutsCells result sink.old sink.new (put_cell word site trap ∷ []) }
 {
     match site {
         Some(site) => put_using(sink, word, site, trap),
@@ -187,10 +166,10 @@ pub fn emit_last(
 /// Words of which only the last may be a use, and may trap.
 fn emit_several(sink: &mut MachBuffer<'_, LabelUse>, words: &SeveralWords) -> Result<(), AllocError>
     requires lawful { IfSome words.now.site (MayBePut sink.old.constants) }
-    requires room { HasRoom sink.old (put_cells words.now.first.items words.now.last words.now.site words.now.trap) }
-    requires fits { CellsFit sink.old (put_cells words.now.first.items words.now.last words.now.site words.now.trap) }
-    ensures ok { OnOk result (sink.new ≡ appended sink.old (put_cells words.now.first.items words.now.last words.now.site words.now.trap)) }
-    ensures err { OnErr result (IsAppendedInPart sink.old sink.new (put_cells words.now.first.items words.now.last words.now.site words.now.trap)) }
+    requires can { CanPut sink.old
+        (put_cells words.now.first.items words.now.last words.now.site words.now.trap) }
+    ensures { PutsCells result sink.old sink.new
+        (put_cells words.now.first.items words.now.last words.now.site words.now.trap) }
 {
     put_words(sink, words.first.as_slice())?;
     emit_last(sink, words.last, words.site, words.trap)
@@ -204,10 +183,9 @@ fn emit_branch(
     kind: LabelUse,
     dest: BranchTarget,
 ) -> Result<(), AllocError>
-    requires short { end_of sink.old + 4 < 2 ^ 31 }
-    requires fits { CellsFit sink.old (put_cell word (cells.branch_site kind dest) None ∷ []) }
-    ensures ok { OnOk result (sink.new ≡ appended sink.old (put_cell word (cells.branch_site kind dest) None ∷ [])) }
-    ensures err { OnErr result (IsAppendedInPart sink.old sink.new (put_cell word (cells.branch_site kind dest) None ∷ [])) }
+    requires { CanPut sink.old (put_cell word (cells.branch_site kind dest) None ∷ []) }
+    ensures { PutsCells result sink.old sink.new
+        (put_cell word (cells.branch_site kind dest) None ∷ []) }
 {
     emit_last(sink, word, branch_site(kind, dest), None)
 }
@@ -221,13 +199,11 @@ fn emit_memory_words(
     frame: &FrameLayout,
 ) -> Result<(), AllocError>
     requires group { group_of inst.now ≡ Memory }
-    requires room { HasRoom sink.old (put_for frame.now info.now inst.now) }
-    requires fits { CellsFit sink.old (put_for frame.now info.now inst.now) }
     requires good { has_operands frame.now info.now Refused inst.now ≡ true }
     requires mode { has_mode inst.now ≡ true }
     requires there { IsThere sink.old.constants inst.now }
-    ensures ok { OnOk result (sink.new ≡ appended sink.old (put_for frame.now info.now inst.now)) }
-    ensures err { OnErr result (IsAppendedInPart sink.old sink.new (put_for frame.now info.now inst.now)) }
+    requires can { CanPut sink.old (put_for frame.now info.now inst.now) }
+    ensures { PutsCells result sink.old sink.new (put_for frame.now info.now inst.now) }
 {
     match memory_words(inst, frame, info) {
         Some(words) => emit_several(sink, &words),
@@ -244,13 +220,11 @@ fn emit_memory(
     frame: &FrameLayout,
 ) -> Result<(), AllocError>
     requires group { group_of inst.now ≡ Memory }
-    requires room { HasRoom sink.old (put_for frame.now info.now inst.now) }
-    requires fits { CellsFit sink.old (put_for frame.now info.now inst.now) }
     requires good { has_operands frame.now info.now Refused inst.now ≡ true }
     requires mode { has_mode inst.now ≡ true }
     requires there { IsThere sink.old.constants inst.now }
-    ensures ok { OnOk result (sink.new ≡ appended sink.old (put_for frame.now info.now inst.now)) }
-    ensures err { OnErr result (IsAppendedInPart sink.old sink.new (put_for frame.now info.now inst.now)) }
+    requires can { CanPut sink.old (put_for frame.now info.now inst.now) }
+    ensures { PutsCells result sink.old sink.new (put_for frame.now info.now inst.now) }
 {
     match held_memory_word(inst, frame, info) {
         Some(last) => emit_last(sink, last.word, last.site(), last.trap),
@@ -268,12 +242,8 @@ fn emit_conditional(
     not_taken: &BranchTarget,
 ) -> Result<(), AllocError>
     requires good { are_jump_operands not_taken.now ≡ true }
-    requires short { end_of sink.old + 8 < 2 ^ 31 }
-    requires fits { CellsFit sink.old (put_branches word kind taken.now not_taken.now) }
-    ensures ok { OnOk result
-        (sink.new ≡ appended sink.old (put_branches word kind taken.now not_taken.now)) }
-    ensures err { OnErr result
-        (IsAppendedInPart sink.old sink.new (put_branches word kind taken.now not_taken.now)) }
+    requires can { CanPut sink.old (put_branches word kind taken.now not_taken.now) }
+    ensures { PutsCells result sink.old sink.new (put_branches word kind taken.now not_taken.now) }
 {
     emit_branch(sink, word, kind, *taken)?;
     emit_branch(sink, jump_word(*not_taken), LabelUse::Branch26, *not_taken)
@@ -289,12 +259,8 @@ fn emit_cond_br(
     kind: &CondBrKind,
 ) -> Result<(), AllocError>
     requires good { are_cond_br_operands Refused taken.now not_taken.now kind.now ≡ true }
-    requires short { end_of sink.old + 8 < 2 ^ 31 }
-    requires fits { CellsFit sink.old (put_cond_br taken.now not_taken.now kind.now) }
-    ensures ok { OnOk result
-        (sink.new ≡ appended sink.old (put_cond_br taken.now not_taken.now kind.now)) }
-    ensures err { OnErr result
-        (IsAppendedInPart sink.old sink.new (put_cond_br taken.now not_taken.now kind.now)) }
+    requires can { CanPut sink.old (put_cond_br taken.now not_taken.now kind.now) }
+    ensures { PutsCells result sink.old sink.new (put_cond_br taken.now not_taken.now kind.now) }
 {
     let word = cond_br_word(*taken, *kind);
     emit_conditional(sink, word, LabelUse::Branch19, taken, not_taken)
@@ -311,13 +277,9 @@ fn emit_test_bit_and_branch(
     bit: u8,
 ) -> Result<(), AllocError>
     requires good { are_test_bit_operands Refused taken.now not_taken.now rn.now bit ≡ true }
-    requires short { end_of sink.old + 8 < 2 ^ 31 }
-    requires fits { CellsFit sink.old (put_test_bit kind taken.now not_taken.now rn.now bit) }
-    ensures ok { OnOk result
-        (sink.new ≡ appended sink.old (put_test_bit kind taken.now not_taken.now rn.now bit)) }
-    ensures err { OnErr result
-        (IsAppendedInPart sink.old sink.new
-        (put_test_bit kind taken.now not_taken.now rn.now bit)) }
+    requires can { CanPut sink.old (put_test_bit kind taken.now not_taken.now rn.now bit) }
+    ensures { PutsCells result sink.old sink.new
+        (put_test_bit kind taken.now not_taken.now rn.now bit) }
 {
     let word = test_bit_and_branch_word(kind, *taken, *rn, bit);
     emit_conditional(sink, word, LabelUse::Branch14, taken, not_taken)
@@ -327,10 +289,8 @@ fn emit_test_bit_and_branch(
 #[inline(never)]
 fn emit_jump(sink: &mut MachBuffer<'_, LabelUse>, dest: BranchTarget) -> Result<(), AllocError>
     requires good { are_jump_operands dest ≡ true }
-    requires short { end_of sink.old + 4 < 2 ^ 31 }
-    requires fits { CellsFit sink.old (put_jump dest) }
-    ensures ok { OnOk result (sink.new ≡ appended sink.old (put_jump dest)) }
-    ensures err { OnErr result (IsAppendedInPart sink.old sink.new (put_jump dest)) }
+    requires can { CanPut sink.old (put_jump dest) }
+    ensures { PutsCells result sink.old sink.new (put_jump dest) }
 {
     emit_branch(sink, jump_word(dest), LabelUse::Branch26, dest)
 }
@@ -343,10 +303,8 @@ fn emit_trap_if(
     code: TrapCode,
 ) -> Result<(), AllocError>
     requires kind { is_test Refused kind.now ≡ true }
-    requires short { end_of sink.old + 4 < 2 ^ 31 }
-    requires fits { CellsFit sink.old (put_trap_if kind.now code) }
-    ensures ok { OnOk result (sink.new ≡ appended sink.old (put_trap_if kind.now code)) }
-    ensures err { OnErr result (IsAppendedInPart sink.old sink.new (put_trap_if kind.now code)) }
+    requires can { CanPut sink.old (put_trap_if kind.now code) }
+    ensures { PutsCells result sink.old sink.new (put_trap_if kind.now code) }
 {
     emit_last(sink, trap_if_word(*kind), Some(trap_site(code)), None)
 }
@@ -359,11 +317,8 @@ fn emit_label_address(
     label: MachLabel,
 ) -> Result<(), AllocError>
     requires dst { is_register_or_zero Refused dst.now ≡ true }
-    requires short { end_of sink.old + 4 < 2 ^ 31 }
-    requires fits { CellsFit sink.old (put_label_address dst.now label) }
-    ensures ok { OnOk result (sink.new ≡ appended sink.old (put_label_address dst.now label)) }
-    ensures err { OnErr result
-        (IsAppendedInPart sink.old sink.new (put_label_address dst.now label)) }
+    requires can { CanPut sink.old (put_label_address dst.now label) }
+    ensures { PutsCells result sink.old sink.new (put_label_address dst.now label) }
 {
     let word = label_address_word(*dst);
     emit_branch(sink, word, LabelUse::Adr21, BranchTarget::Label(label))
@@ -376,20 +331,17 @@ fn emit_data(
     word: u32,
     trap: Option<TrapCode>,
 ) -> Result<(), AllocError>
-    requires short { end_of sink.old + 4 < 2 ^ 31 }
-    requires fits { CellsFit sink.old (put_cell word None trap ∷ []) }
-    ensures ok { OnOk result (sink.new ≡ appended sink.old (put_cell word None trap ∷ [])) }
-    ensures err { OnErr result (IsAppendedInPart sink.old sink.new (put_cell word None trap ∷ [])) }
+    requires { CanPut sink.old (put_cell word None trap ∷ []) }
+    ensures { PutsCells result sink.old sink.new (put_cell word None trap ∷ []) }
 {
     emit_last(sink, word, None, trap)
 }
 
 /// Two data words, the low half of a number first.
 fn emit_word8(sink: &mut MachBuffer<'_, LabelUse>, value: u64) -> Result<(), AllocError>
-    requires short { end_of sink.old + 8 < 2 ^ 31 }
-    requires fits { Fits label_kinds sink.old 8 }
-    ensures ok { OnOk result (sink.new ≡ appended sink.old (data_cell (value % 2 ^ 32) ∷ data_cell (value / 2 ^ 32) ∷ [])) }
-    ensures err { OnErr result (IsAppendedInPart sink.old sink.new (data_cell (value % 2 ^ 32) ∷ data_cell (value / 2 ^ 32) ∷ [])) }
+    requires { CanPut sink.old (data_cell (value % 2 ^ 32) ∷ data_cell (value / 2 ^ 32) ∷ []) }
+    ensures { PutsCells result sink.old sink.new
+        (data_cell (value % 2 ^ 32) ∷ data_cell (value / 2 ^ 32) ∷ []) }
 {
     sink.put8(value)
 }
@@ -403,11 +355,9 @@ fn emit_control(
     _frame: &FrameLayout,
 ) -> Result<(), AllocError>
     requires group { group_of inst.now ≡ Control }
-    requires room { HasRoom sink.old (put_for _frame.now _info.now inst.now) }
-    requires fits { CellsFit sink.old (put_for _frame.now _info.now inst.now) }
     requires good { has_operands _frame.now _info.now Refused inst.now ≡ true }
-    ensures ok { OnOk result (sink.new ≡ appended sink.old (put_for _frame.now _info.now inst.now)) }
-    ensures err { OnErr result (IsAppendedInPart sink.old sink.new (put_for _frame.now _info.now inst.now)) }
+    requires can { CanPut sink.old (put_for _frame.now _info.now inst.now) }
+    ensures { PutsCells result sink.old sink.new (put_for _frame.now _info.now inst.now) }
 {
     match inst {
         Inst::Jump { dest } => emit_jump(sink, *dest),
@@ -446,71 +396,6 @@ fn emit_asked(sink: &mut MachBuffer<'_, LabelUse>, space: u32) -> Result<(), All
     }
 }
 
-/// An instruction that is no call, with uses or of more words.
-#[inline(always)]
-fn emit_other(
-    inst: &Inst,
-    sink: &mut MachBuffer<'_, LabelUse>,
-    info: &EmitInfo,
-    frame: &FrameLayout,
-) -> Result<(), AllocError>
-    requires other { group_of inst.now ≢ Call }
-    requires room { HasRoom sink.old (put_for frame.now info.now inst.now) }
-    requires fits { CellsFit sink.old (put_for frame.now info.now inst.now) }
-    requires good { has_operands frame.now info.now Refused inst.now ≡ true }
-    requires mode { has_mode inst.now ≡ true }
-    requires there { IsThere sink.old.constants inst.now }
-    ensures ok { OnOk result (sink.new ≡ appended sink.old (put_for frame.now info.now inst.now)) }
-    ensures err { OnErr result (IsAppendedInPart sink.old sink.new (put_for frame.now info.now inst.now)) }
-{
-    match inst.group() {
-        Group::Memory => emit_memory(inst, sink, info, frame),
-        Group::Control => emit_control(inst, sink, info, frame),
-        Group::Sequence => emit_sequence(inst, sink, info, frame),
-        Group::Plain(_) => Ok(()),
-        Group::Call => unreachable!(),
-    }
-}
-
-/// An instruction that is no call, and no place for an island.
-pub fn emit_plain_inst(
-    inst: &Inst,
-    sink: &mut MachBuffer<'_, LabelUse>,
-    info: &EmitInfo,
-    frame: &FrameLayout,
-) -> Result<(), AllocError>
-    requires other { group_of inst.now ≢ Call }
-    requires room { HasRoom sink.old (map as_put (inst_cells frame.now info.now inst.now)) }
-    requires fits { CellsFit sink.old (map as_put (inst_cells frame.now info.now inst.now)) }
-    requires good { has_operands frame.now info.now Refused inst.now ≡ true }
-    requires mode { has_mode inst.now ≡ true }
-    requires there { IsThere sink.old.constants inst.now }
-    ensures ok { OnOk result (sink.new ≡ appended sink.old (map as_put (inst_cells frame.now info.now inst.now))) }
-    ensures err { OnErr result (IsAppendedInPart sink.old sink.new (map as_put (inst_cells frame.now info.now inst.now))) }
-{
-    match only_word(inst, frame, info) {
-        Some(word) => emit_plain(sink, word),
-        None => emit_other(inst, sink, info, frame),
-    }
-}
-
-/// An instruction that is one plain word.
-#[inline(always)]
-fn emit_plain_group(
-    inst: &Inst,
-    sink: &mut MachBuffer<'_, LabelUse>,
-    info: &EmitInfo,
-    frame: &FrameLayout,
-    group: PlainGroup,
-) -> Result<(), AllocError>
-    requires group { group_of inst.now ≡ Plain group }
-    requires ready { IsReady sink.old frame.now info.now inst.now }
-    ensures ok { OnOk result (Puts (asked_of inst.now) (inst_cells frame.now info.now inst.now) sink.old sink.new) }
-    ensures err { OnErr result (IsAppendedInPart sink.old sink.new (inst_cells frame.now info.now inst.now)) }
-{
-    emit_plain(sink, plain_word(inst, group, frame, info))
-}
-
 /// A branch, a hint, an address, data, or a place for an island.
 #[inline(always)]
 fn emit_control_inst(
@@ -520,9 +405,13 @@ fn emit_control_inst(
     frame: &FrameLayout,
 ) -> Result<(), AllocError>
     requires group { group_of inst.now ≡ Control }
-    requires ready { IsReady sink.old frame.now info.now inst.now }
-    ensures ok { OnOk result (Puts (asked_of inst.now) (inst_cells frame.now info.now inst.now) sink.old sink.new) }
-    ensures err { OnErr result (IsAppendedInPart sink.old sink.new (inst_cells frame.now info.now inst.now)) }
+    requires can { CanPut sink.old (map as_put (inst_cells frame.now info.now inst.now)) }
+    requires island { IsSome (asked_of inst.now) → HasIslandRoom sink.old }
+    requires good { has_operands frame.now info.now Refused inst.now ≡ true }
+    ensures ok { OnOk result (Puts (asked_of inst.now)
+        (map as_put (inst_cells frame.now info.now inst.now)) sink.old sink.new) }
+    ensures err { OnErr result (IsAppendedInPart sink.old sink.new
+        (map as_put (inst_cells frame.now info.now inst.now))) }
 {
     match only_control_word(inst, frame, info) {
         Some(word) => emit_plain(sink, word),
@@ -531,6 +420,56 @@ fn emit_control_inst(
             None => emit_control(inst, sink, info, frame),
         },
     }
+}
+
+/// An instruction that is no call, by its group.
+#[inline(always)]
+fn emit_in_line(
+    inst: &Inst,
+    group: Group,
+    sink: &mut MachBuffer<'_, LabelUse>,
+    info: &EmitInfo,
+    frame: &FrameLayout,
+) -> Result<(), AllocError>
+    requires group { group ≡ group_of inst.now }
+    requires other { group_of inst.now ≢ Call }
+    requires can { CanPut sink.old (map as_put (inst_cells frame.now info.now inst.now)) }
+    requires island { IsSome (asked_of inst.now) → HasIslandRoom sink.old }
+    requires good { has_operands frame.now info.now Refused inst.now ≡ true }
+    requires mode { has_mode inst.now ≡ true }
+    requires there { IsThere sink.old.constants inst.now }
+    ensures ok { OnOk result (Puts (asked_of inst.now)
+        (map as_put (inst_cells frame.now info.now inst.now)) sink.old sink.new) }
+    ensures err { OnErr result (IsAppendedInPart sink.old sink.new
+        (map as_put (inst_cells frame.now info.now inst.now))) }
+{
+    match group {
+        Group::Plain(group) => emit_plain(sink, plain_word(inst, group, frame, info)),
+        Group::Control => emit_control_inst(inst, sink, info, frame),
+        Group::Memory => emit_memory(inst, sink, info, frame),
+        Group::Sequence => emit_sequence(inst, sink, info, frame),
+        Group::Call => unreachable!(),
+    }
+}
+
+/// An instruction that is no call and no place for an island, out of line.
+#[inline(never)]
+pub fn emit_plain_inst(
+    inst: &Inst,
+    sink: &mut MachBuffer<'_, LabelUse>,
+    info: &EmitInfo,
+    frame: &FrameLayout,
+) -> Result<(), AllocError>
+    requires other { group_of inst.now ≢ Call }
+    requires asked { asked_of inst.now ≡ None }
+    requires can { CanPut sink.old (map as_put (inst_cells frame.now info.now inst.now)) }
+    requires good { has_operands frame.now info.now Refused inst.now ≡ true }
+    requires mode { has_mode inst.now ≡ true }
+    requires there { IsThere sink.old.constants inst.now }
+    ensures { PutsCells result sink.old sink.new
+        (map as_put (inst_cells frame.now info.now inst.now)) }
+{
+    emit_in_line(inst, inst.group(), sink, info, frame)
 }
 
 /// An instruction, by one look at its group. A map of the stack is kept where it is a call that returns behind it.
@@ -547,11 +486,8 @@ fn emit_by_group(
     ensures err { OnErr result (IsAppendedInPart sink.old sink.new (kept_cells frame.now info.now inst.now kept)) }
 {
     match inst.group() {
-        Group::Memory => emit_memory(inst, sink, info, frame),
         Group::Call => emit_calling(inst, sink, info, frame, kept),
-        Group::Sequence => emit_sequence(inst, sink, info, frame),
-        Group::Plain(group) => emit_plain_group(inst, sink, info, frame, group),
-        Group::Control => emit_control_inst(inst, sink, info, frame),
+        group => emit_in_line(inst, group, sink, info, frame),
     }
 }
 

@@ -23,6 +23,27 @@ use a64_buffer::{MachInstLabelUse, Target};
 use a64_inst::{AMode, EmitInfo, FrameLayout, Group, Inst, Item};
 use a64_label_use::LabelUse;
 
+/// The bytes of a word.
+const WORD_BYTES: u64 = 4;
+
+/// What islands may add because of an item with words, or of a place for an island, in bytes: a jump around an
+/// island.
+const JUMP_CHARGE: u64 = 4;
+
+/// What islands may add because of a use that may want a veneer, in bytes. A constant takes the most: 16 bytes,
+/// and up to 12 before it that align it. A branch takes at most a jump of 4 bytes, and for this a far veneer of
+/// 20, and a trap takes 4.
+const USE_CHARGE: u64 = 28;
+
+/// What an item adds of one word that wants nothing of an island, in bytes.
+const QUIET_WORD_GROWTH: u64 = WORD_BYTES + JUMP_CHARGE;
+
+/// What an item adds of one word with a use that may want a veneer, in bytes.
+const USE_GROWTH: u64 = WORD_BYTES + USE_CHARGE + JUMP_CHARGE;
+
+/// What an item adds of two words, each with a use that may want a veneer, in bytes.
+const TWO_USES_GROWTH: u64 = 2 * (WORD_BYTES + USE_CHARGE) + JUMP_CHARGE;
+
 /// How much an item may add to code, in bytes. Numbers past those of 64 bits stand at the greatest.
 #[derive(Clone, Copy, Debug)]
 pub struct Extent {
@@ -158,7 +179,9 @@ fn charge(words: u64, wanting: u64) -> u64
     if words == 0 {
         0
     } else {
-        wanting.saturating_mul(28).saturating_add(4)
+        wanting
+            .saturating_mul(USE_CHARGE)
+            .saturating_add(JUMP_CHARGE)
     }
 }
 
@@ -168,7 +191,7 @@ fn quiet_extent(words: u64) -> Extent
     ensures { (cells : _) → words ≡ length cells → ranges_in cells ≡ [] → AreExtent cells result.size result.charge result.range }
 {
     Extent {
-        size: words.saturating_mul(4),
+        size: words.saturating_mul(WORD_BYTES),
         charge: charge(words, 0),
         range: None,
     }
@@ -181,7 +204,7 @@ fn using_extent(words: u64, uses: Uses) -> Extent
 {
     let wanting = wanting_in(uses);
     Extent {
-        size: words.saturating_mul(4),
+        size: words.saturating_mul(WORD_BYTES),
         charge: charge(words, wanting.count),
         range: wanting.range,
     }
@@ -236,7 +259,7 @@ fn inst_burden<'a>(inst: &'a Inst, frame: &FrameLayout, info: &EmitInfo) -> Burd
         Some(space) => Burden {
             extent: Extent {
                 size: 0,
-                charge: 4 + u64::from(space),
+                charge: JUMP_CHARGE + u64::from(space),
                 range: None,
             },
             uses: only_use(None),
@@ -279,15 +302,15 @@ fn jump_light(dest: BranchTarget) -> Light
 {
     match dest {
         BranchTarget::Label(label) => Light {
-            growth: 36,
+            growth: USE_GROWTH,
             first: Some(Site {
                 kind: LabelUse::Branch26,
                 target: Target::Label(label),
             }),
             second: None,
-            range: Some((1 << 27) - 1),
+            range: Some(LabelUse::Branch26.max_pos_range()),
         },
-        BranchTarget::ResolvedOffset(_) => without_use(8),
+        BranchTarget::ResolvedOffset(_) => without_use(QUIET_WORD_GROWTH),
     }
 }
 
@@ -299,7 +322,7 @@ fn branches_light(kind: LabelUse, taken: BranchTarget, not_taken: BranchTarget) 
 {
     match (taken, not_taken) {
         (BranchTarget::Label(near), BranchTarget::Label(far)) => Some(Light {
-            growth: 68,
+            growth: TWO_USES_GROWTH,
             first: Some(Site {
                 kind,
                 target: Target::Label(near),
@@ -308,7 +331,7 @@ fn branches_light(kind: LabelUse, taken: BranchTarget, not_taken: BranchTarget) 
                 kind: LabelUse::Branch26,
                 target: Target::Label(far),
             }),
-            range: Some(kind.max_pos_range().min((1 << 27) - 1)),
+            range: Some(kind.max_pos_range().min(LabelUse::Branch26.max_pos_range())),
         }),
         _ => None,
     }
@@ -327,7 +350,7 @@ fn control_light(inst: &Inst, _frame: &FrameLayout, _info: &EmitInfo) -> Option<
         | Inst::Ret
         | Inst::IndirectBr { .. }
         | Inst::Brk
-        | Inst::Word4 { .. } => Some(without_use(8)),
+        | Inst::Word4 { .. } => Some(without_use(QUIET_WORD_GROWTH)),
         Inst::Jump { dest } => Some(jump_light(*dest)),
         Inst::CondBr {
             taken,
@@ -356,15 +379,15 @@ fn mode_light(mem: &AMode) -> Option<Light>
         | AMode::Unscaled { .. }
         | AMode::UnsignedOffset { .. }
         | AMode::SPPreIndexed { .. }
-        | AMode::SPPostIndexed { .. } => Some(without_use(8)),
+        | AMode::SPPostIndexed { .. } => Some(without_use(QUIET_WORD_GROWTH)),
         AMode::Const { addr } => Some(Light {
-            growth: 36,
+            growth: USE_GROWTH,
             first: Some(Site {
                 kind: LabelUse::Ldr19,
                 target: Target::Constant(addr),
             }),
             second: None,
-            range: Some((1 << 20) - 1),
+            range: Some(LabelUse::Ldr19.max_pos_range()),
         }),
         _ => None,
     }
@@ -391,7 +414,7 @@ pub fn inst_light(inst: &Inst, group: Group, frame: &FrameLayout, info: &EmitInf
     ensures place { IfSome result (λ _. asked_of inst.now ≡ None) }
 {
     match group {
-        Group::Plain(_) => Some(without_use(8)),
+        Group::Plain(_) => Some(without_use(QUIET_WORD_GROWTH)),
         Group::Control => control_light(inst, frame, info),
         Group::Sequence | Group::Call => None,
         Group::Memory => memory_light(inst, frame, info),

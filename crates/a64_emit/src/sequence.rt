@@ -1,6 +1,6 @@
 //! Emission of sequences around tables, symbols and the stack.
 
-ghost use Rattle.std.specs.Prelude.{◌≡◌, ◌+◌, ◌*◌, ◌^◌, ◌<◌, [], ◌∷◌, OnOk, OnErr, length, map, pos, true, None, Some};
+ghost use Rattle.std.specs.Prelude.{◌≡◌, [], ◌∷◌, map, true, None, Some};
 ghost use Rattle.a64_base.specs.declared.entity.Reloc.TheVariants.{Abs8};
 ghost use Rattle.a64_inst.specs.declared.group.Group.TheVariants.{Sequence};
 ghost use Rattle.a64_inst.specs.declared.virtuals.VirtualRegisters.TheVariants.{Refused};
@@ -8,10 +8,9 @@ ghost use Rattle.a64_inst.specs.Faults.{has_operands};
 ghost use Rattle.a64_inst.specs.Groups.{group_of};
 ghost use Rattle.a64_inst.specs.Operands.{is_register};
 ghost use Rattle.a64_inst.specs.SequenceOperands.{are_table_operands, are_probe_operands};
-ghost use Rattle.a64_buffer.specs.Buffer.{end_of};
 ghost use Rattle.a64_emit.specs.Cells.{Data, plain, data_cell, reloc_cell, entry_site, table_labels, table_cells, table_jump, got_cells, near_cells, far_cells, probe_forms};
 ghost use Rattle.a64_emit.specs.Words.{put_cell, as_put, put_for};
-ghost use Rattle.a64_emit.specs.Emission.{appended, IsAppendedInPart, HasRoom, CellsFit};
+ghost use Rattle.a64_emit.specs.Emission.{CanPut, PutsCells};
 
 use crate::emit::{emit_last, put_reloc, put_using, put_words};
 use crate::site::Site;
@@ -32,10 +31,9 @@ fn put_entry(
     distance: u32,
     label: MachLabel,
 ) -> Result<(), AllocError>
-    requires short { end_of sink.old + 4 < 2 ^ 31 }
-    requires fits { CellsFit sink.old (put_cell distance (Some (entry_site label)) None ∷ []) }
-    ensures ok { OnOk result (sink.new ≡ appended sink.old (put_cell distance (Some (entry_site label)) None ∷ [])) }
-    ensures err { OnErr result (IsAppendedInPart sink.old sink.new (put_cell distance (Some (entry_site label)) None ∷ [])) }
+    requires { CanPut sink.old (put_cell distance (Some (entry_site label)) None ∷ []) }
+    ensures { PutsCells result sink.old sink.new
+        (put_cell distance (Some (entry_site label)) None ∷ []) }
 {
     let site = Site {
         kind: LabelUse::PCRel32,
@@ -46,10 +44,8 @@ fn put_entry(
 
 /// The entries of a table for its targets.
 fn put_targets(sink: &mut MachBuffer<'_, LabelUse>, targets: &[MachLabel]) -> Result<(), AllocError>
-    requires room { HasRoom sink.old (table_cells 0 targets.now) }
-    requires fits { CellsFit sink.old (table_cells 0 targets.now) }
-    ensures ok { OnOk result (sink.new ≡ appended sink.old (table_cells 0 targets.now)) }
-    ensures err { OnErr result (IsAppendedInPart sink.old sink.new (table_cells 0 targets.now)) }
+    requires { CanPut sink.old (table_cells 0 targets.now) }
+    ensures { PutsCells result sink.old sink.new (table_cells 0 targets.now) }
 {
     let mut distance = 0;
     for label in targets {
@@ -65,10 +61,9 @@ fn put_table(
     default: MachLabel,
     targets: &[MachLabel],
 ) -> Result<(), AllocError>
-    requires room { HasRoom sink.old (table_cells 0 (table_labels default targets.now)) }
-    requires fits { CellsFit sink.old (table_cells 0 (table_labels default targets.now)) }
-    ensures ok { OnOk result (sink.new ≡ appended sink.old (table_cells 0 (table_labels default targets.now))) }
-    ensures err { OnErr result (IsAppendedInPart sink.old sink.new (table_cells 0 (table_labels default targets.now))) }
+    requires { CanPut sink.old (table_cells 0 (table_labels default targets.now)) }
+    ensures { PutsCells result sink.old sink.new
+        (table_cells 0 (table_labels default targets.now)) }
 {
     put_targets(sink, targets)?;
     put_entry(sink, 4 * targets.len() as u32, default)
@@ -85,10 +80,10 @@ fn emit_table(
     rtmp2: Writable<Reg>,
 ) -> Result<(), AllocError>
     requires good { are_table_operands Refused ridx rtmp1 rtmp2 ≡ true }
-    requires room { HasRoom sink.old (map as_put (table_jump info.now default targets.now ridx rtmp1 rtmp2)) }
-    requires fits { CellsFit sink.old (map as_put (table_jump info.now default targets.now ridx rtmp1 rtmp2)) }
-    ensures ok { OnOk result (sink.new ≡ appended sink.old (map as_put (table_jump info.now default targets.now ridx rtmp1 rtmp2))) }
-    ensures err { OnErr result (IsAppendedInPart sink.old sink.new (map as_put (table_jump info.now default targets.now ridx rtmp1 rtmp2))) }
+    requires can { CanPut sink.old
+        (map as_put (table_jump info.now default targets.now ridx rtmp1 rtmp2)) }
+    ensures { PutsCells result sink.old sink.new
+        (map as_put (table_jump info.now default targets.now ridx rtmp1 rtmp2)) }
 {
     let words = table_words(info, targets.len() as u64, ridx, rtmp1, rtmp2);
     put_words(sink, words.as_slice())?;
@@ -103,10 +98,12 @@ fn put_two_relocs(
     name: ExternalName,
     addend: i64,
 ) -> Result<(), AllocError>
-    requires room { HasRoom sink.old (reloc_cell (Data first.0) first.1 name addend ∷ reloc_cell (Data second.0) second.1 name addend ∷ []) }
-    requires fits { CellsFit sink.old (reloc_cell (Data first.0) first.1 name addend ∷ reloc_cell (Data second.0) second.1 name addend ∷ []) }
-    ensures ok { OnOk result (sink.new ≡ appended sink.old (reloc_cell (Data first.0) first.1 name addend ∷ reloc_cell (Data second.0) second.1 name addend ∷ [])) }
-    ensures err { OnErr result (IsAppendedInPart sink.old sink.new (reloc_cell (Data first.0) first.1 name addend ∷ reloc_cell (Data second.0) second.1 name addend ∷ [])) }
+    requires { CanPut sink.old
+        (reloc_cell (Data first.0) first.1 name addend
+        ∷ reloc_cell (Data second.0) second.1 name addend ∷ []) }
+    ensures { PutsCells result sink.old sink.new
+        (reloc_cell (Data first.0) first.1 name addend
+        ∷ reloc_cell (Data second.0) second.1 name addend ∷ []) }
 {
     put_reloc(sink, first.0, first.1, name, addend)?;
     put_reloc(sink, second.0, second.1, name, addend)
@@ -119,10 +116,8 @@ fn emit_got(
     name: ExternalName,
 ) -> Result<(), AllocError>
     requires good { is_register Refused rd ≡ true }
-    requires room { HasRoom sink.old (map as_put (got_cells rd name)) }
-    requires fits { CellsFit sink.old (map as_put (got_cells rd name)) }
-    ensures ok { OnOk result (sink.new ≡ appended sink.old (map as_put (got_cells rd name))) }
-    ensures err { OnErr result (IsAppendedInPart sink.old sink.new (map as_put (got_cells rd name))) }
+    requires can { CanPut sink.old (map as_put (got_cells rd name)) }
+    ensures { PutsCells result sink.old sink.new (map as_put (got_cells rd name)) }
 {
     let page = (page_word(rd), Reloc::Aarch64AdrGotPage21);
     let entry = (offset_entry_word(rd), Reloc::Aarch64Ld64GotLo12Nc);
@@ -137,10 +132,8 @@ fn emit_near(
     offset: i64,
 ) -> Result<(), AllocError>
     requires good { is_register Refused rd ≡ true }
-    requires room { HasRoom sink.old (map as_put (near_cells rd name offset)) }
-    requires fits { CellsFit sink.old (map as_put (near_cells rd name offset)) }
-    ensures ok { OnOk result (sink.new ≡ appended sink.old (map as_put (near_cells rd name offset))) }
-    ensures err { OnErr result (IsAppendedInPart sink.old sink.new (map as_put (near_cells rd name offset))) }
+    requires can { CanPut sink.old (map as_put (near_cells rd name offset)) }
+    ensures { PutsCells result sink.old sink.new (map as_put (near_cells rd name offset)) }
 {
     let page = (page_word(rd), Reloc::Aarch64AdrPrelPgHi21);
     let place = (place_word(rd), Reloc::Aarch64AddAbsLo12Nc);
@@ -153,10 +146,9 @@ fn put_address(
     name: ExternalName,
     offset: i64,
 ) -> Result<(), AllocError>
-    requires room { HasRoom sink.old (reloc_cell (Data 0) Abs8 name offset ∷ data_cell 0 ∷ []) }
-    requires fits { CellsFit sink.old (reloc_cell (Data 0) Abs8 name offset ∷ data_cell 0 ∷ []) }
-    ensures ok { OnOk result (sink.new ≡ appended sink.old (reloc_cell (Data 0) Abs8 name offset ∷ data_cell 0 ∷ [])) }
-    ensures err { OnErr result (IsAppendedInPart sink.old sink.new (reloc_cell (Data 0) Abs8 name offset ∷ data_cell 0 ∷ [])) }
+    requires { CanPut sink.old (reloc_cell (Data 0) Abs8 name offset ∷ data_cell 0 ∷ []) }
+    ensures { PutsCells result sink.old sink.new
+        (reloc_cell (Data 0) Abs8 name offset ∷ data_cell 0 ∷ []) }
 {
     put_reloc(sink, 0, Reloc::Abs8, name, offset)?;
     emit_last(sink, 0, None, None)
@@ -170,10 +162,8 @@ fn emit_far(
     offset: i64,
 ) -> Result<(), AllocError>
     requires good { is_register Refused rd ≡ true }
-    requires room { HasRoom sink.old (map as_put (far_cells rd name offset)) }
-    requires fits { CellsFit sink.old (map as_put (far_cells rd name offset)) }
-    ensures ok { OnOk result (sink.new ≡ appended sink.old (map as_put (far_cells rd name offset))) }
-    ensures err { OnErr result (IsAppendedInPart sink.old sink.new (map as_put (far_cells rd name offset))) }
+    requires can { CanPut sink.old (map as_put (far_cells rd name offset)) }
+    ensures { PutsCells result sink.old sink.new (map as_put (far_cells rd name offset)) }
 {
     put_words(sink, far_words(rd).as_slice())?;
     put_address(sink, name, offset)
@@ -188,10 +178,9 @@ fn emit_probe(
     step: Imm12,
 ) -> Result<(), AllocError>
     requires good { are_probe_operands info.now Refused start end step ≡ true }
-    requires room { HasRoom sink.old (map as_put (map plain (probe_forms start end step))) }
-    requires fits { CellsFit sink.old (map as_put (map plain (probe_forms start end step))) }
-    ensures ok { OnOk result (sink.new ≡ appended sink.old (map as_put (map plain (probe_forms start end step)))) }
-    ensures err { OnErr result (IsAppendedInPart sink.old sink.new (map as_put (map plain (probe_forms start end step)))) }
+    requires can { CanPut sink.old (map as_put (map plain (probe_forms start end step))) }
+    ensures { PutsCells result sink.old sink.new
+        (map as_put (map plain (probe_forms start end step))) }
 {
     put_words(sink, probe_words(info, start, end, step).as_slice())
 }
@@ -205,11 +194,9 @@ pub fn emit_sequence(
     _frame: &FrameLayout,
 ) -> Result<(), AllocError>
     requires group { group_of inst.now ≡ Sequence }
-    requires room { HasRoom sink.old (put_for _frame.now info.now inst.now) }
-    requires fits { CellsFit sink.old (put_for _frame.now info.now inst.now) }
     requires good { has_operands _frame.now info.now Refused inst.now ≡ true }
-    ensures ok { OnOk result (sink.new ≡ appended sink.old (put_for _frame.now info.now inst.now)) }
-    ensures err { OnErr result (IsAppendedInPart sink.old sink.new (put_for _frame.now info.now inst.now)) }
+    requires can { CanPut sink.old (put_for _frame.now info.now inst.now) }
+    ensures { PutsCells result sink.old sink.new (put_for _frame.now info.now inst.now) }
 {
     match inst {
         Inst::JTSequence {

@@ -1,11 +1,8 @@
 use Rattle.std.proofs.Common.{[], ◌∷◌, ◌++◌, None, map, ap, ◌∙◌}
-use Rattle.std.proofs.lemmas.Result.{on_ok_weaker, on_err_weaker}
 use Rattle.a64_emit.specs.Cells.{plain, leave_forms, return_cell}
-use Rattle.a64_emit.specs.Emission.{IsAppendedInPart}
 use Rattle.a64_emit.specs.Words.{as_put, put_kept}
-use Rattle.a64_emit.proofs.Behind.{words_put, words_short, words_fit, words_begun, rest_room, rest_fits, rest_put, rest_begun}
+use Rattle.a64_emit.proofs.Behind.{words_put, words_short, words_fit, words_begun, can_rest, puts_rest}
 use Rattle.a64_emit.proofs.Called.{returned_put}
-use Rattle.a64_emit.proofs.Fitting.{of_error}
 use Rattle.a64_emit.proofs.Lasts.{silent}
 use Rattle.a64_emit.proofs.call.emit_leave.Goals as goal
 
@@ -17,19 +14,18 @@ put_words-requires g c =
     let words = c.as_slice.result.now in
     let is = words_put words forms (return_cell c.args.callee.now ∷ []) (c.as_slice.ensures.value ∙ c.leave_words-words.ensures.words) ∙ ap (λ cells. silent words ++ cells) (returned_put c.args.callee.now c.return_word-word.result c.return_word-word.ensures) in
     record {
-      short = words_short c.args.sink.now words rest (map as_put (map plain forms ++ return_cell c.args.callee.now ∷ [])) is c.requires.room;
-      fits = words_fit c.args.sink.now words rest (map as_put (map plain forms ++ return_cell c.args.callee.now ∷ [])) is c.requires.fits;
+      short = words_short c.args.sink.now words rest (map as_put (map plain forms ++ return_cell c.args.callee.now ∷ [])) is c.requires.can;
+      fits = words_fit c.args.sink.now words rest (map as_put (map plain forms ++ return_cell c.args.callee.now ∷ [])) is c.requires.can;
     }
 
-pub returns-in_err-put_words-clause-err : goal.returns-in_err-put_words-clause-err
-returns-in_err-put_words-clause-err g c =
+pub returns-in_err-put_words : goal.returns-in_err-put_words
+returns-in_err-put_words g c =
     let call = c.args.call.now in
     let forms = leave_forms c.args.frame.now call.new_stack_arg_size call.key call.sign_return_address_all in
     let cells = map as_put (map plain forms ++ return_cell c.args.callee.now ∷ []) in
     let words = c.as_slice.result.now in
     let is = words_put words forms (return_cell c.args.callee.now ∷ []) (c.as_slice.ensures.value ∙ c.leave_words-words.ensures.words) ∙ ap (λ cells. silent words ++ cells) (returned_put c.args.callee.now c.return_word-word.result c.return_word-word.ensures) in
-    of_error c.from_residual.result (IsAppendedInPart c.args.sink.now c.put_words.new.sink cells)
-    (words_begun c.args.sink.now words (put_kept c.return_word-word.result c.args.callee.now None ∷ []) cells is c.put_words.new.sink c.in_err-put_words.ensures.err)
+    words_begun c.args.sink.now words (put_kept c.return_word-word.result c.args.callee.now None ∷ []) cells is c.from_residual.result _ c.put_words.new.sink c.from_residual.ensures.1 c.in_err-put_words.ensures.err
 
 pub put_call-requires : goal.put_call-requires
 put_call-requires g c =
@@ -39,27 +35,14 @@ put_call-requires g c =
     let rest = put_kept c.return_word-word.result c.args.callee.now None ∷ [] in
     let words = c.as_slice.result.now in
     let is = words_put words forms (return_cell c.args.callee.now ∷ []) (c.as_slice.ensures.value ∙ c.leave_words-words.ensures.words) ∙ ap (λ cells. silent words ++ cells) (returned_put c.args.callee.now c.return_word-word.result c.return_word-word.ensures) in
-    record {
-      short = rest_room c.args.sink.now words rest cells is c.put_words.new.sink c.in_ok-put_words.ensures.ok c.requires.room;
-      fits = rest_fits c.args.sink.now words rest cells is c.put_words.new.sink c.in_ok-put_words.ensures.ok c.requires.fits;
-    }
+    can_rest c.args.sink.now words rest cells is c.put_words.new.sink c.in_ok-put_words.ensures.ok c.requires.can
 
-pub returns-clause-ok : goal.returns-clause-ok
-returns-clause-ok g c =
+pub returns : goal.returns
+returns g c =
     let call = c.args.call.now in
     let forms = leave_forms c.args.frame.now call.new_stack_arg_size call.key call.sign_return_address_all in
     let cells = map as_put (map plain forms ++ return_cell c.args.callee.now ∷ []) in
     let rest = put_kept c.return_word-word.result c.args.callee.now None ∷ [] in
     let words = c.as_slice.result.now in
     let is = words_put words forms (return_cell c.args.callee.now ∷ []) (c.as_slice.ensures.value ∙ c.leave_words-words.ensures.words) ∙ ap (λ cells. silent words ++ cells) (returned_put c.args.callee.now c.return_word-word.result c.return_word-word.ensures) in
-    on_ok_weaker c.put_call.result (rest_put c.args.sink.now words rest cells is c.put_words.new.sink c.in_ok-put_words.ensures.ok c.put_call.new.sink) c.put_call.ensures.ok
-
-pub returns-clause-err : goal.returns-clause-err
-returns-clause-err g c =
-    let call = c.args.call.now in
-    let forms = leave_forms c.args.frame.now call.new_stack_arg_size call.key call.sign_return_address_all in
-    let cells = map as_put (map plain forms ++ return_cell c.args.callee.now ∷ []) in
-    let rest = put_kept c.return_word-word.result c.args.callee.now None ∷ [] in
-    let words = c.as_slice.result.now in
-    let is = words_put words forms (return_cell c.args.callee.now ∷ []) (c.as_slice.ensures.value ∙ c.leave_words-words.ensures.words) ∙ ap (λ cells. silent words ++ cells) (returned_put c.args.callee.now c.return_word-word.result c.return_word-word.ensures) in
-    on_err_weaker c.put_call.result (rest_begun c.args.sink.now words rest cells is c.put_words.new.sink c.in_ok-put_words.ensures.ok c.put_call.new.sink) c.put_call.ensures.err
+    puts_rest c.args.sink.now words rest cells is c.put_words.new.sink c.in_ok-put_words.ensures.ok c.put_call.result c.put_call.new.sink c.put_call.ensures

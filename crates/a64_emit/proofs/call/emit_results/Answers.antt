@@ -4,11 +4,11 @@ use Rattle.a64_inst.specs.declared.call.CallRetPair.{CallRetPair}
 use Rattle.a64_inst.specs.declared.virtuals.VirtualRegisters.TheVariants.{Refused}
 use Rattle.a64_inst.specs.CallOperands.{are_call_defs}
 use Rattle.a64_emit.specs.Cells.{result_cells}
-use Rattle.a64_emit.specs.Emission.{appended, IsAppendedInPart, HasRoom, CellsFit}
+use Rattle.a64_emit.specs.Emission.{appended, IsAppendedInPart, CanPut}
 use Rattle.a64_emit.specs.Words.{as_put}
-use Rattle.a64_emit.proofs.Fitting.{of_error}
+use Rattle.a64_emit.proofs.Fitting.{failed}
 use Rattle.a64_emit.proofs.Holding.{none_appended}
-use Rattle.a64_emit.proofs.Repeated.{one_room, one_fits, one_put, one_begun}
+use Rattle.a64_emit.proofs.Repeated.{can_one, one_put, one_begun}
 use Rattle.a64_emit.proofs.Results.{results_more, result_each}
 use Rattle.a64_emit.proofs.call.emit_results.Goals as goal
 
@@ -22,16 +22,15 @@ emit_result-requires c =
     let d = c.pair-item.result in
     record {
       good = subst (λ (pair : CallRetPair). are_call_defs Refused (pair ∷ []) ≡ true) (sym c.pair-item.is) (result_each a.defs.now i d c.requires.good c.loop-pair-test.true);
-      room = subst (λ (pair : CallRetPair). HasRoom c.loop-pair.sink (map as_put (result_cells a.frame.now pair))) (sym c.pair-item.is) (one_room (λ (pair : CallRetPair). map as_put (result_cells a.frame.now pair)) (λ defs. map as_put (flat_map (result_cells a.frame.now) defs)) refl (results_more a.frame.now) a.sink.now a.defs.now i d c.loop-pair-test.true c.loop-pair.sink c.loop-pair.invariant c.requires.room);
-      fits = subst (λ (pair : CallRetPair). CellsFit c.loop-pair.sink (map as_put (result_cells a.frame.now pair))) (sym c.pair-item.is) (one_fits (λ (pair : CallRetPair). map as_put (result_cells a.frame.now pair)) (λ defs. map as_put (flat_map (result_cells a.frame.now) defs)) refl (results_more a.frame.now) a.sink.now a.defs.now i d c.loop-pair-test.true c.loop-pair.sink c.loop-pair.invariant c.requires.fits);
+      can = subst (λ (pair : CallRetPair). CanPut c.loop-pair.sink (map as_put (result_cells a.frame.now pair))) (sym c.pair-item.is) (can_one (λ (pair : CallRetPair). map as_put (result_cells a.frame.now pair)) (λ defs. map as_put (flat_map (result_cells a.frame.now) defs)) refl (results_more a.frame.now) a.sink.now a.defs.now i d c.loop-pair-test.true c.loop-pair.sink c.loop-pair.invariant c.requires.can);
     }
 
-pub returns-in_err-emit_result-clause-err : goal.returns-in_err-emit_result-clause-err
-returns-in_err-emit_result-clause-err c =
+pub returns-in_err-emit_result : goal.returns-in_err-emit_result
+returns-in_err-emit_result c =
     let a = c.args in
     let i = c.loop-pair.pair-index in
     let d = c.pair-item.result in
-    of_error c.from_residual.result (IsAppendedInPart a.sink.now c.emit_result.new.sink (map as_put (flat_map (result_cells a.frame.now) a.defs.now)))
+    failed c.from_residual.result _ a.sink.now c.emit_result.new.sink (map as_put (flat_map (result_cells a.frame.now) a.defs.now)) c.from_residual.ensures.1
     (one_begun (λ (pair : CallRetPair). map as_put (result_cells a.frame.now pair)) (λ defs. map as_put (flat_map (result_cells a.frame.now) defs)) refl (results_more a.frame.now) a.sink.now a.defs.now i d c.loop-pair-test.true c.loop-pair.sink c.loop-pair.invariant c.emit_result.new.sink (subst (λ (pair : CallRetPair). IsAppendedInPart c.loop-pair.sink c.emit_result.new.sink (map as_put (result_cells a.frame.now pair))) c.pair-item.is c.in_err-emit_result.ensures.err))
 
 pub loop-pair-preserved : goal.loop-pair-preserved

@@ -1,7 +1,6 @@
-use Rattle.std.proofs.Common.{sym, ap, subst, ◌∙◌}
-use Rattle.std.proofs.lemmas.Result.{on_ok_weaker, on_err_weaker}
+use Rattle.std.proofs.Common.{sym, subst}
 use Rattle.a64_emit.specs.Cells.{shape_of}
-use Rattle.a64_emit.specs.Emission.{appended, IsAppendedInPart, HasRoom, CellsFit}
+use Rattle.a64_emit.specs.Emission.{CanPut, PutsCells}
 use Rattle.a64_emit.proofs.AsPut.{several_put}
 use Rattle.a64_emit.proofs.Several.{several_puttable}
 use Rattle.a64_emit.proofs.emit.emit_memory_words.Goals as goal
@@ -10,25 +9,15 @@ pub emit_several-requires : goal.emit_several-requires
 emit_several-requires c =
     let words = c.in-Some.words in
     let are = c.in-Some.ensures in
-    let put = several_put words.first.items words.last words.site words.trap (shape_of c.args.frame.now c.args.info.now c.args.inst.now) are in
     record {
       lawful = several_puttable c.args.frame.now c.args.info.now c.args.sink.now.constants c.args.inst.now words.first.items words.last words.site words.trap c.requires.there are;
-      room = subst (HasRoom c.args.sink.now) (sym put) c.requires.room;
-      fits = subst (CellsFit c.args.sink.now) (sym put) c.requires.fits;
+      can = subst (CanPut c.args.sink.now) (sym (several_put words.first.items words.last words.site words.trap (shape_of c.args.frame.now c.args.info.now c.args.inst.now) are)) c.requires.can;
     }
 
-pub returns-in-Some-clause-ok : goal.returns-in-Some-clause-ok
-returns-in-Some-clause-ok c =
+pub returns-in-Some : goal.returns-in-Some
+returns-in-Some c =
     let words = c.in-Some.words in
     let are = c.in-Some.ensures in
-    on_ok_weaker c.emit_several.result
-    (λ e. e ∙ ap (appended c.args.sink.now) (several_put words.first.items words.last words.site words.trap (shape_of c.args.frame.now c.args.info.now c.args.inst.now) are))
-    c.emit_several.ensures.ok
-
-pub returns-in-Some-clause-err : goal.returns-in-Some-clause-err
-returns-in-Some-clause-err c =
-    let words = c.in-Some.words in
-    let are = c.in-Some.ensures in
-    on_err_weaker c.emit_several.result
-    (subst (IsAppendedInPart c.args.sink.now c.emit_several.new.sink) (several_put words.first.items words.last words.site words.trap (shape_of c.args.frame.now c.args.info.now c.args.inst.now) are))
-    c.emit_several.ensures.err
+    subst (PutsCells c.emit_several.result c.args.sink.now c.emit_several.new.sink)
+    (several_put words.first.items words.last words.site words.trap (shape_of c.args.frame.now c.args.info.now c.args.inst.now) are)
+    c.emit_several.ensures

@@ -1,24 +1,24 @@
-use Rattle.std.proofs.Common.{◌≡◌, [], ◌∷◌, subst, arith, slice_index_or}
+use Rattle.std.proofs.Common.{◌≡◌, [], ◌∷◌, sym, subst, arith, slice_index_or}
 use Rattle.a64_base.specs.declared.entity.MachLabel.{MachLabel}
 use Rattle.a64_emit.specs.Cells.{table_cells}
-use Rattle.a64_emit.specs.Emission.{appended, IsAppendedInPart}
-use Rattle.a64_emit.proofs.Fitting.{of_error}
-use Rattle.a64_emit.proofs.Tables.{entry, table_length, entry_room, entry_fits, entry_put, entry_begun}
+use Rattle.a64_emit.specs.Emission.{appended, IsAppendedInPart, CanPut}
+use Rattle.a64_emit.proofs.Fitting.{failed}
+use Rattle.a64_emit.proofs.Tables.{entry, table_length, can_entry, entry_put, entry_begun}
 use Rattle.a64_emit.proofs.sequence.put_targets.Goals as goal
 
 abbrev no_label : MachLabel
 no_label = record { 0 = 0 }
 
-pub put_entry-requires-clause-short : goal.put_entry-requires-clause-short
-put_entry-requires-clause-short c = entry_room c.args.sink.now c.args.targets.now c.loop-label.label-index no_label c.loop-label-test.true c.loop-label.sink c.loop-label.invariant.0 c.requires.room
-
-pub put_entry-requires-clause-fits : goal.put_entry-requires-clause-fits
-put_entry-requires-clause-fits c = entry_fits c.args.sink.now c.args.targets.now c.loop-label.label-index no_label c.loop-label-test.true c.loop-label.sink c.loop-label.invariant.0 c.requires.fits
-
-pub returns-in_err-put_entry-clause-err : goal.returns-in_err-put_entry-clause-err
-returns-in_err-put_entry-clause-err c =
+pub put_entry-requires : goal.put_entry-requires
+put_entry-requires c =
     let i = c.loop-label.label-index in
-    of_error c.from_residual.result (IsAppendedInPart c.args.sink.now c.put_entry.new.sink (table_cells 0 c.args.targets.now))
+    subst (λ n. CanPut c.loop-label.sink (entry n (slice_index_or c.args.targets.now i no_label) ∷ [])) (sym c.loop-label.invariant.1)
+    (can_entry c.args.sink.now c.args.targets.now i no_label c.loop-label-test.true c.loop-label.sink c.loop-label.invariant.0 c.requires)
+
+pub returns-in_err-put_entry : goal.returns-in_err-put_entry
+returns-in_err-put_entry c =
+    let i = c.loop-label.label-index in
+    failed c.from_residual.result _ c.args.sink.now c.put_entry.new.sink (table_cells 0 c.args.targets.now) c.from_residual.ensures.1
     (entry_begun c.args.sink.now c.args.targets.now i no_label c.loop-label-test.true c.loop-label.sink c.loop-label.invariant.0 c.put_entry.new.sink
     (subst (λ n. IsAppendedInPart c.loop-label.sink c.put_entry.new.sink (entry n (slice_index_or c.args.targets.now i no_label) ∷ [])) c.loop-label.invariant.1 c.in_err-put_entry.ensures.err))
 
