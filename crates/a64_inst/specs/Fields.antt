@@ -5,8 +5,11 @@ use Rattle.a64_base.specs.declared.cond.Cond as conds
 use Rattle.a64_base.specs.declared.reg.Reg.{Reg}
 use Rattle.a64_base.specs.declared.shift.ExtendOp.{ExtendOp}
 use Rattle.a64_base.specs.declared.size.OperandSize.{OperandSize}
+use Rattle.a64_base.specs.declared.size.ScalarSize as scalar_sizes
+use Rattle.a64_base.specs.declared.size.VectorSize as vector_sizes
 use Rattle.a64_base.specs.RegisterNumbers.{RealRegister}
 use Rattle.a64_base.specs.ShiftParts as shifts
+use Rattle.a64_imms.specs.declared.asimd_fp.ASIMDFPModImm.{ASIMDFPModImm}
 use Rattle.a64_imms.specs.declared.flags.NZCV.{NZCV}
 use Rattle.a64_imms.specs.declared.imm12.Imm12 as imm12s
 use Rattle.a64_imms.specs.declared.imm_logic.ImmLogic.{ImmLogic}
@@ -14,12 +17,20 @@ use Rattle.a64_imms.specs.declared.move_wide.MoveWideConst.{MoveWideConst}
 use Rattle.a64_imms.specs.declared.unsigned.ImmShift as imm_shifts
 use Rattle.a64_imms.specs.declared.unsigned.UImm5 as uimm5s
 use Rattle.a64_imms.specs.declared.unsigned.UImm6 as uimm6s
+use Rattle.a64_ops.specs.declared.float.FPUOp1.{FPUOp1}
+use Rattle.a64_ops.specs.declared.float.FPUOp2.{FPUOp2}
+use Rattle.a64_ops.specs.declared.float.FPUOp3.{FPUOp3}
+use Rattle.a64_ops.specs.declared.float.FpuRoundMode as fpu_round_modes
+use Rattle.a64_ops.specs.declared.float.FpuToIntOp as fpu_to_int_ops
+use Rattle.a64_ops.specs.declared.float.IntToFpuOp as int_to_fpu_ops
 use Rattle.a64_ops.specs.declared.operator.ALUOp.{ALUOp}
 use Rattle.a64_ops.specs.declared.operator.ALUOp3.{ALUOp3}
 use Rattle.a64_ops.specs.declared.operator.BfmOp as bfm_ops
 use Rattle.a64_ops.specs.declared.operator.BitOp as bit_ops
 use Rattle.a64_ops.specs.declared.operator.MoveWideOp as move_wide_ops
 use Rattle.a64_inst.specs.declared.class.Class.{Class}
+use Rattle.a64_inst.specs.declared.fpu_op.FPUOpRI.{FPUOpRI}
+use Rattle.a64_inst.specs.declared.fpu_op.FPUOpRIMod.{FPUOpRIMod}
 
 -- what a field that is no register of an operand's class holds
 pub data Operand : Type 0 where
@@ -28,11 +39,22 @@ pub data Operand : Type 0 where
   BitOp : bit_ops.BitOp → Operand
   BfmOp : bfm_ops.BfmOp → Operand
   MoveWideOp : move_wide_ops.MoveWideOp → Operand
+  FpuOp1 : FPUOp1 → Operand
+  FpuOp2 : FPUOp2 → Operand
+  FpuOp3 : FPUOp3 → Operand
+  FpuOpRI : FPUOpRI → Operand
+  FpuOpRIMod : FPUOpRIMod → Operand
+  FpuToIntOp : fpu_to_int_ops.FpuToIntOp → Operand
+  IntToFpuOp : int_to_fpu_ops.IntToFpuOp → Operand
+  FpuRoundMode : fpu_round_modes.FpuRoundMode → Operand
   Size : OperandSize → Operand
+  ScalarSize : scalar_sizes.ScalarSize → Operand
+  VectorSize : vector_sizes.VectorSize → Operand
   PReg : RealRegister → Operand
   Imm12 : imm12s.Imm12 → Operand
   Logic : ImmLogic → Operand
   Wide : MoveWideConst → Operand
+  FloatImm : ASIMDFPModImm → Operand
   ImmShift : imm_shifts.ImmShift → Operand
   UImm5 : uimm5s.UImm5 → Operand
   UImm6 : uimm6s.UImm6 → Operand

@@ -5,6 +5,7 @@ pub mod Operands
 pub mod Fields
 pub mod Sheets
 pub mod IntegerOperands
+pub mod FloatOperands
 pub mod ControlOperands
 pub mod SequenceOperands
 pub mod CallOperands

@@ -6,7 +6,12 @@ use Rattle.a64_base.specs.declared.reg.RegClass.{RegClass}
 use Rattle.a64_base.specs.declared.reg.RegClass.TheVariants.{Int, Float}
 use Rattle.a64_base.specs.declared.size.OperandSize.{OperandSize}
 use Rattle.a64_base.specs.declared.size.OperandSize.TheVariants.{Size32, Size64}
+use Rattle.a64_base.specs.declared.size.ScalarSize.{ScalarSize}
+use Rattle.a64_base.specs.declared.size.ScalarSize.TheVariants as scalars
+use Rattle.a64_base.specs.declared.size.ScalarSize.TheVariants.{Size8, Size16, Size128}
+use Rattle.a64_base.specs.declared.size.VectorSize.{VectorSize}
 use Rattle.a64_base.specs.OperandSizes.{operand_bits}
+use Rattle.a64_base.specs.VectorSizes.{lane_of}
 use Rattle.a64_imms.specs.declared.imm12.Imm12.{Imm12}
 use Rattle.a64_imms.specs.declared.imm_logic.ImmLogic.{ImmLogic}
 use Rattle.a64_imms.specs.declared.move_wide.MoveWideConst.{MoveWideConst}
@@ -68,6 +73,20 @@ is_same_register _ _ = true
 abbrev pub is_other_register : Reg → Reg → Bool
 is_other_register (Real p) (Real q) = not (is_same_class p.class q.class && nat_eq p.number q.number)
 is_other_register _ _ = true
+
+-- ---- lanes
+
+-- how many lanes of a size a vector register of 128 bits has
+abbrev pub lanes_of : ScalarSize → ℕ
+lanes_of Size8 = 16
+lanes_of Size16 = 8
+lanes_of scalars.Size32 = 4
+lanes_of scalars.Size64 = 2
+lanes_of Size128 = 1
+
+-- a number is that of a lane of a whole register
+abbrev pub is_lane : VectorSize → ℕ → Bool
+is_lane size idx = nat_lt idx (lanes_of (lane_of size))
 
 -- ---- immediates and offsets
 

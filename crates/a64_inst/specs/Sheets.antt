@@ -1,17 +1,19 @@
 -- The fields of each instruction that is one plain word, in the order of a file, and what must hold of them (Arm Architecture
--- Reference Manual, C6.2).
+-- Reference Manual, C6.2 and C7.2).
 use Rattle.std.specs.Prelude.{Bool, true, ◌&&◌, List, [], ◌∷◌}
 use Rattle.a64_base.specs.declared.reg.Reg.{Reg}
+use Rattle.a64_base.specs.ScalarSizes.{has_ftype}
 use Rattle.a64_inst.specs.declared.class.Class.{Class}
-use Rattle.a64_inst.specs.declared.class.Class.TheVariants.{Zero, Stack, Own}
+use Rattle.a64_inst.specs.declared.class.Class.TheVariants.{Zero, Stack, Vector, Own}
 use Rattle.a64_inst.specs.declared.inst.Inst.{Inst}
 use Rattle.a64_inst.specs.declared.inst.Inst.TheVariants as insts
 use Rattle.a64_inst.specs.declared.virtuals.VirtualRegisters.{VirtualRegisters}
 use Rattle.a64_inst.specs.Fields as fields
 use Rattle.a64_inst.specs.Fields.{Field, Def, Use, Is}
+use Rattle.a64_inst.specs.FloatOperands as float
 use Rattle.a64_inst.specs.IntegerOperands as integer
 use Rattle.a64_inst.specs.IntegerOperands.{add_sub_class, logic_class}
-use Rattle.a64_inst.specs.Operands.{is_register_or_stack, is_register_or_zero, is_wide_in, is_near}
+use Rattle.a64_inst.specs.Operands.{is_register_or_stack, is_register_or_zero, is_vector_register, is_wide_in, is_near}
 
 -- the fields
 abbrev pub sheet : Inst → List Field
@@ -54,6 +56,30 @@ sheet (insts.CCmp size rn rm nzcv cond) =
     Is (fields.Size size) ∷ Use Zero rn ∷ Use Zero rm ∷ Is (fields.Nzcv nzcv) ∷ Is (fields.Cond cond) ∷ []
 sheet (insts.CCmpImm size rn imm nzcv cond) =
     Is (fields.Size size) ∷ Use Zero rn ∷ Is (fields.UImm5 imm) ∷ Is (fields.Nzcv nzcv) ∷ Is (fields.Cond cond) ∷ []
+-- operations on scalar floats
+sheet (insts.FpuMove32 rd rn) = Def Vector rd ∷ Use Vector rn ∷ []
+sheet (insts.FpuMove64 rd rn) = Def Vector rd ∷ Use Vector rn ∷ []
+sheet (insts.FpuMove128 rd rn) = Def Vector rd ∷ Use Vector rn ∷ []
+sheet (insts.FpuMoveFromVec rd rn idx lanes) =
+    Def Vector rd ∷ Use Vector rn ∷ Is (fields.U8 idx) ∷ Is (fields.VectorSize lanes) ∷ []
+sheet (insts.FpuExtend rd rn scalar) = Def Vector rd ∷ Use Vector rn ∷ Is (fields.ScalarSize scalar) ∷ []
+sheet (insts.FpuRR fpu_op scalar rd rn) =
+    Is (fields.FpuOp1 fpu_op) ∷ Is (fields.ScalarSize scalar) ∷ Def Vector rd ∷ Use Vector rn ∷ []
+sheet (insts.FpuRRR fpu_op scalar rd rn rm) =
+    Is (fields.FpuOp2 fpu_op) ∷ Is (fields.ScalarSize scalar) ∷ Def Vector rd ∷ Use Vector rn ∷ Use Vector rm ∷ []
+sheet (insts.FpuRRI fpu_op rd rn) = Is (fields.FpuOpRI fpu_op) ∷ Def Vector rd ∷ Use Vector rn ∷ []
+sheet (insts.FpuRRIMod fpu_op rd ri rn) = Is (fields.FpuOpRIMod fpu_op) ∷ Def Vector rd ∷ Use Vector ri ∷ Use Vector rn ∷ []
+sheet (insts.FpuRRRR fpu_op scalar rd rn rm ra) =
+    Is (fields.FpuOp3 fpu_op) ∷ Is (fields.ScalarSize scalar) ∷ Def Vector rd ∷ Use Vector rn ∷ Use Vector rm ∷ Use Vector ra ∷ []
+sheet (insts.FpuCmp scalar rn rm) = Is (fields.ScalarSize scalar) ∷ Use Vector rn ∷ Use Vector rm ∷ []
+sheet (insts.FpuToInt op rd rn) = Is (fields.FpuToIntOp op) ∷ Def Zero rd ∷ Use Vector rn ∷ []
+sheet (insts.IntToFpu op rd rn) = Is (fields.IntToFpuOp op) ∷ Def Vector rd ∷ Use Zero rn ∷ []
+sheet (insts.FpuCSel16 rd rn rm cond) = Def Vector rd ∷ Use Vector rn ∷ Use Vector rm ∷ Is (fields.Cond cond) ∷ []
+sheet (insts.FpuCSel32 rd rn rm cond) = Def Vector rd ∷ Use Vector rn ∷ Use Vector rm ∷ Is (fields.Cond cond) ∷ []
+sheet (insts.FpuCSel64 rd rn rm cond) = Def Vector rd ∷ Use Vector rn ∷ Use Vector rm ∷ Is (fields.Cond cond) ∷ []
+sheet (insts.FpuRound op rd rn) = Is (fields.FpuRoundMode op) ∷ Def Vector rd ∷ Use Vector rn ∷ []
+sheet (insts.MovToFpu rd rn scalar) = Def Vector rd ∷ Use Zero rn ∷ Is (fields.ScalarSize scalar) ∷ []
+sheet (insts.FpuMoveFPImm rd imm scalar) = Def Vector rd ∷ Is (fields.FloatImm imm) ∷ Is (fields.ScalarSize scalar) ∷ []
 -- the others are no plain words
 sheet _ = []
 
@@ -77,12 +103,23 @@ has_rest virtuals (insts.BitRR op size rd rn) = integer.is_bit_op_at op size
 has_rest virtuals (insts.Mov size rd rm) = integer.is_move virtuals size rd rm
 has_rest virtuals (insts.MovFromPReg rd rm) = integer.is_move_from virtuals rd rm
 has_rest virtuals (insts.MovToPReg rd rm) = integer.is_move_to virtuals rd rm
+has_rest virtuals (insts.FpuMoveFromVec rd rn idx lanes) = float.is_float_lane lanes idx
+has_rest virtuals (insts.FpuExtend rd rn scalar) = has_ftype scalar
+has_rest virtuals (insts.FpuRR fpu_op scalar rd rn) = float.is_fpu_op1_at fpu_op scalar
+has_rest virtuals (insts.FpuRRR fpu_op scalar rd rn rm) = has_ftype scalar
+has_rest virtuals (insts.FpuRRI fpu_op rd rn) = float.is_right_shift fpu_op
+has_rest virtuals (insts.FpuRRIMod fpu_op rd ri rn) = float.is_kept_shift rd ri fpu_op
+has_rest virtuals (insts.FpuRRRR fpu_op scalar rd rn rm ra) = has_ftype scalar
+has_rest virtuals (insts.FpuCmp scalar rn rm) = has_ftype scalar
+has_rest virtuals (insts.MovToFpu rd rn scalar) = has_ftype scalar
+has_rest virtuals (insts.FpuMoveFPImm rd imm scalar) = float.is_float_imm_of scalar imm
 has_rest virtuals _ = true
 
 -- a register is of a class
 abbrev pub is_of : VirtualRegisters → Class → Reg → Bool
 is_of virtuals Zero reg = is_register_or_zero virtuals reg
 is_of virtuals Stack reg = is_register_or_stack virtuals reg
+is_of virtuals Vector reg = is_vector_register virtuals reg
 is_of virtuals Own reg = true
 
 -- the registers are of their classes, and the rest holds

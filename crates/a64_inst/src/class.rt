@@ -3,7 +3,7 @@
 ghost use Rattle.std.specs.Prelude.{◌≡◌};
 ghost use Rattle.a64_inst.specs.Sheets as sheets;
 
-use crate::operand::{is_register_or_stack, is_register_or_zero};
+use crate::operand::{is_register_or_stack, is_register_or_zero, is_vector_register};
 use crate::virtuals::VirtualRegisters;
 use a64_base::Reg;
 
@@ -14,6 +14,8 @@ pub enum Class {
     Zero,
     /// x0 to x30, or the stack pointer.
     Stack,
+    /// v0 to v31.
+    Vector,
     /// Those that the instruction says in a test of its own.
     Own,
 }
@@ -26,6 +28,7 @@ pub fn is_of(virtuals: VirtualRegisters, class: Class, reg: Reg) -> bool
     match class {
         Class::Zero => is_register_or_zero(virtuals, reg),
         Class::Stack => is_register_or_stack(virtuals, reg),
+        Class::Vector => is_vector_register(virtuals, reg),
         Class::Own => true,
     }
 }

@@ -8,7 +8,7 @@ ghost use Rattle.a64_inst.specs.Groups.{group_of};
 use crate::boxed::Boxed;
 use crate::group::{Group, PlainGroup};
 use crate::inst::Inst;
-use crate::{immediate_list, register_list};
+use crate::{float_list, immediate_list, register_list};
 use std::alloc::{AllocError, Global};
 
 /// An equal instruction, of these variants with these fields.
@@ -47,6 +47,14 @@ fn copied_register(inst: &Inst) -> Inst
     register_list!(copied_arms, virtuals, inst)
 }
 
+/// An equal operation on scalar floats.
+fn copied_float(inst: &Inst) -> Inst
+    requires { group_of inst.now ≡ groups.Plain plain.Float }
+    ensures { result ≡ inst.now }
+{
+    float_list!(copied_arms, virtuals, inst)
+}
+
 /// An equal instruction that is one plain word.
 fn copied_plain(inst: &Inst, group: PlainGroup) -> Inst
     requires { group_of inst.now ≡ groups.Plain group }
@@ -55,6 +63,7 @@ fn copied_plain(inst: &Inst, group: PlainGroup) -> Inst
     match group {
         PlainGroup::Immediate => copied_immediate(inst),
         PlainGroup::Register => copied_register(inst),
+        PlainGroup::Float => copied_float(inst),
     }
 }
 

@@ -1,5 +1,10 @@
 //! The groups of instructions.
 
+ghost use Rattle.std.specs.Prelude.{◌≡◌};
+ghost use Rattle.a64_inst.specs.Groups.{group_of};
+
+use crate::inst::Inst;
+
 /// A group of instructions, by the classes of the Arm Architecture Reference Manual, C4.1.
 ///
 /// A function over all instructions looks at the group first, and then goes on in a function over
@@ -25,4 +30,111 @@ pub enum PlainGroup {
     Immediate,
     /// Integer operations on registers, and moves of them.
     Register,
+    /// Operations on scalar floats, and moves of them.
+    Float,
+}
+
+impl Inst {
+    /// The group of the instruction.
+    #[inline(always)]
+    pub fn group(&self) -> Group
+        ensures { result ≡ group_of self.now }
+    {
+        match self {
+            Inst::AluRRImm12 { .. }
+            | Inst::AluRRImmLogic { .. }
+            | Inst::AluRRImmShift { .. }
+            | Inst::MovWide { .. }
+            | Inst::MovK { .. }
+            | Inst::Extend { .. }
+            | Inst::BitfieldMove { .. }
+            | Inst::BitfieldMoveMod { .. }
+            | Inst::Adr { .. }
+            | Inst::Adrp { .. } => Group::Plain(PlainGroup::Immediate),
+            Inst::AluRRR { .. }
+            | Inst::AluRRRR { .. }
+            | Inst::AluRRRShift { .. }
+            | Inst::AluRRRExtend { .. }
+            | Inst::BitRR { .. }
+            | Inst::Mov { .. }
+            | Inst::MovFromPReg { .. }
+            | Inst::MovToPReg { .. }
+            | Inst::CSel { .. }
+            | Inst::CSNeg { .. }
+            | Inst::CSet { .. }
+            | Inst::CSetm { .. }
+            | Inst::CCmp { .. }
+            | Inst::CCmpImm { .. } => Group::Plain(PlainGroup::Register),
+            Inst::FpuMove32 { .. }
+            | Inst::FpuMove64 { .. }
+            | Inst::FpuMove128 { .. }
+            | Inst::FpuMoveFromVec { .. }
+            | Inst::FpuExtend { .. }
+            | Inst::FpuRR { .. }
+            | Inst::FpuRRR { .. }
+            | Inst::FpuRRI { .. }
+            | Inst::FpuRRIMod { .. }
+            | Inst::FpuRRRR { .. }
+            | Inst::FpuCmp { .. }
+            | Inst::FpuToInt { .. }
+            | Inst::IntToFpu { .. }
+            | Inst::FpuCSel16 { .. }
+            | Inst::FpuCSel32 { .. }
+            | Inst::FpuCSel64 { .. }
+            | Inst::FpuRound { .. }
+            | Inst::MovToFpu { .. }
+            | Inst::FpuMoveFPImm { .. } => Group::Plain(PlainGroup::Float),
+            Inst::Nop0
+            | Inst::Nop4
+            | Inst::MovToNZCV { .. }
+            | Inst::MovFromNZCV { .. }
+            | Inst::Ret
+            | Inst::Jump { .. }
+            | Inst::CondBr { .. }
+            | Inst::TestBitAndBranch { .. }
+            | Inst::TrapIf { .. }
+            | Inst::IndirectBr { .. }
+            | Inst::Brk
+            | Inst::Udf { .. }
+            | Inst::Word4 { .. }
+            | Inst::Word8 { .. }
+            | Inst::EmitIsland { .. }
+            | Inst::LabelAddress { .. } => Group::Control,
+            Inst::Args { .. }
+            | Inst::Rets { .. }
+            | Inst::DummyUse { .. }
+            | Inst::SequencePoint
+            | Inst::JTSequence { .. }
+            | Inst::LoadExtNameGot { .. }
+            | Inst::LoadExtNameNear { .. }
+            | Inst::LoadExtNameFar { .. }
+            | Inst::StackProbeLoop { .. } => Group::Sequence,
+            Inst::Call { .. }
+            | Inst::CallInd { .. }
+            | Inst::ReturnCall { .. }
+            | Inst::ReturnCallInd { .. } => Group::Call,
+            Inst::LoadP64 { .. }
+            | Inst::StoreP64 { .. }
+            | Inst::LoadAddr { .. }
+            | Inst::ULoad8 { .. }
+            | Inst::SLoad8 { .. }
+            | Inst::ULoad16 { .. }
+            | Inst::SLoad16 { .. }
+            | Inst::ULoad32 { .. }
+            | Inst::SLoad32 { .. }
+            | Inst::ULoad64 { .. }
+            | Inst::FpuLoad16 { .. }
+            | Inst::FpuLoad32 { .. }
+            | Inst::FpuLoad64 { .. }
+            | Inst::FpuLoad128 { .. }
+            | Inst::Store8 { .. }
+            | Inst::Store16 { .. }
+            | Inst::Store32 { .. }
+            | Inst::Store64 { .. }
+            | Inst::FpuStore16 { .. }
+            | Inst::FpuStore32 { .. }
+            | Inst::FpuStore64 { .. }
+            | Inst::FpuStore128 { .. } => Group::Memory,
+        }
+    }
 }

@@ -1,20 +1,22 @@
 //! The instructions.
 
 ghost use Rattle.std.specs.Prelude.{◌≡◌};
-ghost use Rattle.a64_inst.specs.Groups.{group_of};
 
 use crate::boxed::Boxed;
 use crate::call::{CallInfo, ReturnCallInfo};
-use crate::group::{Group, PlainGroup};
+use crate::fpu_op::{FPUOpRI, FPUOpRIMod};
 use crate::mode::{AMode, PairAMode};
 use crate::pair::{ArgPair, RetPair};
 use a64_base::{
     BranchTarget, Cond, CondBrKind, ExtendOp, ExternalName, MachLabel, MemFlagsData, OperandSize,
-    PReg, Reg, ShiftOpAndAmt, TestBitAndBranchKind, TrapCode, Writable,
+    PReg, Reg, ScalarSize, ShiftOpAndAmt, TestBitAndBranchKind, TrapCode, VectorSize, Writable,
 };
-use a64_imms::{Imm12, ImmLogic, ImmShift, MoveWideConst, NZCV, UImm5, UImm6};
+use a64_imms::{ASIMDFPModImm, Imm12, ImmLogic, ImmShift, MoveWideConst, NZCV, UImm5, UImm6};
 use a64_list::ListVec;
-use a64_ops::{ALUOp, ALUOp3, BfmOp, BitOp, MoveWideOp};
+use a64_ops::{
+    ALUOp, ALUOp3, BfmOp, BitOp, FPUOp1, FPUOp2, FPUOp3, FpuRoundMode, FpuToIntOp, IntToFpuOp,
+    MoveWideOp,
+};
 use std::alloc::Global;
 use std::default::MadeWith;
 
@@ -306,6 +308,193 @@ pub enum Inst {
         rd: Writable<Reg>,
         /// The distance in pages of 4096 bytes, above -2^20 and below 2^20.
         off: i32,
+    },
+    /// `fmov` at 32 bits: a float out of another register, with zeros above it.
+    FpuMove32 {
+        /// The result.
+        rd: Writable<Reg>,
+        /// What is moved.
+        rn: Reg,
+    },
+    /// `fmov` at 64 bits: a float out of another register, with zeros above it.
+    FpuMove64 {
+        /// The result.
+        rd: Writable<Reg>,
+        /// What is moved.
+        rn: Reg,
+    },
+    /// `mov` of a whole vector register.
+    FpuMove128 {
+        /// The result.
+        rd: Writable<Reg>,
+        /// What is moved.
+        rn: Reg,
+    },
+    /// `mov` of one lane of a vector register, with zeros above it.
+    FpuMoveFromVec {
+        /// The result.
+        rd: Writable<Reg>,
+        /// The vector.
+        rn: Reg,
+        /// The lane's number, below 4 for lanes of 32 bits and below 2 for those of 64.
+        idx: u8,
+        /// The lanes, of 32 or 64 bits.
+        size: VectorSize,
+    },
+    /// `fmov` of a float of 16, 32 or 64 bits, with zeros above it.
+    FpuExtend {
+        /// The result.
+        rd: Writable<Reg>,
+        /// What is moved.
+        rn: Reg,
+        /// The size of the float.
+        size: ScalarSize,
+    },
+    /// An operation on one float.
+    FpuRR {
+        /// The operator.
+        fpu_op: FPUOp1,
+        /// The size of the operand: 32 bits for `Cvt32To64`, 64 for `Cvt64To32`, else 16, 32 or 64.
+        size: ScalarSize,
+        /// The result.
+        rd: Writable<Reg>,
+        /// The operand.
+        rn: Reg,
+    },
+    /// An operation on two floats of 16, 32 or 64 bits.
+    FpuRRR {
+        /// The operator.
+        fpu_op: FPUOp2,
+        /// The size of the operands.
+        size: ScalarSize,
+        /// The result.
+        rd: Writable<Reg>,
+        /// The first operand.
+        rn: Reg,
+        /// The second operand.
+        rm: Reg,
+    },
+    /// A shift of the lowest bits of a vector register, with zeros above the result.
+    FpuRRI {
+        /// The operator, with the amount.
+        fpu_op: FPUOpRI,
+        /// The result.
+        rd: Writable<Reg>,
+        /// What is shifted.
+        rn: Reg,
+    },
+    /// A shift of the lowest bits of a vector register, of which the result keeps as many bits as it shifts by.
+    FpuRRIMod {
+        /// The operator, with the amount.
+        fpu_op: FPUOpRIMod,
+        /// The result.
+        rd: Writable<Reg>,
+        /// The register of which the lowest bits stay, which is the result's.
+        ri: Reg,
+        /// What is shifted.
+        rn: Reg,
+    },
+    /// An operation on three floats of 16, 32 or 64 bits.
+    FpuRRRR {
+        /// The operator.
+        fpu_op: FPUOp3,
+        /// The size of the operands.
+        size: ScalarSize,
+        /// The result.
+        rd: Writable<Reg>,
+        /// The first factor.
+        rn: Reg,
+        /// The second factor.
+        rm: Reg,
+        /// What the product is added to, or subtracted from.
+        ra: Reg,
+    },
+    /// `fcmp` of two floats of 16, 32 or 64 bits, which sets the flags.
+    FpuCmp {
+        /// The size of the operands.
+        size: ScalarSize,
+        /// The first operand.
+        rn: Reg,
+        /// The second operand.
+        rm: Reg,
+    },
+    /// A conversion of a float to an integer, towards zero.
+    FpuToInt {
+        /// The operator.
+        op: FpuToIntOp,
+        /// The result, a general register.
+        rd: Writable<Reg>,
+        /// The float.
+        rn: Reg,
+    },
+    /// A conversion of an integer to a float.
+    IntToFpu {
+        /// The operator.
+        op: IntToFpuOp,
+        /// The result.
+        rd: Writable<Reg>,
+        /// The integer, in a general register.
+        rn: Reg,
+    },
+    /// `fcsel` at 16 bits: one of two floats, by a condition.
+    FpuCSel16 {
+        /// The result.
+        rd: Writable<Reg>,
+        /// What it is where the condition holds.
+        rn: Reg,
+        /// What it is where the condition fails.
+        rm: Reg,
+        /// The condition.
+        cond: Cond,
+    },
+    /// `fcsel` at 32 bits: one of two floats, by a condition.
+    FpuCSel32 {
+        /// The result.
+        rd: Writable<Reg>,
+        /// What it is where the condition holds.
+        rn: Reg,
+        /// What it is where the condition fails.
+        rm: Reg,
+        /// The condition.
+        cond: Cond,
+    },
+    /// `fcsel` at 64 bits: one of two floats, by a condition.
+    FpuCSel64 {
+        /// The result.
+        rd: Writable<Reg>,
+        /// What it is where the condition holds.
+        rn: Reg,
+        /// What it is where the condition fails.
+        rm: Reg,
+        /// The condition.
+        cond: Cond,
+    },
+    /// A rounding of a float to an integral value.
+    FpuRound {
+        /// The direction, and the size of the float.
+        op: FpuRoundMode,
+        /// The result.
+        rd: Writable<Reg>,
+        /// The operand.
+        rn: Reg,
+    },
+    /// `fmov` of the bits of a general register, with zeros above them.
+    MovToFpu {
+        /// The result.
+        rd: Writable<Reg>,
+        /// What is moved, a general register.
+        rn: Reg,
+        /// How many bits: 16, 32 or 64.
+        size: ScalarSize,
+    },
+    /// `fmov` of an immediate float of 16, 32 or 64 bits.
+    FpuMoveFPImm {
+        /// The result.
+        rd: Writable<Reg>,
+        /// The float, which is one of the size.
+        imm: ASIMDFPModImm,
+        /// The size of the float.
+        size: ScalarSize,
     },
     /// `ret`: a return to the address in x30.
     Ret,
@@ -683,91 +872,5 @@ impl MadeWith<Global> for Inst {
 
     fn made_with(_alloc: Global) -> Inst {
         Inst::Nop4
-    }
-}
-
-impl Inst {
-    /// The group of the instruction.
-    #[inline(always)]
-    pub fn group(&self) -> Group
-        ensures { result ≡ group_of self.now }
-    {
-        match self {
-            Inst::AluRRImm12 { .. }
-            | Inst::AluRRImmLogic { .. }
-            | Inst::AluRRImmShift { .. }
-            | Inst::MovWide { .. }
-            | Inst::MovK { .. }
-            | Inst::Extend { .. }
-            | Inst::BitfieldMove { .. }
-            | Inst::BitfieldMoveMod { .. }
-            | Inst::Adr { .. }
-            | Inst::Adrp { .. } => Group::Plain(PlainGroup::Immediate),
-            Inst::AluRRR { .. }
-            | Inst::AluRRRR { .. }
-            | Inst::AluRRRShift { .. }
-            | Inst::AluRRRExtend { .. }
-            | Inst::BitRR { .. }
-            | Inst::Mov { .. }
-            | Inst::MovFromPReg { .. }
-            | Inst::MovToPReg { .. }
-            | Inst::CSel { .. }
-            | Inst::CSNeg { .. }
-            | Inst::CSet { .. }
-            | Inst::CSetm { .. }
-            | Inst::CCmp { .. }
-            | Inst::CCmpImm { .. } => Group::Plain(PlainGroup::Register),
-            Inst::Nop0
-            | Inst::Nop4
-            | Inst::MovToNZCV { .. }
-            | Inst::MovFromNZCV { .. }
-            | Inst::Ret
-            | Inst::Jump { .. }
-            | Inst::CondBr { .. }
-            | Inst::TestBitAndBranch { .. }
-            | Inst::TrapIf { .. }
-            | Inst::IndirectBr { .. }
-            | Inst::Brk
-            | Inst::Udf { .. }
-            | Inst::Word4 { .. }
-            | Inst::Word8 { .. }
-            | Inst::EmitIsland { .. }
-            | Inst::LabelAddress { .. } => Group::Control,
-            Inst::Args { .. }
-            | Inst::Rets { .. }
-            | Inst::DummyUse { .. }
-            | Inst::SequencePoint
-            | Inst::JTSequence { .. }
-            | Inst::LoadExtNameGot { .. }
-            | Inst::LoadExtNameNear { .. }
-            | Inst::LoadExtNameFar { .. }
-            | Inst::StackProbeLoop { .. } => Group::Sequence,
-            Inst::Call { .. }
-            | Inst::CallInd { .. }
-            | Inst::ReturnCall { .. }
-            | Inst::ReturnCallInd { .. } => Group::Call,
-            Inst::LoadP64 { .. }
-            | Inst::StoreP64 { .. }
-            | Inst::LoadAddr { .. }
-            | Inst::ULoad8 { .. }
-            | Inst::SLoad8 { .. }
-            | Inst::ULoad16 { .. }
-            | Inst::SLoad16 { .. }
-            | Inst::ULoad32 { .. }
-            | Inst::SLoad32 { .. }
-            | Inst::ULoad64 { .. }
-            | Inst::FpuLoad16 { .. }
-            | Inst::FpuLoad32 { .. }
-            | Inst::FpuLoad64 { .. }
-            | Inst::FpuLoad128 { .. }
-            | Inst::Store8 { .. }
-            | Inst::Store16 { .. }
-            | Inst::Store32 { .. }
-            | Inst::Store64 { .. }
-            | Inst::FpuStore16 { .. }
-            | Inst::FpuStore32 { .. }
-            | Inst::FpuStore64 { .. }
-            | Inst::FpuStore128 { .. } => Group::Memory,
-        }
     }
 }

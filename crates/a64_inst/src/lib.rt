@@ -9,6 +9,7 @@ mod constant;
 mod copied;
 mod emission;
 mod fault;
+mod fpu_op;
 mod frame;
 mod group;
 mod inst;
@@ -22,7 +23,10 @@ mod place;
 mod virtuals;
 
 pub use crate::item::Item;
-pub use a64_ops::{ALUOp, ALUOp3, AccessOp, AtomicRMWOp, BfmOp, BitOp, MoveWideOp};
+pub use a64_ops::{
+    ALUOp, ALUOp3, AccessOp, AtomicRMWOp, BfmOp, BitOp, FPUOp1, FPUOp2, FPUOp3, FpuRoundMode,
+    FpuToIntOp, IntToFpuOp, MoveWideOp,
+};
 pub use a64_plan::{ConstStep, const_plan};
 pub use access::{Access, AccessRef};
 pub use boxed::Boxed;
@@ -30,6 +34,7 @@ pub use call::{CallArgPair, CallInfo, CallRetPair, RetLocation, ReturnCallInfo};
 pub use class::Class;
 pub use emission::{EmitFlags, EmitInfo, EmitState};
 pub use fault::OwnFault;
+pub use fpu_op::{FPUOpRI, FPUOpRIMod};
 pub use frame::FrameLayout;
 pub use group::{Group, PlainGroup};
 pub use inst::Inst;

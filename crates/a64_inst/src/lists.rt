@@ -47,3 +47,31 @@ macro_rules! register_list {
         }
     };
 }
+
+/// Hands the operations on scalar floats to a macro.
+#[macro_export]
+macro_rules! float_list {
+    ($arms:ident, $virtuals:ident, $($args:tt),+) => {
+        $arms! { $virtuals, $($args),+;
+            FpuMove32 { rd: Def Vector, rn: Use Vector } if true;
+            FpuMove64 { rd: Def Vector, rn: Use Vector } if true;
+            FpuMove128 { rd: Def Vector, rn: Use Vector } if true;
+            FpuMoveFromVec { rd: Def Vector, rn: Use Vector, idx: Is U8, size: Is VectorSize } if is_float_lane(*size, *idx);
+            FpuExtend { rd: Def Vector, rn: Use Vector, size: Is ScalarSize } if is_float_size(*size);
+            FpuRR { fpu_op: Is FpuOp1, size: Is ScalarSize, rd: Def Vector, rn: Use Vector } if is_fpu_op1_at(*fpu_op, *size);
+            FpuRRR { fpu_op: Is FpuOp2, size: Is ScalarSize, rd: Def Vector, rn: Use Vector, rm: Use Vector } if is_float_size(*size);
+            FpuRRI { fpu_op: Is FpuOpRI, rd: Def Vector, rn: Use Vector } if is_right_shift(*fpu_op);
+            FpuRRIMod { fpu_op: Is FpuOpRIMod, rd: Def Vector, ri: Use Vector, rn: Use Vector } if is_kept_shift(&rd.to_reg(), ri, *fpu_op);
+            FpuRRRR { fpu_op: Is FpuOp3, size: Is ScalarSize, rd: Def Vector, rn: Use Vector, rm: Use Vector, ra: Use Vector } if is_float_size(*size);
+            FpuCmp { size: Is ScalarSize, rn: Use Vector, rm: Use Vector } if is_float_size(*size);
+            FpuToInt { op: Is FpuToIntOp, rd: Def Zero, rn: Use Vector } if true;
+            IntToFpu { op: Is IntToFpuOp, rd: Def Vector, rn: Use Zero } if true;
+            FpuCSel16 { rd: Def Vector, rn: Use Vector, rm: Use Vector, cond: Is Cond } if true;
+            FpuCSel32 { rd: Def Vector, rn: Use Vector, rm: Use Vector, cond: Is Cond } if true;
+            FpuCSel64 { rd: Def Vector, rn: Use Vector, rm: Use Vector, cond: Is Cond } if true;
+            FpuRound { op: Is FpuRoundMode, rd: Def Vector, rn: Use Vector } if true;
+            MovToFpu { rd: Def Vector, rn: Use Zero, size: Is ScalarSize } if is_float_size(*size);
+            FpuMoveFPImm { rd: Def Vector, imm: Is FloatImm, size: Is ScalarSize } if is_float_imm_of(*size, *imm);
+        }
+    };
+}

@@ -4,7 +4,7 @@ ghost use Rattle.std.specs.Prelude.{◌≡◌};
 ghost use Rattle.a64_inst.specs.Operands as operands;
 
 use crate::virtuals::VirtualRegisters;
-use a64_base::{OperandSize, Reg, RegClass};
+use a64_base::{OperandSize, Reg, RegClass, ScalarSize, VectorSize};
 use a64_imms::{Imm12, ImmLogic, MoveWideConst};
 
 /// Whether a register is x0 to x30, or the zero register.
@@ -106,6 +106,20 @@ pub fn is_other_register(a: &Reg, b: &Reg) -> bool
         },
         Reg::Virtual { .. } => true,
     }
+}
+
+/// Whether a number is that of a lane of a whole vector register, of 128 bits.
+pub fn is_lane(size: VectorSize, idx: u8) -> bool
+    ensures { result ≡ operands.is_lane size idx }
+{
+    let lanes = match size.lane_size() {
+        ScalarSize::Size8 => 16,
+        ScalarSize::Size16 => 8,
+        ScalarSize::Size32 => 4,
+        ScalarSize::Size64 => 2,
+        ScalarSize::Size128 => 1,
+    };
+    idx < lanes
 }
 
 /// Whether a halfword stands inside a register of the size.

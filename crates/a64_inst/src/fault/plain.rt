@@ -1,16 +1,20 @@
 //! Whether the operands of instructions that are one plain word are in their sets.
 
+mod float;
 mod immediate;
 mod register;
 
 ghost use Rattle.std.specs.Prelude.{◌≡◌};
 ghost use Rattle.a64_inst.specs.declared.group.Group.TheVariants.{Plain};
-ghost use Rattle.a64_inst.specs.declared.group.PlainGroup.TheVariants.{Immediate, Register};
+ghost use Rattle.a64_inst.specs.declared.group.PlainGroup.TheVariants.{Float, Immediate, Register};
 ghost use Rattle.a64_inst.specs.Groups.{group_of};
 ghost use Rattle.a64_inst.specs.Faults.{has_operands};
 
 use crate::class::{Class, is_of};
 use crate::emission::EmitInfo;
+use crate::fault::plain::float::{
+    is_float_imm_of, is_float_lane, is_float_size, is_fpu_op1_at, is_kept_shift, is_right_shift,
+};
 use crate::fault::plain::immediate::{
     is_add_sub_imm12, is_bitfield, is_extended, is_kept, is_kept_bitfield, is_logic_imm,
     is_shift_by, logic_class,
@@ -24,7 +28,7 @@ use crate::group::PlainGroup;
 use crate::inst::Inst;
 use crate::operand::{is_near, is_wide_in};
 use crate::virtuals::VirtualRegisters;
-use crate::{immediate_list, register_list};
+use crate::{float_list, immediate_list, register_list};
 
 /// Whether the registers among the fields are of their classes, and the rest holds.
 macro_rules! fields_fit {
@@ -79,6 +83,19 @@ fn has_register_operands(
     register_list!(operand_arms, virtuals, inst)
 }
 
+/// Whether the operands of an operation on scalar floats are in their sets.
+fn has_float_operands(
+    inst: &Inst,
+    frame: &FrameLayout,
+    info: &EmitInfo,
+    virtuals: VirtualRegisters,
+) -> bool
+    requires { group_of inst.now ≡ Plain Float }
+    ensures { result ≡ has_operands frame.now info.now virtuals inst.now }
+{
+    float_list!(operand_arms, virtuals, inst)
+}
+
 /// Whether the operands of an instruction that is one plain word are in their sets.
 #[inline(always)]
 pub fn has_plain_operands(
@@ -94,5 +111,6 @@ pub fn has_plain_operands(
     match group {
         PlainGroup::Immediate => has_immediate_operands(inst, frame, info, virtuals),
         PlainGroup::Register => has_register_operands(inst, frame, info, virtuals),
+        PlainGroup::Float => has_float_operands(inst, frame, info, virtuals),
     }
 }
