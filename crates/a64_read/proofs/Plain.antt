@@ -1,5 +1,5 @@
 -- No field's text has a space.
-use Rattle.std.specs.Prelude.{ℕ, ℤ, pos, negsuc, suc, ◌<◌, ◌*◌, ◌^◌, ◌++◌, if◌then◌else◌, Bool, true, false, List, [], ◌∷◌, Option, Some, None, refl}
+use Rattle.std.specs.Prelude.{ℕ, ℤ, pos, negsuc, suc, ◌<◌, ◌*◌, ◌^◌, ◌++◌, codes, if◌then◌else◌, Bool, true, false, List, [], ◌∷◌, Option, Some, None, refl}
 use Rattle.std.proofs.Common.{arith, lit<, inl}
 use Rattle.std.proofs.lemmas.Int.{ints}
 use Rattle.std.specs.Fmt.{decimal, signed_decimal}
@@ -54,6 +54,10 @@ use Rattle.a64_base.specs.ShiftParts.{Shift}
 use Rattle.a64_imms.specs.declared.flags.NZCV.{NZCV}
 use Rattle.a64_imms.specs.declared.unsigned.UImm5.{UImm5}
 use Rattle.a64_imms.specs.Flags.{flags_of, nzcv_bits}
+use Rattle.a64_inst.specs.declared.fpu_op.FPUOpRI.{FPUOpRI}
+use Rattle.a64_inst.specs.declared.fpu_op.FPUOpRI.TheVariants as fpu_op_ris
+use Rattle.a64_inst.specs.declared.fpu_op.FPUOpRIMod.{FPUOpRIMod}
+use Rattle.a64_inst.specs.declared.fpu_op.FPUOpRIMod.TheVariants as fpu_op_ri_mods
 use Rattle.a64_read.specs.declared.emit_flag.EmitFlag.{EmitFlag}
 use Rattle.a64_read.specs.declared.emit_flag.EmitFlag.TheVariants.{EnableProbestack}
 use Rattle.a64_read.specs.declared.frame_field.FrameField.{FrameField}
@@ -72,6 +76,7 @@ use Rattle.a64_read.specs.Operators.{alu_op_text, alu_op3_text, bit_op_text, bfm
 use Rattle.a64_read.specs.Branches.{cond_br_name_text, cond_br_name_of, cond_br_fields}
 use Rattle.a64_read.specs.Conventions.{api_key_text, convention_text, key_text}
 use Rattle.a64_read.specs.FloatOperators.{fpu_op1_text, fpu_op2_text, fpu_op3_text, fpu_round_mode_text, fpu_to_int_op_text, int_to_fpu_op_text}
+use Rattle.a64_read.specs.FloatShifts.{fpu_op_ri_mod_text, fpu_op_ri_text, IsFpuOpRI, IsFpuOpRIMod}
 use Rattle.a64_read.specs.Modes.{mode_name_text, mode_name_of, mode_fields, pair_name_text, pair_name_of, pair_fields}
 use Rattle.a64_read.specs.Parts.{part_texts, IsPart}
 use Rattle.a64_read.proofs.Between.{join_plain, parts_apart, part_apart}
@@ -199,10 +204,22 @@ emit_flag_plain _ = refl
 
 -- ---- fields
 
+-- a name, and a number in parentheses
+number_plain : (name : List ℕ) (n : ℕ) → HasNo 32 name → IsU64 n → HasNo 32 (call_text (name, decimal n))
+number_plain name n plain fits =
+    append_apart 32 name (40 ∷ (decimal n ++ 41 ∷ [])) plain
+    (append_apart 32 (decimal n) (41 ∷ []) (decimal_plain n fits) refl)
+
 shift_plain : (x : Shift) → IsShift x → HasNo 32 (shift_text x)
-shift_plain x fits =
-    append_apart 32 (shift_op_text x.op) (40 ∷ (decimal x.amount ++ 41 ∷ [])) (shift_op_plain x.op)
-    (append_apart 32 (decimal x.amount) (41 ∷ []) (decimal_plain x.amount (omega (arith, fits))) refl)
+shift_plain x fits = number_plain (shift_op_text x.op) x.amount (shift_op_plain x.op) (omega (arith, fits))
+
+fpu_op_ri_plain : (x : FPUOpRI) → IsFpuOpRI x → HasNo 32 (fpu_op_ri_text x)
+fpu_op_ri_plain (fpu_op_ris.UShr32 imm) fits = number_plain (codes "UShr32") imm.amount refl (omega (arith, fits.0.at_most))
+fpu_op_ri_plain (fpu_op_ris.UShr64 imm) fits = number_plain (codes "UShr64") imm.amount refl (omega (arith, fits.0.at_most))
+
+fpu_op_ri_mod_plain : (x : FPUOpRIMod) → IsFpuOpRIMod x → HasNo 32 (fpu_op_ri_mod_text x)
+fpu_op_ri_mod_plain (fpu_op_ri_mods.Sli32 imm) fits = number_plain (codes "Sli32") imm.amount refl (omega (arith, fits.0.below))
+fpu_op_ri_mod_plain (fpu_op_ri_mods.Sli64 imm) fits = number_plain (codes "Sli64") imm.amount refl (omega (arith, fits.0.below))
 
 -- the name of a shift has no parenthesis
 pub shift_op_apart : (x : ShiftOp) → HasNo 40 (shift_op_text x)
@@ -259,6 +276,8 @@ value_plain (values.MoveWideOp x) fits = move_wide_op_plain x
 value_plain (values.FpuOp1 x) fits = fpu_op1_plain x
 value_plain (values.FpuOp2 x) fits = fpu_op2_plain x
 value_plain (values.FpuOp3 x) fits = fpu_op3_plain x
+value_plain (values.FpuOpRI x) fits = fpu_op_ri_plain x fits
+value_plain (values.FpuOpRIMod x) fits = fpu_op_ri_mod_plain x fits
 value_plain (values.FpuToIntOp x) fits = fpu_to_int_op_plain x
 value_plain (values.IntToFpuOp x) fits = int_to_fpu_op_plain x
 value_plain (values.FpuRoundMode x) fits = fpu_round_mode_plain x

@@ -45,6 +45,10 @@ use Rattle.a64_base.specs.declared.ir_type.IrType.{IrType}
 use Rattle.a64_base.specs.declared.ir_type.IrType.TheVariants.{I64}
 use Rattle.a64_imms.specs.declared.offset.SImm9.{SImm9}
 use Rattle.a64_imms.specs.declared.offset.SImm7Scaled.{SImm7Scaled}
+use Rattle.a64_inst.specs.declared.fpu_op.FPUOpRI.{FPUOpRI}
+use Rattle.a64_inst.specs.declared.fpu_op.FPUOpRI.TheVariants as fpu_op_ris
+use Rattle.a64_inst.specs.declared.fpu_op.FPUOpRIMod.{FPUOpRIMod}
+use Rattle.a64_inst.specs.declared.fpu_op.FPUOpRIMod.TheVariants as fpu_op_ri_mods
 use Rattle.a64_inst.specs.declared.mode.AMode.{AMode}
 use Rattle.a64_inst.specs.declared.mode.AMode.TheVariants as modes
 use Rattle.a64_inst.specs.declared.mode.PairAMode.{PairAMode}
@@ -377,6 +381,20 @@ fpu_op3_of _ = fpu_op3s.MAdd
 
 abbrev pub fpu_op3_at : List Value → ℕ → FPUOp3
 fpu_op3_at values i = fpu_op3_of (slice_get values i)
+
+abbrev pub fpu_op_ri_of : Option Value → FPUOpRI
+fpu_op_ri_of (Some (values.FpuOpRI x)) = x
+fpu_op_ri_of _ = fpu_op_ris.UShr32 (record { amount = 1; lane_size_in_bits = 32 })
+
+abbrev pub fpu_op_ri_at : List Value → ℕ → FPUOpRI
+fpu_op_ri_at values i = fpu_op_ri_of (slice_get values i)
+
+abbrev pub fpu_op_ri_mod_of : Option Value → FPUOpRIMod
+fpu_op_ri_mod_of (Some (values.FpuOpRIMod x)) = x
+fpu_op_ri_mod_of _ = fpu_op_ri_mods.Sli32 (record { amount = 0; lane_size_in_bits = 32 })
+
+abbrev pub fpu_op_ri_mod_at : List Value → ℕ → FPUOpRIMod
+fpu_op_ri_mod_at values i = fpu_op_ri_mod_of (slice_get values i)
 
 abbrev pub fpu_to_int_op_of : Option Value → FpuToIntOp
 fpu_to_int_op_of (Some (values.FpuToIntOp x)) = x

@@ -6,6 +6,7 @@ pub mod Conventions
 pub mod Found
 pub mod Types
 pub mod Fields
+pub mod FloatShifts
 pub mod Lists
 pub mod RegisterPairs
 pub mod Clobbers

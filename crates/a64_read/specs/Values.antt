@@ -40,6 +40,8 @@ use Rattle.a64_base.specs.declared.key.APIKey.{APIKey}
 use Rattle.a64_base.specs.declared.ir_type.IrType.{IrType}
 use Rattle.a64_imms.specs.declared.offset.SImm9.{SImm9}
 use Rattle.a64_imms.specs.declared.offset.SImm7Scaled.{SImm7Scaled}
+use Rattle.a64_inst.specs.declared.fpu_op.FPUOpRI.{FPUOpRI}
+use Rattle.a64_inst.specs.declared.fpu_op.FPUOpRIMod.{FPUOpRIMod}
 use Rattle.a64_inst.specs.declared.mode.AMode.{AMode}
 use Rattle.a64_inst.specs.declared.mode.PairAMode.{PairAMode}
 use Rattle.a64_read.specs.declared.mode_name.MemLabelName.{MemLabelName}
@@ -52,6 +54,7 @@ use Rattle.a64_read.specs.Operators.{alu_op3_text, alu_op_text, bfm_op_text, bit
 use Rattle.a64_read.specs.Branches.{cond_br_text, IsCondBr}
 use Rattle.a64_read.specs.Conventions.{api_key_text, convention_text, key_text}
 use Rattle.a64_read.specs.FloatOperators.{fpu_op1_text, fpu_op2_text, fpu_op3_text, fpu_round_mode_text, fpu_to_int_op_text, int_to_fpu_op_text}
+use Rattle.a64_read.specs.FloatShifts.{fpu_op_ri_mod_text, fpu_op_ri_text, IsFpuOpRI, IsFpuOpRIMod}
 use Rattle.a64_read.specs.Lists.{same_text}
 use Rattle.a64_read.specs.Modes.{mode_text, IsMode, pair_text, IsPairMode}
 use Rattle.a64_read.specs.Parts.{part_text, IsPart}
@@ -66,6 +69,8 @@ kind_of (values.MoveWideOp x) = kinds.MoveWideOp
 kind_of (values.FpuOp1 x) = kinds.FpuOp1
 kind_of (values.FpuOp2 x) = kinds.FpuOp2
 kind_of (values.FpuOp3 x) = kinds.FpuOp3
+kind_of (values.FpuOpRI x) = kinds.FpuOpRI
+kind_of (values.FpuOpRIMod x) = kinds.FpuOpRIMod
 kind_of (values.FpuToIntOp x) = kinds.FpuToIntOp
 kind_of (values.IntToFpuOp x) = kinds.IntToFpuOp
 kind_of (values.FpuRoundMode x) = kinds.FpuRoundMode
@@ -119,6 +124,8 @@ value_text (values.MoveWideOp x) = move_wide_op_text x
 value_text (values.FpuOp1 x) = fpu_op1_text x
 value_text (values.FpuOp2 x) = fpu_op2_text x
 value_text (values.FpuOp3 x) = fpu_op3_text x
+value_text (values.FpuOpRI x) = fpu_op_ri_text x
+value_text (values.FpuOpRIMod x) = fpu_op_ri_mod_text x
 value_text (values.FpuToIntOp x) = fpu_to_int_op_text x
 value_text (values.IntToFpuOp x) = int_to_fpu_op_text x
 value_text (values.FpuRoundMode x) = fpu_round_mode_text x
@@ -163,6 +170,8 @@ IsValue (values.MoveWideOp x) = Always x
 IsValue (values.FpuOp1 x) = Always x
 IsValue (values.FpuOp2 x) = Always x
 IsValue (values.FpuOp3 x) = Always x
+IsValue (values.FpuOpRI x) = IsFpuOpRI x
+IsValue (values.FpuOpRIMod x) = IsFpuOpRIMod x
 IsValue (values.FpuToIntOp x) = Always x
 IsValue (values.IntToFpuOp x) = Always x
 IsValue (values.FpuRoundMode x) = Always x
@@ -215,6 +224,8 @@ ReadsKind kinds.MoveWideOp = ReadsAs kinds.MoveWideOp (λ (x : MoveWideOp). valu
 ReadsKind kinds.FpuOp1 = ReadsAs kinds.FpuOp1 (λ (x : FPUOp1). values.FpuOp1 x)
 ReadsKind kinds.FpuOp2 = ReadsAs kinds.FpuOp2 (λ (x : FPUOp2). values.FpuOp2 x)
 ReadsKind kinds.FpuOp3 = ReadsAs kinds.FpuOp3 (λ (x : FPUOp3). values.FpuOp3 x)
+ReadsKind kinds.FpuOpRI = ReadsAs kinds.FpuOpRI (λ (x : FPUOpRI). values.FpuOpRI x)
+ReadsKind kinds.FpuOpRIMod = ReadsAs kinds.FpuOpRIMod (λ (x : FPUOpRIMod). values.FpuOpRIMod x)
 ReadsKind kinds.FpuToIntOp = ReadsAs kinds.FpuToIntOp (λ (x : FpuToIntOp). values.FpuToIntOp x)
 ReadsKind kinds.IntToFpuOp = ReadsAs kinds.IntToFpuOp (λ (x : IntToFpuOp). values.IntToFpuOp x)
 ReadsKind kinds.FpuRoundMode = ReadsAs kinds.FpuRoundMode (λ (x : FpuRoundMode). values.FpuRoundMode x)

@@ -13,6 +13,7 @@ use crate::float_operator::{
     read_fpu_op1, read_fpu_op2, read_fpu_op3, read_fpu_round_mode, read_fpu_to_int_op,
     read_int_to_fpu_op,
 };
+use crate::float_shift::{read_fpu_op_ri, read_fpu_op_ri_mod};
 use crate::frame_field::FrameField;
 use crate::immediate::{read_imm_shift, read_imm12, read_nzcv, read_uimm5, read_uimm6};
 use crate::label::{read_label, read_target};
@@ -94,6 +95,22 @@ fn fpu_op3(token: &[u8]) -> Option<Value<'_>>
     ensures { ReadsKind Kind.FpuOp3 token.now result }
 {
     Some(Value::FpuOp3(read_fpu_op3(token)?))
+}
+
+/// Reads a shift of a scalar float to the right.
+#[tactic(auto, unfolding(crate::specs::Values::ReadsKind))]
+fn fpu_op_ri(token: &[u8]) -> Option<Value<'_>>
+    ensures { ReadsKind Kind.FpuOpRI token.now result }
+{
+    Some(Value::FpuOpRI(read_fpu_op_ri(token)?))
+}
+
+/// Reads a shift of a scalar float to the left, which keeps the other bits.
+#[tactic(auto, unfolding(crate::specs::Values::ReadsKind))]
+fn fpu_op_ri_mod(token: &[u8]) -> Option<Value<'_>>
+    ensures { ReadsKind Kind.FpuOpRIMod token.now result }
+{
+    Some(Value::FpuOpRIMod(read_fpu_op_ri_mod(token)?))
 }
 
 /// Reads a conversion of a float to an integer.
@@ -468,6 +485,8 @@ pub fn read_value(kind: Kind, token: &[u8]) -> Option<Value<'_>>
         Kind::FpuOp1 => fpu_op1(token),
         Kind::FpuOp2 => fpu_op2(token),
         Kind::FpuOp3 => fpu_op3(token),
+        Kind::FpuOpRI => fpu_op_ri(token),
+        Kind::FpuOpRIMod => fpu_op_ri_mod(token),
         Kind::FpuToIntOp => fpu_to_int_op(token),
         Kind::IntToFpuOp => int_to_fpu_op(token),
         Kind::FpuRoundMode => fpu_round_mode(token),

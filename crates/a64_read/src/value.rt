@@ -10,7 +10,7 @@ use a64_base::{
     VectorSize,
 };
 use a64_imms::{Imm12, ImmShift, MoveWideConst, NZCV, SImm7Scaled, SImm9, UImm5, UImm6};
-use a64_inst::{AMode, PairAMode};
+use a64_inst::{AMode, FPUOpRI, FPUOpRIMod, PairAMode};
 use a64_ops::{
     ALUOp, ALUOp3, BfmOp, BitOp, BranchTargetType, FPUOp1, FPUOp2, FPUOp3, FpuRoundMode,
     FpuToIntOp, IntToFpuOp, MoveWideOp,
@@ -35,6 +35,10 @@ pub enum Kind {
     FpuOp2,
     /// An operator with three floats.
     FpuOp3,
+    /// A shift of a scalar float to the right.
+    FpuOpRI,
+    /// A shift of a scalar float to the left, which keeps the other bits.
+    FpuOpRIMod,
     /// A conversion of a float to an integer.
     FpuToIntOp,
     /// A conversion of an integer to a float.
@@ -140,6 +144,10 @@ pub enum Value<'t> {
     FpuOp2(FPUOp2),
     /// An operator with three floats.
     FpuOp3(FPUOp3),
+    /// A shift of a scalar float to the right.
+    FpuOpRI(FPUOpRI),
+    /// A shift of a scalar float to the left, which keeps the other bits.
+    FpuOpRIMod(FPUOpRIMod),
     /// A conversion of a float to an integer.
     FpuToIntOp(FpuToIntOp),
     /// A conversion of an integer to a float.
