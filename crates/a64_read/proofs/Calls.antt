@@ -1,5 +1,6 @@
 -- Names with something in parentheses behind them.
 use Rattle.std.proofs.Common.{Bor, ◌≡◌, ℕ, ◌<◌, List, [], ◌∷◌, ◌++◌, length, length-append, Option, Some, None, refl, sym, ap, ◌∙◌, arith}
+use Rattle.std.specs.Prelude.{IfSome}
 use Rattle.std.specs.List.{join_with_byte}
 use Rattle.std.proofs.lemmas.List.Splits.{join_with_byte-slice_split}
 use Rattle.a64_read.specs.Fields.{IsCall, call_text}
@@ -61,3 +62,19 @@ module _ (token name : List ℕ) where
           joined : (ws : List (List ℕ)) → 0 < length ws → join (name ∷ ws) ≡ name ++ 40 ∷ join ws
           joined [] h = absurd (omega (arith, h))
           joined (v ∷ ws) h = refl
+
+-- what has as its text a name with something in parentheses behind it
+module _ {X : Type 0} (fits : X → Type 0) (parts : X → List ℕ × List ℕ) (apart : (x : X) → IsCall (parts x)) (token : List ℕ) where
+  pub made_no_call : Reads IsCall call_text token None → Reads fits (λ x. call_text (parts x)) token None
+  made_no_call h = record { some = tt; only = λ x is e. let none = h.only (parts x) (apart x) e in absurd cc }
+
+  module _ (call : List ℕ × List ℕ) (h : Reads IsCall call_text token (Some call)) where
+    same_call : (x : X) → token ≡ call_text (parts x) → call ≡ parts x
+    same_call x e = let found = h.only (parts x) (apart x) e in cc
+
+    is_some : (r : Option X) → IfSome r (λ x. fits x × (call ≡ parts x)) → IfSome r (λ x. fits x × (token ≡ call_text (parts x)))
+    is_some None g = tt
+    is_some (Some x) g = (g.0, h.some.1 ∙ ap call_text g.1)
+
+    pub made_call : (r : Option X) → Reads fits parts call r → Reads fits (λ x. call_text (parts x)) token r
+    made_call r g = record { some = is_some r g.some; only = λ x is e. g.only x is (same_call x e) }

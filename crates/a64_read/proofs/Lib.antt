@@ -16,6 +16,7 @@ pub mod Calls
 pub mod Between
 pub mod Plain
 pub mod Shifts
+pub mod FloatShifts
 pub mod KindsRead
 pub mod PartsRead
 pub mod Putting

@@ -1,5 +1,5 @@
 -- No field's text has a space.
-use Rattle.std.specs.Prelude.{ℕ, ℤ, pos, negsuc, suc, ◌<◌, ◌*◌, ◌^◌, ◌++◌, if◌then◌else◌, Bool, true, false, List, [], ◌∷◌, Option, Some, None, refl}
+use Rattle.std.specs.Prelude.{ℕ, ℤ, pos, negsuc, suc, ◌<◌, ◌*◌, ◌^◌, ◌++◌, codes, if◌then◌else◌, Bool, true, false, List, [], ◌∷◌, Option, Some, None, refl}
 use Rattle.std.proofs.Common.{arith, lit<, inl}
 use Rattle.std.proofs.lemmas.Int.{ints}
 use Rattle.std.specs.Fmt.{decimal, signed_decimal}
@@ -27,6 +27,25 @@ use Rattle.a64_ops.specs.declared.operator.BfmOp.{BfmOp}
 use Rattle.a64_ops.specs.declared.operator.BfmOp.TheVariants.{UBfm}
 use Rattle.a64_ops.specs.declared.operator.MoveWideOp.{MoveWideOp}
 use Rattle.a64_ops.specs.declared.operator.MoveWideOp.TheVariants.{MovZ}
+use Rattle.a64_ops.specs.declared.float.FPUOp1.{FPUOp1}
+use Rattle.a64_ops.specs.declared.float.FPUOp1.TheVariants as fpu_op1s
+use Rattle.a64_ops.specs.declared.float.FPUOp2.{FPUOp2}
+use Rattle.a64_ops.specs.declared.float.FPUOp2.TheVariants as fpu_op2s
+use Rattle.a64_ops.specs.declared.float.FPUOp3.{FPUOp3}
+use Rattle.a64_ops.specs.declared.float.FPUOp3.TheVariants as fpu_op3s
+use Rattle.a64_ops.specs.declared.float.FpuToIntOp.{FpuToIntOp}
+use Rattle.a64_ops.specs.declared.float.FpuToIntOp.TheVariants as fpu_to_int_ops
+use Rattle.a64_ops.specs.declared.float.IntToFpuOp.{IntToFpuOp}
+use Rattle.a64_ops.specs.declared.float.IntToFpuOp.TheVariants as int_to_fpu_ops
+use Rattle.a64_ops.specs.declared.float.FpuRoundMode.{FpuRoundMode}
+use Rattle.a64_ops.specs.declared.float.FpuRoundMode.TheVariants as fpu_round_modes
+use Rattle.a64_base.specs.declared.size.ScalarSize.{ScalarSize}
+use Rattle.a64_base.specs.declared.size.ScalarSize.TheVariants as scalar_sizes
+use Rattle.a64_base.specs.declared.size.VectorSize.{VectorSize}
+use Rattle.a64_base.specs.declared.size.VectorSize.TheVariants as vector_sizes
+use Rattle.a64_ops.specs.declared.system.BranchTargetType.{BranchTargetType}
+use Rattle.a64_ops.specs.declared.system.BranchTargetType.TheVariants as branch_target_types
+use Rattle.a64_base.specs.declared.key.APIKey.TheVariants as api_keys
 use Rattle.a64_base.specs.declared.shift.ShiftOp.{ShiftOp}
 use Rattle.a64_base.specs.declared.shift.ShiftOp.TheVariants.{LSL}
 use Rattle.a64_base.specs.declared.cond.TestBitAndBranchKind.{TestBitAndBranchKind}
@@ -35,6 +54,10 @@ use Rattle.a64_base.specs.ShiftParts.{Shift}
 use Rattle.a64_imms.specs.declared.flags.NZCV.{NZCV}
 use Rattle.a64_imms.specs.declared.unsigned.UImm5.{UImm5}
 use Rattle.a64_imms.specs.Flags.{flags_of, nzcv_bits}
+use Rattle.a64_inst.specs.declared.fpu_op.FPUOpRI.{FPUOpRI}
+use Rattle.a64_inst.specs.declared.fpu_op.FPUOpRI.TheVariants as fpu_op_ris
+use Rattle.a64_inst.specs.declared.fpu_op.FPUOpRIMod.{FPUOpRIMod}
+use Rattle.a64_inst.specs.declared.fpu_op.FPUOpRIMod.TheVariants as fpu_op_ri_mods
 use Rattle.a64_read.specs.declared.emit_flag.EmitFlag.{EmitFlag}
 use Rattle.a64_read.specs.declared.emit_flag.EmitFlag.TheVariants.{EnableProbestack}
 use Rattle.a64_read.specs.declared.frame_field.FrameField.{FrameField}
@@ -49,15 +72,17 @@ use Rattle.a64_read.specs.declared.value.Value.{Value}
 use Rattle.a64_read.specs.declared.value.Value.TheVariants as values
 use Rattle.a64_read.specs.Values.{value_text, IsValue}
 use Rattle.a64_read.specs.Reads.{IsU8, IsU32, IsU64, IsI32}
-use Rattle.a64_read.specs.Operators.{alu_op_text, alu_op3_text, bit_op_text, bfm_op_text, move_wide_op_text, shift_op_text, bool_text, emit_flag_text, frame_field_text, test_bit_text}
+use Rattle.a64_read.specs.Operators.{alu_op_text, alu_op3_text, bit_op_text, bfm_op_text, move_wide_op_text, shift_op_text, bool_text, branch_target_type_text, emit_flag_text, frame_field_text, test_bit_text}
 use Rattle.a64_read.specs.Branches.{cond_br_name_text, cond_br_name_of, cond_br_fields}
-use Rattle.a64_read.specs.Conventions.{convention_text, key_text}
+use Rattle.a64_read.specs.Conventions.{api_key_text, convention_text, key_text}
+use Rattle.a64_read.specs.FloatOperators.{fpu_op1_text, fpu_op2_text, fpu_op3_text, fpu_round_mode_text, fpu_to_int_op_text, int_to_fpu_op_text}
+use Rattle.a64_read.specs.FloatShifts.{fpu_op_ri_mod_text, fpu_op_ri_text, IsFpuOpRI, IsFpuOpRIMod}
 use Rattle.a64_read.specs.Modes.{mode_name_text, mode_name_of, mode_fields, pair_name_text, pair_name_of, pair_fields}
 use Rattle.a64_read.specs.Parts.{part_texts, IsPart}
 use Rattle.a64_read.proofs.Between.{join_plain, parts_apart, part_apart}
 use Rattle.a64_read.specs.RegisterLaws.{append_apart, real_apart, space}
 use Rattle.a64_read.specs.DigitLaws.{decimal_apart}
-use Rattle.a64_read.specs.Fields.{HasNo, call_text, flags_text, IsFlags, map_text, IsMapNumber, label_text, IsLabel, target_text, IsTarget, imm12_text, IsImm12, IsPReg, preg_text, wide_text, IsWide, shift_text, IsShift, nzcv_text, uimm5_text}
+use Rattle.a64_read.specs.Fields.{HasNo, call_text, flags_text, IsFlags, map_text, IsMapNumber, label_text, IsLabel, target_text, IsTarget, imm12_text, IsImm12, IsPReg, preg_text, wide_text, IsWide, scalar_size_text, shift_text, IsShift, nzcv_text, uimm5_text, vector_size_text}
 
 pub decimal_plain : (n : ℕ) → IsU64 n → HasNo 32 (decimal n)
 decimal_plain n fits = decimal_apart 32 n (inl (lit< tt)) fits
@@ -117,6 +142,46 @@ move_wide_op_plain : (x : MoveWideOp) → HasNo 32 (move_wide_op_text x)
 move_wide_op_plain MovZ = refl
 move_wide_op_plain _ = refl
 
+fpu_op1_plain : (x : FPUOp1) → HasNo 32 (fpu_op1_text x)
+fpu_op1_plain fpu_op1s.Abs = refl
+fpu_op1_plain _ = refl
+
+fpu_op2_plain : (x : FPUOp2) → HasNo 32 (fpu_op2_text x)
+fpu_op2_plain fpu_op2s.Add = refl
+fpu_op2_plain _ = refl
+
+fpu_op3_plain : (x : FPUOp3) → HasNo 32 (fpu_op3_text x)
+fpu_op3_plain fpu_op3s.MAdd = refl
+fpu_op3_plain _ = refl
+
+fpu_to_int_op_plain : (x : FpuToIntOp) → HasNo 32 (fpu_to_int_op_text x)
+fpu_to_int_op_plain fpu_to_int_ops.F32ToU32 = refl
+fpu_to_int_op_plain _ = refl
+
+int_to_fpu_op_plain : (x : IntToFpuOp) → HasNo 32 (int_to_fpu_op_text x)
+int_to_fpu_op_plain int_to_fpu_ops.U32ToF32 = refl
+int_to_fpu_op_plain _ = refl
+
+fpu_round_mode_plain : (x : FpuRoundMode) → HasNo 32 (fpu_round_mode_text x)
+fpu_round_mode_plain fpu_round_modes.Minus32 = refl
+fpu_round_mode_plain _ = refl
+
+scalar_size_plain : (x : ScalarSize) → HasNo 32 (scalar_size_text x)
+scalar_size_plain scalar_sizes.Size8 = refl
+scalar_size_plain _ = refl
+
+vector_size_plain : (x : VectorSize) → HasNo 32 (vector_size_text x)
+vector_size_plain vector_sizes.Size8x8 = refl
+vector_size_plain _ = refl
+
+branch_target_type_plain : (x : BranchTargetType) → HasNo 32 (branch_target_type_text x)
+branch_target_type_plain branch_target_types.None = refl
+branch_target_type_plain _ = refl
+
+api_key_plain : (x : APIKey) → HasNo 32 (api_key_text x)
+api_key_plain api_keys.AZ = refl
+api_key_plain _ = refl
+
 shift_op_plain : (x : ShiftOp) → HasNo 32 (shift_op_text x)
 shift_op_plain LSL = refl
 shift_op_plain _ = refl
@@ -139,10 +204,22 @@ emit_flag_plain _ = refl
 
 -- ---- fields
 
+-- a name, and a number in parentheses
+number_plain : (name : List ℕ) (n : ℕ) → HasNo 32 name → IsU64 n → HasNo 32 (call_text (name, decimal n))
+number_plain name n plain fits =
+    append_apart 32 name (40 ∷ (decimal n ++ 41 ∷ [])) plain
+    (append_apart 32 (decimal n) (41 ∷ []) (decimal_plain n fits) refl)
+
 shift_plain : (x : Shift) → IsShift x → HasNo 32 (shift_text x)
-shift_plain x fits =
-    append_apart 32 (shift_op_text x.op) (40 ∷ (decimal x.amount ++ 41 ∷ [])) (shift_op_plain x.op)
-    (append_apart 32 (decimal x.amount) (41 ∷ []) (decimal_plain x.amount (omega (arith, fits))) refl)
+shift_plain x fits = number_plain (shift_op_text x.op) x.amount (shift_op_plain x.op) (omega (arith, fits))
+
+fpu_op_ri_plain : (x : FPUOpRI) → IsFpuOpRI x → HasNo 32 (fpu_op_ri_text x)
+fpu_op_ri_plain (fpu_op_ris.UShr32 imm) fits = number_plain (codes "UShr32") imm.amount refl (omega (arith, fits.0.at_most))
+fpu_op_ri_plain (fpu_op_ris.UShr64 imm) fits = number_plain (codes "UShr64") imm.amount refl (omega (arith, fits.0.at_most))
+
+fpu_op_ri_mod_plain : (x : FPUOpRIMod) → IsFpuOpRIMod x → HasNo 32 (fpu_op_ri_mod_text x)
+fpu_op_ri_mod_plain (fpu_op_ri_mods.Sli32 imm) fits = number_plain (codes "Sli32") imm.amount refl (omega (arith, fits.0.below))
+fpu_op_ri_mod_plain (fpu_op_ri_mods.Sli64 imm) fits = number_plain (codes "Sli64") imm.amount refl (omega (arith, fits.0.below))
 
 -- the name of a shift has no parenthesis
 pub shift_op_apart : (x : ShiftOp) → HasNo 40 (shift_op_text x)
@@ -196,6 +273,16 @@ value_plain (values.AluOp3 x) fits = alu_op3_plain x
 value_plain (values.BitOp x) fits = bit_op_plain x
 value_plain (values.BfmOp x) fits = bfm_op_plain x
 value_plain (values.MoveWideOp x) fits = move_wide_op_plain x
+value_plain (values.FpuOp1 x) fits = fpu_op1_plain x
+value_plain (values.FpuOp2 x) fits = fpu_op2_plain x
+value_plain (values.FpuOp3 x) fits = fpu_op3_plain x
+value_plain (values.FpuOpRI x) fits = fpu_op_ri_plain x fits
+value_plain (values.FpuOpRIMod x) fits = fpu_op_ri_mod_plain x fits
+value_plain (values.FpuToIntOp x) fits = fpu_to_int_op_plain x
+value_plain (values.IntToFpuOp x) fits = int_to_fpu_op_plain x
+value_plain (values.FpuRoundMode x) fits = fpu_round_mode_plain x
+value_plain (values.ScalarSize x) fits = scalar_size_plain x
+value_plain (values.VectorSize x) fits = vector_size_plain x
 value_plain (values.PReg x) fits = preg_plain x fits
 value_plain (values.Imm12 x) fits = imm12_plain x fits
 value_plain (values.Wide x) fits = wide_plain x fits
@@ -217,8 +304,10 @@ value_plain (values.PairMode x) fits = call_plain (pair_name_text (pair_name_of 
 value_plain (values.Flags x) fits = flags_plain x fits
 value_plain (values.CondBrKind x) fits = call_plain (cond_br_name_text (cond_br_name_of x)) (cond_br_fields x) (cond_br_name_plain (cond_br_name_of x)) fits.0
 value_plain (values.TestBitAndBranchKind x) fits = test_bit_plain x
+value_plain (values.BranchTargetType x) fits = branch_target_type_plain x
 value_plain (values.List x) fits = fits
 value_plain (values.Convention x) fits = convention_plain x
 value_plain (values.Key x) fits = key_plain x
+value_plain (values.ApiKey x) fits = api_key_plain x
 value_plain (values.Map x) fits = map_plain x fits
 value_plain part fits = part_apart 32 space part fits

@@ -1,10 +1,12 @@
 pub mod Reads
 pub mod Operators
+pub mod FloatOperators
 pub mod Hash
 pub mod Conventions
 pub mod Found
 pub mod Types
 pub mod Fields
+pub mod FloatShifts
 pub mod Lists
 pub mod RegisterPairs
 pub mod Clobbers

@@ -11,6 +11,8 @@ pub mod decimal;
 pub mod emit_flag;
 mod fields;
 mod flags;
+mod float_operator;
+mod float_shift;
 pub mod frame_field;
 pub mod hex;
 mod immediate;
