@@ -21,7 +21,15 @@ only_of (values.AluOp3 x) token r h = h.only x
 only_of (values.BitOp x) token r h = h.only x
 only_of (values.BfmOp x) token r h = h.only x
 only_of (values.MoveWideOp x) token r h = h.only x
+only_of (values.FpuOp1 x) token r h = h.only x
+only_of (values.FpuOp2 x) token r h = h.only x
+only_of (values.FpuOp3 x) token r h = h.only x
+only_of (values.FpuToIntOp x) token r h = h.only x
+only_of (values.IntToFpuOp x) token r h = h.only x
+only_of (values.FpuRoundMode x) token r h = h.only x
 only_of (values.Size x) token r h = h.only x
+only_of (values.ScalarSize x) token r h = h.only x
+only_of (values.VectorSize x) token r h = h.only x
 only_of (values.Reg x) token r h = h.only x
 only_of (values.PReg x) token r h = h.only x
 only_of (values.Imm12 x) token r h = h.only x
@@ -52,9 +60,11 @@ only_of (values.PairMode x) token r h = h.only x
 only_of (values.Flags x) token r h = h.only x
 only_of (values.CondBrKind x) token r h = h.only x
 only_of (values.TestBitAndBranchKind x) token r h = h.only x
+only_of (values.BranchTargetType x) token r h = h.only x
 only_of (values.List x) token r h = h.only x
 only_of (values.Convention x) token r h = h.only x
 only_of (values.Key x) token r h = h.only x
+only_of (values.ApiKey x) token r h = h.only x
 only_of (values.Map x) token r h = h.only x
 
 pub kind_read : (kind : Kind) (token : List ℕ) (r : Option Value) → ReadsKind kind token r → Reads (IsOf kind) value_text token r

@@ -5,7 +5,7 @@ use Rattle.a64_imms.specs.Flags as flags
 use Rattle.a64_imms.specs.declared.flags.NZCV.{NZCV}
 use Rattle.a64_read.specs.declared.value.Value.{Value}
 use Rattle.a64_read.specs.declared.value.Value.TheVariants as values
-use Rattle.a64_read.specs.At.{alu_op3_of, alu_op_of, bfm_op_of, bit_op_of, cond_br_kind_of, cond_of, convention_of, emit_flag_of, extend_of, flags_of, frame_field_of, i32_of, i64_of, imm12_of, imm_shift_of, key_of, label_of, map_of, mem_label_name_of, mode_of, move_wide_op_of, nzcv_of, offset9_of, pair_mode_of, pair_offset_of, preg_of, reg_of, shift_of, size_of, target_of, test_bit_kind_of, truth_of, type_of, u32_of, u64_of, u8_of, uimm5_of, uimm6_of, wide_of}
+use Rattle.a64_read.specs.At.{alu_op3_of, alu_op_of, api_key_of, bfm_op_of, bit_op_of, branch_target_type_of, cond_br_kind_of, cond_of, convention_of, emit_flag_of, extend_of, flags_of, fpu_op1_of, fpu_op2_of, fpu_op3_of, fpu_round_mode_of, fpu_to_int_op_of, frame_field_of, i32_of, i64_of, imm12_of, imm_shift_of, int_to_fpu_op_of, key_of, label_of, map_of, mem_label_name_of, mode_of, move_wide_op_of, nzcv_of, offset9_of, pair_mode_of, pair_offset_of, preg_of, reg_of, scalar_size_of, shift_of, size_of, target_of, test_bit_kind_of, truth_of, type_of, u32_of, u64_of, u8_of, uimm5_of, uimm6_of, vector_size_of, wide_of}
 
 pub alu_op_else : (v : Value) → ((x : _) → v ≡ values.AluOp x → ⊥) → alu_op_of None ≡ alu_op_of (Some v)
 alu_op_else (values.AluOp x) other = absurd (other x refl)
@@ -162,6 +162,46 @@ key_else _ other = refl
 pub map_else : (v : Value) → ((x : _) → v ≡ values.Map x → ⊥) → map_of None ≡ map_of (Some v)
 map_else (values.Map x) other = absurd (other x refl)
 map_else _ other = refl
+
+pub fpu_op1_else : (v : Value) → ((x : _) → v ≡ values.FpuOp1 x → ⊥) → fpu_op1_of None ≡ fpu_op1_of (Some v)
+fpu_op1_else (values.FpuOp1 x) other = absurd (other x refl)
+fpu_op1_else _ other = refl
+
+pub fpu_op2_else : (v : Value) → ((x : _) → v ≡ values.FpuOp2 x → ⊥) → fpu_op2_of None ≡ fpu_op2_of (Some v)
+fpu_op2_else (values.FpuOp2 x) other = absurd (other x refl)
+fpu_op2_else _ other = refl
+
+pub fpu_op3_else : (v : Value) → ((x : _) → v ≡ values.FpuOp3 x → ⊥) → fpu_op3_of None ≡ fpu_op3_of (Some v)
+fpu_op3_else (values.FpuOp3 x) other = absurd (other x refl)
+fpu_op3_else _ other = refl
+
+pub fpu_to_int_op_else : (v : Value) → ((x : _) → v ≡ values.FpuToIntOp x → ⊥) → fpu_to_int_op_of None ≡ fpu_to_int_op_of (Some v)
+fpu_to_int_op_else (values.FpuToIntOp x) other = absurd (other x refl)
+fpu_to_int_op_else _ other = refl
+
+pub int_to_fpu_op_else : (v : Value) → ((x : _) → v ≡ values.IntToFpuOp x → ⊥) → int_to_fpu_op_of None ≡ int_to_fpu_op_of (Some v)
+int_to_fpu_op_else (values.IntToFpuOp x) other = absurd (other x refl)
+int_to_fpu_op_else _ other = refl
+
+pub fpu_round_mode_else : (v : Value) → ((x : _) → v ≡ values.FpuRoundMode x → ⊥) → fpu_round_mode_of None ≡ fpu_round_mode_of (Some v)
+fpu_round_mode_else (values.FpuRoundMode x) other = absurd (other x refl)
+fpu_round_mode_else _ other = refl
+
+pub scalar_size_else : (v : Value) → ((x : _) → v ≡ values.ScalarSize x → ⊥) → scalar_size_of None ≡ scalar_size_of (Some v)
+scalar_size_else (values.ScalarSize x) other = absurd (other x refl)
+scalar_size_else _ other = refl
+
+pub vector_size_else : (v : Value) → ((x : _) → v ≡ values.VectorSize x → ⊥) → vector_size_of None ≡ vector_size_of (Some v)
+vector_size_else (values.VectorSize x) other = absurd (other x refl)
+vector_size_else _ other = refl
+
+pub branch_target_type_else : (v : Value) → ((x : _) → v ≡ values.BranchTargetType x → ⊥) → branch_target_type_of None ≡ branch_target_type_of (Some v)
+branch_target_type_else (values.BranchTargetType x) other = absurd (other x refl)
+branch_target_type_else _ other = refl
+
+pub api_key_else : (v : Value) → ((x : _) → v ≡ values.ApiKey x → ⊥) → api_key_of None ≡ api_key_of (Some v)
+api_key_else (values.ApiKey x) other = absurd (other x refl)
+api_key_else _ other = refl
 
 -- flags of which none is set
 pub no_flags : (imm : NZCV) → flags.flags_of imm ≡ record { n = false; z = false; c = false; v = false } → imm ≡ nzcv_of None

@@ -27,6 +27,25 @@ use Rattle.a64_ops.specs.declared.operator.BfmOp.{BfmOp}
 use Rattle.a64_ops.specs.declared.operator.BfmOp.TheVariants.{UBfm}
 use Rattle.a64_ops.specs.declared.operator.MoveWideOp.{MoveWideOp}
 use Rattle.a64_ops.specs.declared.operator.MoveWideOp.TheVariants.{MovZ}
+use Rattle.a64_ops.specs.declared.float.FPUOp1.{FPUOp1}
+use Rattle.a64_ops.specs.declared.float.FPUOp1.TheVariants as fpu_op1s
+use Rattle.a64_ops.specs.declared.float.FPUOp2.{FPUOp2}
+use Rattle.a64_ops.specs.declared.float.FPUOp2.TheVariants as fpu_op2s
+use Rattle.a64_ops.specs.declared.float.FPUOp3.{FPUOp3}
+use Rattle.a64_ops.specs.declared.float.FPUOp3.TheVariants as fpu_op3s
+use Rattle.a64_ops.specs.declared.float.FpuToIntOp.{FpuToIntOp}
+use Rattle.a64_ops.specs.declared.float.FpuToIntOp.TheVariants as fpu_to_int_ops
+use Rattle.a64_ops.specs.declared.float.IntToFpuOp.{IntToFpuOp}
+use Rattle.a64_ops.specs.declared.float.IntToFpuOp.TheVariants as int_to_fpu_ops
+use Rattle.a64_ops.specs.declared.float.FpuRoundMode.{FpuRoundMode}
+use Rattle.a64_ops.specs.declared.float.FpuRoundMode.TheVariants as fpu_round_modes
+use Rattle.a64_base.specs.declared.size.ScalarSize.{ScalarSize}
+use Rattle.a64_base.specs.declared.size.ScalarSize.TheVariants as scalar_sizes
+use Rattle.a64_base.specs.declared.size.VectorSize.{VectorSize}
+use Rattle.a64_base.specs.declared.size.VectorSize.TheVariants as vector_sizes
+use Rattle.a64_ops.specs.declared.system.BranchTargetType.{BranchTargetType}
+use Rattle.a64_ops.specs.declared.system.BranchTargetType.TheVariants as branch_target_types
+use Rattle.a64_base.specs.declared.key.APIKey.TheVariants as api_keys
 use Rattle.a64_base.specs.declared.shift.ShiftOp.{ShiftOp}
 use Rattle.a64_base.specs.declared.shift.ShiftOp.TheVariants.{LSL}
 use Rattle.a64_base.specs.declared.cond.TestBitAndBranchKind.{TestBitAndBranchKind}
@@ -49,15 +68,16 @@ use Rattle.a64_read.specs.declared.value.Value.{Value}
 use Rattle.a64_read.specs.declared.value.Value.TheVariants as values
 use Rattle.a64_read.specs.Values.{value_text, IsValue}
 use Rattle.a64_read.specs.Reads.{IsU8, IsU32, IsU64, IsI32}
-use Rattle.a64_read.specs.Operators.{alu_op_text, alu_op3_text, bit_op_text, bfm_op_text, move_wide_op_text, shift_op_text, bool_text, emit_flag_text, frame_field_text, test_bit_text}
+use Rattle.a64_read.specs.Operators.{alu_op_text, alu_op3_text, bit_op_text, bfm_op_text, move_wide_op_text, shift_op_text, bool_text, branch_target_type_text, emit_flag_text, frame_field_text, test_bit_text}
 use Rattle.a64_read.specs.Branches.{cond_br_name_text, cond_br_name_of, cond_br_fields}
-use Rattle.a64_read.specs.Conventions.{convention_text, key_text}
+use Rattle.a64_read.specs.Conventions.{api_key_text, convention_text, key_text}
+use Rattle.a64_read.specs.FloatOperators.{fpu_op1_text, fpu_op2_text, fpu_op3_text, fpu_round_mode_text, fpu_to_int_op_text, int_to_fpu_op_text}
 use Rattle.a64_read.specs.Modes.{mode_name_text, mode_name_of, mode_fields, pair_name_text, pair_name_of, pair_fields}
 use Rattle.a64_read.specs.Parts.{part_texts, IsPart}
 use Rattle.a64_read.proofs.Between.{join_plain, parts_apart, part_apart}
 use Rattle.a64_read.specs.RegisterLaws.{append_apart, real_apart, space}
 use Rattle.a64_read.specs.DigitLaws.{decimal_apart}
-use Rattle.a64_read.specs.Fields.{HasNo, call_text, flags_text, IsFlags, map_text, IsMapNumber, label_text, IsLabel, target_text, IsTarget, imm12_text, IsImm12, IsPReg, preg_text, wide_text, IsWide, shift_text, IsShift, nzcv_text, uimm5_text}
+use Rattle.a64_read.specs.Fields.{HasNo, call_text, flags_text, IsFlags, map_text, IsMapNumber, label_text, IsLabel, target_text, IsTarget, imm12_text, IsImm12, IsPReg, preg_text, wide_text, IsWide, scalar_size_text, shift_text, IsShift, nzcv_text, uimm5_text, vector_size_text}
 
 pub decimal_plain : (n : ℕ) → IsU64 n → HasNo 32 (decimal n)
 decimal_plain n fits = decimal_apart 32 n (inl (lit< tt)) fits
@@ -116,6 +136,46 @@ bfm_op_plain _ = refl
 move_wide_op_plain : (x : MoveWideOp) → HasNo 32 (move_wide_op_text x)
 move_wide_op_plain MovZ = refl
 move_wide_op_plain _ = refl
+
+fpu_op1_plain : (x : FPUOp1) → HasNo 32 (fpu_op1_text x)
+fpu_op1_plain fpu_op1s.Abs = refl
+fpu_op1_plain _ = refl
+
+fpu_op2_plain : (x : FPUOp2) → HasNo 32 (fpu_op2_text x)
+fpu_op2_plain fpu_op2s.Add = refl
+fpu_op2_plain _ = refl
+
+fpu_op3_plain : (x : FPUOp3) → HasNo 32 (fpu_op3_text x)
+fpu_op3_plain fpu_op3s.MAdd = refl
+fpu_op3_plain _ = refl
+
+fpu_to_int_op_plain : (x : FpuToIntOp) → HasNo 32 (fpu_to_int_op_text x)
+fpu_to_int_op_plain fpu_to_int_ops.F32ToU32 = refl
+fpu_to_int_op_plain _ = refl
+
+int_to_fpu_op_plain : (x : IntToFpuOp) → HasNo 32 (int_to_fpu_op_text x)
+int_to_fpu_op_plain int_to_fpu_ops.U32ToF32 = refl
+int_to_fpu_op_plain _ = refl
+
+fpu_round_mode_plain : (x : FpuRoundMode) → HasNo 32 (fpu_round_mode_text x)
+fpu_round_mode_plain fpu_round_modes.Minus32 = refl
+fpu_round_mode_plain _ = refl
+
+scalar_size_plain : (x : ScalarSize) → HasNo 32 (scalar_size_text x)
+scalar_size_plain scalar_sizes.Size8 = refl
+scalar_size_plain _ = refl
+
+vector_size_plain : (x : VectorSize) → HasNo 32 (vector_size_text x)
+vector_size_plain vector_sizes.Size8x8 = refl
+vector_size_plain _ = refl
+
+branch_target_type_plain : (x : BranchTargetType) → HasNo 32 (branch_target_type_text x)
+branch_target_type_plain branch_target_types.None = refl
+branch_target_type_plain _ = refl
+
+api_key_plain : (x : APIKey) → HasNo 32 (api_key_text x)
+api_key_plain api_keys.AZ = refl
+api_key_plain _ = refl
 
 shift_op_plain : (x : ShiftOp) → HasNo 32 (shift_op_text x)
 shift_op_plain LSL = refl
@@ -196,6 +256,14 @@ value_plain (values.AluOp3 x) fits = alu_op3_plain x
 value_plain (values.BitOp x) fits = bit_op_plain x
 value_plain (values.BfmOp x) fits = bfm_op_plain x
 value_plain (values.MoveWideOp x) fits = move_wide_op_plain x
+value_plain (values.FpuOp1 x) fits = fpu_op1_plain x
+value_plain (values.FpuOp2 x) fits = fpu_op2_plain x
+value_plain (values.FpuOp3 x) fits = fpu_op3_plain x
+value_plain (values.FpuToIntOp x) fits = fpu_to_int_op_plain x
+value_plain (values.IntToFpuOp x) fits = int_to_fpu_op_plain x
+value_plain (values.FpuRoundMode x) fits = fpu_round_mode_plain x
+value_plain (values.ScalarSize x) fits = scalar_size_plain x
+value_plain (values.VectorSize x) fits = vector_size_plain x
 value_plain (values.PReg x) fits = preg_plain x fits
 value_plain (values.Imm12 x) fits = imm12_plain x fits
 value_plain (values.Wide x) fits = wide_plain x fits
@@ -217,8 +285,10 @@ value_plain (values.PairMode x) fits = call_plain (pair_name_text (pair_name_of 
 value_plain (values.Flags x) fits = flags_plain x fits
 value_plain (values.CondBrKind x) fits = call_plain (cond_br_name_text (cond_br_name_of x)) (cond_br_fields x) (cond_br_name_plain (cond_br_name_of x)) fits.0
 value_plain (values.TestBitAndBranchKind x) fits = test_bit_plain x
+value_plain (values.BranchTargetType x) fits = branch_target_type_plain x
 value_plain (values.List x) fits = fits
 value_plain (values.Convention x) fits = convention_plain x
 value_plain (values.Key x) fits = key_plain x
+value_plain (values.ApiKey x) fits = api_key_plain x
 value_plain (values.Map x) fits = map_plain x fits
 value_plain part fits = part_apart 32 space part fits

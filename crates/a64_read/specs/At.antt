@@ -49,6 +49,25 @@ use Rattle.a64_inst.specs.declared.mode.AMode.{AMode}
 use Rattle.a64_inst.specs.declared.mode.AMode.TheVariants as modes
 use Rattle.a64_inst.specs.declared.mode.PairAMode.{PairAMode}
 use Rattle.a64_inst.specs.declared.mode.PairAMode.TheVariants as pair_modes
+use Rattle.a64_ops.specs.declared.float.FPUOp1.{FPUOp1}
+use Rattle.a64_ops.specs.declared.float.FPUOp1.TheVariants as fpu_op1s
+use Rattle.a64_ops.specs.declared.float.FPUOp2.{FPUOp2}
+use Rattle.a64_ops.specs.declared.float.FPUOp2.TheVariants as fpu_op2s
+use Rattle.a64_ops.specs.declared.float.FPUOp3.{FPUOp3}
+use Rattle.a64_ops.specs.declared.float.FPUOp3.TheVariants as fpu_op3s
+use Rattle.a64_ops.specs.declared.float.FpuToIntOp.{FpuToIntOp}
+use Rattle.a64_ops.specs.declared.float.FpuToIntOp.TheVariants as fpu_to_int_ops
+use Rattle.a64_ops.specs.declared.float.IntToFpuOp.{IntToFpuOp}
+use Rattle.a64_ops.specs.declared.float.IntToFpuOp.TheVariants as int_to_fpu_ops
+use Rattle.a64_ops.specs.declared.float.FpuRoundMode.{FpuRoundMode}
+use Rattle.a64_ops.specs.declared.float.FpuRoundMode.TheVariants as fpu_round_modes
+use Rattle.a64_base.specs.declared.size.ScalarSize.{ScalarSize}
+use Rattle.a64_base.specs.declared.size.ScalarSize.TheVariants as scalar_sizes
+use Rattle.a64_base.specs.declared.size.VectorSize.{VectorSize}
+use Rattle.a64_base.specs.declared.size.VectorSize.TheVariants as vector_sizes
+use Rattle.a64_ops.specs.declared.system.BranchTargetType.{BranchTargetType}
+use Rattle.a64_ops.specs.declared.system.BranchTargetType.TheVariants as branch_target_types
+use Rattle.a64_base.specs.declared.key.APIKey.TheVariants as api_keys
 use Rattle.a64_read.specs.declared.mode_name.MemLabelName.{MemLabelName}
 use Rattle.a64_read.specs.declared.mode_name.MemLabelName.TheVariants as label_names
 use Rattle.a64_read.specs.declared.emit_flag.EmitFlag.{EmitFlag}
@@ -337,3 +356,73 @@ map_of _ = None
 
 abbrev pub map_at : List Value → ℕ → Option UserStackMap
 map_at values i = map_of (slice_get values i)
+
+abbrev pub fpu_op1_of : Option Value → FPUOp1
+fpu_op1_of (Some (values.FpuOp1 x)) = x
+fpu_op1_of _ = fpu_op1s.Abs
+
+abbrev pub fpu_op1_at : List Value → ℕ → FPUOp1
+fpu_op1_at values i = fpu_op1_of (slice_get values i)
+
+abbrev pub fpu_op2_of : Option Value → FPUOp2
+fpu_op2_of (Some (values.FpuOp2 x)) = x
+fpu_op2_of _ = fpu_op2s.Add
+
+abbrev pub fpu_op2_at : List Value → ℕ → FPUOp2
+fpu_op2_at values i = fpu_op2_of (slice_get values i)
+
+abbrev pub fpu_op3_of : Option Value → FPUOp3
+fpu_op3_of (Some (values.FpuOp3 x)) = x
+fpu_op3_of _ = fpu_op3s.MAdd
+
+abbrev pub fpu_op3_at : List Value → ℕ → FPUOp3
+fpu_op3_at values i = fpu_op3_of (slice_get values i)
+
+abbrev pub fpu_to_int_op_of : Option Value → FpuToIntOp
+fpu_to_int_op_of (Some (values.FpuToIntOp x)) = x
+fpu_to_int_op_of _ = fpu_to_int_ops.F32ToU32
+
+abbrev pub fpu_to_int_op_at : List Value → ℕ → FpuToIntOp
+fpu_to_int_op_at values i = fpu_to_int_op_of (slice_get values i)
+
+abbrev pub int_to_fpu_op_of : Option Value → IntToFpuOp
+int_to_fpu_op_of (Some (values.IntToFpuOp x)) = x
+int_to_fpu_op_of _ = int_to_fpu_ops.U32ToF32
+
+abbrev pub int_to_fpu_op_at : List Value → ℕ → IntToFpuOp
+int_to_fpu_op_at values i = int_to_fpu_op_of (slice_get values i)
+
+abbrev pub fpu_round_mode_of : Option Value → FpuRoundMode
+fpu_round_mode_of (Some (values.FpuRoundMode x)) = x
+fpu_round_mode_of _ = fpu_round_modes.Minus32
+
+abbrev pub fpu_round_mode_at : List Value → ℕ → FpuRoundMode
+fpu_round_mode_at values i = fpu_round_mode_of (slice_get values i)
+
+abbrev pub scalar_size_of : Option Value → ScalarSize
+scalar_size_of (Some (values.ScalarSize x)) = x
+scalar_size_of _ = scalar_sizes.Size8
+
+abbrev pub scalar_size_at : List Value → ℕ → ScalarSize
+scalar_size_at values i = scalar_size_of (slice_get values i)
+
+abbrev pub vector_size_of : Option Value → VectorSize
+vector_size_of (Some (values.VectorSize x)) = x
+vector_size_of _ = vector_sizes.Size8x8
+
+abbrev pub vector_size_at : List Value → ℕ → VectorSize
+vector_size_at values i = vector_size_of (slice_get values i)
+
+abbrev pub branch_target_type_of : Option Value → BranchTargetType
+branch_target_type_of (Some (values.BranchTargetType x)) = x
+branch_target_type_of _ = branch_target_types.None
+
+abbrev pub branch_target_type_at : List Value → ℕ → BranchTargetType
+branch_target_type_at values i = branch_target_type_of (slice_get values i)
+
+abbrev pub api_key_of : Option Value → APIKey
+api_key_of (Some (values.ApiKey x)) = x
+api_key_of _ = api_keys.AZ
+
+abbrev pub api_key_at : List Value → ℕ → APIKey
+api_key_at values i = api_key_of (slice_get values i)

@@ -1,4 +1,4 @@
--- The names of calling conventions, and of keys where a return may have none.
+-- The names of calling conventions and of keys, also where a return may have none.
 use Rattle.std.specs.Prelude.{ℕ, List, codes, Option, Some, None}
 use Rattle.a64_base.specs.declared.convention.CallConv.{CallConv}
 use Rattle.a64_base.specs.declared.convention.CallConv.TheVariants as conventions
@@ -10,10 +10,14 @@ convention_text conventions.SystemV = codes "SystemV"
 convention_text conventions.Tail = codes "Tail"
 convention_text conventions.AppleAarch64 = codes "AppleAarch64"
 
+-- a key that authenticates an address
+abbrev pub api_key_text : APIKey → List ℕ
+api_key_text keys.AZ = codes "AZ"
+api_key_text keys.BZ = codes "BZ"
+api_key_text keys.ASP = codes "ASP"
+api_key_text keys.BSP = codes "BSP"
+
 -- the key that authenticates a return address; a dash where none does
 abbrev pub key_text : Option APIKey → List ℕ
 key_text None = codes "-"
-key_text (Some keys.AZ) = codes "AZ"
-key_text (Some keys.ASP) = codes "ASP"
-key_text (Some keys.BZ) = codes "BZ"
-key_text (Some keys.BSP) = codes "BSP"
+key_text (Some key) = api_key_text key

@@ -16,6 +16,10 @@ use Rattle.a64_base.specs.declared.reg.RegClass.{RegClass}
 use Rattle.a64_base.specs.declared.reg.RegClass.TheVariants.{Int, Float}
 use Rattle.a64_base.specs.declared.size.OperandSize.{OperandSize}
 use Rattle.a64_base.specs.declared.size.OperandSize.TheVariants.{Size32, Size64}
+use Rattle.a64_base.specs.declared.size.ScalarSize.{ScalarSize}
+use Rattle.a64_base.specs.declared.size.ScalarSize.TheVariants as scalar_sizes
+use Rattle.a64_base.specs.declared.size.VectorSize.{VectorSize}
+use Rattle.a64_base.specs.declared.size.VectorSize.TheVariants as vector_sizes
 use Rattle.a64_base.specs.declared.target.BranchTarget.{BranchTarget}
 use Rattle.a64_base.specs.declared.target.BranchTarget.TheVariants as targets
 use Rattle.a64_imms.specs.declared.imm12.Imm12.{Imm12}
@@ -57,6 +61,24 @@ IsTarget (targets.ResolvedOffset offset) = IsI32 offset
 abbrev pub size_text : OperandSize → List ℕ
 size_text Size32 = codes "32"
 size_text Size64 = codes "64"
+
+-- so is that of a scalar in a vector register
+abbrev pub scalar_size_text : ScalarSize → List ℕ
+scalar_size_text scalar_sizes.Size8 = codes "8"
+scalar_size_text scalar_sizes.Size16 = codes "16"
+scalar_size_text scalar_sizes.Size32 = codes "32"
+scalar_size_text scalar_sizes.Size64 = codes "64"
+scalar_size_text scalar_sizes.Size128 = codes "128"
+
+-- the lanes of a vector register are the bits of one, x, and how many there are
+abbrev pub vector_size_text : VectorSize → List ℕ
+vector_size_text vector_sizes.Size8x8 = codes "8x8"
+vector_size_text vector_sizes.Size8x16 = codes "8x16"
+vector_size_text vector_sizes.Size16x4 = codes "16x4"
+vector_size_text vector_sizes.Size16x8 = codes "16x8"
+vector_size_text vector_sizes.Size32x2 = codes "32x2"
+vector_size_text vector_sizes.Size32x4 = codes "32x4"
+vector_size_text vector_sizes.Size64x2 = codes "64x2"
 
 -- of the integer registers of the machine two have names without a number
 abbrev pub integer_text : ℕ → List ℕ

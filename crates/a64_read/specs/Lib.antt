@@ -1,5 +1,6 @@
 pub mod Reads
 pub mod Operators
+pub mod FloatOperators
 pub mod Hash
 pub mod Conventions
 pub mod Found

@@ -10,6 +10,8 @@ use Rattle.a64_ops.specs.declared.operator.BfmOp.{BfmOp}
 use Rattle.a64_ops.specs.declared.operator.BfmOp.TheVariants as bfm_ops
 use Rattle.a64_ops.specs.declared.operator.MoveWideOp.{MoveWideOp}
 use Rattle.a64_ops.specs.declared.operator.MoveWideOp.TheVariants as move_wide_ops
+use Rattle.a64_ops.specs.declared.system.BranchTargetType.{BranchTargetType}
+use Rattle.a64_ops.specs.declared.system.BranchTargetType.TheVariants as branch_target_types
 use Rattle.a64_base.specs.declared.shift.ShiftOp.{ShiftOp}
 use Rattle.a64_base.specs.declared.shift.ShiftOp.TheVariants as shift_ops
 use Rattle.a64_base.specs.declared.shift.ExtendOp.{ExtendOp}
@@ -71,6 +73,13 @@ bfm_op_text bfm_ops.SBfm = codes "SBfm"
 abbrev pub move_wide_op_text : MoveWideOp → List ℕ
 move_wide_op_text move_wide_ops.MovZ = codes "MovZ"
 move_wide_op_text move_wide_ops.MovN = codes "MovN"
+
+-- the branches that may go to a place
+abbrev pub branch_target_type_text : BranchTargetType → List ℕ
+branch_target_type_text branch_target_types.None = codes "None"
+branch_target_type_text branch_target_types.C = codes "C"
+branch_target_type_text branch_target_types.J = codes "J"
+branch_target_type_text branch_target_types.JC = codes "JC"
 
 abbrev pub shift_op_text : ShiftOp → List ℕ
 shift_op_text shift_ops.LSL = codes "LSL"

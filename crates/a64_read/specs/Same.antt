@@ -6,7 +6,7 @@ use Rattle.a64_read.specs.declared.value.Kind.TheVariants as kinds
 use Rattle.a64_read.specs.declared.value.Value.{Value}
 use Rattle.a64_read.specs.declared.value.Value.TheVariants as values
 use Rattle.a64_read.specs.Values.{kind_of}
-use Rattle.a64_read.specs.At.{alu_op_of, alu_op3_of, bit_op_of, bfm_op_of, move_wide_op_of, size_of, reg_of, preg_of, imm12_of, wide_of, imm_shift_of, uimm5_of, uimm6_of, shift_of, extend_of, cond_of, nzcv_of, truth_of, u8_of, u32_of, u64_of, i32_of, target_of, label_of, frame_field_of, emit_flag_of, i64_of, offset9_of, pair_offset_of, type_of, mem_label_name_of, mode_of, pair_mode_of, flags_of, cond_br_kind_of, test_bit_kind_of, list_of, convention_of, key_of, map_of}
+use Rattle.a64_read.specs.At.{alu_op_of, alu_op3_of, bit_op_of, bfm_op_of, move_wide_op_of, size_of, reg_of, preg_of, imm12_of, wide_of, imm_shift_of, uimm5_of, uimm6_of, shift_of, extend_of, cond_of, nzcv_of, truth_of, u8_of, u32_of, u64_of, i32_of, target_of, label_of, frame_field_of, emit_flag_of, i64_of, offset9_of, pair_offset_of, type_of, mem_label_name_of, mode_of, pair_mode_of, flags_of, cond_br_kind_of, test_bit_kind_of, list_of, convention_of, key_of, map_of, fpu_op1_of, fpu_op2_of, fpu_op3_of, fpu_to_int_op_of, int_to_fpu_op_of, fpu_round_mode_of, scalar_size_of, vector_size_of, branch_target_type_of, api_key_of}
 
 -- a field of the kind, which is the given one where that is of the kind
 abbrev pub as_kind : Kind → Option Value → Value
@@ -15,7 +15,15 @@ as_kind kinds.AluOp3 v = values.AluOp3 (alu_op3_of v)
 as_kind kinds.BitOp v = values.BitOp (bit_op_of v)
 as_kind kinds.BfmOp v = values.BfmOp (bfm_op_of v)
 as_kind kinds.MoveWideOp v = values.MoveWideOp (move_wide_op_of v)
+as_kind kinds.FpuOp1 v = values.FpuOp1 (fpu_op1_of v)
+as_kind kinds.FpuOp2 v = values.FpuOp2 (fpu_op2_of v)
+as_kind kinds.FpuOp3 v = values.FpuOp3 (fpu_op3_of v)
+as_kind kinds.FpuToIntOp v = values.FpuToIntOp (fpu_to_int_op_of v)
+as_kind kinds.IntToFpuOp v = values.IntToFpuOp (int_to_fpu_op_of v)
+as_kind kinds.FpuRoundMode v = values.FpuRoundMode (fpu_round_mode_of v)
 as_kind kinds.Size v = values.Size (size_of v)
+as_kind kinds.ScalarSize v = values.ScalarSize (scalar_size_of v)
+as_kind kinds.VectorSize v = values.VectorSize (vector_size_of v)
 as_kind kinds.Reg v = values.Reg (reg_of v)
 as_kind kinds.PReg v = values.PReg (preg_of v)
 as_kind kinds.Imm12 v = values.Imm12 (imm12_of v)
@@ -46,9 +54,11 @@ as_kind kinds.PairMode v = values.PairMode (pair_mode_of v)
 as_kind kinds.Flags v = values.Flags (flags_of v)
 as_kind kinds.CondBrKind v = values.CondBrKind (cond_br_kind_of v)
 as_kind kinds.TestBitAndBranchKind v = values.TestBitAndBranchKind (test_bit_kind_of v)
+as_kind kinds.BranchTargetType v = values.BranchTargetType (branch_target_type_of v)
 as_kind kinds.List v = values.List (list_of v)
 as_kind kinds.Convention v = values.Convention (convention_of v)
 as_kind kinds.Key v = values.Key (key_of v)
+as_kind kinds.ApiKey v = values.ApiKey (api_key_of v)
 as_kind kinds.Map v = values.Map (map_of v)
 
 pub as_own_kind : (v : Value) → as_kind (kind_of v) (Some v) ≡ v

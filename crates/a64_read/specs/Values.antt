@@ -6,7 +6,16 @@ use Rattle.a64_ops.specs.declared.operator.ALUOp3.{ALUOp3}
 use Rattle.a64_ops.specs.declared.operator.BitOp.{BitOp}
 use Rattle.a64_ops.specs.declared.operator.BfmOp.{BfmOp}
 use Rattle.a64_ops.specs.declared.operator.MoveWideOp.{MoveWideOp}
+use Rattle.a64_ops.specs.declared.float.FPUOp1.{FPUOp1}
+use Rattle.a64_ops.specs.declared.float.FPUOp2.{FPUOp2}
+use Rattle.a64_ops.specs.declared.float.FPUOp3.{FPUOp3}
+use Rattle.a64_ops.specs.declared.float.FpuToIntOp.{FpuToIntOp}
+use Rattle.a64_ops.specs.declared.float.IntToFpuOp.{IntToFpuOp}
+use Rattle.a64_ops.specs.declared.float.FpuRoundMode.{FpuRoundMode}
+use Rattle.a64_ops.specs.declared.system.BranchTargetType.{BranchTargetType}
 use Rattle.a64_base.specs.declared.size.OperandSize.{OperandSize}
+use Rattle.a64_base.specs.declared.size.ScalarSize.{ScalarSize}
+use Rattle.a64_base.specs.declared.size.VectorSize.{VectorSize}
 use Rattle.a64_base.specs.declared.reg.Reg.{Reg}
 use Rattle.a64_base.specs.RegisterNumbers.{RealRegister}
 use Rattle.a64_imms.specs.declared.imm12.Imm12.{Imm12}
@@ -39,13 +48,14 @@ use Rattle.a64_read.specs.declared.value.Kind.TheVariants as kinds
 use Rattle.a64_read.specs.declared.value.Value.{Value}
 use Rattle.a64_read.specs.declared.value.Value.TheVariants as values
 use Rattle.a64_read.specs.Reads.{Always, IsU8, IsU64, IsI32}
-use Rattle.a64_read.specs.Operators.{alu_op3_text, alu_op_text, bfm_op_text, bit_op_text, bool_text, emit_flag_text, frame_field_text, move_wide_op_text, test_bit_text}
+use Rattle.a64_read.specs.Operators.{alu_op3_text, alu_op_text, bfm_op_text, bit_op_text, bool_text, branch_target_type_text, emit_flag_text, frame_field_text, move_wide_op_text, test_bit_text}
 use Rattle.a64_read.specs.Branches.{cond_br_text, IsCondBr}
-use Rattle.a64_read.specs.Conventions.{convention_text, key_text}
+use Rattle.a64_read.specs.Conventions.{api_key_text, convention_text, key_text}
+use Rattle.a64_read.specs.FloatOperators.{fpu_op1_text, fpu_op2_text, fpu_op3_text, fpu_round_mode_text, fpu_to_int_op_text, int_to_fpu_op_text}
 use Rattle.a64_read.specs.Lists.{same_text}
 use Rattle.a64_read.specs.Modes.{mode_text, IsMode, pair_text, IsPairMode}
 use Rattle.a64_read.specs.Parts.{part_text, IsPart}
-use Rattle.a64_read.specs.Fields.{flags_text, imm12_text, imm_shift_text, label_text, map_text, nzcv_text, preg_text, shift_text, target_text, uimm5_text, uimm6_text, wide_text, HasNo, IsFlags, IsImm12, IsImmShift, IsLabel, IsMapNumber, IsPReg, IsShift, IsTarget, IsUImm6, IsWide}
+use Rattle.a64_read.specs.Fields.{flags_text, imm12_text, imm_shift_text, label_text, map_text, nzcv_text, preg_text, scalar_size_text, shift_text, target_text, uimm5_text, uimm6_text, vector_size_text, wide_text, HasNo, IsFlags, IsImm12, IsImmShift, IsLabel, IsMapNumber, IsPReg, IsShift, IsTarget, IsUImm6, IsWide}
 
 abbrev pub kind_of : Value → Kind
 kind_of (values.AluOp x) = kinds.AluOp
@@ -53,7 +63,15 @@ kind_of (values.AluOp3 x) = kinds.AluOp3
 kind_of (values.BitOp x) = kinds.BitOp
 kind_of (values.BfmOp x) = kinds.BfmOp
 kind_of (values.MoveWideOp x) = kinds.MoveWideOp
+kind_of (values.FpuOp1 x) = kinds.FpuOp1
+kind_of (values.FpuOp2 x) = kinds.FpuOp2
+kind_of (values.FpuOp3 x) = kinds.FpuOp3
+kind_of (values.FpuToIntOp x) = kinds.FpuToIntOp
+kind_of (values.IntToFpuOp x) = kinds.IntToFpuOp
+kind_of (values.FpuRoundMode x) = kinds.FpuRoundMode
 kind_of (values.Size x) = kinds.Size
+kind_of (values.ScalarSize x) = kinds.ScalarSize
+kind_of (values.VectorSize x) = kinds.VectorSize
 kind_of (values.Reg x) = kinds.Reg
 kind_of (values.PReg x) = kinds.PReg
 kind_of (values.Imm12 x) = kinds.Imm12
@@ -84,9 +102,11 @@ kind_of (values.PairMode x) = kinds.PairMode
 kind_of (values.Flags x) = kinds.Flags
 kind_of (values.CondBrKind x) = kinds.CondBrKind
 kind_of (values.TestBitAndBranchKind x) = kinds.TestBitAndBranchKind
+kind_of (values.BranchTargetType x) = kinds.BranchTargetType
 kind_of (values.List x) = kinds.List
 kind_of (values.Convention x) = kinds.Convention
 kind_of (values.Key x) = kinds.Key
+kind_of (values.ApiKey x) = kinds.ApiKey
 kind_of (values.Map x) = kinds.Map
 
 -- the text of a field. Those that may stand with commas between have theirs in Parts
@@ -96,6 +116,14 @@ value_text (values.AluOp3 x) = alu_op3_text x
 value_text (values.BitOp x) = bit_op_text x
 value_text (values.BfmOp x) = bfm_op_text x
 value_text (values.MoveWideOp x) = move_wide_op_text x
+value_text (values.FpuOp1 x) = fpu_op1_text x
+value_text (values.FpuOp2 x) = fpu_op2_text x
+value_text (values.FpuOp3 x) = fpu_op3_text x
+value_text (values.FpuToIntOp x) = fpu_to_int_op_text x
+value_text (values.IntToFpuOp x) = int_to_fpu_op_text x
+value_text (values.FpuRoundMode x) = fpu_round_mode_text x
+value_text (values.ScalarSize x) = scalar_size_text x
+value_text (values.VectorSize x) = vector_size_text x
 value_text (values.PReg x) = preg_text x
 value_text (values.Imm12 x) = imm12_text x
 value_text (values.Wide x) = wide_text x
@@ -117,9 +145,11 @@ value_text (values.PairMode x) = pair_text x
 value_text (values.Flags x) = flags_text x
 value_text (values.CondBrKind x) = cond_br_text x
 value_text (values.TestBitAndBranchKind x) = test_bit_text x
+value_text (values.BranchTargetType x) = branch_target_type_text x
 value_text (values.List x) = same_text x
 value_text (values.Convention x) = convention_text x
 value_text (values.Key x) = key_text x
+value_text (values.ApiKey x) = api_key_text x
 value_text (values.Map x) = map_text x
 value_text part = part_text part
 
@@ -130,6 +160,14 @@ IsValue (values.AluOp3 x) = Always x
 IsValue (values.BitOp x) = Always x
 IsValue (values.BfmOp x) = Always x
 IsValue (values.MoveWideOp x) = Always x
+IsValue (values.FpuOp1 x) = Always x
+IsValue (values.FpuOp2 x) = Always x
+IsValue (values.FpuOp3 x) = Always x
+IsValue (values.FpuToIntOp x) = Always x
+IsValue (values.IntToFpuOp x) = Always x
+IsValue (values.FpuRoundMode x) = Always x
+IsValue (values.ScalarSize x) = Always x
+IsValue (values.VectorSize x) = Always x
 IsValue (values.PReg x) = IsPReg x
 IsValue (values.Imm12 x) = IsImm12 x
 IsValue (values.Wide x) = IsWide x
@@ -151,9 +189,11 @@ IsValue (values.PairMode x) = IsPairMode x
 IsValue (values.Flags x) = IsFlags x
 IsValue (values.CondBrKind x) = IsCondBr x
 IsValue (values.TestBitAndBranchKind x) = Always x
+IsValue (values.BranchTargetType x) = Always x
 IsValue (values.List x) = HasNo 32 x
 IsValue (values.Convention x) = Always x
 IsValue (values.Key x) = Always x
+IsValue (values.ApiKey x) = Always x
 IsValue (values.Map x) = IsMapNumber x
 IsValue part = IsPart part
 
@@ -172,7 +212,15 @@ ReadsKind kinds.AluOp3 = ReadsAs kinds.AluOp3 (λ (x : ALUOp3). values.AluOp3 x)
 ReadsKind kinds.BitOp = ReadsAs kinds.BitOp (λ (x : BitOp). values.BitOp x)
 ReadsKind kinds.BfmOp = ReadsAs kinds.BfmOp (λ (x : BfmOp). values.BfmOp x)
 ReadsKind kinds.MoveWideOp = ReadsAs kinds.MoveWideOp (λ (x : MoveWideOp). values.MoveWideOp x)
+ReadsKind kinds.FpuOp1 = ReadsAs kinds.FpuOp1 (λ (x : FPUOp1). values.FpuOp1 x)
+ReadsKind kinds.FpuOp2 = ReadsAs kinds.FpuOp2 (λ (x : FPUOp2). values.FpuOp2 x)
+ReadsKind kinds.FpuOp3 = ReadsAs kinds.FpuOp3 (λ (x : FPUOp3). values.FpuOp3 x)
+ReadsKind kinds.FpuToIntOp = ReadsAs kinds.FpuToIntOp (λ (x : FpuToIntOp). values.FpuToIntOp x)
+ReadsKind kinds.IntToFpuOp = ReadsAs kinds.IntToFpuOp (λ (x : IntToFpuOp). values.IntToFpuOp x)
+ReadsKind kinds.FpuRoundMode = ReadsAs kinds.FpuRoundMode (λ (x : FpuRoundMode). values.FpuRoundMode x)
 ReadsKind kinds.Size = ReadsAs kinds.Size (λ (x : OperandSize). values.Size x)
+ReadsKind kinds.ScalarSize = ReadsAs kinds.ScalarSize (λ (x : ScalarSize). values.ScalarSize x)
+ReadsKind kinds.VectorSize = ReadsAs kinds.VectorSize (λ (x : VectorSize). values.VectorSize x)
 ReadsKind kinds.Reg = ReadsAs kinds.Reg (λ (x : Reg). values.Reg x)
 ReadsKind kinds.PReg = ReadsAs kinds.PReg (λ (x : RealRegister). values.PReg x)
 ReadsKind kinds.Imm12 = ReadsAs kinds.Imm12 (λ (x : Imm12). values.Imm12 x)
@@ -203,7 +251,9 @@ ReadsKind kinds.PairMode = ReadsAs kinds.PairMode (λ (x : PairAMode). values.Pa
 ReadsKind kinds.Flags = ReadsAs kinds.Flags (λ (x : Option TrapCode). values.Flags x)
 ReadsKind kinds.CondBrKind = ReadsAs kinds.CondBrKind (λ (x : CondBrKind). values.CondBrKind x)
 ReadsKind kinds.TestBitAndBranchKind = ReadsAs kinds.TestBitAndBranchKind (λ (x : TestBitAndBranchKind). values.TestBitAndBranchKind x)
+ReadsKind kinds.BranchTargetType = ReadsAs kinds.BranchTargetType (λ (x : BranchTargetType). values.BranchTargetType x)
 ReadsKind kinds.List = ReadsAs kinds.List (λ (x : List ℕ). values.List x)
 ReadsKind kinds.Convention = ReadsAs kinds.Convention (λ (x : CallConv). values.Convention x)
 ReadsKind kinds.Key = ReadsAs kinds.Key (λ (x : Option APIKey). values.Key x)
+ReadsKind kinds.ApiKey = ReadsAs kinds.ApiKey (λ (x : APIKey). values.ApiKey x)
 ReadsKind kinds.Map = ReadsAs kinds.Map (λ (x : Option UserStackMap). values.Map x)

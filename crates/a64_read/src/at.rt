@@ -4,7 +4,9 @@
 ghost use Rattle.std.specs.Prelude.{◌≡◌, Option, Some, None, slice_get, refl};
 ghost use Rattle.a64_read.specs.declared.value.Value.{Value};
 ghost use Rattle.a64_read.specs.declared.value.Value.TheVariants as values;
-ghost use Rattle.a64_read.specs.At.{alu_op3_of, alu_op_of, bfm_op_of, bit_op_of, cond_br_kind_of, cond_of, convention_of, emit_flag_of, extend_of, flags_of, frame_field_of, i32_of, i64_of, imm12_of, imm_shift_of, key_of, label_of, map_of, mem_label_name_of, mode_of, move_wide_op_of, nzcv_of, offset9_of, pair_mode_of, pair_offset_of, preg_of, reg_of, shift_of, size_of, target_of, test_bit_kind_of, truth_of, type_of, u32_of, u64_of, u8_of, uimm5_of, uimm6_of, wide_of, list_at};
+ghost use Rattle.a64_read.specs.At.{alu_op3_of, alu_op_of, api_key_of, bfm_op_of, bit_op_of, branch_target_type_of, cond_br_kind_of, cond_of, convention_of, emit_flag_of, extend_of, flags_of, frame_field_of, i32_of, i64_of, imm12_of, imm_shift_of, key_of, label_of, map_of, mem_label_name_of, mode_of, move_wide_op_of, nzcv_of, offset9_of, pair_mode_of, pair_offset_of, preg_of, reg_of, shift_of, size_of, target_of, test_bit_kind_of, truth_of, type_of, u32_of, u64_of, u8_of, uimm5_of, uimm6_of, wide_of, list_at};
+
+mod float;
 
 use crate::emit_flag::EmitFlag;
 use crate::frame_field::FrameField;
@@ -17,7 +19,7 @@ use a64_base::{
 };
 use a64_imms::{Imm12, ImmShift, MoveWideConst, NZCV, SImm7Scaled, SImm9, UImm5, UImm6};
 use a64_inst::{AMode, PairAMode};
-use a64_ops::{ALUOp, ALUOp3, BfmOp, BitOp, MoveWideOp};
+use a64_ops::{ALUOp, ALUOp3, BfmOp, BitOp, BranchTargetType, MoveWideOp};
 
 /// What a field can hold.
 pub trait Field: Copy {
@@ -590,6 +592,32 @@ impl Field for Option<UserStackMap> {
         match value {
             Value::Map(x) => *x,
             _ => None,
+        }
+    }
+
+    ghost missing = { refl };
+}
+
+impl Field for BranchTargetType {
+    ghost of = { branch_target_type_of };
+
+    fn of(value: &Value) -> BranchTargetType {
+        match value {
+            Value::BranchTargetType(x) => *x,
+            _ => BranchTargetType::None,
+        }
+    }
+
+    ghost missing = { refl };
+}
+
+impl Field for APIKey {
+    ghost of = { api_key_of };
+
+    fn of(value: &Value) -> APIKey {
+        match value {
+            Value::ApiKey(x) => *x,
+            _ => APIKey::AZ,
         }
     }
 

@@ -1,9 +1,10 @@
-//! The names of calling conventions, and of keys where a return may have none.
+//! The names of calling conventions and of keys, also where a return may have none.
 
 ghost use Rattle.std.specs.Prelude.{List, [], map};
 ghost use Rattle.a64_read.specs.declared.convention.TheConstants.{CONVENTION_HOMES, CONVENTIONS, KEY_HOMES, KEYS};
-ghost use Rattle.a64_read.specs.Conventions.{convention_text, key_text};
+ghost use Rattle.a64_read.specs.Conventions.{api_key_text, convention_text, key_text};
 ghost use Rattle.a64_read.specs.Found.{convention_found, key_found};
+ghost use Rattle.a64_read.specs.Reads.{Reads, Always};
 
 use crate::named::{Named, Row};
 use a64_base::{APIKey, CallConv};
@@ -62,4 +63,18 @@ impl Named for Option<APIKey> {
     }
 
     ghost found = { key_found };
+}
+
+/// The key that the token names.
+#[tactic(auto, using(std::proofs::lemmas::Slice::Eq::text_from_reads))]
+pub fn read_api_key(token: &[u8]) -> Option<APIKey>
+    ensures { Reads Always api_key_text token.now result }
+{
+    match token {
+        b"AZ" => Some(APIKey::AZ),
+        b"BZ" => Some(APIKey::BZ),
+        b"ASP" => Some(APIKey::ASP),
+        b"BSP" => Some(APIKey::BSP),
+        _ => None,
+    }
 }

@@ -11,6 +11,7 @@ pub mod decimal;
 pub mod emit_flag;
 mod fields;
 mod flags;
+mod float_operator;
 pub mod frame_field;
 pub mod hex;
 mod immediate;

@@ -5,9 +5,14 @@ ghost use Rattle.a64_read.specs.Values.{ReadsKind};
 
 use crate::branch_name::{CondBrName, read_test_bit};
 use crate::call::read_made;
+use crate::convention::read_api_key;
 use crate::decimal::{read_u8, read_u32, read_u64};
 use crate::emit_flag::EmitFlag;
 use crate::flags::read_flags;
+use crate::float_operator::{
+    read_fpu_op1, read_fpu_op2, read_fpu_op3, read_fpu_round_mode, read_fpu_to_int_op,
+    read_int_to_fpu_op,
+};
 use crate::frame_field::FrameField;
 use crate::immediate::{read_imm_shift, read_imm12, read_nzcv, read_uimm5, read_uimm6};
 use crate::label::{read_label, read_target};
@@ -17,10 +22,10 @@ use crate::mode_name::{MemLabelName, ModeName, PairModeName};
 use crate::modifier::read_bool;
 use crate::named::read_named;
 use crate::offset::{read_i32, read_i64, read_offset9, read_pair_offset};
-use crate::operator::{read_bfm_op, read_move_wide_op};
+use crate::operator::{read_bfm_op, read_branch_target_type, read_move_wide_op};
 use crate::register::{read_preg, read_reg};
 use crate::shift::read_shift;
-use crate::size::read_size;
+use crate::size::{read_scalar_size, read_size, read_vector_size};
 use crate::value::{Kind, Value};
 use crate::wide::read_wide;
 use a64_base::{APIKey, CallConv, Cond, ExtendOp, IrType};
@@ -67,6 +72,54 @@ fn move_wide_op(token: &[u8]) -> Option<Value<'_>>
     Some(Value::MoveWideOp(read_move_wide_op(token)?))
 }
 
+/// Reads an operator with one float.
+#[tactic(auto, unfolding(crate::specs::Values::ReadsKind))]
+fn fpu_op1(token: &[u8]) -> Option<Value<'_>>
+    ensures { ReadsKind Kind.FpuOp1 token.now result }
+{
+    Some(Value::FpuOp1(read_fpu_op1(token)?))
+}
+
+/// Reads an operator with two floats.
+#[tactic(auto, unfolding(crate::specs::Values::ReadsKind))]
+fn fpu_op2(token: &[u8]) -> Option<Value<'_>>
+    ensures { ReadsKind Kind.FpuOp2 token.now result }
+{
+    Some(Value::FpuOp2(read_fpu_op2(token)?))
+}
+
+/// Reads an operator with three floats.
+#[tactic(auto, unfolding(crate::specs::Values::ReadsKind))]
+fn fpu_op3(token: &[u8]) -> Option<Value<'_>>
+    ensures { ReadsKind Kind.FpuOp3 token.now result }
+{
+    Some(Value::FpuOp3(read_fpu_op3(token)?))
+}
+
+/// Reads a conversion of a float to an integer.
+#[tactic(auto, unfolding(crate::specs::Values::ReadsKind))]
+fn fpu_to_int_op(token: &[u8]) -> Option<Value<'_>>
+    ensures { ReadsKind Kind.FpuToIntOp token.now result }
+{
+    Some(Value::FpuToIntOp(read_fpu_to_int_op(token)?))
+}
+
+/// Reads a conversion of an integer to a float.
+#[tactic(auto, unfolding(crate::specs::Values::ReadsKind))]
+fn int_to_fpu_op(token: &[u8]) -> Option<Value<'_>>
+    ensures { ReadsKind Kind.IntToFpuOp token.now result }
+{
+    Some(Value::IntToFpuOp(read_int_to_fpu_op(token)?))
+}
+
+/// Reads a rounding of a float to an integral value.
+#[tactic(auto, unfolding(crate::specs::Values::ReadsKind))]
+fn fpu_round_mode(token: &[u8]) -> Option<Value<'_>>
+    ensures { ReadsKind Kind.FpuRoundMode token.now result }
+{
+    Some(Value::FpuRoundMode(read_fpu_round_mode(token)?))
+}
+
 /// Reads the size of operands.
 #[tactic(auto, unfolding(crate::specs::Values::ReadsKind))]
 #[inline(always)]
@@ -74,6 +127,22 @@ pub fn size(token: &[u8]) -> Option<Value<'_>>
     ensures { ReadsKind Kind.Size token.now result }
 {
     Some(Value::Size(read_size(token)?))
+}
+
+/// Reads the size of a scalar in a vector register.
+#[tactic(auto, unfolding(crate::specs::Values::ReadsKind))]
+fn scalar_size(token: &[u8]) -> Option<Value<'_>>
+    ensures { ReadsKind Kind.ScalarSize token.now result }
+{
+    Some(Value::ScalarSize(read_scalar_size(token)?))
+}
+
+/// Reads the lanes of a vector register.
+#[tactic(auto, unfolding(crate::specs::Values::ReadsKind))]
+fn vector_size(token: &[u8]) -> Option<Value<'_>>
+    ensures { ReadsKind Kind.VectorSize token.now result }
+{
+    Some(Value::VectorSize(read_vector_size(token)?))
 }
 
 /// Reads a register.
@@ -319,6 +388,14 @@ fn test_bit_kind(token: &[u8]) -> Option<Value<'_>>
     Some(Value::TestBitAndBranchKind(read_test_bit(token)?))
 }
 
+/// Reads which branches may go to a place.
+#[tactic(auto, unfolding(crate::specs::Values::ReadsKind))]
+fn branch_target_type(token: &[u8]) -> Option<Value<'_>>
+    ensures { ReadsKind Kind.BranchTargetType token.now result }
+{
+    Some(Value::BranchTargetType(read_branch_target_type(token)?))
+}
+
 /// Reads a list as it is written.
 #[tactic(auto, unfolding(crate::specs::Values::ReadsKind))]
 fn list(token: &[u8]) -> Option<Value<'_>>
@@ -341,6 +418,14 @@ fn key(token: &[u8]) -> Option<Value<'_>>
     ensures { ReadsKind Kind.Key token.now result }
 {
     Some(Value::Key(read_named::<Option<APIKey>>(token)?))
+}
+
+/// Reads a key that authenticates an address.
+#[tactic(auto, unfolding(crate::specs::Values::ReadsKind))]
+fn api_key(token: &[u8]) -> Option<Value<'_>>
+    ensures { ReadsKind Kind.ApiKey token.now result }
+{
+    Some(Value::ApiKey(read_api_key(token)?))
 }
 
 /// Reads the map of the stack at a call, where there is one.
@@ -380,7 +465,15 @@ pub fn read_value(kind: Kind, token: &[u8]) -> Option<Value<'_>>
         Kind::BitOp => bit_op(token),
         Kind::BfmOp => bfm_op(token),
         Kind::MoveWideOp => move_wide_op(token),
+        Kind::FpuOp1 => fpu_op1(token),
+        Kind::FpuOp2 => fpu_op2(token),
+        Kind::FpuOp3 => fpu_op3(token),
+        Kind::FpuToIntOp => fpu_to_int_op(token),
+        Kind::IntToFpuOp => int_to_fpu_op(token),
+        Kind::FpuRoundMode => fpu_round_mode(token),
         Kind::Size => size(token),
+        Kind::ScalarSize => scalar_size(token),
+        Kind::VectorSize => vector_size(token),
         Kind::Reg => reg(token),
         Kind::PReg => preg(token),
         Kind::Imm12 => imm12(token),
@@ -411,9 +504,11 @@ pub fn read_value(kind: Kind, token: &[u8]) -> Option<Value<'_>>
         Kind::Flags => flags(token),
         Kind::CondBrKind => cond_br_kind(token),
         Kind::TestBitAndBranchKind => test_bit_kind(token),
+        Kind::BranchTargetType => branch_target_type(token),
         Kind::List => list(token),
         Kind::Convention => convention(token),
         Kind::Key => key(token),
+        Kind::ApiKey => api_key(token),
         Kind::Map => map(token),
     }
 }

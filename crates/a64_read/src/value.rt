@@ -6,11 +6,15 @@ use crate::list_text::ListText;
 use crate::mode_name::MemLabelName;
 use a64_base::{
     APIKey, BranchTarget, CallConv, Cond, CondBrKind, ExtendOp, IrType, MachLabel, MemFlagsData,
-    OperandSize, PReg, Reg, ShiftOpAndAmt, TestBitAndBranchKind, UserStackMap,
+    OperandSize, PReg, Reg, ScalarSize, ShiftOpAndAmt, TestBitAndBranchKind, UserStackMap,
+    VectorSize,
 };
 use a64_imms::{Imm12, ImmShift, MoveWideConst, NZCV, SImm7Scaled, SImm9, UImm5, UImm6};
 use a64_inst::{AMode, PairAMode};
-use a64_ops::{ALUOp, ALUOp3, BfmOp, BitOp, MoveWideOp};
+use a64_ops::{
+    ALUOp, ALUOp3, BfmOp, BitOp, BranchTargetType, FPUOp1, FPUOp2, FPUOp3, FpuRoundMode,
+    FpuToIntOp, IntToFpuOp, MoveWideOp,
+};
 
 /// What a field is.
 #[derive(Clone, Copy)]
@@ -25,8 +29,24 @@ pub enum Kind {
     BfmOp,
     /// A wide move.
     MoveWideOp,
+    /// An operator with one float.
+    FpuOp1,
+    /// An operator with two floats.
+    FpuOp2,
+    /// An operator with three floats.
+    FpuOp3,
+    /// A conversion of a float to an integer.
+    FpuToIntOp,
+    /// A conversion of an integer to a float.
+    IntToFpuOp,
+    /// A rounding of a float to an integral value.
+    FpuRoundMode,
     /// The size of operands.
     Size,
+    /// The size of a scalar in a vector register.
+    ScalarSize,
+    /// The lanes of a vector register.
+    VectorSize,
     /// A register.
     Reg,
     /// A register of the machine.
@@ -87,12 +107,16 @@ pub enum Kind {
     CondBrKind,
     /// What a branch on one bit tests.
     TestBitAndBranchKind,
+    /// The branches that may go to a place.
+    BranchTargetType,
     /// A list, which takes memory: it is read where the item is made.
     List,
     /// A calling convention.
     Convention,
     /// The key that authenticates a return address, where one does.
     Key,
+    /// A key that authenticates an address.
+    ApiKey,
     /// The map of the stack at a call, where there is one.
     Map,
 }
@@ -110,8 +134,24 @@ pub enum Value<'t> {
     BfmOp(BfmOp),
     /// A wide move.
     MoveWideOp(MoveWideOp),
+    /// An operator with one float.
+    FpuOp1(FPUOp1),
+    /// An operator with two floats.
+    FpuOp2(FPUOp2),
+    /// An operator with three floats.
+    FpuOp3(FPUOp3),
+    /// A conversion of a float to an integer.
+    FpuToIntOp(FpuToIntOp),
+    /// A conversion of an integer to a float.
+    IntToFpuOp(IntToFpuOp),
+    /// A rounding of a float to an integral value.
+    FpuRoundMode(FpuRoundMode),
     /// The size of operands.
     Size(OperandSize),
+    /// The size of a scalar in a vector register.
+    ScalarSize(ScalarSize),
+    /// The lanes of a vector register.
+    VectorSize(VectorSize),
     /// A register.
     Reg(Reg),
     /// A register of the machine.
@@ -172,12 +212,16 @@ pub enum Value<'t> {
     CondBrKind(CondBrKind),
     /// What a branch on one bit tests.
     TestBitAndBranchKind(TestBitAndBranchKind),
+    /// The branches that may go to a place.
+    BranchTargetType(BranchTargetType),
     /// A list, as it is written.
     List(ListText<'t>),
     /// A calling convention.
     Convention(CallConv),
     /// The key that authenticates a return address, where one does.
     Key(Option<APIKey>),
+    /// A key that authenticates an address.
+    ApiKey(APIKey),
     /// The map of the stack at a call, where there is one.
     Map(Option<UserStackMap>),
 }

@@ -1,0 +1,5 @@
+use Rattle.a64_read.proofs.OtherKinds.{scalar_size_else}
+use Rattle.a64_read.proofs.at.float.ScalarSizeField.of.Goals as goal
+
+pub returns-in_default : goal.returns-in_default
+returns-in_default c = scalar_size_else c.args.value.now c.in_default.not-ScalarSize
