@@ -20,6 +20,7 @@ only_of (values.AluOp x) token r h = h.only x
 only_of (values.AluOp3 x) token r h = h.only x
 only_of (values.BitOp x) token r h = h.only x
 only_of (values.BfmOp x) token r h = h.only x
+only_of (values.AtomicRmwOp x) token r h = h.only x
 only_of (values.MoveWideOp x) token r h = h.only x
 only_of (values.FpuOp1 x) token r h = h.only x
 only_of (values.FpuOp2 x) token r h = h.only x

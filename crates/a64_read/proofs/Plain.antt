@@ -23,6 +23,8 @@ use Rattle.a64_ops.specs.declared.operator.ALUOp3.{ALUOp3}
 use Rattle.a64_ops.specs.declared.operator.ALUOp3.TheVariants.{MAdd}
 use Rattle.a64_ops.specs.declared.operator.BitOp.{BitOp}
 use Rattle.a64_ops.specs.declared.operator.BitOp.TheVariants.{RBit}
+use Rattle.a64_ops.specs.declared.operator.AtomicRMWOp.{AtomicRMWOp}
+use Rattle.a64_ops.specs.declared.operator.AtomicRMWOp.TheVariants as atomic_rmw_ops
 use Rattle.a64_ops.specs.declared.operator.BfmOp.{BfmOp}
 use Rattle.a64_ops.specs.declared.operator.BfmOp.TheVariants.{UBfm}
 use Rattle.a64_ops.specs.declared.operator.MoveWideOp.{MoveWideOp}
@@ -72,7 +74,7 @@ use Rattle.a64_read.specs.declared.value.Value.{Value}
 use Rattle.a64_read.specs.declared.value.Value.TheVariants as values
 use Rattle.a64_read.specs.Values.{value_text, IsValue}
 use Rattle.a64_read.specs.Reads.{IsU8, IsU32, IsU64, IsI32}
-use Rattle.a64_read.specs.Operators.{alu_op_text, alu_op3_text, bit_op_text, bfm_op_text, move_wide_op_text, shift_op_text, bool_text, branch_target_type_text, emit_flag_text, frame_field_text, test_bit_text}
+use Rattle.a64_read.specs.Operators.{alu_op_text, alu_op3_text, atomic_rmw_op_text, bit_op_text, bfm_op_text, move_wide_op_text, shift_op_text, bool_text, branch_target_type_text, emit_flag_text, frame_field_text, test_bit_text}
 use Rattle.a64_read.specs.Branches.{cond_br_name_text, cond_br_name_of, cond_br_fields}
 use Rattle.a64_read.specs.Conventions.{api_key_text, convention_text, key_text}
 use Rattle.a64_read.specs.FloatOperators.{fpu_op1_text, fpu_op2_text, fpu_op3_text, fpu_round_mode_text, fpu_to_int_op_text, int_to_fpu_op_text}
@@ -133,6 +135,10 @@ alu_op3_plain _ = refl
 bit_op_plain : (x : BitOp) → HasNo 32 (bit_op_text x)
 bit_op_plain RBit = refl
 bit_op_plain _ = refl
+
+atomic_rmw_op_plain : (x : AtomicRMWOp) → HasNo 32 (atomic_rmw_op_text x)
+atomic_rmw_op_plain atomic_rmw_ops.Add = refl
+atomic_rmw_op_plain _ = refl
 
 bfm_op_plain : (x : BfmOp) → HasNo 32 (bfm_op_text x)
 bfm_op_plain UBfm = refl
@@ -272,6 +278,7 @@ value_plain (values.AluOp x) fits = alu_op_plain x
 value_plain (values.AluOp3 x) fits = alu_op3_plain x
 value_plain (values.BitOp x) fits = bit_op_plain x
 value_plain (values.BfmOp x) fits = bfm_op_plain x
+value_plain (values.AtomicRmwOp x) fits = atomic_rmw_op_plain x
 value_plain (values.MoveWideOp x) fits = move_wide_op_plain x
 value_plain (values.FpuOp1 x) fits = fpu_op1_plain x
 value_plain (values.FpuOp2 x) fits = fpu_op2_plain x

@@ -4,6 +4,8 @@ use Rattle.std.proofs.Common.{lit<}
 use Rattle.a64_ops.specs.declared.operator.ALUOp.{ALUOp}
 use Rattle.a64_ops.specs.declared.operator.ALUOp3.{ALUOp3}
 use Rattle.a64_ops.specs.declared.operator.BitOp.{BitOp}
+use Rattle.a64_ops.specs.declared.operator.AtomicRMWOp.{AtomicRMWOp}
+use Rattle.a64_ops.specs.declared.operator.AtomicRMWOp.TheVariants as atomic_rmw_ops
 use Rattle.a64_ops.specs.declared.operator.BfmOp.{BfmOp}
 use Rattle.a64_ops.specs.declared.operator.MoveWideOp.{MoveWideOp}
 use Rattle.a64_base.specs.declared.size.OperandSize.{OperandSize}
@@ -101,6 +103,13 @@ bit_op_of _ = bit_ops.RBit
 
 abbrev pub bit_op_at : List Value → ℕ → BitOp
 bit_op_at values i = bit_op_of (slice_get values i)
+
+abbrev pub atomic_rmw_op_of : Option Value → AtomicRMWOp
+atomic_rmw_op_of (Some (values.AtomicRmwOp x)) = x
+atomic_rmw_op_of _ = atomic_rmw_ops.Add
+
+abbrev pub atomic_rmw_op_at : List Value → ℕ → AtomicRMWOp
+atomic_rmw_op_at values i = atomic_rmw_op_of (slice_get values i)
 
 abbrev pub bfm_op_of : Option Value → BfmOp
 bfm_op_of (Some (values.BfmOp x)) = x

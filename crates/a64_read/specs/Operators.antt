@@ -4,6 +4,8 @@ use Rattle.a64_ops.specs.declared.operator.ALUOp.{ALUOp}
 use Rattle.a64_ops.specs.declared.operator.ALUOp.TheVariants as alu_ops
 use Rattle.a64_ops.specs.declared.operator.ALUOp3.{ALUOp3}
 use Rattle.a64_ops.specs.declared.operator.ALUOp3.TheVariants as alu_op3s
+use Rattle.a64_ops.specs.declared.operator.AtomicRMWOp.{AtomicRMWOp}
+use Rattle.a64_ops.specs.declared.operator.AtomicRMWOp.TheVariants as atomic_rmw_ops
 use Rattle.a64_ops.specs.declared.operator.BitOp.{BitOp}
 use Rattle.a64_ops.specs.declared.operator.BitOp.TheVariants as bit_ops
 use Rattle.a64_ops.specs.declared.operator.BfmOp.{BfmOp}
@@ -57,6 +59,17 @@ alu_op3_text alu_op3s.MAdd = codes "MAdd"
 alu_op3_text alu_op3s.MSub = codes "MSub"
 alu_op3_text alu_op3s.UMAddL = codes "UMAddL"
 alu_op3_text alu_op3s.SMAddL = codes "SMAddL"
+
+abbrev pub atomic_rmw_op_text : AtomicRMWOp → List ℕ
+atomic_rmw_op_text atomic_rmw_ops.Add = codes "Add"
+atomic_rmw_op_text atomic_rmw_ops.Clr = codes "Clr"
+atomic_rmw_op_text atomic_rmw_ops.Eor = codes "Eor"
+atomic_rmw_op_text atomic_rmw_ops.Set = codes "Set"
+atomic_rmw_op_text atomic_rmw_ops.Smax = codes "Smax"
+atomic_rmw_op_text atomic_rmw_ops.Smin = codes "Smin"
+atomic_rmw_op_text atomic_rmw_ops.Umax = codes "Umax"
+atomic_rmw_op_text atomic_rmw_ops.Umin = codes "Umin"
+atomic_rmw_op_text atomic_rmw_ops.Swp = codes "Swp"
 
 abbrev pub bit_op_text : BitOp → List ℕ
 bit_op_text bit_ops.RBit = codes "RBit"

@@ -4,6 +4,7 @@ use Rattle.std.specs.Fmt.{decimal, signed_decimal}
 use Rattle.a64_ops.specs.declared.operator.ALUOp.{ALUOp}
 use Rattle.a64_ops.specs.declared.operator.ALUOp3.{ALUOp3}
 use Rattle.a64_ops.specs.declared.operator.BitOp.{BitOp}
+use Rattle.a64_ops.specs.declared.operator.AtomicRMWOp.{AtomicRMWOp}
 use Rattle.a64_ops.specs.declared.operator.BfmOp.{BfmOp}
 use Rattle.a64_ops.specs.declared.operator.MoveWideOp.{MoveWideOp}
 use Rattle.a64_ops.specs.declared.float.FPUOp1.{FPUOp1}
@@ -50,7 +51,7 @@ use Rattle.a64_read.specs.declared.value.Kind.TheVariants as kinds
 use Rattle.a64_read.specs.declared.value.Value.{Value}
 use Rattle.a64_read.specs.declared.value.Value.TheVariants as values
 use Rattle.a64_read.specs.Reads.{Always, IsU8, IsU64, IsI32}
-use Rattle.a64_read.specs.Operators.{alu_op3_text, alu_op_text, bfm_op_text, bit_op_text, bool_text, branch_target_type_text, emit_flag_text, frame_field_text, move_wide_op_text, test_bit_text}
+use Rattle.a64_read.specs.Operators.{alu_op3_text, alu_op_text, atomic_rmw_op_text, bfm_op_text, bit_op_text, bool_text, branch_target_type_text, emit_flag_text, frame_field_text, move_wide_op_text, test_bit_text}
 use Rattle.a64_read.specs.Branches.{cond_br_text, IsCondBr}
 use Rattle.a64_read.specs.Conventions.{api_key_text, convention_text, key_text}
 use Rattle.a64_read.specs.FloatOperators.{fpu_op1_text, fpu_op2_text, fpu_op3_text, fpu_round_mode_text, fpu_to_int_op_text, int_to_fpu_op_text}
@@ -65,6 +66,7 @@ kind_of (values.AluOp x) = kinds.AluOp
 kind_of (values.AluOp3 x) = kinds.AluOp3
 kind_of (values.BitOp x) = kinds.BitOp
 kind_of (values.BfmOp x) = kinds.BfmOp
+kind_of (values.AtomicRmwOp x) = kinds.AtomicRmwOp
 kind_of (values.MoveWideOp x) = kinds.MoveWideOp
 kind_of (values.FpuOp1 x) = kinds.FpuOp1
 kind_of (values.FpuOp2 x) = kinds.FpuOp2
@@ -120,6 +122,7 @@ value_text (values.AluOp x) = alu_op_text x
 value_text (values.AluOp3 x) = alu_op3_text x
 value_text (values.BitOp x) = bit_op_text x
 value_text (values.BfmOp x) = bfm_op_text x
+value_text (values.AtomicRmwOp x) = atomic_rmw_op_text x
 value_text (values.MoveWideOp x) = move_wide_op_text x
 value_text (values.FpuOp1 x) = fpu_op1_text x
 value_text (values.FpuOp2 x) = fpu_op2_text x
@@ -166,6 +169,7 @@ IsValue (values.AluOp x) = Always x
 IsValue (values.AluOp3 x) = Always x
 IsValue (values.BitOp x) = Always x
 IsValue (values.BfmOp x) = Always x
+IsValue (values.AtomicRmwOp x) = Always x
 IsValue (values.MoveWideOp x) = Always x
 IsValue (values.FpuOp1 x) = Always x
 IsValue (values.FpuOp2 x) = Always x
@@ -220,6 +224,7 @@ ReadsKind kinds.AluOp = ReadsAs kinds.AluOp (λ (x : ALUOp). values.AluOp x)
 ReadsKind kinds.AluOp3 = ReadsAs kinds.AluOp3 (λ (x : ALUOp3). values.AluOp3 x)
 ReadsKind kinds.BitOp = ReadsAs kinds.BitOp (λ (x : BitOp). values.BitOp x)
 ReadsKind kinds.BfmOp = ReadsAs kinds.BfmOp (λ (x : BfmOp). values.BfmOp x)
+ReadsKind kinds.AtomicRmwOp = ReadsAs kinds.AtomicRmwOp (λ (x : AtomicRMWOp). values.AtomicRmwOp x)
 ReadsKind kinds.MoveWideOp = ReadsAs kinds.MoveWideOp (λ (x : MoveWideOp). values.MoveWideOp x)
 ReadsKind kinds.FpuOp1 = ReadsAs kinds.FpuOp1 (λ (x : FPUOp1). values.FpuOp1 x)
 ReadsKind kinds.FpuOp2 = ReadsAs kinds.FpuOp2 (λ (x : FPUOp2). values.FpuOp2 x)

@@ -4,7 +4,7 @@
 ghost use Rattle.std.specs.Prelude.{◌≡◌, Option, Some, None, slice_get, refl};
 ghost use Rattle.a64_read.specs.declared.value.Value.{Value};
 ghost use Rattle.a64_read.specs.declared.value.Value.TheVariants as values;
-ghost use Rattle.a64_read.specs.At.{alu_op3_of, alu_op_of, api_key_of, bfm_op_of, bit_op_of, branch_target_type_of, cond_br_kind_of, cond_of, convention_of, emit_flag_of, extend_of, flags_of, frame_field_of, i32_of, i64_of, imm12_of, imm_shift_of, key_of, label_of, map_of, mem_label_name_of, mode_of, move_wide_op_of, nzcv_of, offset9_of, pair_mode_of, pair_offset_of, preg_of, reg_of, shift_of, size_of, target_of, test_bit_kind_of, truth_of, type_of, u32_of, u64_of, u8_of, uimm5_of, uimm6_of, wide_of, list_at};
+ghost use Rattle.a64_read.specs.At.{alu_op3_of, alu_op_of, atomic_rmw_op_of, api_key_of, bfm_op_of, bit_op_of, branch_target_type_of, cond_br_kind_of, cond_of, convention_of, emit_flag_of, extend_of, flags_of, frame_field_of, i32_of, i64_of, imm12_of, imm_shift_of, key_of, label_of, map_of, mem_label_name_of, mode_of, move_wide_op_of, nzcv_of, offset9_of, pair_mode_of, pair_offset_of, preg_of, reg_of, shift_of, size_of, target_of, test_bit_kind_of, truth_of, type_of, u32_of, u64_of, u8_of, uimm5_of, uimm6_of, wide_of, list_at};
 
 mod float;
 
@@ -19,7 +19,7 @@ use a64_base::{
 };
 use a64_imms::{Imm12, ImmShift, MoveWideConst, NZCV, SImm7Scaled, SImm9, UImm5, UImm6};
 use a64_inst::{AMode, PairAMode};
-use a64_ops::{ALUOp, ALUOp3, BfmOp, BitOp, BranchTargetType, MoveWideOp};
+use a64_ops::{ALUOp, ALUOp3, AtomicRMWOp, BfmOp, BitOp, BranchTargetType, MoveWideOp};
 
 /// What a field can hold.
 pub trait Field: Copy {
@@ -86,6 +86,19 @@ impl Field for BitOp {
         match value {
             Value::BitOp(x) => *x,
             _ => BitOp::RBit,
+        }
+    }
+
+    ghost missing = { refl };
+}
+
+impl Field for AtomicRMWOp {
+    ghost of = { atomic_rmw_op_of };
+
+    fn of(value: &Value) -> AtomicRMWOp {
+        match value {
+            Value::AtomicRmwOp(x) => *x,
+            _ => AtomicRMWOp::Add,
         }
     }
 

@@ -2,12 +2,12 @@
 
 ghost use Rattle.std.specs.Prelude.{List, [], map};
 ghost use Rattle.a64_read.specs.declared.operator.TheConstants.{ALU_OP_HOMES, ALU_OPS, ALU_OP3_HOMES, ALU_OP3S, BIT_OP_HOMES, BIT_OPS};
-ghost use Rattle.a64_read.specs.Operators.{alu_op_text, alu_op3_text, bit_op_text, bfm_op_text, branch_target_type_text, move_wide_op_text};
+ghost use Rattle.a64_read.specs.Operators.{alu_op_text, alu_op3_text, atomic_rmw_op_text, bit_op_text, bfm_op_text, branch_target_type_text, move_wide_op_text};
 ghost use Rattle.a64_read.specs.Reads.{Reads, Always};
 ghost use Rattle.a64_read.specs.Found.{alu_op_found, alu_op3_found, bit_op_found};
 
 use crate::named::{Named, Row};
-use a64_ops::{ALUOp, ALUOp3, BfmOp, BitOp, BranchTargetType, MoveWideOp};
+use a64_ops::{ALUOp, ALUOp3, AtomicRMWOp, BfmOp, BitOp, BranchTargetType, MoveWideOp};
 
 /// For each remainder of a hash, the row of the name that has it.
 pub static ALU_OP_HOMES: [u8; 128] = [
@@ -151,6 +151,25 @@ pub fn read_branch_target_type(token: &[u8]) -> Option<BranchTargetType>
         b"C" => Some(BranchTargetType::C),
         b"J" => Some(BranchTargetType::J),
         b"JC" => Some(BranchTargetType::JC),
+        _ => None,
+    }
+}
+
+/// The atomic operation that the token names.
+#[tactic(auto, using(std::proofs::lemmas::Slice::Eq::text_from_reads))]
+pub fn read_atomic_rmw_op(token: &[u8]) -> Option<AtomicRMWOp>
+    ensures { Reads Always atomic_rmw_op_text token.now result }
+{
+    match token {
+        b"Add" => Some(AtomicRMWOp::Add),
+        b"Clr" => Some(AtomicRMWOp::Clr),
+        b"Eor" => Some(AtomicRMWOp::Eor),
+        b"Set" => Some(AtomicRMWOp::Set),
+        b"Smax" => Some(AtomicRMWOp::Smax),
+        b"Smin" => Some(AtomicRMWOp::Smin),
+        b"Umax" => Some(AtomicRMWOp::Umax),
+        b"Umin" => Some(AtomicRMWOp::Umin),
+        b"Swp" => Some(AtomicRMWOp::Swp),
         _ => None,
     }
 }

@@ -23,7 +23,9 @@ use crate::mode_name::{MemLabelName, ModeName, PairModeName};
 use crate::modifier::read_bool;
 use crate::named::read_named;
 use crate::offset::{read_i32, read_i64, read_offset9, read_pair_offset};
-use crate::operator::{read_bfm_op, read_branch_target_type, read_move_wide_op};
+use crate::operator::{
+    read_atomic_rmw_op, read_bfm_op, read_branch_target_type, read_move_wide_op,
+};
 use crate::register::{read_preg, read_reg};
 use crate::shift::read_shift;
 use crate::size::{read_scalar_size, read_size, read_vector_size};
@@ -71,6 +73,14 @@ fn move_wide_op(token: &[u8]) -> Option<Value<'_>>
     ensures { ReadsKind Kind.MoveWideOp token.now result }
 {
     Some(Value::MoveWideOp(read_move_wide_op(token)?))
+}
+
+/// Reads an atomic operation.
+#[tactic(auto, unfolding(crate::specs::Values::ReadsKind))]
+fn atomic_rmw_op(token: &[u8]) -> Option<Value<'_>>
+    ensures { ReadsKind Kind.AtomicRmwOp token.now result }
+{
+    Some(Value::AtomicRmwOp(read_atomic_rmw_op(token)?))
 }
 
 /// Reads an operator with one float.
@@ -482,6 +492,7 @@ pub fn read_value(kind: Kind, token: &[u8]) -> Option<Value<'_>>
         Kind::BitOp => bit_op(token),
         Kind::BfmOp => bfm_op(token),
         Kind::MoveWideOp => move_wide_op(token),
+        Kind::AtomicRmwOp => atomic_rmw_op(token),
         Kind::FpuOp1 => fpu_op1(token),
         Kind::FpuOp2 => fpu_op2(token),
         Kind::FpuOp3 => fpu_op3(token),

@@ -12,8 +12,8 @@ use a64_base::{
 use a64_imms::{Imm12, ImmShift, MoveWideConst, NZCV, SImm7Scaled, SImm9, UImm5, UImm6};
 use a64_inst::{AMode, FPUOpRI, FPUOpRIMod, PairAMode};
 use a64_ops::{
-    ALUOp, ALUOp3, BfmOp, BitOp, BranchTargetType, FPUOp1, FPUOp2, FPUOp3, FpuRoundMode,
-    FpuToIntOp, IntToFpuOp, MoveWideOp,
+    ALUOp, ALUOp3, AtomicRMWOp, BfmOp, BitOp, BranchTargetType, FPUOp1, FPUOp2, FPUOp3,
+    FpuRoundMode, FpuToIntOp, IntToFpuOp, MoveWideOp,
 };
 
 /// What a field is.
@@ -29,6 +29,8 @@ pub enum Kind {
     BfmOp,
     /// A wide move.
     MoveWideOp,
+    /// An atomic operation.
+    AtomicRmwOp,
     /// An operator with one float.
     FpuOp1,
     /// An operator with two floats.
@@ -138,6 +140,8 @@ pub enum Value<'t> {
     BfmOp(BfmOp),
     /// A wide move.
     MoveWideOp(MoveWideOp),
+    /// An atomic operation.
+    AtomicRmwOp(AtomicRMWOp),
     /// An operator with one float.
     FpuOp1(FPUOp1),
     /// An operator with two floats.
