@@ -2,9 +2,15 @@ use Rattle.std.proofs.Common.{sym, ◌∙◌}
 use Rattle.std.proofs.lemmas.Result.{on_err_weaker}
 use Rattle.a64_emit.specs.Cells.{inst_cells}
 use Rattle.a64_emit.specs.Words.{put_for}
-use Rattle.a64_emit.proofs.Emitted.{part_emitted, word_in_part, control_put}
+use Rattle.a64_emit.proofs.Emitted.{part_emitted, word_fits, word_in_part, control_put}
 use Rattle.a64_emit.proofs.Holding.{none_put}
 use Rattle.a64_emit.proofs.emit.emit_control_inst.Goals as goal
+
+pub emit_plain-requires-clause-fits : goal.emit_plain-requires-clause-fits
+emit_plain-requires-clause-fits c =
+    let a = c.args in
+    let is = sym c.in-Some.is ∙ c.only_control_word.ensures in
+    word_fits a.frame.now a.info.now a.inst.now c.in-Some.word is a.sink.now c.requires.ready.fits
 
 pub returns-in-Some-clause-err : goal.returns-in-Some-clause-err
 returns-in-Some-clause-err c =
