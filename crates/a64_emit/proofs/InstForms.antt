@@ -59,6 +59,7 @@ use Rattle.a64_emit.proofs.BranchForms.{branch_forms}
 use Rattle.a64_emit.proofs.CallForms.{adjust_are_forms, call_is_form, leave_are_forms, return_is_form}
 use Rattle.a64_emit.proofs.CallLoads.{loading, loaded_cells}
 use Rattle.a64_emit.proofs.CallOperands.{call_results, return_restorable}
+use Rattle.a64_emit.proofs.FloatForms as float
 use Rattle.a64_emit.proofs.ImmediateForms as immediate
 use Rattle.a64_emit.proofs.ImmediateForms.{immediate_forms}
 use Rattle.a64_emit.proofs.LogicForms.{alu_rr_imm_logic_within}
@@ -165,6 +166,23 @@ module _ (frame : FrameLayout) (flags : EmitFlags) where
   plain_shape_forms (insts.AtomicCAS128 args) fits good = (All-nil IsFormOf, atomic.cas128_is_form args good)
   plain_shape_forms (insts.LoadAcquire access_ty rt rn trap) fits good = (All-nil IsFormOf, atomic.load_acquire_is_form access_ty rt rn)
   plain_shape_forms (insts.StoreRelease access_ty rt rn trap) fits good = (All-nil IsFormOf, atomic.store_release_is_form access_ty rt rn)
+  plain_shape_forms (insts.FpuMoveFromVec rd rn idx lanes) fits good =
+      float.lane_is_form lanes idx rd rn (rest_of (insts.FpuMoveFromVec rd rn idx lanes) good)
+  plain_shape_forms (insts.FpuExtend rd rn scalar) fits good = float.move_is_form scalar rd rn
+  plain_shape_forms (insts.FpuRR fpu_op scalar rd rn) fits good = float.one_float_is_form fpu_op scalar rd rn
+  plain_shape_forms (insts.FpuRRR fpu_op scalar rd rn rm) fits good = float.two_floats_is_form fpu_op scalar rd rn rm
+  plain_shape_forms (insts.FpuRRI fpu_op rd rn) fits good =
+      float.right_shift_is_form fpu_op rd rn (rest_of (insts.FpuRRI fpu_op rd rn) good)
+  plain_shape_forms (insts.FpuRRIMod fpu_op rd ri rn) fits good =
+      float.left_shift_is_form fpu_op rd rn (float.kept_op rd ri fpu_op (rest_of (insts.FpuRRIMod fpu_op rd ri rn) good))
+  plain_shape_forms (insts.FpuRRRR fpu_op scalar rd rn rm ra) fits good = float.three_floats_is_form fpu_op scalar rd rn rm ra
+  plain_shape_forms (insts.FpuCmp scalar rn rm) fits good = float.compare_is_form scalar rn rm
+  plain_shape_forms (insts.FpuToInt op rd rn) fits good = float.to_int_is_form op rd rn
+  plain_shape_forms (insts.IntToFpu op rd rn) fits good = float.from_int_is_form op rd rn
+  plain_shape_forms (insts.FpuRound op rd rn) fits good = float.round_is_form op rd rn
+  plain_shape_forms (insts.MovToFpu rd rn scalar) fits good = float.bits_are_form scalar rd rn
+  plain_shape_forms (insts.FpuMoveFPImm rd imm scalar) fits good =
+      float.immediate_is_form scalar imm rd (rest_of (insts.FpuMoveFPImm rd imm scalar) good)
   plain_shape_forms _ fits good = search inst_rules
 
 module _ (frame : FrameLayout) where

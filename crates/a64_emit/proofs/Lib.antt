@@ -18,6 +18,7 @@ pub mod Accesses
 pub mod Operands
 pub mod PlainOperands
 pub mod OneWord
+pub mod FloatForms
 pub mod ImmediateForms
 pub mod RegisterForms
 pub mod BranchForms

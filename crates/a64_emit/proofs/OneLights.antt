@@ -1,5 +1,5 @@
 -- What instructions add to code that are one plain word.
-use Rattle.std.proofs.Common.{◌≡◌, ◌+◌, List, [], ◌∷◌, Option, None, Some, refl, sym, subst}
+use Rattle.std.proofs.Common.{◌≡◌, ◌+◌, List, [], ◌∷◌, length, Option, None, Some, refl, sym, ap, subst}
 use Rattle.a64_base.specs.declared.entity.UserStackMap.{UserStackMap}
 use Rattle.a64_inst.specs.declared.emission.EmitFlags.{EmitFlags}
 use Rattle.a64_inst.specs.declared.frame.FrameLayout.{FrameLayout}
@@ -11,7 +11,7 @@ use Rattle.a64_inst.specs.declared.item.Item.TheVariants.{Emit}
 use Rattle.a64_inst.specs.Groups.{group_of}
 use Rattle.a64_rows.specs.Forms.{Form}
 use Rattle.a64_emit.specs.declared.extent.Light.{Light}
-use Rattle.a64_emit.specs.Bounds.{asked_of, charge_of, growth_of, size_of}
+use Rattle.a64_emit.specs.Bounds.{asked_of, charge_of, growth_of, ranges_in, size_of}
 use Rattle.a64_emit.specs.Cells.{Cell, plain, cells_of, inst_cells}
 use Rattle.a64_emit.specs.Lights.{IsLight}
 use Rattle.a64_emit.specs.PlainForms.{plain_form}
@@ -36,6 +36,14 @@ cell_light (Some form) cells is =
     subst (λ (all : List Cell). IsLight all (size_of all + charge_of all) one_word) (sym is)
     (record { uses = refl; far = refl; growth_is = refl; range_is = refl })
 
+cell_count : (o : Option Form) (cells : List Cell) → IsCell o cells → 1 ≡ length cells
+cell_count None cells is = elim is [ ]
+cell_count (Some form) cells is = ap length (sym is)
+
+cell_quiet : (o : Option Form) (cells : List Cell) → IsCell o cells → ranges_in cells ≡ []
+cell_quiet None cells is = elim is [ ]
+cell_quiet (Some form) cells is = ap ranges_in is
+
 module _ (frame : FrameLayout) (flags : EmitFlags) where
   plain_cells : (inst : Inst) (group : PlainGroup) → group_of inst ≡ Plain group → IsCell (plain_form inst) (inst_cells frame flags inst)
   plain_cells insts.Nop0 group e = absurd cc
@@ -44,3 +52,10 @@ module _ (frame : FrameLayout) (flags : EmitFlags) where
   pub one_light : (inst : Inst) (kept : Option UserStackMap) (group : PlainGroup) → group_of inst ≡ Plain group → IsLight (cells_of frame flags (Emit inst kept)) (growth_of frame flags (Emit inst kept)) one_word
   one_light inst kept group e =
       kept_light frame flags inst kept one_word (one_unasked inst group e) (cell_light (plain_form inst) (inst_cells frame flags inst) (plain_cells inst group e))
+
+  -- they are one cell, which has no use
+  pub one_count : (inst : Inst) (group : PlainGroup) → group_of inst ≡ Plain group → 1 ≡ length (inst_cells frame flags inst)
+  one_count inst group e = cell_count (plain_form inst) (inst_cells frame flags inst) (plain_cells inst group e)
+
+  pub one_quiet : (inst : Inst) (group : PlainGroup) → group_of inst ≡ Plain group → ranges_in (inst_cells frame flags inst) ≡ []
+  one_quiet inst group e = cell_quiet (plain_form inst) (inst_cells frame flags inst) (plain_cells inst group e)

@@ -23,7 +23,7 @@ use Rattle.a64_ops.specs.declared.operator.ALUOp.{ALUOp}
 use Rattle.a64_ops.specs.declared.operator.ALUOp.TheVariants as alu
 use Rattle.a64_inst.specs.declared.virtuals.VirtualRegisters.TheVariants.{Refused}
 use Rattle.a64_inst.specs.ControlOperands.{are_jump_operands, are_cond_br_operands, are_test_bit_operands, is_target, is_test}
-use Rattle.a64_inst.specs.Operands.{is_int, is_register, is_register_or_zero, is_register_or_stack, is_stack_pointer, is_same_size, is_bit_of, is_logic_of, is_near}
+use Rattle.a64_inst.specs.Operands.{is_int, is_register, is_register_or_zero, is_register_or_stack, is_vector_register, is_stack_pointer, is_same_size, is_bit_of, is_logic_of, is_near}
 use Rattle.a64_inst.specs.IntegerOperands.{add_sub_class, logic_class, is_fixed_operand, is_fixed_result, are_move_registers, is_move, is_move_from, is_move_to, is_extension, is_extend_result, is_extended}
 use Rattle.a64_inst.specs.Sheets.{is_of}
 use Rattle.a64_rows.specs.Forms.{IsFormOf}
@@ -32,6 +32,7 @@ use Rattle.a64_rows.specs.DataProcessing.{bitfield}
 use Rattle.a64_enc_int.specs.Branches.{IsGeneralTest}
 use Rattle.a64_enc_int.specs.Registers.{IsReal, IsGeneral, register_field}
 use Rattle.a64_enc_int.proofs.Registers.{field_below}
+use Rattle.a64_enc_vec.specs.Registers.{IsVector}
 
 -- ---- the parts of a test that holds
 
@@ -48,6 +49,10 @@ pub ruleset parts = (first_holds, second_holds)
 int_class : (class : RegClass) → is_int class ≡ true → class ≡ Int
 int_class Int e = refl
 int_class Float e = absurd cc
+
+vector_class : (class : RegClass) → not (is_int class) ≡ true → class ≡ Float
+vector_class Int e = absurd cc
+vector_class Float e = refl
 
 -- a register that an operand may be
 pub general : (reg : Reg) → is_register_or_zero Refused reg ≡ true → IsGeneral reg
@@ -71,6 +76,15 @@ stack_general (Virtual index class) e = absurd cc
 pub stack_real : (reg : Reg) → is_register_or_stack Refused reg ≡ true → IsReal reg
 stack_real (Real p) e = tt
 stack_real (Virtual index class) e = absurd cc
+
+-- a vector register
+pub vector : (reg : Reg) → is_vector_register Refused reg ≡ true → IsVector reg
+vector (Real p) e = vector_class p.class (and_parts (not (is_int p.class)) (nat_lt p.number 32) e).0
+vector (Virtual index class) e = absurd cc
+
+pub vector_real : (reg : Reg) → is_vector_register Refused reg ≡ true → IsReal reg
+vector_real (Real p) e = tt
+vector_real (Virtual index class) e = absurd cc
 
 -- the result of an operator by the class that it has
 pub add_sub_real : (op : ALUOp) (rd : Reg) → is_of Refused (add_sub_class op) rd ≡ true → IsReal rd

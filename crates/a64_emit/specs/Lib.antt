@@ -1,4 +1,5 @@
 pub mod IntegerForms
+pub mod FloatForms
 pub mod PlainForms
 pub mod ControlForms
 pub mod MemoryForms

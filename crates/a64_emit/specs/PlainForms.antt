@@ -1,8 +1,9 @@
 -- The form of each instruction that is one plain word (Arm Architecture Reference Manual, DDI 0487, C4.1, "Data Processing --
--- Immediate" and "Data Processing -- Register").
+-- Immediate", "Data Processing -- Register" and "Data Processing -- Scalar Floating-Point and Advanced SIMD").
 use Rattle.std.specs.Prelude.{Option, None, Some}
 use Rattle.a64_base.specs.declared.reg.Reg.TheVariants.{Real}
 use Rattle.a64_base.specs.declared.size.OperandSize.TheVariants.{Size64}
+use Rattle.a64_base.specs.declared.size.ScalarSize.TheVariants as scalars
 use Rattle.a64_base.specs.Conditions.{condition_bits, inverse_of}
 use Rattle.a64_base.specs.OperandSizes.{sf_of}
 use Rattle.a64_imms.specs.Flags.{flags_of, nzcv_bits}
@@ -12,6 +13,7 @@ use Rattle.a64_inst.specs.declared.inst.Inst.TheVariants as insts
 use Rattle.a64_rows.specs.Forms.{Form}
 use Rattle.a64_rows.specs.DataProcessing.{bitfield, cond_compare, cond_select, data_proc1}
 use Rattle.a64_enc_int.specs.Registers.{register_field}
+use Rattle.a64_emit.specs.FloatForms as float
 use Rattle.a64_emit.specs.IntegerForms as integer
 use Rattle.a64_emit.specs.IntegerForms.{bfm_opc, bit_opcode, product_form, shifted_form, two_registers}
 
@@ -109,5 +111,25 @@ plain_form (insts.CCmpImm size rn imm nzcv cond) =
       rn = register_field rn;
       nzcv = nzcv_bits (flags_of nzcv);
     }))
+-- ---- operations on scalar floats
+plain_form (insts.FpuMove32 rd rn) = Some (float.move_form scalars.Size32 rd rn)
+plain_form (insts.FpuMove64 rd rn) = Some (float.move_form scalars.Size64 rd rn)
+plain_form (insts.FpuMove128 rd rn) = Some (float.move_vector_form rd rn)
+plain_form (insts.FpuMoveFromVec rd rn idx lanes) = Some (float.move_lane_form lanes idx rd rn)
+plain_form (insts.FpuExtend rd rn scalar) = Some (float.move_form scalar rd rn)
+plain_form (insts.FpuRR fpu_op scalar rd rn) = Some (float.one_float_form fpu_op scalar rd rn)
+plain_form (insts.FpuRRR fpu_op scalar rd rn rm) = Some (float.two_floats_form fpu_op scalar rd rn rm)
+plain_form (insts.FpuRRI fpu_op rd rn) = Some (float.right_shift_form fpu_op rd rn)
+plain_form (insts.FpuRRIMod fpu_op rd ri rn) = Some (float.kept_shift_form fpu_op rd rn)
+plain_form (insts.FpuRRRR fpu_op scalar rd rn rm ra) = Some (float.three_floats_form fpu_op scalar rd rn rm ra)
+plain_form (insts.FpuCmp scalar rn rm) = Some (float.compare_form scalar rn rm)
+plain_form (insts.FpuToInt op rd rn) = Some (float.conversion_form (float.to_int op) rd rn)
+plain_form (insts.IntToFpu op rd rn) = Some (float.conversion_form (float.from_int op) rd rn)
+plain_form (insts.FpuCSel16 rd rn rm cond) = Some (float.select_form scalars.Size16 rd rn rm cond)
+plain_form (insts.FpuCSel32 rd rn rm cond) = Some (float.select_form scalars.Size32 rd rn rm cond)
+plain_form (insts.FpuCSel64 rd rn rm cond) = Some (float.select_form scalars.Size64 rd rn rm cond)
+plain_form (insts.FpuRound op rd rn) = Some (float.round_form op rd rn)
+plain_form (insts.MovToFpu rd rn scalar) = Some (float.conversion_form (float.bits_to_float scalar) rd rn)
+plain_form (insts.FpuMoveFPImm rd imm scalar) = Some (float.immediate_form scalar imm rd)
 -- the others are no plain words
 plain_form _ = None

@@ -1,17 +1,23 @@
 //! The words of instructions that are one plain word.
 
+pub mod float;
 pub mod immediate;
 mod operator;
 pub mod register;
 
 ghost use Rattle.std.specs.Prelude.{◌≡◌, Some, true};
 ghost use Rattle.a64_inst.specs.declared.group.Group.TheVariants.{Plain};
-ghost use Rattle.a64_inst.specs.declared.group.PlainGroup.TheVariants.{Immediate, Register};
+ghost use Rattle.a64_inst.specs.declared.group.PlainGroup.TheVariants.{Float, Immediate, Register};
 ghost use Rattle.a64_inst.specs.declared.virtuals.VirtualRegisters.TheVariants.{Refused};
 ghost use Rattle.a64_inst.specs.Groups.{group_of};
 ghost use Rattle.a64_inst.specs.Faults.{has_operands};
 ghost use Rattle.a64_emit.specs.Cells.{shape_of, only_word};
 
+use crate::word::plain::float::{
+    bits_to_float, conversion_word, float_immediate_word, from_int, kept_shift_word,
+    move_lane_word, move_vector_word, move_word, one_float_word, right_shift_word, round_word,
+    three_floats_word, to_int, two_floats_word,
+};
 use crate::word::plain::immediate::{
     adr_word, adrp_word, alu_rr_imm_logic_word, alu_rr_imm_shift_word, alu_rr_imm12_word,
     extend_word, mov_k_word, mov_wide_word,
@@ -20,8 +26,9 @@ use crate::word::plain::operator::{bfm_opc_bits, bit_opcode_bits, product_word, 
 use crate::word::plain::register::{
     alu_rrr_extend_word, alu_rrr_word, csel_word, mov_word, two_registers,
 };
-use a64_base::{OperandSize, Reg, Writable, zero_reg};
+use a64_base::{OperandSize, Reg, ScalarSize, Writable, zero_reg};
 use a64_enc_int::{enc_bfm, enc_bit_rr, enc_ccmp, enc_ccmp_imm, enc_csel, register_field};
+use a64_enc_vec::{enc_fcmp, enc_fcsel};
 use a64_inst::{EmitInfo, FrameLayout, Inst, PlainGroup};
 
 /// The word of an instruction, by its fields.
@@ -80,6 +87,36 @@ pub fn register_word(inst: &Inst, frame: &FrameLayout, info: &EmitInfo) -> u32
     )
 }
 
+/// The word of an operation on scalar floats.
+#[tactic(auto, using(crate::proofs::Operands::real, crate::proofs::Operands::vector, crate::proofs::Operands::vector_real, crate::proofs::FloatForms::to_int_is_form, crate::proofs::FloatForms::from_int_is_form, crate::proofs::FloatForms::bits_are_form, crate::proofs::FloatForms::kept_op))]
+pub fn float_word(inst: &Inst, frame: &FrameLayout, info: &EmitInfo) -> u32
+    requires group { group_of inst.now ≡ Plain Float }
+    requires good { has_operands frame.now info.now Refused inst.now ≡ true }
+    ensures { Some result ≡ only_word (shape_of frame.now info.now inst.now) }
+{
+    word_arms!(inst;
+        FpuMove32 { rd, rn } => move_word(ScalarSize::Size32, *rd, *rn);
+        FpuMove64 { rd, rn } => move_word(ScalarSize::Size64, *rd, *rn);
+        FpuMove128 { rd, rn } => move_vector_word(*rd, *rn);
+        FpuMoveFromVec { rd, rn, idx, size } => move_lane_word(*size, *idx, *rd, *rn);
+        FpuExtend { rd, rn, size } => move_word(*size, *rd, *rn);
+        FpuRR { fpu_op, size, rd, rn } => one_float_word(*fpu_op, *size, *rd, *rn);
+        FpuRRR { fpu_op, size, rd, rn, rm } => two_floats_word(*fpu_op, *size, *rd, *rn, *rm);
+        FpuRRI { fpu_op, rd, rn } => right_shift_word(*fpu_op, *rd, *rn);
+        FpuRRIMod { fpu_op, rd, ri, rn } => kept_shift_word(*fpu_op, *rd, *rn);
+        FpuRRRR { fpu_op, size, rd, rn, rm, ra } => three_floats_word(*fpu_op, *size, *rd, *rn, *rm, *ra);
+        FpuCmp { size, rn, rm } => enc_fcmp(*size, *rn, *rm);
+        FpuToInt { op, rd, rn } => conversion_word(to_int(*op), *rd, *rn);
+        IntToFpu { op, rd, rn } => conversion_word(from_int(*op), *rd, *rn);
+        FpuCSel16 { rd, rn, rm, cond } => enc_fcsel(*rd, *rn, *rm, *cond, ScalarSize::Size16);
+        FpuCSel32 { rd, rn, rm, cond } => enc_fcsel(*rd, *rn, *rm, *cond, ScalarSize::Size32);
+        FpuCSel64 { rd, rn, rm, cond } => enc_fcsel(*rd, *rn, *rm, *cond, ScalarSize::Size64);
+        FpuRound { op, rd, rn } => round_word(*op, *rd, *rn);
+        MovToFpu { rd, rn, size } => conversion_word(bits_to_float(*size), *rd, *rn);
+        FpuMoveFPImm { rd, imm, size } => float_immediate_word(*size, *imm, *rd);
+    )
+}
+
 /// The word of an instruction of a group of plain words.
 #[inline(always)]
 pub fn plain_word(inst: &Inst, group: PlainGroup, frame: &FrameLayout, info: &EmitInfo) -> u32
@@ -90,5 +127,6 @@ pub fn plain_word(inst: &Inst, group: PlainGroup, frame: &FrameLayout, info: &Em
     match group {
         PlainGroup::Immediate => immediate_word(inst, frame, info),
         PlainGroup::Register => register_word(inst, frame, info),
+        PlainGroup::Float => float_word(inst, frame, info),
     }
 }
