@@ -1,6 +1,6 @@
 #!/usr/bin/env bash
-# Holds the words of the program against those of GNU as: random instructions on integers and scalar floats, loads and stores, branches,
-# hints, data and labels.
+# Holds the words of the program against those of GNU as: random instructions on integers and scalar floats, loads and stores, atomic
+# accesses, branches, hints, data and labels.
 # `Adrp` is left out: of it GNU as leaves the offset to the linker. Branches on conditions go to labels in files of at most 100,000
 # items, branches on bits in files of at most 2,000, and addresses are those of labels in files of at most 150,000: in longer
 # ones a label could be out of reach.
@@ -378,10 +378,26 @@ def system(labels):
         ("Csdb", "csdb"), ("Fence", "dmb ish"), ("Xpaclri", "xpaclri"), (f"Paci {key}", f"paci{key.lower()}"), (f"Bti {kind}", f"bti{text}"),
     ])
 
+def atomic(labels):
+    (ty, suffix, letter), trap = random.choice([("i8", "b", "w"), ("i16", "h", "w"), ("i32", "", "w"), ("i64", "", "x")]), random.choice(["-", random.randrange(256)])
+    op = random.choice(["Add", "Clr", "Eor", "Set", "Smax", "Smin", "Umax", "Umin", "Swp"])
+    rs, rt, rm, (base, address) = register(), random.randrange(31), register(), named("x", False)
+    mnemonic = "swp" if op == "Swp" else f"ld{op.lower()}"
+    low, new = 2 * random.randrange(15), 2 * random.randrange(15)
+    pair = f"x{low} x{low + 1}"
+    return random.choice([
+        (f"AtomicRMW {ty} {op} x{rs} x{rt} {base} {trap}", f"{mnemonic}al{suffix} {letter}{rs}, {letter}{rt}, [{address}]"),
+        (f"AtomicCAS x{rs} x{rs} x{rm} {base} {ty} {trap}", f"casal{suffix} {letter}{rs}, {letter}{rm}, [{address}]"),
+        (f"AtomicCAS128 {pair} {pair} x{new} x{new + 1} {base} {trap}",
+         f"caspal x{low}, x{low + 1}, x{new}, x{new + 1}, [{address}]"),
+        (f"LoadAcquire {ty} x{rs} {base} {trap}", f"ldar{suffix} {letter}{rs}, [{address}]"),
+        (f"StoreRelease {ty} x{rs} {base} {trap}", f"stlr{suffix} {letter}{rs}, [{address}]"),
+    ])
+
 KINDS = [
     jump, alone, move_wide, alu_rr_imm12, alu_rr_imm_logic, alu_rrr, alu_rrrr, alu_rr_imm_shift, alu_rrr_shift, alu_rrr_extend,
     bit_rr, move, select, compare, extend, bitfield, address, access, access, literal, pair, load_address, branch,
-    branch_on_bit, near_label, data, float_move, float_operation, conversion, float_immediate, system,
+    branch_on_bit, near_label, data, float_move, float_operation, conversion, float_immediate, system, atomic,
 ]
 
 def item(labels):
