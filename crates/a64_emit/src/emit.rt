@@ -422,9 +422,10 @@ fn emit_control_inst(
     }
 }
 
-/// An instruction that is no call, by its group.
+/// An instruction that is no call, by its group. Those that stand in the words of a call have a copy of this
+/// function that others have not: so each copy has one caller, and stands in line there.
 #[inline(always)]
-fn emit_in_line(
+fn emit_in_line<const IN_CALL: bool>(
     inst: &Inst,
     group: Group,
     sink: &mut MachBuffer<'_, LabelUse>,
@@ -469,7 +470,7 @@ pub fn emit_plain_inst(
     ensures { PutsCells result sink.old sink.new
         (map as_put (inst_cells frame.now info.now inst.now)) }
 {
-    emit_in_line(inst, inst.group(), sink, info, frame)
+    emit_in_line::<true>(inst, inst.group(), sink, info, frame)
 }
 
 /// An instruction, by one look at its group. A map of the stack is kept where it is a call that returns behind it.
@@ -487,7 +488,7 @@ fn emit_by_group(
 {
     match inst.group() {
         Group::Call => emit_calling(inst, sink, info, frame, kept),
-        group => emit_in_line(inst, group, sink, info, frame),
+        group => emit_in_line::<false>(inst, group, sink, info, frame),
     }
 }
 

@@ -7,14 +7,14 @@ use Rattle.a64_emit.proofs.emit.emit_in_line.Goals as goal
 -- ---- one plain word
 
 pub emit_plain-requires : goal.emit_plain-requires
-emit_plain-requires c =
+emit_plain-requires g c =
     let a = c.args in
     let word = c.plain_word.result in
     let are = one_put a.frame.now a.info.now a.inst.now word c.plain_word.ensures in
     can_these a.inst.now (inst_cells a.frame.now a.info.now a.inst.now) (put_cell word None None ∷ []) are a.sink.now c.requires.can
 
 pub returns-in-Plain : goal.returns-in-Plain
-returns-in-Plain c =
+returns-in-Plain g c =
     let a = c.args in
     let word = c.plain_word.result in
     let own = inst_cells a.frame.now a.info.now a.inst.now in
@@ -27,13 +27,13 @@ returns-in-Plain c =
 -- ---- a load, a store or an address
 
 pub emit_memory-requires-clause-can : goal.emit_memory-requires-clause-can
-emit_memory-requires-clause-can c =
+emit_memory-requires-clause-can g c =
     let a = c.args in
     let are = memory_put a.frame.now a.info.now a.inst.now (sym c.requires.group ∙ c.in-Memory.is) in
     can_these a.inst.now (inst_cells a.frame.now a.info.now a.inst.now) (put_for a.frame.now a.info.now a.inst.now) are a.sink.now c.requires.can
 
 pub returns-in-Memory : goal.returns-in-Memory
-returns-in-Memory c =
+returns-in-Memory g c =
     let a = c.args in
     let own = inst_cells a.frame.now a.info.now a.inst.now in
     let cells = put_for a.frame.now a.info.now a.inst.now in
@@ -46,13 +46,13 @@ returns-in-Memory c =
 -- ---- a sequence
 
 pub emit_sequence-requires-clause-can : goal.emit_sequence-requires-clause-can
-emit_sequence-requires-clause-can c =
+emit_sequence-requires-clause-can g c =
     let a = c.args in
     let are = sequence_put a.frame.now a.info.now a.inst.now (sym c.requires.group ∙ c.in-Sequence.is) in
     can_these a.inst.now (inst_cells a.frame.now a.info.now a.inst.now) (put_for a.frame.now a.info.now a.inst.now) are a.sink.now c.requires.can
 
 pub returns-in-Sequence : goal.returns-in-Sequence
-returns-in-Sequence c =
+returns-in-Sequence g c =
     let a = c.args in
     let own = inst_cells a.frame.now a.info.now a.inst.now in
     let cells = put_for a.frame.now a.info.now a.inst.now in
