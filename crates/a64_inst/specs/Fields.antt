@@ -2,6 +2,7 @@
 use Rattle.std.specs.Prelude.{ℕ, ℤ}
 use Rattle.std.specs.Prelude as std
 use Rattle.a64_base.specs.declared.cond.Cond as conds
+use Rattle.a64_base.specs.declared.key.APIKey.{APIKey}
 use Rattle.a64_base.specs.declared.reg.Reg.{Reg}
 use Rattle.a64_base.specs.declared.shift.ExtendOp.{ExtendOp}
 use Rattle.a64_base.specs.declared.size.OperandSize.{OperandSize}
@@ -28,6 +29,7 @@ use Rattle.a64_ops.specs.declared.operator.ALUOp3.{ALUOp3}
 use Rattle.a64_ops.specs.declared.operator.BfmOp as bfm_ops
 use Rattle.a64_ops.specs.declared.operator.BitOp as bit_ops
 use Rattle.a64_ops.specs.declared.operator.MoveWideOp as move_wide_ops
+use Rattle.a64_ops.specs.declared.system.BranchTargetType as branch_target_types
 use Rattle.a64_inst.specs.declared.class.Class.{Class}
 use Rattle.a64_inst.specs.declared.fpu_op.FPUOpRI.{FPUOpRI}
 use Rattle.a64_inst.specs.declared.fpu_op.FPUOpRIMod.{FPUOpRIMod}
@@ -62,6 +64,8 @@ pub data Operand : Type 0 where
   Extend : ExtendOp → Operand
   Cond : conds.Cond → Operand
   Nzcv : NZCV → Operand
+  ApiKey : APIKey → Operand
+  BranchTargetType : branch_target_types.BranchTargetType → Operand
   Bool : std.Bool → Operand
   U8 : ℕ → Operand
   I32 : ℤ → Operand

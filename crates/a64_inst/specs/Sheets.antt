@@ -80,6 +80,12 @@ sheet (insts.FpuCSel64 rd rn rm cond) = Def Vector rd ∷ Use Vector rn ∷ Use 
 sheet (insts.FpuRound op rd rn) = Is (fields.FpuRoundMode op) ∷ Def Vector rd ∷ Use Vector rn ∷ []
 sheet (insts.MovToFpu rd rn scalar) = Def Vector rd ∷ Use Zero rn ∷ Is (fields.ScalarSize scalar) ∷ []
 sheet (insts.FpuMoveFPImm rd imm scalar) = Def Vector rd ∷ Is (fields.FloatImm imm) ∷ Is (fields.ScalarSize scalar) ∷ []
+-- hints and barriers
+sheet insts.Csdb = []
+sheet insts.Fence = []
+sheet (insts.Paci key) = Is (fields.ApiKey key) ∷ []
+sheet insts.Xpaclri = []
+sheet (insts.Bti targets) = Is (fields.BranchTargetType targets) ∷ []
 -- the others are no plain words
 sheet _ = []
 

@@ -8,7 +8,7 @@ ghost use Rattle.a64_inst.specs.Groups.{group_of};
 use crate::boxed::Boxed;
 use crate::group::{Group, PlainGroup};
 use crate::inst::Inst;
-use crate::{float_list, immediate_list, register_list};
+use crate::{float_list, immediate_list, register_list, system_list};
 use std::alloc::{AllocError, Global};
 
 /// An equal instruction, of these variants with these fields.
@@ -55,6 +55,14 @@ fn copied_float(inst: &Inst) -> Inst
     float_list!(copied_arms, virtuals, inst)
 }
 
+/// An equal hint or barrier.
+fn copied_system(inst: &Inst) -> Inst
+    requires { group_of inst.now ≡ groups.Plain plain.System }
+    ensures { result ≡ inst.now }
+{
+    system_list!(copied_arms, virtuals, inst)
+}
+
 /// An equal instruction that is one plain word.
 fn copied_plain(inst: &Inst, group: PlainGroup) -> Inst
     requires { group_of inst.now ≡ groups.Plain group }
@@ -64,6 +72,7 @@ fn copied_plain(inst: &Inst, group: PlainGroup) -> Inst
         PlainGroup::Immediate => copied_immediate(inst),
         PlainGroup::Register => copied_register(inst),
         PlainGroup::Float => copied_float(inst),
+        PlainGroup::System => copied_system(inst),
     }
 }
 

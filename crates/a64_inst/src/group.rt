@@ -32,6 +32,8 @@ pub enum PlainGroup {
     Register,
     /// Operations on scalar floats, and moves of them.
     Float,
+    /// Hints and barriers.
+    System,
 }
 
 impl Inst {
@@ -84,6 +86,8 @@ impl Inst {
             | Inst::FpuRound { .. }
             | Inst::MovToFpu { .. }
             | Inst::FpuMoveFPImm { .. } => Group::Plain(PlainGroup::Float),
+            Inst::Csdb | Inst::Fence | Inst::Paci { .. } | Inst::Xpaclri | Inst::Bti { .. } =>
+                Group::Plain(PlainGroup::System),
             Inst::Nop0
             | Inst::Nop4
             | Inst::MovToNZCV { .. }

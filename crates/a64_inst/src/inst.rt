@@ -9,15 +9,15 @@ use crate::fpu_op::{FPUOpRI, FPUOpRIMod};
 use crate::mode::{AMode, PairAMode};
 use crate::pair::{ArgPair, RetPair};
 use a64_base::{
-    BranchTarget, Cond, CondBrKind, ExtendOp, ExternalName, IrType, MachLabel, MemFlagsData,
-    OperandSize, PReg, Reg, ScalarSize, ShiftOpAndAmt, TestBitAndBranchKind, TrapCode, VectorSize,
-    Writable,
+    APIKey, BranchTarget, Cond, CondBrKind, ExtendOp, ExternalName, IrType, MachLabel,
+    MemFlagsData, OperandSize, PReg, Reg, ScalarSize, ShiftOpAndAmt, TestBitAndBranchKind,
+    TrapCode, VectorSize, Writable,
 };
 use a64_imms::{ASIMDFPModImm, Imm12, ImmLogic, ImmShift, MoveWideConst, NZCV, UImm5, UImm6};
 use a64_list::ListVec;
 use a64_ops::{
-    ALUOp, ALUOp3, AtomicRMWOp, BfmOp, BitOp, FPUOp1, FPUOp2, FPUOp3, FpuRoundMode, FpuToIntOp,
-    IntToFpuOp, MoveWideOp,
+    ALUOp, ALUOp3, AtomicRMWOp, BfmOp, BitOp, BranchTargetType, FPUOp1, FPUOp2, FPUOp3,
+    FpuRoundMode, FpuToIntOp, IntToFpuOp, MoveWideOp,
 };
 use std::alloc::Global;
 use std::default::MadeWith;
@@ -311,6 +311,10 @@ pub enum Inst {
         /// The distance in pages of 4096 bytes, above -2^20 and below 2^20.
         off: i32,
     },
+    /// `csdb`: no result of a guess that is not settled yet is used behind it.
+    Csdb,
+    /// `dmb ish`: a barrier between the memory accesses before it and those behind it.
+    Fence,
     /// `fmov` at 32 bits: a float out of another register, with zeros above it.
     FpuMove32 {
         /// The result.
@@ -500,6 +504,18 @@ pub enum Inst {
     },
     /// `ret`: a return to the address in x30.
     Ret,
+    /// `paciaz`, `paciasp`, `pacibz` or `pacibsp`: signs the return address in x30.
+    Paci {
+        /// The key and the modifier.
+        key: APIKey,
+    },
+    /// `xpaclri`: strips the signature off the return address in x30.
+    Xpaclri,
+    /// `bti`: a place to which branches may go, where memory is guarded.
+    Bti {
+        /// Which branches may go there.
+        targets: BranchTargetType,
+    },
     /// `b`: an unconditional branch.
     Jump {
         /// Where it goes.

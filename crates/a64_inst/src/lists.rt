@@ -75,3 +75,17 @@ macro_rules! float_list {
         }
     };
 }
+
+/// Hands the hints and barriers to a macro.
+#[macro_export]
+macro_rules! system_list {
+    ($arms:ident, $virtuals:ident, $($args:tt),+) => {
+        $arms! { $virtuals, $($args),+;
+            Csdb { } if true;
+            Fence { } if true;
+            Paci { key: Is ApiKey } if true;
+            Xpaclri { } if true;
+            Bti { targets: Is BranchTargetType } if true;
+        }
+    };
+}

@@ -6,7 +6,7 @@ mod register;
 
 ghost use Rattle.std.specs.Prelude.{◌≡◌};
 ghost use Rattle.a64_inst.specs.declared.group.Group.TheVariants.{Plain};
-ghost use Rattle.a64_inst.specs.declared.group.PlainGroup.TheVariants.{Float, Immediate, Register};
+ghost use Rattle.a64_inst.specs.declared.group.PlainGroup.TheVariants.{Float, Immediate, Register, System};
 ghost use Rattle.a64_inst.specs.Groups.{group_of};
 ghost use Rattle.a64_inst.specs.Faults.{has_operands};
 
@@ -28,7 +28,7 @@ use crate::group::PlainGroup;
 use crate::inst::Inst;
 use crate::operand::{is_near, is_wide_in};
 use crate::virtuals::VirtualRegisters;
-use crate::{float_list, immediate_list, register_list};
+use crate::{float_list, immediate_list, register_list, system_list};
 
 /// Whether the registers among the fields are of their classes, and the rest holds.
 macro_rules! fields_fit {
@@ -96,6 +96,19 @@ fn has_float_operands(
     float_list!(operand_arms, virtuals, inst)
 }
 
+/// Whether the operands of a hint or a barrier are in their sets.
+fn has_system_operands(
+    inst: &Inst,
+    frame: &FrameLayout,
+    info: &EmitInfo,
+    virtuals: VirtualRegisters,
+) -> bool
+    requires { group_of inst.now ≡ Plain System }
+    ensures { result ≡ has_operands frame.now info.now virtuals inst.now }
+{
+    system_list!(operand_arms, virtuals, inst)
+}
+
 /// Whether the operands of an instruction that is one plain word are in their sets.
 #[inline(always)]
 pub fn has_plain_operands(
@@ -112,5 +125,6 @@ pub fn has_plain_operands(
         PlainGroup::Immediate => has_immediate_operands(inst, frame, info, virtuals),
         PlainGroup::Register => has_register_operands(inst, frame, info, virtuals),
         PlainGroup::Float => has_float_operands(inst, frame, info, virtuals),
+        PlainGroup::System => has_system_operands(inst, frame, info, virtuals),
     }
 }
