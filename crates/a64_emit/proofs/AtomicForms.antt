@@ -12,7 +12,7 @@ use Rattle.a64_base.specs.declared.reg.RegClass.TheVariants.{Int, Float}
 use Rattle.a64_inst.specs.declared.atomic.AtomicCAS128Args.{AtomicCAS128Args}
 use Rattle.a64_inst.specs.declared.virtuals.VirtualRegisters.TheVariants.{Refused}
 use Rattle.a64_inst.specs.AtomicOperands.{is_atomic_type, is_pair_first, is_register_pair, is_next_register, are_cas128_operands}
-use Rattle.a64_inst.specs.Operands.{is_int, is_register, is_register_or_zero}
+use Rattle.a64_inst.specs.Operands.{is_int, is_register, is_register_or_stack, is_register_or_zero, is_same_register}
 use Rattle.a64_ops.specs.declared.operator.AtomicRMWOp.{AtomicRMWOp}
 use Rattle.a64_ops.specs.declared.operator.AtomicRMWOp.TheVariants as atomic
 use Rattle.a64_rows.specs.Forms.{IsFormOf}
@@ -41,7 +41,7 @@ register_general (Virtual index class) e = absurd cc
 
 -- a register that is not the zero register has a number below that one's
 pub below_zero_register : (reg : Reg) → is_register Refused reg ≡ true → register_field reg < 31
-below_zero_register (Real p) e = omega (arith, ltb-true (and_parts (is_int p.class) (nat_lt p.number 31) e).1)
+below_zero_register (Real p) e = omega (arith, ltb-true p.number 31 (and_parts (is_int p.class) (nat_lt p.number 31) e).1)
 below_zero_register (Virtual index class) e = absurd cc
 
 pub first_general : (reg : Reg) → is_pair_first Refused reg ≡ true → IsGeneral reg
@@ -67,10 +67,26 @@ swap_below atomic.Swp = lit< tt
 swap_below _ = lit< tt
 
 opc_below : (op : AtomicRMWOp) → atomic_opc op < 8
-opc_below _ = lit< tt
+opc_below atomic.Add = lit< tt
+opc_below atomic.Clr = lit< tt
+opc_below atomic.Eor = lit< tt
+opc_below atomic.Set = lit< tt
+opc_below atomic.Smax = lit< tt
+opc_below atomic.Smin = lit< tt
+opc_below atomic.Umax = lit< tt
+opc_below atomic.Umin = lit< tt
+opc_below atomic.Swp = lit< tt
 
 opc_alone : (op : AtomicRMWOp) → is_atomic (is_swap op) (atomic_opc op) ≡ true
-opc_alone _ = refl
+opc_alone atomic.Add = refl
+opc_alone atomic.Clr = refl
+opc_alone atomic.Eor = refl
+opc_alone atomic.Set = refl
+opc_alone atomic.Smax = refl
+opc_alone atomic.Smin = refl
+opc_alone atomic.Umax = refl
+opc_alone atomic.Umin = refl
+opc_alone atomic.Swp = refl
 
 -- ---- forms
 
@@ -85,8 +101,12 @@ cas_is_form ty rs rt rn = ((size_below ty, (field_below rs, (field_below rn, (fi
 pub cas128_is_form : (args : AtomicCAS128Args) → are_cas128_operands Refused args ≡ true → IsFormOf (cas128_form args)
 unfolding cas128_form are_cas128_operands
 cas128_is_form args good =
-    let (pairs, _) = and_parts (is_register_pair Refused args.rs_lo args.rs_hi && is_register_pair Refused args.rt_lo args.rt_hi) _ good in
-    let (expected, new) = and_parts (is_register_pair Refused args.rs_lo args.rs_hi) (is_register_pair Refused args.rt_lo args.rt_hi) pairs in
+    let pairs = is_register_pair Refused args.rs_lo args.rs_hi && is_register_pair Refused args.rt_lo args.rt_hi in
+    let results = is_register_or_zero Refused args.rd_lo && is_register_or_zero Refused args.rd_hi in
+    let same = is_same_register args.rd_lo args.rs_lo && is_same_register args.rd_hi args.rs_hi in
+    let registers = (and_parts (pairs && results && same) (is_register_or_stack Refused args.rn) good).0 in
+    let are = (and_parts pairs results (and_parts (pairs && results) same registers).0).0 in
+    let (expected, new) = and_parts (is_register_pair Refused args.rs_lo args.rs_hi) (is_register_pair Refused args.rt_lo args.rt_hi) are in
     let rs = first_even args.rs_lo (and_parts (is_pair_first Refused args.rs_lo) (is_register_or_zero Refused args.rs_hi && is_next_register args.rs_lo args.rs_hi) expected).0 in
     let rt = first_even args.rt_lo (and_parts (is_pair_first Refused args.rt_lo) (is_register_or_zero Refused args.rt_hi && is_next_register args.rt_lo args.rt_hi) new).0 in
     ((field_below args.rs_lo, (field_below args.rn, (field_below args.rt_lo, tt))), rw (rs, rt) refl)
