@@ -1,14 +1,18 @@
 #!/usr/bin/env python3
 """Prints the table of homes of a list of names, for the tables that crates/a64_read looks names up in.
 
-Usage: tools/name_homes.py NAME...
+Usage: tools/name_homes.py NAME... [/ NAME...]...
 
-The names are those of a table's rows, in their order. The home of a name is the number of its row; it
-stands at the remainder of the name's hash (`hash_of` of crates/a64_read/src/named.rt) by the length of the
+The names are those of a table's rows, in their order. A table that is divided has several classes of rows, of
+at most 32 each, with a `/` between. The home of a name is 32 times the number of its class, plus the number
+of its row there, both from 0; it stands at the remainder of the name's hash (`hash_of` of crates/a64_read/src/named.rt) by the length of the
 table. The shortest table is taken in which no two names have one place, of those whose length is a power of
 two: for these a remainder takes one machine instruction.
 """
 import sys
+
+# A home leads to one of so many rows of a class.
+ROWS = 32
 
 
 def word_at(token, place):
@@ -35,19 +39,34 @@ def hash_of(name):
     return mixed(token[0], token[size // 2], token[-1])
 
 
-def homes_of(names):
+def homes_of(classes):
     """The shortest table of homes in which each name has a place of its own."""
+    if any(len(names) > ROWS for names in classes):
+        raise SystemExit(f"a class has more than {ROWS} rows")
+    homes = {name: ROWS * i + j for i, names in enumerate(classes) for j, name in enumerate(names)}
+    names = list(homes)
     if len({hash_of(name) for name in names}) < len(names):
         raise SystemExit("two names have one hash: choose other factors in `mixed`")
     length = 1
     while len({hash_of(name) % length for name in names}) < len(names):
         length *= 2
     table = [0] * length
-    for row, name in enumerate(names):
-        table[hash_of(name) % length] = row
+    for name in names:
+        table[hash_of(name) % length] = homes[name]
     return table
 
 
+def classes_of(words):
+    """The names between the words `/`."""
+    classes = [[]]
+    for word in words:
+        if word == "/":
+            classes.append([])
+        else:
+            classes[-1].append(word)
+    return classes
+
+
 if __name__ == "__main__":
-    table = homes_of(sys.argv[1:])
+    table = homes_of(classes_of(sys.argv[1:]))
     print(f"[u8; {len(table)}] = {table}")

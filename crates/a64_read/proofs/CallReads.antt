@@ -11,6 +11,7 @@ use Rattle.a64_read.specs.RegisterLaws.{comma}
 use Rattle.a64_read.specs.Rows.{texts}
 use Rattle.a64_read.specs.Splitting.{comma_tokens}
 use Rattle.a64_read.proofs.Between.{parts_apart, same_texts}
+use Rattle.a64_read.proofs.Calls.{made_no_call}
 use Rattle.a64_read.proofs.Schemas.{Names}
 use Rattle.a64_read.specs.SplitLaws.{split-join}
 
@@ -30,7 +31,7 @@ module _ {N M : Type 0} (n : Names N M) (apart : (name : N) → HasNo 40 (n.text
   made_text made = call_text (parts_of made)
 
   pub no_call : Reads IsCall call_text token None → Reads IsMade made_text token None
-  no_call h = record { some = tt; only = λ made is e. let none = h.only (parts_of made) (apart (n.name_of made)) e in absurd cc }
+  no_call h = made_no_call IsMade parts_of (λ made. apart (n.name_of made)) token h
 
   module _ (name inside : List ℕ) (h : Reads IsCall call_text token (Some (name, inside))) where
     its_parts : (made : M) → token ≡ made_text made → (name ≡ n.text (n.name_of made)) × (inside ≡ join_with_byte 44 (part_texts (n.fields_of made)))

@@ -1,5 +1,5 @@
 -- A shift is a name with an amount in parentheses behind it.
-use Rattle.std.proofs.Common.{◌≡◌, ℕ, List, Some, None, ap}
+use Rattle.std.proofs.Common.{ℕ, List, Some, None, ap}
 use Rattle.std.specs.Fmt.{decimal}
 use Rattle.a64_base.specs.ShiftParts.{Shift}
 use Rattle.a64_read.specs.Fields.{IsCall, call_text, IsShift, shift_text}

@@ -15,7 +15,7 @@ use Rattle.a64_read.specs.Hash.{look_up}
 use Rattle.a64_read.specs.Same.{at_their_places}
 use Rattle.a64_read.specs.Values.{kind_of, IsValue}
 
-pub cond_br_found : (x : CondBrName) → look_up COND_BR_HOMES (map (λ row. row.2) COND_BRS) (cond_br_name_text x) ≡ Some x
+pub cond_br_found : (x : CondBrName) → look_up COND_BR_HOMES (λ _. map (λ row. row.2) COND_BRS) (cond_br_name_text x) ≡ Some x
 cond_br_found cond_br_names.Zero = refl
 cond_br_found _ = refl
 

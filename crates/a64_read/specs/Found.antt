@@ -36,50 +36,50 @@ use Rattle.a64_read.specs.Operators.{alu_op_text, alu_op3_text, bit_op_text, shi
 use Rattle.a64_read.specs.Conventions.{convention_text, key_text}
 use Rattle.a64_read.specs.Types.{type_text}
 
-pub alu_op_found : (x : ALUOp) → look_up ALU_OP_HOMES (map (λ row. row.2) ALU_OPS) (alu_op_text x) ≡ Some x
+pub alu_op_found : (x : ALUOp) → look_up ALU_OP_HOMES (λ _. map (λ row. row.2) ALU_OPS) (alu_op_text x) ≡ Some x
 alu_op_found alu_ops.Add = refl
 alu_op_found _ = refl
 
-pub alu_op3_found : (x : ALUOp3) → look_up ALU_OP3_HOMES (map (λ row. row.2) ALU_OP3S) (alu_op3_text x) ≡ Some x
+pub alu_op3_found : (x : ALUOp3) → look_up ALU_OP3_HOMES (λ _. map (λ row. row.2) ALU_OP3S) (alu_op3_text x) ≡ Some x
 alu_op3_found alu_op3s.MAdd = refl
 alu_op3_found _ = refl
 
-pub bit_op_found : (x : BitOp) → look_up BIT_OP_HOMES (map (λ row. row.2) BIT_OPS) (bit_op_text x) ≡ Some x
+pub bit_op_found : (x : BitOp) → look_up BIT_OP_HOMES (λ _. map (λ row. row.2) BIT_OPS) (bit_op_text x) ≡ Some x
 bit_op_found bit_ops.RBit = refl
 bit_op_found _ = refl
 
-pub shift_op_found : (x : ShiftOp) → look_up SHIFT_OP_HOMES (map (λ row. row.2) SHIFT_OPS) (shift_op_text x) ≡ Some x
+pub shift_op_found : (x : ShiftOp) → look_up SHIFT_OP_HOMES (λ _. map (λ row. row.2) SHIFT_OPS) (shift_op_text x) ≡ Some x
 shift_op_found shift_ops.LSL = refl
 shift_op_found _ = refl
 
-pub extend_found : (x : ExtendOp) → look_up EXTEND_HOMES (map (λ row. row.2) EXTENDS) (extend_text x) ≡ Some x
+pub extend_found : (x : ExtendOp) → look_up EXTEND_HOMES (λ _. map (λ row. row.2) EXTENDS) (extend_text x) ≡ Some x
 extend_found extends.UXTB = refl
 extend_found _ = refl
 
-pub cond_found : (x : Cond) → look_up COND_HOMES (map (λ row. row.2) CONDS) (cond_text x) ≡ Some x
+pub cond_found : (x : Cond) → look_up COND_HOMES (λ _. map (λ row. row.2) CONDS) (cond_text x) ≡ Some x
 cond_found conds.Eq = refl
 cond_found _ = refl
 
-pub frame_field_found : (x : FrameField) → look_up FRAME_FIELD_HOMES (map (λ row. row.2) FRAME_FIELDS) (frame_field_text x) ≡ Some x
+pub frame_field_found : (x : FrameField) → look_up FRAME_FIELD_HOMES (λ _. map (λ row. row.2) FRAME_FIELDS) (frame_field_text x) ≡ Some x
 frame_field_found frame_fields.SetupAreaSize = refl
 frame_field_found _ = refl
 
-pub emit_flag_found : (x : EmitFlag) → look_up EMIT_FLAG_HOMES (map (λ row. row.2) EMIT_FLAGS) (emit_flag_text x) ≡ Some x
+pub emit_flag_found : (x : EmitFlag) → look_up EMIT_FLAG_HOMES (λ _. map (λ row. row.2) EMIT_FLAGS) (emit_flag_text x) ≡ Some x
 emit_flag_found emit_flags.EnableProbestack = refl
 emit_flag_found _ = refl
 
-pub type_found : (x : IrType) → look_up TYPE_HOMES (map (λ row. row.2) TYPES) (type_text x) ≡ Some x
+pub type_found : (x : IrType) → look_up TYPE_HOMES (λ _. map (λ row. row.2) TYPES) (type_text x) ≡ Some x
 type_found types.I8 = refl
 type_found _ = refl
 
-pub convention_found : (x : CallConv) → look_up CONVENTION_HOMES (map (λ row. row.2) CONVENTIONS) (convention_text x) ≡ Some x
+pub convention_found : (x : CallConv) → look_up CONVENTION_HOMES (λ _. map (λ row. row.2) CONVENTIONS) (convention_text x) ≡ Some x
 convention_found conventions.SystemV = refl
 convention_found _ = refl
 
-pub key_found : (x : Option APIKey) → look_up KEY_HOMES (map (λ row. row.2) KEYS) (key_text x) ≡ Some x
+pub key_found : (x : Option APIKey) → look_up KEY_HOMES (λ _. map (λ row. row.2) KEYS) (key_text x) ≡ Some x
 key_found (Some keys.AZ) = refl
 key_found _ = refl
 
-pub mem_label_found : (x : MemLabelName) → look_up MEM_LABEL_HOMES (map (λ row. row.2) MEM_LABELS) (mem_label_name_text x) ≡ Some x
+pub mem_label_found : (x : MemLabelName) → look_up MEM_LABEL_HOMES (λ _. map (λ row. row.2) MEM_LABELS) (mem_label_name_text x) ≡ Some x
 mem_label_found label_names.PCRel = refl
 mem_label_found _ = refl

@@ -15,7 +15,7 @@ use Rattle.a64_read.specs.Hash.{look_up}
 use Rattle.a64_read.specs.Same.{at_their_places}
 use Rattle.a64_read.specs.Values.{kind_of, IsValue}
 
-pub location_found : (x : LocationName) → look_up LOCATION_HOMES (map (λ row. row.2) LOCATIONS) (location_name_text x) ≡ Some x
+pub location_found : (x : LocationName) → look_up LOCATION_HOMES (λ _. map (λ row. row.2) LOCATIONS) (location_name_text x) ≡ Some x
 location_found location_names.Reg = refl
 location_found _ = refl
 

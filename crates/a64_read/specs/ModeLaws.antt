@@ -26,7 +26,7 @@ use Rattle.a64_read.specs.Values.{kind_of, IsValue}
 
 -- ---- names
 
-pub mode_found : (x : ModeName) → look_up MODE_HOMES (map (λ row. row.2) MODES) (mode_name_text x) ≡ Some x
+pub mode_found : (x : ModeName) → look_up MODE_HOMES (λ _. map (λ row. row.2) MODES) (mode_name_text x) ≡ Some x
 mode_found mode_names.RegReg = refl
 mode_found _ = refl
 
@@ -42,7 +42,7 @@ pub some_mode_field : (mode : AMode) → 0 < length (mode_fields mode)
 some_mode_field (modes.RegReg rn rm) = lit< tt
 some_mode_field _ = lit< tt
 
-pub pair_found : (x : PairModeName) → look_up PAIR_MODE_HOMES (map (λ row. row.2) PAIR_MODES) (pair_name_text x) ≡ Some x
+pub pair_found : (x : PairModeName) → look_up PAIR_MODE_HOMES (λ _. map (λ row. row.2) PAIR_MODES) (pair_name_text x) ≡ Some x
 pair_found pair_names.SignedOffset = refl
 pair_found _ = refl
 

@@ -42,10 +42,14 @@ impl Named for CondBrName {
 
     ghost homes = { COND_BR_HOMES };
 
-    ghost rows = { map (λ row. row.2) COND_BRS };
+    ghost rows = { λ _. map (λ row. row.2) COND_BRS };
 
-    fn table() -> (&'static [u8], &'static [Row<CondBrName>]) {
-        (&COND_BR_HOMES, &COND_BRS)
+    fn home_table() -> &'static [u8] {
+        &COND_BR_HOMES
+    }
+
+    fn row_table(_class: u8) -> &'static [Row<CondBrName>] {
+        &COND_BRS
     }
 
     ghost found = { cond_br_found };

@@ -28,10 +28,14 @@ impl Named for CallConv {
 
     ghost homes = { CONVENTION_HOMES };
 
-    ghost rows = { map (λ row. row.2) CONVENTIONS };
+    ghost rows = { λ _. map (λ row. row.2) CONVENTIONS };
 
-    fn table() -> (&'static [u8], &'static [Row<CallConv>]) {
-        (&CONVENTION_HOMES, &CONVENTIONS)
+    fn home_table() -> &'static [u8] {
+        &CONVENTION_HOMES
+    }
+
+    fn row_table(_class: u8) -> &'static [Row<CallConv>] {
+        &CONVENTIONS
     }
 
     ghost found = { convention_found };
@@ -56,10 +60,14 @@ impl Named for Option<APIKey> {
 
     ghost homes = { KEY_HOMES };
 
-    ghost rows = { map (λ row. row.2) KEYS };
+    ghost rows = { λ _. map (λ row. row.2) KEYS };
 
-    fn table() -> (&'static [u8], &'static [Row<Option<APIKey>>]) {
-        (&KEY_HOMES, &KEYS)
+    fn home_table() -> &'static [u8] {
+        &KEY_HOMES
+    }
+
+    fn row_table(_class: u8) -> &'static [Row<Option<APIKey>>] {
+        &KEYS
     }
 
     ghost found = { key_found };

@@ -39,10 +39,14 @@ impl Named for EmitFlag {
 
     ghost homes = { EMIT_FLAG_HOMES };
 
-    ghost rows = { map (λ row. row.2) EMIT_FLAGS };
+    ghost rows = { λ _. map (λ row. row.2) EMIT_FLAGS };
 
-    fn table() -> (&'static [u8], &'static [Row<EmitFlag>]) {
-        (&EMIT_FLAG_HOMES, &EMIT_FLAGS)
+    fn home_table() -> &'static [u8] {
+        &EMIT_FLAG_HOMES
+    }
+
+    fn row_table(_class: u8) -> &'static [Row<EmitFlag>] {
+        &EMIT_FLAGS
     }
 
     ghost found = { emit_flag_found };

@@ -45,10 +45,14 @@ impl Named for FrameField {
 
     ghost homes = { FRAME_FIELD_HOMES };
 
-    ghost rows = { map (λ row. row.2) FRAME_FIELDS };
+    ghost rows = { λ _. map (λ row. row.2) FRAME_FIELDS };
 
-    fn table() -> (&'static [u8], &'static [Row<FrameField>]) {
-        (&FRAME_FIELD_HOMES, &FRAME_FIELDS)
+    fn home_table() -> &'static [u8] {
+        &FRAME_FIELD_HOMES
+    }
+
+    fn row_table(_class: u8) -> &'static [Row<FrameField>] {
+        &FRAME_FIELDS
     }
 
     ghost found = { frame_field_found };

@@ -37,10 +37,14 @@ impl Named for LocationName {
 
     ghost homes = { LOCATION_HOMES };
 
-    ghost rows = { map (λ row. row.2) LOCATIONS };
+    ghost rows = { λ _. map (λ row. row.2) LOCATIONS };
 
-    fn table() -> (&'static [u8], &'static [Row<LocationName>]) {
-        (&LOCATION_HOMES, &LOCATIONS)
+    fn home_table() -> &'static [u8] {
+        &LOCATION_HOMES
+    }
+
+    fn row_table(_class: u8) -> &'static [Row<LocationName>] {
+        &LOCATIONS
     }
 
     ghost found = { location_found };

@@ -94,10 +94,14 @@ impl Named for ModeName {
 
     ghost homes = { MODE_HOMES };
 
-    ghost rows = { map (λ row. row.2) MODES };
+    ghost rows = { λ _. map (λ row. row.2) MODES };
 
-    fn table() -> (&'static [u8], &'static [Row<ModeName>]) {
-        (&MODE_HOMES, &MODES)
+    fn home_table() -> &'static [u8] {
+        &MODE_HOMES
+    }
+
+    fn row_table(_class: u8) -> &'static [Row<ModeName>] {
+        &MODES
     }
 
     ghost found = { mode_found };
@@ -173,10 +177,14 @@ impl Named for PairModeName {
 
     ghost homes = { PAIR_MODE_HOMES };
 
-    ghost rows = { map (λ row. row.2) PAIR_MODES };
+    ghost rows = { λ _. map (λ row. row.2) PAIR_MODES };
 
-    fn table() -> (&'static [u8], &'static [Row<PairModeName>]) {
-        (&PAIR_MODE_HOMES, &PAIR_MODES)
+    fn home_table() -> &'static [u8] {
+        &PAIR_MODE_HOMES
+    }
+
+    fn row_table(_class: u8) -> &'static [Row<PairModeName>] {
+        &PAIR_MODES
     }
 
     ghost found = { pair_found };
@@ -238,10 +246,14 @@ impl Named for MemLabelName {
 
     ghost homes = { MEM_LABEL_HOMES };
 
-    ghost rows = { map (λ row. row.2) MEM_LABELS };
+    ghost rows = { λ _. map (λ row. row.2) MEM_LABELS };
 
-    fn table() -> (&'static [u8], &'static [Row<MemLabelName>]) {
-        (&MEM_LABEL_HOMES, &MEM_LABELS)
+    fn home_table() -> &'static [u8] {
+        &MEM_LABEL_HOMES
+    }
+
+    fn row_table(_class: u8) -> &'static [Row<MemLabelName>] {
+        &MEM_LABELS
     }
 
     ghost found = { mem_label_found };

@@ -27,10 +27,14 @@ impl Named for ShiftOp {
 
     ghost homes = { SHIFT_OP_HOMES };
 
-    ghost rows = { map (λ row. row.2) SHIFT_OPS };
+    ghost rows = { λ _. map (λ row. row.2) SHIFT_OPS };
 
-    fn table() -> (&'static [u8], &'static [Row<ShiftOp>]) {
-        (&SHIFT_OP_HOMES, &SHIFT_OPS)
+    fn home_table() -> &'static [u8] {
+        &SHIFT_OP_HOMES
+    }
+
+    fn row_table(_class: u8) -> &'static [Row<ShiftOp>] {
+        &SHIFT_OPS
     }
 
     ghost found = { shift_op_found };
@@ -67,10 +71,14 @@ impl Named for ExtendOp {
 
     ghost homes = { EXTEND_HOMES };
 
-    ghost rows = { map (λ row. row.2) EXTENDS };
+    ghost rows = { λ _. map (λ row. row.2) EXTENDS };
 
-    fn table() -> (&'static [u8], &'static [Row<ExtendOp>]) {
-        (&EXTEND_HOMES, &EXTENDS)
+    fn home_table() -> &'static [u8] {
+        &EXTEND_HOMES
+    }
+
+    fn row_table(_class: u8) -> &'static [Row<ExtendOp>] {
+        &EXTENDS
     }
 
     ghost found = { extend_found };
@@ -112,10 +120,14 @@ impl Named for Cond {
 
     ghost homes = { COND_HOMES };
 
-    ghost rows = { map (λ row. row.2) CONDS };
+    ghost rows = { λ _. map (λ row. row.2) CONDS };
 
-    fn table() -> (&'static [u8], &'static [Row<Cond>]) {
-        (&COND_HOMES, &CONDS)
+    fn home_table() -> &'static [u8] {
+        &COND_HOMES
+    }
+
+    fn row_table(_class: u8) -> &'static [Row<Cond>] {
+        &CONDS
     }
 
     ghost found = { cond_found };

@@ -1,9 +1,9 @@
 //! Reads names.
 
-ghost use Rattle.std.specs.Prelude.{◌≡◌, ◌↔◌, ◌+◌, ◌≤◌, length, take, drop, true, ℕ, List, map, option_map, Option, Some, IfSome};
+ghost use Rattle.std.specs.Prelude.{◌≡◌, ◌↔◌, ◌+◌, ◌≤◌, length, take, drop, true, ℕ, List, option_map, Option, Some, IfSome};
 ghost use Rattle.a64_read.specs.declared.value.Kind.{Kind};
 ghost use Rattle.a64_read.specs.Reads.{Reads, Always};
-ghost use Rattle.a64_read.specs.Hash.{word_at, mixed, hash, look_up};
+ghost use Rattle.a64_read.specs.Hash.{word_at, mixed, hash, look_up, AreRows};
 
 use crate::value::Kind;
 use std::simd::prelude::*;
@@ -19,18 +19,19 @@ pub trait Named: Copy + Drop + 'static {
     /// The kinds of the fields behind it.
     ghost kinds_of: { Self → List Kind };
 
-    /// For each remainder of a hash, the number of a row.
+    /// For each remainder of a hash, the home of a row: 32 times the number of its class, plus its number there.
     ghost homes: { List ℕ };
 
-    /// The values of the rows.
-    ghost rows: { List Self };
+    /// The values of the rows of each class.
+    ghost rows: { ℕ → List Self };
 
-    /// The homes and the rows.
-    fn table() -> (&'static [u8], &'static [Row<Self>])
-        ensures homes { result.0.now ≡ homes }
-        ensures texts { map (λ row. row.0.now) result.1.now ≡ map text rows }
-        ensures kinds { map (λ row. row.1.now) result.1.now ≡ map kinds_of rows }
-        ensures values { map (λ row. row.2) result.1.now ≡ rows };
+    /// The homes.
+    fn home_table() -> &'static [u8]
+        ensures { result.now ≡ homes };
+
+    /// The rows of the class of this number. A type with few names has all of them in each class.
+    fn row_table(class: u8) -> &'static [Row<Self>]
+        ensures { AreRows text kinds_of (rows class) result.now };
 
     /// Each value stands in the row to which its name leads.
     ghost found: { (x : Self) → look_up homes rows (text x) ≡ Some x };
@@ -148,12 +149,12 @@ pub fn read_heading<T: Named>(token: &[u8]) -> Option<(&'static [Kind], T)>
     ensures read { Reads Always T.text token.now (option_map (λ r. r.1) result) }
     ensures kinds { IfSome result (λ r. r.0.now ≡ T.kinds_of r.1) }
 {
-    let (homes, rows) = T::table();
+    let homes = T::home_table();
     if homes.is_empty() {
         return None;
     }
     let home = homes[hash_of(token) % homes.len()];
-    let (name, kinds, value) = rows.get(home as usize)?;
+    let (name, kinds, value) = T::row_table(home / 32).get((home % 32) as usize)?;
     if is_same(name, token) {
         Some((*kinds, *value))
     } else {

@@ -52,10 +52,14 @@ impl Named for ALUOp {
 
     ghost homes = { ALU_OP_HOMES };
 
-    ghost rows = { map (λ row. row.2) ALU_OPS };
+    ghost rows = { λ _. map (λ row. row.2) ALU_OPS };
 
-    fn table() -> (&'static [u8], &'static [Row<ALUOp>]) {
-        (&ALU_OP_HOMES, &ALU_OPS)
+    fn home_table() -> &'static [u8] {
+        &ALU_OP_HOMES
+    }
+
+    fn row_table(_class: u8) -> &'static [Row<ALUOp>] {
+        &ALU_OPS
     }
 
     ghost found = { alu_op_found };
@@ -79,10 +83,14 @@ impl Named for ALUOp3 {
 
     ghost homes = { ALU_OP3_HOMES };
 
-    ghost rows = { map (λ row. row.2) ALU_OP3S };
+    ghost rows = { λ _. map (λ row. row.2) ALU_OP3S };
 
-    fn table() -> (&'static [u8], &'static [Row<ALUOp3>]) {
-        (&ALU_OP3_HOMES, &ALU_OP3S)
+    fn home_table() -> &'static [u8] {
+        &ALU_OP3_HOMES
+    }
+
+    fn row_table(_class: u8) -> &'static [Row<ALUOp3>] {
+        &ALU_OP3S
     }
 
     ghost found = { alu_op3_found };
@@ -108,10 +116,14 @@ impl Named for BitOp {
 
     ghost homes = { BIT_OP_HOMES };
 
-    ghost rows = { map (λ row. row.2) BIT_OPS };
+    ghost rows = { λ _. map (λ row. row.2) BIT_OPS };
 
-    fn table() -> (&'static [u8], &'static [Row<BitOp>]) {
-        (&BIT_OP_HOMES, &BIT_OPS)
+    fn home_table() -> &'static [u8] {
+        &BIT_OP_HOMES
+    }
+
+    fn row_table(_class: u8) -> &'static [Row<BitOp>] {
+        &BIT_OPS
     }
 
     ghost found = { bit_op_found };

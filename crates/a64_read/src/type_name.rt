@@ -53,10 +53,14 @@ impl Named for IrType {
 
     ghost homes = { TYPE_HOMES };
 
-    ghost rows = { map (λ row. row.2) TYPES };
+    ghost rows = { λ _. map (λ row. row.2) TYPES };
 
-    fn table() -> (&'static [u8], &'static [Row<IrType>]) {
-        (&TYPE_HOMES, &TYPES)
+    fn home_table() -> &'static [u8] {
+        &TYPE_HOMES
+    }
+
+    fn row_table(_class: u8) -> &'static [Row<IrType>] {
+        &TYPES
     }
 
     ghost found = { type_found };
