@@ -99,7 +99,7 @@ impl Words {
         self.size
     }
 
-    /// Takes the memory for so many words more, and more than that where there is little yet.
+    /// Takes the memory for so many words more; it at least doubles, so that it seldom grows.
     #[cold]
     #[inline(never)]
     fn grow(&mut self, words: usize) -> Result<(), AllocError>
