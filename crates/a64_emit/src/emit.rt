@@ -422,8 +422,9 @@ fn emit_control_inst(
     }
 }
 
-/// An instruction that is no call, by its group. Those that stand in the words of a call have a copy of this
-/// function that others have not: so each copy has one caller, and stands in line there.
+/// An instruction that is no call, by its group. `IN_CALL` says whether it stands among the words of a call, or of
+/// a return that calls. That changes nothing of the code, but so each of the two callers has a copy of its own, which
+/// stands in line there.
 #[inline(always)]
 fn emit_in_line<const IN_CALL: bool>(
     inst: &Inst,
