@@ -14,11 +14,12 @@ use Rattle.a64_base.specs.declared.target.BranchTarget.{BranchTarget}
 use Rattle.a64_base.specs.declared.target.BranchTarget.TheVariants.{Label, ResolvedOffset}
 use Rattle.a64_base.specs.Target.{offset_field}
 use Rattle.a64_base.specs.Words.{words_of}
+use Rattle.a64_ops.specs.declared.system.BranchTargetType.{BranchTargetType}
 use Rattle.a64_rows.specs.Forms.{IsFormOf}
 use Rattle.a64_enc_int.specs.Branches.{conditional_form, nonzero_of}
 use Rattle.a64_enc_int.proofs.Registers.{field_below}
 use Rattle.a64_emit.specs.IntegerForms.{nop4_form}
-use Rattle.a64_emit.specs.ControlForms.{jump_form, cond_br_form, trap_if_form, test_bit_and_branch_form, indirect_br_form, label_address_form, branch_link_form, branch_link_register_form, auti_number, auti_form}
+use Rattle.a64_emit.specs.ControlForms.{jump_form, cond_br_form, trap_if_form, test_bit_and_branch_form, indirect_br_form, label_address_form, branch_link_form, branch_link_register_form, auti_number, auti_form, paci_number, paci_form, xpaclri_form, bti_number, bti_form, csdb_form}
 use Rattle.a64_emit.proofs.ImmediateForms.{adr_is_form}
 use Rattle.a64_emit.proofs.OneWord.{field_widths}
 
@@ -34,6 +35,28 @@ auti_below key = grind arith
 pub auti_is_form : (key : APIKey) → IsFormOf (auti_form key)
 unfolding auti_form
 auti_is_form key = search (rules, auti_below)
+
+pub csdb_is_form : IsFormOf csdb_form
+unfolding csdb_form
+csdb_is_form = search rules
+
+paci_below : (key : APIKey) → paci_number key < 2 ^ 3
+paci_below key = grind arith
+
+pub paci_is_form : (key : APIKey) → IsFormOf (paci_form key)
+unfolding paci_form
+paci_is_form key = search (rules, paci_below)
+
+pub xpaclri_is_form : IsFormOf xpaclri_form
+unfolding xpaclri_form
+xpaclri_is_form = search rules
+
+bti_below : (targets : BranchTargetType) → bti_number targets < 2 ^ 3
+bti_below targets = grind arith
+
+pub bti_is_form : (targets : BranchTargetType) → IsFormOf (bti_form targets)
+unfolding bti_form
+bti_is_form targets = search (rules, bti_below)
 
 -- ---- branches
 
@@ -89,4 +112,4 @@ unfolding label_address_form
 label_address_is_form dst = adr_is_form dst (pos 0)
 
 -- those of branches and hints
-pub ruleset branch_forms = (nop4_is_form, jump_is_form, cond_br_is_form, trap_if_is_form, test_bit_and_branch_is_form, indirect_br_is_form, label_address_is_form)
+pub ruleset branch_forms = (nop4_is_form, csdb_is_form, paci_is_form, xpaclri_is_form, bti_is_form, jump_is_form, cond_br_is_form, trap_if_is_form, test_bit_and_branch_is_form, indirect_br_is_form, label_address_is_form)

@@ -65,12 +65,8 @@ plan_shape value = elim (cases_lt value (2 ^ 64)) [ inl low ↦ (plan_shortest v
 
 -- ---- tables
 
-csdb_is_form : IsFormOf csdb_form
-unfolding csdb_form
-csdb_is_form = search rules
-
 -- the words of a list, each by itself
-ruleset lists = (All-nil, All-cons, register_forms, immediate_forms, branch_forms, csdb_is_form, indexed_is_form, unsigned_is_form, literal_is_form)
+ruleset lists = (All-nil, All-cons, register_forms, immediate_forms, branch_forms, indexed_is_form, unsigned_is_form, literal_is_form)
 
 barrier_are_forms : (flags : EmitFlags) → All IsFormOf (barrier_forms flags)
 barrier_are_forms flags = go (flags.enable_table_access_spectre_mitigation && flags.use_csdb)

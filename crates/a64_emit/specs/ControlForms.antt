@@ -9,6 +9,8 @@ use Rattle.a64_base.specs.declared.reg.Reg.{Reg}
 use Rattle.a64_base.specs.declared.target.BranchTarget.{BranchTarget}
 use Rattle.a64_base.specs.declared.target.BranchTarget.TheVariants.{ResolvedOffset}
 use Rattle.a64_base.specs.Target.{offset_field}
+use Rattle.a64_ops.specs.declared.system.BranchTargetType.{BranchTargetType}
+use Rattle.a64_ops.specs.declared.system.BranchTargetType.TheVariants.{None, C, J, JC}
 use Rattle.a64_enc_int.specs.Branches.{conditional_form, nonzero_of}
 use Rattle.a64_enc_int.specs.Registers.{register_field}
 use Rattle.a64_rows.specs.Forms.{Form}
@@ -59,6 +61,32 @@ auti_number BSP = 7
 -- the return address in x30 is authenticated (Hints, AUTIAZ, AUTIASP, AUTIBZ, AUTIBSP)
 unfoldable pub auti_form : APIKey → Form
 auti_form key = hint (record { crm = 3; op2 = auti_number key })
+
+-- the number of the hint that signs the return address in x30 by a key
+abbrev pub paci_number : APIKey → ℕ
+paci_number AZ = 0
+paci_number ASP = 1
+paci_number BZ = 2
+paci_number BSP = 3
+
+-- the return address in x30 is signed (Hints, PACIAZ, PACIASP, PACIBZ, PACIBSP)
+unfoldable pub paci_form : APIKey → Form
+paci_form key = hint (record { crm = 3; op2 = paci_number key })
+
+-- its signature is taken off (Hints, XPACLRI)
+unfoldable pub xpaclri_form : Form
+xpaclri_form = hint (record { crm = 0; op2 = 7 })
+
+-- the number of the hint that lets branches go to a place: none, calls, jumps, or both
+abbrev pub bti_number : BranchTargetType → ℕ
+bti_number None = 0
+bti_number C = 2
+bti_number J = 4
+bti_number JC = 6
+
+-- a place to which such branches may go (Hints, BTI)
+unfoldable pub bti_form : BranchTargetType → Form
+bti_form targets = hint (record { crm = 4; op2 = bti_number targets })
 
 -- a breakpoint (Exception generation, BRK)
 unfoldable pub brk_form : Form

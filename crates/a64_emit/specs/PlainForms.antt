@@ -1,5 +1,6 @@
 -- The form of each instruction that is one plain word (Arm Architecture Reference Manual, DDI 0487, C4.1, "Data Processing --
--- Immediate", "Data Processing -- Register" and "Data Processing -- Scalar Floating-Point and Advanced SIMD").
+-- Immediate", "Data Processing -- Register", "Data Processing -- Scalar Floating-Point and Advanced SIMD", and hints and barriers of
+-- "Branches, Exception Generating and System instructions").
 use Rattle.std.specs.Prelude.{Option, None, Some}
 use Rattle.a64_base.specs.declared.reg.Reg.TheVariants.{Real}
 use Rattle.a64_base.specs.declared.size.OperandSize.TheVariants.{Size64}
@@ -11,8 +12,10 @@ use Rattle.a64_imms.specs.Unsigned.{uimm5_value}
 use Rattle.a64_inst.specs.declared.inst.Inst.{Inst}
 use Rattle.a64_inst.specs.declared.inst.Inst.TheVariants as insts
 use Rattle.a64_rows.specs.Forms.{Form}
+use Rattle.a64_rows.specs.Control.{barrier}
 use Rattle.a64_rows.specs.DataProcessing.{bitfield, cond_compare, cond_select, data_proc1}
 use Rattle.a64_enc_int.specs.Registers.{register_field}
+use Rattle.a64_emit.specs.ControlForms as control
 use Rattle.a64_emit.specs.FloatForms as float
 use Rattle.a64_emit.specs.IntegerForms as integer
 use Rattle.a64_emit.specs.IntegerForms.{bfm_opc, bit_opcode, product_form, shifted_form, two_registers}
@@ -131,5 +134,12 @@ plain_form (insts.FpuCSel64 rd rn rm cond) = Some (float.select_form scalars.Siz
 plain_form (insts.FpuRound op rd rn) = Some (float.round_form op rd rn)
 plain_form (insts.MovToFpu rd rn scalar) = Some (float.conversion_form (float.bits_to_float scalar) rd rn)
 plain_form (insts.FpuMoveFPImm rd imm scalar) = Some (float.immediate_form scalar imm rd)
+-- ---- hints and barriers
+plain_form insts.Csdb = Some control.csdb_form
+-- Barriers, DMB ISH
+plain_form insts.Fence = Some barrier
+plain_form (insts.Paci key) = Some (control.paci_form key)
+plain_form insts.Xpaclri = Some control.xpaclri_form
+plain_form (insts.Bti targets) = Some (control.bti_form targets)
 -- the others are no plain words
 plain_form _ = None

@@ -7,7 +7,7 @@ pub mod register;
 
 ghost use Rattle.std.specs.Prelude.{◌≡◌, Some, true};
 ghost use Rattle.a64_inst.specs.declared.group.Group.TheVariants.{Plain};
-ghost use Rattle.a64_inst.specs.declared.group.PlainGroup.TheVariants.{Float, Immediate, Register};
+ghost use Rattle.a64_inst.specs.declared.group.PlainGroup.TheVariants.{Float, Immediate, Register, System};
 ghost use Rattle.a64_inst.specs.declared.virtuals.VirtualRegisters.TheVariants.{Refused};
 ghost use Rattle.a64_inst.specs.Groups.{group_of};
 ghost use Rattle.a64_inst.specs.Faults.{has_operands};
@@ -26,8 +26,11 @@ use crate::word::plain::operator::{bfm_opc_bits, bit_opcode_bits, product_word, 
 use crate::word::plain::register::{
     alu_rrr_extend_word, alu_rrr_word, csel_word, mov_word, two_registers,
 };
+use crate::word::system::{bti_word, csdb_word, paci_word, xpaclri_word};
 use a64_base::{OperandSize, Reg, ScalarSize, Writable, zero_reg};
-use a64_enc_int::{enc_bfm, enc_bit_rr, enc_ccmp, enc_ccmp_imm, enc_csel, register_field};
+use a64_enc_int::{
+    enc_bfm, enc_bit_rr, enc_ccmp, enc_ccmp_imm, enc_csel, enc_dmb_ish, register_field,
+};
 use a64_enc_vec::{enc_fcmp, enc_fcsel};
 use a64_inst::{EmitInfo, FrameLayout, Inst, PlainGroup};
 
@@ -117,6 +120,21 @@ pub fn float_word(inst: &Inst, frame: &FrameLayout, info: &EmitInfo) -> u32
     )
 }
 
+/// The word of a hint or a barrier.
+pub fn system_word(inst: &Inst, frame: &FrameLayout, info: &EmitInfo) -> u32
+    requires group { group_of inst.now ≡ Plain System }
+    requires good { has_operands frame.now info.now Refused inst.now ≡ true }
+    ensures { Some result ≡ only_word (shape_of frame.now info.now inst.now) }
+{
+    word_arms!(inst;
+        Csdb { } => csdb_word();
+        Fence { } => enc_dmb_ish();
+        Paci { key } => paci_word(*key);
+        Xpaclri { } => xpaclri_word();
+        Bti { targets } => bti_word(*targets);
+    )
+}
+
 /// The word of an instruction of a group of plain words.
 #[inline(always)]
 pub fn plain_word(inst: &Inst, group: PlainGroup, frame: &FrameLayout, info: &EmitInfo) -> u32
@@ -128,5 +146,6 @@ pub fn plain_word(inst: &Inst, group: PlainGroup, frame: &FrameLayout, info: &Em
         PlainGroup::Immediate => immediate_word(inst, frame, info),
         PlainGroup::Register => register_word(inst, frame, info),
         PlainGroup::Float => float_word(inst, frame, info),
+        PlainGroup::System => system_word(inst, frame, info),
     }
 }

@@ -11,7 +11,7 @@ ghost use Rattle.a64_inst.specs.Operands.{is_register, is_register_or_zero};
 ghost use Rattle.a64_inst.specs.SequenceOperands.{are_table_operands, are_probe_operands};
 ghost use Rattle.a64_rows.specs.Forms.{form_word};
 ghost use Rattle.a64_emit.specs.Cells.{barrier_forms, table_forms, probe_forms};
-ghost use Rattle.a64_emit.specs.ControlForms.{csdb_form, jump_form, indirect_br_form};
+ghost use Rattle.a64_emit.specs.ControlForms.{jump_form, indirect_br_form};
 ghost use Rattle.a64_emit.specs.IntegerForms.{csel_form, alu_rrr_form, alu_rr_imm12_form, adr_form, adrp_form};
 ghost use Rattle.a64_emit.specs.MemoryForms.{indexed_form, unsigned_form, literal_form};
 
@@ -20,6 +20,7 @@ use crate::word::memory::access::{indexed_word, literal_word, unsigned_word};
 use crate::word::memory::step::step_words;
 use crate::word::plain::immediate::{adr_word, adrp_word, alu_rr_imm12_word};
 use crate::word::plain::register::{alu_rrr_word, csel_word};
+use crate::word::system::csdb_word;
 use a64_base::{
     BranchTarget, Cond, CondBrKind, ExtendOp, IrType, OperandSize, Reg, Writable, stack_reg,
     writable_zero_reg, zero_reg,
@@ -28,14 +29,6 @@ use a64_imms::{Imm12, UImm12Scaled};
 use a64_inst::{AccessOp, EmitInfo, const_plan};
 use a64_ops::ALUOp;
 use arrayvec::ArrayVec;
-
-/// The word of a barrier against what was guessed before it.
-#[tactic(auto, unfolding(crate::specs::ControlForms::csdb_form))]
-fn csdb_word() -> u32
-    ensures { result ≡ form_word csdb_form }
-{
-    0xd503_229f
-}
 
 /// Whether the settings ask for a barrier behind the choice of an index.
 pub fn has_barrier(info: &EmitInfo) -> bool

@@ -1,14 +1,18 @@
 //! The words of hints and of moves of the flags, of "Branches, Exception Generating and System
 //! instructions".
 
-ghost use Rattle.std.specs.Prelude.{◌≡◌, true};
+ghost use Rattle.std.specs.Prelude.{◌≡◌, ◌<◌, true};
 ghost use Rattle.a64_inst.specs.declared.virtuals.VirtualRegisters.TheVariants.{Refused};
 ghost use Rattle.a64_inst.specs.Operands.{is_register_or_zero};
 ghost use Rattle.a64_rows.specs.Forms.{form_word};
+ghost use Rattle.a64_emit.specs.ControlForms as forms;
+ghost use Rattle.a64_emit.specs.ControlForms.{csdb_form};
 ghost use Rattle.a64_emit.specs.IntegerForms.{nop4_form, mov_to_nzcv_form, mov_from_nzcv_form};
 
-use a64_base::{Reg, Writable};
+use a64_base::{APIKey, Reg, Writable};
 use a64_enc_int::register_field;
+use a64_ops::BranchTargetType;
+use a64_rows::{Row, pack};
 
 /// The word of a `Nop4`.
 #[tactic(auto, unfolding(crate::specs::IntegerForms::nop4_form))]
@@ -16,6 +20,64 @@ pub fn nop4_word() -> u32
     ensures { result ≡ form_word nop4_form }
 {
     0xd503_201f
+}
+
+/// The word of a barrier against what was guessed before it.
+#[tactic(auto, unfolding(crate::specs::ControlForms::csdb_form))]
+pub fn csdb_word() -> u32
+    ensures { result ≡ form_word csdb_form }
+{
+    0xd503_229f
+}
+
+/// The number of the hint that signs the return address by a key.
+fn paci_number(key: APIKey) -> u32
+    ensures value { result ≡ forms.paci_number key }
+    ensures below { result < 8 }
+{
+    match key {
+        APIKey::AZ => 0,
+        APIKey::ASP => 1,
+        APIKey::BZ => 2,
+        APIKey::BSP => 3,
+    }
+}
+
+/// The word of a `Paci`.
+#[tactic(auto, unfolding(crate::specs::ControlForms::paci_form))]
+pub fn paci_word(key: APIKey) -> u32
+    ensures { result ≡ form_word (forms.paci_form key) }
+{
+    pack(Row::Hint, &[3, paci_number(key)])
+}
+
+/// The word of an `Xpaclri`.
+#[tactic(auto, unfolding(crate::specs::ControlForms::xpaclri_form))]
+pub fn xpaclri_word() -> u32
+    ensures { result ≡ form_word forms.xpaclri_form }
+{
+    pack(Row::Hint, &[0, 7])
+}
+
+/// The number of the hint that lets such branches go to a place.
+fn bti_number(targets: BranchTargetType) -> u32
+    ensures value { result ≡ forms.bti_number targets }
+    ensures below { result < 8 }
+{
+    match targets {
+        BranchTargetType::None => 0,
+        BranchTargetType::C => 2,
+        BranchTargetType::J => 4,
+        BranchTargetType::JC => 6,
+    }
+}
+
+/// The word of a `Bti`.
+#[tactic(auto, unfolding(crate::specs::ControlForms::bti_form))]
+pub fn bti_word(targets: BranchTargetType) -> u32
+    ensures { result ≡ form_word (forms.bti_form targets) }
+{
+    pack(Row::Hint, &[4, bti_number(targets)])
 }
 
 /// The word of a `MovToNZCV`.
