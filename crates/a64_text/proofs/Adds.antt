@@ -7,6 +7,7 @@ use Rattle.a64_inst.specs.declared.item.Item.{Item}
 use Rattle.a64_text.specs.declared.entry.Entry.{Entry}
 use Rattle.a64_text.specs.declared.entry.Entry.TheVariants as entries
 use Rattle.a64_text.specs.declared.name.ControlName.TheVariants as control
+use Rattle.a64_text.specs.declared.name.FloatName.TheVariants as float
 use Rattle.a64_text.specs.declared.name.ImmediateName.TheVariants as immediate
 use Rattle.a64_text.specs.declared.name.SequenceName.TheVariants as sequence
 use Rattle.a64_text.specs.declared.name.Name.{Name}
@@ -30,6 +31,7 @@ all_ok P Q f (Err e) h = tt
 puts_made : (name : Name) (values : List Value) (old new : List Item) (made : Bool) → Puts name values old new made → PutsMade name values old new made
 unfolding Makes Puts
 puts_made (names.Immediate immediate.AluRRImmLogic) values old new made h = h
+puts_made (names.Float float.FpuMoveFPImm) values old new made h = h
 puts_made (names.Control control.IndirectBr) values old new made h = h
 puts_made (names.Sequence sequence.Args) values old new made h = h
 puts_made (names.Sequence sequence.Rets) values old new made h = h

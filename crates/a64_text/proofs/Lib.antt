@@ -1,6 +1,7 @@
 pub mod Triples
 pub mod LineReads
 pub mod Logics
+pub mod FloatMoves
 pub mod Sequences
 pub mod Givens
 pub mod Restores

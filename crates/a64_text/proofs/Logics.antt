@@ -13,15 +13,12 @@ use Rattle.a64_inst.specs.declared.inst.Inst.{Inst}
 use Rattle.a64_inst.specs.declared.inst.Inst.TheVariants as insts
 use Rattle.a64_ops.specs.declared.operator.ALUOp.{ALUOp}
 use Rattle.a64_text.specs.declared.entry.Entry.{Entry}
-use Rattle.a64_text.specs.declared.name.ImmediateName.TheVariants as immediate
-use Rattle.a64_text.specs.declared.name.Name.{Name}
-use Rattle.a64_text.specs.declared.name.Name.TheVariants as names
 use Rattle.a64_read.specs.declared.value.Value.{Value}
 use Rattle.a64_read.specs.Reads.{Reads, IsU64}
 use Rattle.a64_read.specs.Fields.{IsLogicAt}
 use Rattle.a64_read.specs.At.{alu_op_at, size_at, reg_at, u64_at}
 use Rattle.a64_text.specs.Makes.{emitted, Makes}
-use Rattle.a64_text.specs.Names.{kinds_of}
+use Rattle.a64_text.specs.Names.{kinds_of, logic_name}
 use Rattle.a64_read.specs.Same.{at_their_places}
 use Rattle.a64_text.specs.Tokens.{fields_of, IsEntry}
 
@@ -63,9 +60,6 @@ Operation = ALUOp × OperandSize × Reg × Reg × ImmLogic
 
 abbrev entry : Operation → Entry
 entry x = emitted (insts.AluRRImmLogic x.0 x.1 x.2 x.3 x.4)
-
-abbrev logic_name : Name
-logic_name = names.Immediate immediate.AluRRImmLogic
 
 module _ (fields : List Value) (size : OperandSize) (value : ℕ) (size_is : size ≡ size_at fields 1) (value_is : value ≡ u64_at fields 4) where
   -- an operation with these fields has the immediate of the value

@@ -1,6 +1,8 @@
 pub mod Constants
 pub mod PlainFields
+pub mod FloatImms
 pub mod Names
+pub mod NameRows
 pub mod Tokens
 pub mod Makes
 pub mod Makers

@@ -10,6 +10,7 @@ use Rattle.a64_text.specs.declared.entry.Entry.{Entry}
 use Rattle.a64_text.specs.declared.entry.Entry.TheVariants as entries
 use Rattle.a64_text.specs.declared.name.CallName.TheVariants as call
 use Rattle.a64_text.specs.declared.name.ControlName.TheVariants as control
+use Rattle.a64_text.specs.declared.name.FloatName.TheVariants as float
 use Rattle.a64_text.specs.declared.name.ImmediateName.TheVariants as immediate
 use Rattle.a64_text.specs.declared.name.RegisterName.TheVariants as register
 use Rattle.a64_text.specs.declared.name.SystemName.TheVariants as system
@@ -18,7 +19,7 @@ use Rattle.a64_text.specs.declared.name.SequenceName.TheVariants as sequence
 use Rattle.a64_ops.specs.declared.access.AccessOp.TheVariants as ops
 use Rattle.a64_text.specs.declared.name.Name.{Name}
 use Rattle.a64_text.specs.declared.name.Name.TheVariants as names
-use Rattle.a64_text.specs.declared.name_table.TheConstants.{NAME_HOMES, NAMES}
+use Rattle.a64_text.specs.declared.name_table.TheConstants.{NAME_HOMES}
 use Rattle.a64_read.specs.declared.value.Value.{Value}
 use Rattle.a64_read.specs.declared.value.Value.TheVariants as values
 use Rattle.a64_read.specs.At.{convention_at, key_at, label_at, list_at, map_at, reg_at, truth_at, u32_at}
@@ -30,6 +31,7 @@ use Rattle.a64_text.specs.Constants.{HasHex}
 use Rattle.a64_read.specs.Lists.{list_text}
 use Rattle.a64_read.specs.ModeLaws.{made_of}
 use Rattle.a64_text.specs.Makes.{called, call_of, call_texts_at, emitted, constant_of, entry_of, jump_of, name_at, return_call_of, Makes}
+use Rattle.a64_text.specs.NameRows.{name_rows}
 use Rattle.a64_text.specs.Names.{name_text, kinds_of}
 use Rattle.a64_read.specs.RegisterPairs.{arg_pair_text, IsArgPair, ret_pair_text, IsRetPair}
 use Rattle.a64_read.specs.Same.{at_their_places}
@@ -57,6 +59,8 @@ made_some (names.Immediate immediate.AluRRImmLogic) values r h are = h.some are
 made_some (names.Immediate name) values r h are = made (IsMade (names.Immediate name) values) r (entry_of (names.Immediate name) values) h (refl, at_their_places (kinds_of (names.Immediate name)) values are, (tt, refl))
 made_some (names.Register register.AluRRR) values r h are = made (IsMade (names.Register register.AluRRR) values) r (entry_of (names.Register register.AluRRR) values) h (refl, at_their_places (kinds_of (names.Register register.AluRRR)) values are, (tt, refl))
 made_some (names.Register name) values r h are = made (IsMade (names.Register name) values) r (entry_of (names.Register name) values) h (refl, at_their_places (kinds_of (names.Register name)) values are, (tt, refl))
+made_some (names.Float float.FpuMoveFPImm) values r h are = h.some are
+made_some (names.Float name) values r h are = made (IsMade (names.Float name) values) r (entry_of (names.Float name) values) h (refl, at_their_places (kinds_of (names.Float name)) values are, (tt, refl))
 made_some (names.System system.Nop4) values r h are = made (IsMade (names.System system.Nop4) values) r (entry_of (names.System system.Nop4) values) h (refl, at_their_places (kinds_of (names.System system.Nop4)) values are, (tt, refl))
 made_some (names.System name) values r h are = made (IsMade (names.System name) values) r (entry_of (names.System name) values) h (refl, at_their_places (kinds_of (names.System name)) values are, (tt, refl))
 made_some (names.Control control.IndirectBr) vs r h are =
@@ -112,6 +116,7 @@ without_map inst map r none e = e ∙ ap (λ (m : Option UserStackMap). Some (en
 inst_only : (inst : Inst) (values : List Value) (r : Option Entry) → Makes (inst_parts inst).name values r → AllByRecursion IsValue (inst_parts inst).fields → IsOwnInst inst → (inst_parts inst).fields ≡ values → r ≡ Some (emitted inst)
 unfolding Makes
 inst_only (insts.AluRRImmLogic alu_op size rd rn imml) values r h fits own e = h.only (alu_op, size, rd, rn, imml) (record { fields = fits; own = (own, refl) }) e
+inst_only (insts.FpuMoveFPImm rd imm scalar) values r h fits own e = h.only (rd, imm, scalar) (record { fields = fits; own = (own, refl) }) e
 inst_only (insts.IndirectBr rn targets) vs r h fits own e =
     h.2
     ∙ ap (λ o. option_map (λ ts. emitted (insts.IndirectBr (reg_at vs 0) ts)) o) (h.1.only targets own (ap (λ (t : List Value). list_at t 1) (sym e)))
@@ -177,6 +182,7 @@ fields_kinds (entries.Restore inst) = item_kinds inst None
 pub few_kinds : (name : Name) → length (kinds_of name) ≤ 12
 few_kinds (names.Immediate immediate.Adr) = lit≤ tt
 few_kinds (names.Register register.CSel) = lit≤ tt
+few_kinds (names.Float float.FpuCmp) = lit≤ tt
 few_kinds (names.System system.Nop4) = lit≤ tt
 few_kinds (names.Control control.Ret) = lit≤ tt
 few_kinds (names.Sequence sequence.DummyUse) = lit≤ tt
@@ -188,6 +194,7 @@ few_kinds _ = lit≤ tt
 pub name_plain : (name : Name) → HasNo 32 (name_text name)
 name_plain (names.Immediate immediate.Adr) = refl
 name_plain (names.Register register.CSel) = refl
+name_plain (names.Float float.FpuCmp) = refl
 name_plain (names.System system.Nop4) = refl
 name_plain (names.Control control.Ret) = refl
 name_plain (names.Sequence sequence.DummyUse) = refl
@@ -200,6 +207,7 @@ name_plain _ = refl
 pub name_first : (name : Name) → (get_or (name_text name) 0 0 == 114) ≡ false
 name_first (names.Immediate immediate.Adr) = refl
 name_first (names.Register register.CSel) = refl
+name_first (names.Float float.FpuCmp) = refl
 name_first (names.System system.Nop4) = refl
 name_first (names.Control control.Ret) = refl
 name_first (names.Sequence sequence.DummyUse) = refl
@@ -208,9 +216,10 @@ name_first (names.Memory memory.LoadAddr) = refl
 name_first (names.Access ops.ULoad8) = refl
 name_first _ = refl
 
-pub name_found : (x : Name) → look_up NAME_HOMES (map (λ row. row.2) NAMES) (name_text x) ≡ Some x
+pub name_found : (x : Name) → look_up NAME_HOMES name_rows (name_text x) ≡ Some x
 name_found (names.Immediate immediate.Adr) = refl
 name_found (names.Register register.CSel) = refl
+name_found (names.Float float.FpuCmp) = refl
 name_found (names.System system.Nop4) = refl
 name_found (names.Control control.Ret) = refl
 name_found (names.Sequence sequence.DummyUse) = refl

@@ -6,6 +6,8 @@ use Rattle.a64_base.specs.declared.entity.MachLabel.{MachLabel}
 use Rattle.a64_base.specs.declared.entity.UserStackMap.{UserStackMap}
 use Rattle.a64_base.specs.declared.reg.Reg.{Reg}
 use Rattle.a64_base.specs.declared.size.OperandSize.{OperandSize}
+use Rattle.a64_base.specs.declared.size.ScalarSize.{ScalarSize}
+use Rattle.a64_imms.specs.declared.asimd_fp.ASIMDFPModImm.{ASIMDFPModImm}
 use Rattle.a64_imms.specs.declared.imm_logic.ImmLogic.{ImmLogic}
 use Rattle.a64_inst.specs.Accesses.{inst_with}
 use Rattle.a64_inst.specs.declared.call.CallArgPair.{CallArgPair}
@@ -20,6 +22,7 @@ use Rattle.a64_text.specs.declared.entry.Entry.TheVariants as entries
 use Rattle.a64_text.specs.declared.name.CallName.TheVariants as call
 use Rattle.a64_text.specs.declared.name.ControlName.{ControlName}
 use Rattle.a64_text.specs.declared.name.ControlName.TheVariants as control
+use Rattle.a64_text.specs.declared.name.FloatName.TheVariants as float
 use Rattle.a64_text.specs.declared.name.ImmediateName.TheVariants as immediate
 use Rattle.a64_text.specs.declared.name.MemoryName.{MemoryName}
 use Rattle.a64_text.specs.declared.name.MemoryName.TheVariants as memory
@@ -35,8 +38,8 @@ use Rattle.a64_read.specs.Hex.{hex_text}
 use Rattle.a64_text.specs.Constants.{HasHex}
 use Rattle.a64_read.specs.Lists.{list_text}
 use Rattle.a64_read.specs.ModeMakes.{MakesOf}
-use Rattle.a64_text.specs.Names.{kinds_of}
-use Rattle.a64_text.specs.PlainFields.{immediate_of, register_of, system_of}
+use Rattle.a64_text.specs.Names.{float_imm_name, kinds_of, logic_name}
+use Rattle.a64_text.specs.PlainFields.{float_of, immediate_of, register_of, system_of}
 use Rattle.a64_read.specs.RegisterPairs.{arg_pair_text, IsArgPair, ret_pair_text, IsRetPair}
 use Rattle.a64_text.specs.Tokens.{name_of, fields_of, IsOwn, IsPlain}
 use Rattle.a64_read.specs.Values.{kind_of}
@@ -133,6 +136,7 @@ constant_of values bytes = entries.Constant (record { 0 = u32_at values 0 }) byt
 abbrev pub entry_of : Name → List Value → Entry
 entry_of (names.Immediate name) values = emitted (immediate_of name values)
 entry_of (names.Register name) values = emitted (register_of name values)
+entry_of (names.Float name) values = emitted (float_of name values)
 entry_of (names.System name) values = emitted (system_of name values)
 entry_of (names.Control name) values = emitted (control_of name values)
 entry_of (names.Sequence name) values = emitted (sequence_of name values)
@@ -150,7 +154,8 @@ pub record MakesOwn {X : Type 0} (name : Name) (make : X → Entry) (values : Li
   pub only : (x : X) → IsPlain (make x) → fields_of (make x) ≡ values → result ≡ Some (make x)
 
 unfoldable pub Makes : Name → List Value → Option Entry → Type 0
-Makes (names.Immediate immediate.AluRRImmLogic) values result = MakesOwn (names.Immediate immediate.AluRRImmLogic) (λ (x : ALUOp × OperandSize × Reg × Reg × ImmLogic). emitted (insts.AluRRImmLogic x.0 x.1 x.2 x.3 x.4)) values result
+Makes (names.Immediate immediate.AluRRImmLogic) values result = MakesOwn logic_name (λ (x : ALUOp × OperandSize × Reg × Reg × ImmLogic). emitted (insts.AluRRImmLogic x.0 x.1 x.2 x.3 x.4)) values result
+Makes (names.Float float.FpuMoveFPImm) values result = MakesOwn float_imm_name (λ (x : Reg × ASIMDFPModImm × ScalarSize). emitted (insts.FpuMoveFPImm x.0 x.1 x.2)) values result
 Makes (names.Control control.IndirectBr) values result = MakesOf (AllByRecursion IsLabel) (list_text label_text) (list_at values 1) (λ targets. emitted (insts.IndirectBr (reg_at values 0) targets)) result
 Makes (names.Sequence sequence.Args) values result = MakesOf (AllByRecursion IsArgPair) (list_text arg_pair_text) (list_at values 0) (λ args. emitted (insts.Args args)) result
 Makes (names.Sequence sequence.Rets) values result = MakesOf (AllByRecursion IsRetPair) (list_text ret_pair_text) (list_at values 0) (λ rets. emitted (insts.Rets rets)) result

@@ -5,6 +5,8 @@ use Rattle.a64_text.specs.declared.name.ImmediateName.{ImmediateName}
 use Rattle.a64_text.specs.declared.name.ImmediateName.TheVariants as immediate
 use Rattle.a64_text.specs.declared.name.RegisterName.{RegisterName}
 use Rattle.a64_text.specs.declared.name.RegisterName.TheVariants as register
+use Rattle.a64_text.specs.declared.name.FloatName.{FloatName}
+use Rattle.a64_text.specs.declared.name.FloatName.TheVariants as float
 use Rattle.a64_text.specs.declared.name.SystemName.{SystemName}
 use Rattle.a64_text.specs.declared.name.SystemName.TheVariants as system
 use Rattle.a64_text.specs.declared.name.ControlName.{ControlName}
@@ -18,8 +20,8 @@ use Rattle.a64_ops.specs.declared.access.AccessOp.TheVariants as ops
 use Rattle.a64_text.specs.declared.name.Name.{Name}
 use Rattle.a64_text.specs.declared.name.SequenceName.{SequenceName}
 use Rattle.a64_text.specs.declared.name.SequenceName.TheVariants as sequence
-use Rattle.a64_text.specs.declared.name.Name.TheVariants.{Immediate, Register, System, Control, Sequence, Call, Memory, Access, Bind, Const, Frame, Flag}
-use Rattle.a64_text.specs.PlainFields.{inst_fields, immediate_of, register_of, system_of}
+use Rattle.a64_text.specs.declared.name.Name.TheVariants.{Immediate, Register, Float, System, Control, Sequence, Call, Memory, Access, Bind, Const, Frame, Flag}
+use Rattle.a64_text.specs.PlainFields.{inst_fields, float_of, immediate_of, register_of, system_of}
 use Rattle.a64_read.specs.Heading.{Heading}
 use Rattle.a64_read.specs.Values.{kind_of}
 use Rattle.a64_read.specs.declared.value.Kind.{Kind}
@@ -53,11 +55,39 @@ register_text register.CSetm = codes "CSetm"
 register_text register.CCmp = codes "CCmp"
 register_text register.CCmpImm = codes "CCmpImm"
 
+abbrev pub float_text : FloatName → List ℕ
+float_text float.FpuMove32 = codes "FpuMove32"
+float_text float.FpuMove64 = codes "FpuMove64"
+float_text float.FpuMove128 = codes "FpuMove128"
+float_text float.FpuMoveFromVec = codes "FpuMoveFromVec"
+float_text float.FpuExtend = codes "FpuExtend"
+float_text float.FpuRR = codes "FpuRR"
+float_text float.FpuRRR = codes "FpuRRR"
+float_text float.FpuRRI = codes "FpuRRI"
+float_text float.FpuRRIMod = codes "FpuRRIMod"
+float_text float.FpuRRRR = codes "FpuRRRR"
+float_text float.FpuCmp = codes "FpuCmp"
+float_text float.FpuToInt = codes "FpuToInt"
+float_text float.IntToFpu = codes "IntToFpu"
+float_text float.FpuCSel16 = codes "FpuCSel16"
+float_text float.FpuCSel32 = codes "FpuCSel32"
+float_text float.FpuCSel64 = codes "FpuCSel64"
+float_text float.FpuRound = codes "FpuRound"
+float_text float.MovToFpu = codes "MovToFpu"
+float_text float.FpuMoveFPImm = codes "FpuMoveFPImm"
+
 abbrev pub system_text : SystemName → List ℕ
 system_text system.Nop0 = codes "Nop0"
 system_text system.Nop4 = codes "Nop4"
 system_text system.MovToNZCV = codes "MovToNZCV"
 system_text system.MovFromNZCV = codes "MovFromNZCV"
+
+-- the operation with a bitmask immediate, and the move of a float, whose immediates their constructors give
+abbrev pub logic_name : Name
+logic_name = Immediate immediate.AluRRImmLogic
+
+abbrev pub float_imm_name : Name
+float_imm_name = Float float.FpuMoveFPImm
 
 -- the fields behind the name of an instruction that is one plain word are those of the instruction
 abbrev pub plain_heading : List ℕ → Inst → Heading
@@ -139,6 +169,11 @@ heading (Immediate immediate.AluRRImmLogic) = record {
 }
 heading (Immediate name) = plain_heading (immediate_text name) (immediate_of name [])
 heading (Register name) = plain_heading (register_text name) (register_of name [])
+heading (Float float.FpuMoveFPImm) = record {
+  text = float_text float.FpuMoveFPImm;
+  kinds = kinds.Reg ∷ kinds.U8 ∷ kinds.ScalarSize ∷ [];
+}
+heading (Float name) = plain_heading (float_text name) (float_of name [])
 heading (System name) = plain_heading (system_text name) (system_of name [])
 heading (Control name) = control_heading name
 heading (Sequence name) = sequence_heading name

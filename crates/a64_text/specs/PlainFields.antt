@@ -13,26 +13,39 @@ use Rattle.a64_text.specs.declared.name.ImmediateName.{ImmediateName}
 use Rattle.a64_text.specs.declared.name.ImmediateName.TheVariants as immediate
 use Rattle.a64_text.specs.declared.name.RegisterName.{RegisterName}
 use Rattle.a64_text.specs.declared.name.RegisterName.TheVariants as register
+use Rattle.a64_text.specs.declared.name.FloatName.{FloatName}
+use Rattle.a64_text.specs.declared.name.FloatName.TheVariants as float
 use Rattle.a64_text.specs.declared.name.SystemName.{SystemName}
 use Rattle.a64_text.specs.declared.name.SystemName.TheVariants as system
 use Rattle.a64_read.specs.declared.value.Value.{Value}
 use Rattle.a64_read.specs.declared.value.Value.TheVariants as values
-use Rattle.a64_read.specs.At.{alu_op3_at, alu_op_at, bfm_op_at, bit_op_at, cond_at, extend_at, i32_at, imm12_at, imm_shift_at, move_wide_op_at, nzcv_at, preg_at, reg_at, shift_at, size_at, truth_at, u8_at, uimm5_at, uimm6_at, wide_at}
+use Rattle.a64_read.specs.At.{alu_op3_at, alu_op_at, bfm_op_at, bit_op_at, cond_at, extend_at, fpu_op1_at, fpu_op2_at, fpu_op3_at, fpu_op_ri_at, fpu_op_ri_mod_at, fpu_round_mode_at, fpu_to_int_op_at, i32_at, imm12_at, imm_shift_at, int_to_fpu_op_at, move_wide_op_at, nzcv_at, preg_at, reg_at, scalar_size_at, shift_at, size_at, truth_at, u8_at, uimm5_at, uimm6_at, vector_size_at, wide_at}
 
 -- ---- fields
 
--- what stands in a file for an operand: for a bitmask immediate its value
+-- what stands in a file for an operand: for a bitmask immediate its value, and for that of a float its eight bits
 abbrev pub operand_value : Operand → Value
 operand_value (fields.AluOp x) = values.AluOp x
 operand_value (fields.AluOp3 x) = values.AluOp3 x
 operand_value (fields.BitOp x) = values.BitOp x
 operand_value (fields.BfmOp x) = values.BfmOp x
 operand_value (fields.MoveWideOp x) = values.MoveWideOp x
+operand_value (fields.FpuOp1 x) = values.FpuOp1 x
+operand_value (fields.FpuOp2 x) = values.FpuOp2 x
+operand_value (fields.FpuOp3 x) = values.FpuOp3 x
+operand_value (fields.FpuOpRI x) = values.FpuOpRI x
+operand_value (fields.FpuOpRIMod x) = values.FpuOpRIMod x
+operand_value (fields.FpuToIntOp x) = values.FpuToIntOp x
+operand_value (fields.IntToFpuOp x) = values.IntToFpuOp x
+operand_value (fields.FpuRoundMode x) = values.FpuRoundMode x
 operand_value (fields.Size x) = values.Size x
+operand_value (fields.ScalarSize x) = values.ScalarSize x
+operand_value (fields.VectorSize x) = values.VectorSize x
 operand_value (fields.PReg x) = values.PReg x
 operand_value (fields.Imm12 x) = values.Imm12 x
 operand_value (fields.Logic x) = values.U64 (logic_value x)
 operand_value (fields.Wide x) = values.Wide x
+operand_value (fields.FloatImm x) = values.U8 x.imm
 operand_value (fields.ImmShift x) = values.ImmShift x
 operand_value (fields.UImm5 x) = values.UImm5 x
 operand_value (fields.UImm6 x) = values.UImm6 x
@@ -84,6 +97,26 @@ register_of register.CSetm vs = insts.CSetm (reg_at vs 0) (cond_at vs 1)
 register_of register.CCmp vs = insts.CCmp (size_at vs 0) (reg_at vs 1) (reg_at vs 2) (nzcv_at vs 3) (cond_at vs 4)
 register_of register.CCmpImm vs = insts.CCmpImm (size_at vs 0) (reg_at vs 1) (uimm5_at vs 2) (nzcv_at vs 3) (cond_at vs 4)
 
+abbrev pub float_of : FloatName → List Value → Inst
+float_of float.FpuMove32 vs = insts.FpuMove32 (reg_at vs 0) (reg_at vs 1)
+float_of float.FpuMove64 vs = insts.FpuMove64 (reg_at vs 0) (reg_at vs 1)
+float_of float.FpuMove128 vs = insts.FpuMove128 (reg_at vs 0) (reg_at vs 1)
+float_of float.FpuMoveFromVec vs = insts.FpuMoveFromVec (reg_at vs 0) (reg_at vs 1) (u8_at vs 2) (vector_size_at vs 3)
+float_of float.FpuExtend vs = insts.FpuExtend (reg_at vs 0) (reg_at vs 1) (scalar_size_at vs 2)
+float_of float.FpuRR vs = insts.FpuRR (fpu_op1_at vs 0) (scalar_size_at vs 1) (reg_at vs 2) (reg_at vs 3)
+float_of float.FpuRRR vs = insts.FpuRRR (fpu_op2_at vs 0) (scalar_size_at vs 1) (reg_at vs 2) (reg_at vs 3) (reg_at vs 4)
+float_of float.FpuRRI vs = insts.FpuRRI (fpu_op_ri_at vs 0) (reg_at vs 1) (reg_at vs 2)
+float_of float.FpuRRIMod vs = insts.FpuRRIMod (fpu_op_ri_mod_at vs 0) (reg_at vs 1) (reg_at vs 2) (reg_at vs 3)
+float_of float.FpuRRRR vs = insts.FpuRRRR (fpu_op3_at vs 0) (scalar_size_at vs 1) (reg_at vs 2) (reg_at vs 3) (reg_at vs 4) (reg_at vs 5)
+float_of float.FpuCmp vs = insts.FpuCmp (scalar_size_at vs 0) (reg_at vs 1) (reg_at vs 2)
+float_of float.FpuToInt vs = insts.FpuToInt (fpu_to_int_op_at vs 0) (reg_at vs 1) (reg_at vs 2)
+float_of float.IntToFpu vs = insts.IntToFpu (int_to_fpu_op_at vs 0) (reg_at vs 1) (reg_at vs 2)
+float_of float.FpuCSel16 vs = insts.FpuCSel16 (reg_at vs 0) (reg_at vs 1) (reg_at vs 2) (cond_at vs 3)
+float_of float.FpuCSel32 vs = insts.FpuCSel32 (reg_at vs 0) (reg_at vs 1) (reg_at vs 2) (cond_at vs 3)
+float_of float.FpuCSel64 vs = insts.FpuCSel64 (reg_at vs 0) (reg_at vs 1) (reg_at vs 2) (cond_at vs 3)
+float_of float.FpuRound vs = insts.FpuRound (fpu_round_mode_at vs 0) (reg_at vs 1) (reg_at vs 2)
+float_of _ vs = insts.MovToFpu (reg_at vs 0) (reg_at vs 1) (scalar_size_at vs 2)
+
 abbrev pub system_of : SystemName → List Value → Inst
 system_of system.Nop0 vs = insts.Nop0
 system_of system.Nop4 vs = insts.Nop4
@@ -117,6 +150,25 @@ plain_name (insts.CSet rd cond) = names.Register register.CSet
 plain_name (insts.CSetm rd cond) = names.Register register.CSetm
 plain_name (insts.CCmp size rn rm nzcv cond) = names.Register register.CCmp
 plain_name (insts.CCmpImm size rn imm nzcv cond) = names.Register register.CCmpImm
+plain_name (insts.FpuMove32 rd rn) = names.Float float.FpuMove32
+plain_name (insts.FpuMove64 rd rn) = names.Float float.FpuMove64
+plain_name (insts.FpuMove128 rd rn) = names.Float float.FpuMove128
+plain_name (insts.FpuMoveFromVec rd rn idx lanes) = names.Float float.FpuMoveFromVec
+plain_name (insts.FpuExtend rd rn scalar) = names.Float float.FpuExtend
+plain_name (insts.FpuRR fpu_op scalar rd rn) = names.Float float.FpuRR
+plain_name (insts.FpuRRR fpu_op scalar rd rn rm) = names.Float float.FpuRRR
+plain_name (insts.FpuRRI fpu_op rd rn) = names.Float float.FpuRRI
+plain_name (insts.FpuRRIMod fpu_op rd ri rn) = names.Float float.FpuRRIMod
+plain_name (insts.FpuRRRR fpu_op scalar rd rn rm ra) = names.Float float.FpuRRRR
+plain_name (insts.FpuCmp scalar rn rm) = names.Float float.FpuCmp
+plain_name (insts.FpuToInt op rd rn) = names.Float float.FpuToInt
+plain_name (insts.IntToFpu op rd rn) = names.Float float.IntToFpu
+plain_name (insts.FpuCSel16 rd rn rm cond) = names.Float float.FpuCSel16
+plain_name (insts.FpuCSel32 rd rn rm cond) = names.Float float.FpuCSel32
+plain_name (insts.FpuCSel64 rd rn rm cond) = names.Float float.FpuCSel64
+plain_name (insts.FpuRound op rd rn) = names.Float float.FpuRound
+plain_name (insts.MovToFpu rd rn scalar) = names.Float float.MovToFpu
+plain_name (insts.FpuMoveFPImm rd imm scalar) = names.Float float.FpuMoveFPImm
 plain_name insts.Nop0 = names.System system.Nop0
 plain_name (insts.MovToNZCV rn) = names.System system.MovToNZCV
 plain_name (insts.MovFromNZCV rd) = names.System system.MovFromNZCV

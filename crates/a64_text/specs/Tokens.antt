@@ -31,6 +31,7 @@ use Rattle.a64_read.specs.Fields.{label_text, IsLabel}
 use Rattle.a64_read.specs.Hex.{hex_text}
 use Rattle.a64_text.specs.Constants.{HasHex}
 use Rattle.a64_read.specs.Lists.{list_text}
+use Rattle.a64_text.specs.FloatImms.{IsFloatAt}
 use Rattle.a64_text.specs.Names.{name_text}
 use Rattle.a64_text.specs.PlainFields.{inst_fields, plain_name}
 use Rattle.a64_read.specs.RegisterPairs.{arg_pair_text, IsArgPair, ret_pair_text, IsRetPair}
@@ -149,6 +150,7 @@ fields_of entry = (parts entry).fields
 -- what an instruction asks beside that its fields have texts
 abbrev pub IsOwnInst : Inst → Type 0
 IsOwnInst (insts.AluRRImmLogic alu_op size rd rn imml) = IsLogicOf size (logic_value imml) imml
+IsOwnInst (insts.FpuMoveFPImm rd imm scalar) = IsFloatAt scalar imm
 IsOwnInst (insts.IndirectBr rn targets) = AllByRecursion IsLabel targets
 IsOwnInst (insts.Args args) = AllByRecursion IsArgPair args
 IsOwnInst (insts.Rets rets) = AllByRecursion IsRetPair rets

@@ -1,12 +1,15 @@
 //! The names of entries stand in their table.
 
-ghost use Rattle.std.specs.Prelude.{map};
-ghost use Rattle.a64_text.specs.declared.name_table.TheConstants.{NAME_HOMES, NAMES};
+ghost use Rattle.a64_text.specs.declared.name_table.TheConstants.{NAME_HOMES};
+ghost use Rattle.a64_text.specs.NameRows.{name_rows};
 ghost use Rattle.a64_text.specs.Names.{name_text, kinds_of};
 ghost use Rattle.a64_text.specs.Makers.{name_found};
 
 use crate::name::Name;
-use crate::name_table::{NAME_HOMES, NAMES};
+use crate::name_table::{
+    NAME_HOMES, access_rows, control_rows, float_rows, immediate_rows, other_rows, register_rows,
+    sequence_rows,
+};
 use a64_read::named::{Named, Row};
 
 impl Named for Name {
@@ -16,10 +19,23 @@ impl Named for Name {
 
     ghost homes = { NAME_HOMES };
 
-    ghost rows = { map (λ row. row.2) NAMES };
+    ghost rows = { name_rows };
 
-    fn table() -> (&'static [u8], &'static [Row<Name>]) {
-        (&NAME_HOMES, &NAMES)
+    fn home_table() -> &'static [u8] {
+        &NAME_HOMES
+    }
+
+    #[inline(always)]
+    fn row_table(class: u8) -> &'static [Row<Name>] {
+        match class {
+            0 => immediate_rows(),
+            1 => register_rows(),
+            2 => float_rows(),
+            3 => control_rows(),
+            4 => sequence_rows(),
+            5 => access_rows(),
+            _ => other_rows(),
+        }
     }
 
     ghost found = { name_found };

@@ -5,6 +5,7 @@ mod constant;
 mod entry;
 mod entry_name;
 mod file;
+mod float_imm;
 mod logic;
 mod make;
 mod name;

@@ -60,6 +60,49 @@ pub enum RegisterName {
     CCmpImm,
 }
 
+/// The name of an operation on scalar floats.
+#[derive(Clone, Copy)]
+pub enum FloatName {
+    /// `FpuMove32`.
+    FpuMove32,
+    /// `FpuMove64`.
+    FpuMove64,
+    /// `FpuMove128`.
+    FpuMove128,
+    /// `FpuMoveFromVec`.
+    FpuMoveFromVec,
+    /// `FpuExtend`.
+    FpuExtend,
+    /// `FpuRR`.
+    FpuRR,
+    /// `FpuRRR`.
+    FpuRRR,
+    /// `FpuRRI`.
+    FpuRRI,
+    /// `FpuRRIMod`.
+    FpuRRIMod,
+    /// `FpuRRRR`.
+    FpuRRRR,
+    /// `FpuCmp`.
+    FpuCmp,
+    /// `FpuToInt`.
+    FpuToInt,
+    /// `IntToFpu`.
+    IntToFpu,
+    /// `FpuCSel16`.
+    FpuCSel16,
+    /// `FpuCSel32`.
+    FpuCSel32,
+    /// `FpuCSel64`.
+    FpuCSel64,
+    /// `FpuRound`.
+    FpuRound,
+    /// `MovToFpu`.
+    MovToFpu,
+    /// `FpuMoveFPImm`.
+    FpuMoveFPImm,
+}
+
 /// The name of a hint, or of an access to the flags.
 #[derive(Clone, Copy)]
 pub enum SystemName {
@@ -166,6 +209,8 @@ pub enum Name {
     Immediate(ImmediateName),
     /// An integer operation on registers.
     Register(RegisterName),
+    /// An operation on scalar floats.
+    Float(FloatName),
     /// A hint, or an access to the flags.
     System(SystemName),
     /// A branch or another instruction of control.

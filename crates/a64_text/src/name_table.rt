@@ -1,31 +1,88 @@
 //! The names with which lines begin, each with the kinds of the fields behind it.
 
+ghost use Rattle.std.specs.Prelude.{map};
+ghost use Rattle.a64_read.specs.Hash.{AreRows};
+ghost use Rattle.a64_text.specs.declared.name_table.TheConstants.{IMMEDIATE_NAMES, REGISTER_NAMES, FLOAT_NAMES, CONTROL_NAMES, SEQUENCE_NAMES, ACCESS_NAMES, OTHER_NAMES};
+ghost use Rattle.a64_text.specs.Names.{name_text, kinds_of};
+
 use crate::name::{
-    CallName, ControlName, ImmediateName, MemoryName, Name, RegisterName, SequenceName, SystemName,
+    CallName, ControlName, FloatName, ImmediateName, MemoryName, Name, RegisterName, SequenceName,
+    SystemName,
 };
 use a64_inst::AccessOp;
 use a64_read::named::Row;
 use a64_read::value::Kind;
 
-/// For each remainder of a hash, the row of the name that has it.
-pub static NAME_HOMES: [u8; 512] = [
-    0, 0, 0, 0, 0, 45, 0, 0, 38, 0, 0, 0, 0, 0, 0, 11, 18, 0, 43, 0, 0, 0, 0, 0, 0, 0, 0, 0, 0, 0,
-    0, 3, 0, 17, 0, 0, 0, 24, 0, 0, 0, 0, 0, 0, 0, 0, 0, 0, 0, 0, 0, 0, 0, 0, 0, 0, 0, 0, 37, 0, 0,
-    0, 0, 0, 0, 0, 30, 61, 72, 0, 0, 0, 0, 0, 0, 0, 0, 0, 0, 0, 0, 0, 0, 0, 0, 0, 0, 67, 54, 9, 0,
-    0, 0, 0, 0, 0, 0, 0, 23, 0, 0, 0, 0, 0, 0, 0, 0, 0, 0, 58, 0, 39, 0, 0, 75, 0, 46, 0, 0, 0, 0,
-    0, 0, 0, 0, 0, 0, 0, 0, 62, 0, 55, 0, 68, 63, 0, 0, 0, 0, 0, 0, 51, 0, 0, 0, 0, 0, 0, 7, 0, 0,
-    0, 0, 70, 65, 0, 0, 0, 0, 0, 0, 48, 0, 0, 0, 0, 0, 0, 0, 0, 0, 0, 0, 0, 0, 0, 0, 50, 56, 0, 0,
-    0, 0, 0, 0, 0, 28, 0, 0, 0, 0, 0, 42, 0, 0, 0, 0, 0, 0, 0, 21, 5, 0, 10, 0, 0, 0, 0, 29, 0, 0,
-    0, 0, 0, 0, 0, 77, 0, 0, 0, 41, 0, 0, 0, 0, 0, 0, 0, 0, 20, 0, 0, 0, 0, 0, 6, 0, 0, 0, 0, 0, 0,
-    0, 0, 0, 0, 0, 0, 0, 0, 0, 0, 0, 0, 1, 0, 0, 0, 0, 47, 0, 0, 0, 0, 0, 0, 74, 0, 0, 0, 25, 0, 0,
-    0, 0, 0, 0, 0, 0, 0, 0, 0, 36, 0, 0, 0, 0, 0, 0, 0, 59, 71, 0, 0, 0, 0, 0, 35, 0, 0, 0, 0, 16,
-    0, 0, 53, 0, 0, 0, 31, 0, 73, 0, 0, 0, 0, 0, 0, 0, 0, 0, 0, 0, 0, 0, 0, 0, 0, 0, 0, 0, 0, 0, 0,
-    0, 0, 0, 0, 44, 0, 0, 0, 0, 0, 0, 0, 0, 0, 0, 0, 27, 0, 0, 0, 0, 0, 0, 0, 0, 57, 0, 0, 13, 0,
-    0, 0, 0, 0, 0, 0, 0, 0, 0, 0, 12, 2, 0, 19, 0, 0, 0, 0, 0, 0, 33, 0, 0, 0, 14, 0, 0, 0, 0, 8,
-    0, 0, 34, 0, 60, 0, 0, 0, 4, 0, 0, 0, 0, 0, 0, 0, 0, 0, 0, 0, 0, 49, 66, 0, 0, 0, 52, 0, 69,
-    64, 0, 0, 78, 0, 0, 0, 0, 0, 0, 0, 0, 0, 0, 0, 0, 0, 0, 0, 0, 0, 0, 0, 0, 0, 0, 0, 0, 0, 0, 0,
-    0, 26, 0, 0, 0, 0, 0, 76, 0, 0, 0, 0, 0, 0, 0, 0, 0, 0, 22, 40, 0, 0, 0, 0, 0, 0, 32, 15, 0, 0,
-    0, 0, 0, 0, 0, 0, 0, 0, 0, 0, 0, 0, 0, 0, 0, 0, 0, 0, 0, 0, 0, 0, 0, 0, 0, 0, 0, 0,
+/// For each remainder of a hash, the home of the name that has it: 32 times the number of its class, plus
+/// the number of its row there.
+pub static NAME_HOMES: [u8; 2048] = [
+    0, 0, 0, 0, 0, 133, 0, 0, 0, 0, 0, 0, 0, 0, 0, 0, 0, 0, 131, 0, 0, 0, 0, 0, 0, 0, 0, 0, 0, 0,
+    0, 0, 0, 42, 0, 0, 0, 0, 0, 0, 0, 0, 0, 0, 0, 0, 0, 0, 0, 0, 0, 0, 0, 0, 0, 0, 0, 0, 0, 0, 0,
+    0, 0, 0, 0, 0, 77, 165, 176, 0, 0, 0, 0, 0, 0, 0, 0, 0, 0, 0, 0, 0, 68, 0, 0, 0, 0, 171, 193,
+    0, 0, 0, 0, 0, 0, 0, 0, 0, 7, 0, 0, 0, 0, 0, 0, 0, 0, 0, 0, 162, 0, 0, 0, 0, 195, 0, 0, 0, 0,
+    0, 0, 0, 0, 0, 0, 0, 0, 0, 0, 0, 0, 0, 0, 0, 0, 0, 0, 0, 0, 0, 0, 0, 0, 0, 0, 0, 0, 0, 0, 0, 0,
+    0, 0, 174, 169, 0, 0, 0, 0, 0, 0, 0, 0, 0, 0, 0, 0, 0, 0, 0, 0, 0, 0, 0, 0, 0, 0, 0, 160, 0, 0,
+    0, 0, 76, 0, 0, 0, 0, 0, 0, 0, 0, 130, 0, 0, 0, 0, 0, 0, 0, 0, 1, 0, 64, 0, 0, 0, 0, 0, 0, 0,
+    0, 0, 0, 0, 0, 0, 0, 0, 0, 129, 0, 0, 0, 0, 0, 0, 0, 0, 0, 0, 0, 0, 0, 0, 2, 0, 0, 0, 0, 0, 0,
+    0, 0, 0, 0, 0, 0, 0, 0, 0, 0, 0, 0, 0, 0, 0, 0, 0, 0, 0, 0, 0, 0, 0, 0, 0, 0, 0, 0, 99, 0, 0,
+    0, 0, 0, 0, 0, 0, 0, 0, 0, 0, 0, 0, 0, 70, 0, 0, 0, 0, 0, 0, 0, 0, 0, 0, 0, 0, 0, 0, 0, 0, 0,
+    0, 0, 0, 0, 0, 0, 0, 0, 0, 0, 0, 0, 0, 0, 0, 0, 0, 0, 0, 0, 0, 0, 0, 0, 0, 0, 0, 0, 0, 0, 0, 0,
+    0, 0, 0, 0, 0, 0, 0, 0, 0, 0, 0, 0, 0, 0, 9, 0, 0, 0, 0, 0, 0, 0, 0, 0, 0, 0, 0, 0, 0, 0, 0, 0,
+    0, 0, 0, 0, 0, 0, 0, 0, 0, 0, 0, 0, 0, 0, 0, 0, 105, 0, 0, 0, 0, 0, 0, 75, 0, 0, 0, 0, 0, 0, 0,
+    0, 0, 0, 0, 0, 0, 0, 0, 0, 0, 0, 0, 0, 0, 0, 0, 0, 170, 0, 0, 0, 0, 0, 173, 168, 0, 0, 0, 0, 0,
+    0, 0, 0, 0, 0, 0, 0, 0, 0, 0, 0, 0, 0, 0, 0, 0, 0, 0, 0, 0, 0, 0, 69, 0, 0, 0, 0, 0, 0, 0, 0,
+    0, 196, 0, 0, 0, 0, 0, 0, 0, 0, 0, 0, 0, 0, 0, 0, 0, 0, 0, 0, 0, 0, 0, 0, 0, 0, 0, 0, 0, 0, 0,
+    0, 0, 0, 0, 0, 0, 0, 0, 0, 0, 0, 0, 0, 0, 0, 0, 0, 0, 0, 0, 0, 0, 0, 0, 0, 0, 0, 0, 0, 0, 0, 0,
+    0, 0, 0, 0, 38, 0, 0, 0, 0, 0, 0, 71, 0, 0, 0, 0, 0, 0, 0, 0, 33, 0, 0, 0, 0, 0, 98, 0, 0, 0,
+    0, 0, 0, 0, 0, 0, 0, 0, 0, 0, 0, 0, 0, 0, 0, 0, 0, 0, 0, 0, 0, 0, 0, 0, 0, 0, 0, 0, 0, 0, 0, 0,
+    0, 0, 0, 0, 0, 0, 0, 0, 0, 0, 0, 0, 0, 79, 0, 0, 0, 0, 0, 0, 0, 0, 0, 0, 0, 0, 0, 0, 0, 0, 0,
+    0, 0, 0, 0, 0, 0, 0, 0, 0, 0, 0, 0, 0, 0, 0, 0, 0, 0, 0, 0, 0, 0, 0, 0, 0, 166, 0, 0, 0, 0, 0,
+    0, 0, 0, 0, 0, 0, 139, 0, 0, 0, 0, 0, 0, 34, 0, 0, 0, 0, 0, 0, 0, 0, 0, 0, 0, 0, 80, 0, 0, 0,
+    0, 0, 0, 0, 0, 0, 0, 0, 0, 0, 0, 0, 0, 0, 0, 0, 0, 0, 0, 0, 0, 0, 0, 0, 0, 0, 0, 0, 0, 0, 0,
+    66, 0, 0, 0, 0, 0, 0, 0, 0, 0, 0, 0, 101, 0, 0, 0, 0, 0, 0, 0, 0, 0, 0, 0, 0, 0, 0, 0, 0, 0, 0,
+    0, 0, 0, 0, 0, 0, 0, 0, 0, 0, 0, 0, 0, 0, 0, 0, 0, 0, 0, 0, 0, 0, 0, 0, 0, 0, 0, 97, 0, 0, 0,
+    0, 0, 0, 0, 0, 0, 0, 0, 0, 0, 0, 0, 0, 0, 0, 0, 0, 0, 0, 0, 0, 0, 0, 0, 108, 0, 0, 0, 0, 0, 0,
+    0, 0, 0, 0, 0, 0, 0, 0, 0, 0, 0, 0, 0, 0, 0, 0, 0, 0, 0, 0, 0, 0, 0, 0, 0, 0, 0, 0, 0, 0, 0, 0,
+    0, 0, 0, 0, 0, 0, 0, 0, 0, 0, 0, 0, 0, 0, 0, 0, 0, 0, 0, 0, 0, 0, 0, 0, 0, 0, 0, 0, 0, 0, 0, 0,
+    0, 0, 0, 78, 0, 0, 0, 0, 0, 0, 0, 0, 0, 0, 0, 0, 0, 0, 0, 0, 0, 0, 0, 0, 44, 0, 0, 0, 0, 0, 0,
+    0, 0, 0, 0, 4, 0, 0, 0, 0, 82, 0, 0, 0, 0, 164, 0, 0, 0, 0, 0, 0, 0, 0, 0, 0, 0, 0, 0, 0, 0, 0,
+    0, 0, 0, 0, 0, 0, 0, 0, 0, 0, 0, 0, 0, 0, 0, 0, 0, 0, 0, 0, 0, 0, 0, 0, 0, 0, 0, 0, 0, 0, 0, 0,
+    0, 0, 0, 0, 0, 0, 0, 0, 8, 0, 0, 0, 0, 0, 0, 0, 0, 0, 0, 0, 0, 0, 0, 0, 0, 0, 0, 0, 0, 0, 0, 0,
+    0, 0, 0, 0, 0, 0, 0, 0, 0, 0, 0, 0, 0, 0, 0, 0, 0, 0, 0, 0, 0, 0, 0, 0, 0, 0, 0, 0, 0, 0, 0, 0,
+    0, 0, 0, 0, 0, 0, 0, 0, 0, 0, 0, 0, 0, 0, 0, 0, 0, 43, 0, 0, 0, 0, 0, 0, 0, 0, 0, 0, 0, 0, 0,
+    0, 0, 0, 0, 0, 0, 0, 0, 0, 0, 0, 0, 0, 0, 0, 0, 0, 0, 0, 0, 0, 0, 0, 0, 0, 0, 0, 0, 0, 0, 0, 0,
+    0, 0, 0, 0, 102, 0, 0, 0, 0, 0, 0, 0, 0, 0, 0, 0, 0, 0, 0, 0, 0, 0, 0, 0, 0, 0, 0, 36, 0, 0, 0,
+    0, 0, 0, 0, 0, 0, 0, 0, 0, 0, 0, 0, 0, 0, 0, 0, 0, 0, 111, 0, 0, 0, 0, 134, 0, 0, 0, 0, 0, 0,
+    0, 0, 0, 0, 0, 0, 0, 0, 194, 0, 0, 0, 0, 0, 0, 0, 0, 0, 0, 0, 0, 0, 0, 0, 0, 0, 0, 0, 0, 0, 0,
+    0, 0, 0, 0, 0, 0, 0, 0, 0, 0, 0, 0, 0, 0, 0, 0, 0, 0, 0, 0, 0, 0, 0, 138, 0, 0, 0, 0, 0, 0, 0,
+    0, 0, 0, 0, 0, 0, 0, 0, 0, 0, 0, 0, 0, 0, 0, 5, 0, 0, 37, 0, 0, 0, 0, 0, 0, 0, 0, 0, 0, 0, 0,
+    197, 0, 0, 0, 0, 0, 0, 0, 0, 0, 0, 0, 0, 45, 0, 0, 0, 0, 0, 0, 0, 0, 0, 0, 0, 0, 0, 0, 0, 0, 0,
+    0, 0, 0, 0, 0, 0, 0, 0, 0, 0, 0, 0, 0, 0, 0, 0, 0, 0, 0, 178, 0, 0, 0, 0, 0, 0, 0, 0, 0, 0, 0,
+    0, 0, 0, 0, 0, 0, 0, 0, 0, 0, 0, 0, 163, 175, 0, 0, 0, 0, 0, 107, 0, 0, 0, 0, 0, 0, 0, 0, 0, 0,
+    0, 0, 0, 0, 0, 0, 0, 0, 0, 0, 0, 0, 0, 0, 0, 0, 0, 0, 0, 0, 0, 0, 0, 0, 0, 0, 0, 0, 0, 0, 0, 0,
+    0, 0, 0, 0, 0, 0, 0, 0, 0, 0, 0, 0, 0, 0, 0, 0, 0, 0, 0, 161, 0, 0, 3, 0, 0, 0, 0, 0, 0, 0, 0,
+    0, 0, 0, 0, 32, 0, 0, 0, 0, 0, 0, 0, 0, 0, 0, 0, 0, 0, 0, 0, 0, 0, 35, 0, 0, 0, 0, 0, 0, 0, 0,
+    0, 81, 0, 0, 0, 0, 0, 0, 0, 0, 0, 0, 0, 137, 0, 0, 0, 0, 0, 0, 0, 0, 0, 0, 198, 0, 0, 0, 0, 0,
+    0, 0, 0, 0, 0, 0, 0, 0, 0, 0, 0, 0, 0, 0, 0, 0, 0, 0, 0, 0, 0, 0, 73, 0, 0, 0, 0, 0, 0, 0, 0,
+    0, 0, 0, 0, 0, 0, 0, 0, 0, 6, 0, 0, 0, 0, 0, 0, 0, 0, 0, 0, 0, 0, 0, 0, 0, 0, 0, 0, 0, 0, 0,
+    67, 0, 0, 0, 0, 0, 0, 0, 0, 0, 0, 0, 0, 0, 0, 0, 0, 0, 0, 0, 0, 0, 0, 0, 0, 0, 110, 0, 0, 0, 0,
+    0, 0, 0, 0, 0, 0, 0, 0, 0, 0, 0, 0, 0, 0, 0, 0, 0, 0, 0, 0, 0, 0, 0, 0, 0, 0, 0, 0, 0, 0, 0, 0,
+    0, 0, 0, 0, 0, 0, 0, 0, 0, 0, 0, 0, 0, 109, 0, 0, 0, 0, 0, 0, 0, 0, 0, 0, 0, 0, 0, 0, 0, 0, 0,
+    0, 0, 0, 0, 0, 0, 0, 0, 0, 0, 0, 0, 0, 0, 0, 0, 0, 0, 0, 0, 0, 0, 0, 0, 0, 0, 0, 0, 0, 0, 0, 0,
+    0, 0, 0, 0, 0, 0, 0, 0, 0, 0, 0, 0, 0, 0, 0, 0, 0, 0, 0, 0, 0, 0, 0, 0, 0, 172, 167, 0, 0, 0,
+    0, 0, 0, 0, 0, 0, 0, 0, 0, 0, 0, 0, 0, 0, 0, 0, 0, 0, 0, 0, 0, 0, 0, 136, 0, 0, 0, 0, 0, 0, 0,
+    0, 0, 0, 0, 0, 0, 0, 0, 0, 0, 0, 0, 0, 0, 0, 0, 0, 100, 0, 0, 0, 0, 0, 0, 0, 0, 0, 0, 0, 0, 0,
+    0, 0, 0, 0, 0, 0, 0, 0, 0, 0, 0, 0, 0, 0, 0, 0, 0, 0, 0, 0, 0, 0, 96, 0, 0, 0, 0, 0, 0, 0, 0,
+    0, 0, 0, 0, 0, 0, 0, 0, 0, 0, 0, 0, 0, 0, 0, 0, 0, 0, 0, 0, 0, 0, 0, 0, 0, 0, 0, 0, 135, 74, 0,
+    0, 0, 0, 0, 0, 0, 0, 0, 0, 0, 0, 0, 0, 0, 0, 0, 0, 0, 0, 0, 0, 0, 0, 0, 0, 0, 0, 0, 0, 0, 0, 0,
+    0, 0, 0, 0, 0, 0, 0, 0, 41, 0, 0, 192, 0, 0, 0, 103, 0, 177, 0, 0, 0, 0, 0, 0, 0, 0, 0, 0, 0,
+    0, 0, 0, 0, 0, 0, 0, 0, 0, 0, 0, 0, 0, 0, 0, 132, 0, 0, 0, 0, 0, 0, 0, 0, 0, 0, 0, 0, 72, 0, 0,
+    0, 0, 0, 0, 0, 0, 0, 0, 0, 0, 0, 0, 0, 0, 0, 0, 0, 0, 0, 0, 39, 0, 0, 0, 0, 0, 0, 0, 0, 0, 0,
+    0, 0, 0, 0, 0, 0, 0, 0, 0, 0, 0, 106, 0, 0, 0, 0, 0, 0, 0, 0, 0, 0, 0, 0, 0, 0, 0, 0, 0, 0, 0,
+    0, 0, 0, 0, 140, 0, 0, 0, 0, 0, 0, 0, 0, 0, 0, 0, 0, 0, 0, 0, 0, 0, 0, 0, 0, 0, 0, 0, 0, 65, 0,
+    0, 0, 0, 0, 0, 0, 0, 0, 0, 0, 0, 0, 0, 0, 0, 0, 0, 0, 0, 0, 0, 0, 0, 0, 0, 0, 128, 0, 0, 0, 0,
+    0, 0, 104, 40, 0, 0, 0, 0, 0, 0, 0, 0, 0, 0, 0, 0, 0, 0, 0, 0, 0, 0, 0, 0, 0, 0, 0, 0, 0, 0, 0,
+    0, 0, 0,
 ];
 
 /// A row of the table: a name, what it names, and the kinds of the fields behind it.
@@ -33,36 +90,91 @@ macro_rules! row {
     ($text:expr, $name:expr $(, $($kind:ident)+)?) => { ($text, &[$($(Kind::$kind),+)?], $name) };
 }
 
-/// The names.
-pub static NAMES: [Row<Name>; 79] = [
-    row!(b"Nop0", Name::System(SystemName::Nop0)),
-    row!(b"Nop4", Name::System(SystemName::Nop4)),
-    row!(b"AluRRR", Name::Register(RegisterName::AluRRR), AluOp Size Reg Reg Reg),
-    row!(b"AluRRRR", Name::Register(RegisterName::AluRRRR), AluOp3 Size Reg Reg Reg Reg),
+/// The names of operations with an immediate.
+pub static IMMEDIATE_NAMES: [Row<Name>; 10] = [
     row!(b"AluRRImm12", Name::Immediate(ImmediateName::AluRRImm12), AluOp Size Reg Reg Imm12),
     row!(b"AluRRImmLogic", Name::Immediate(ImmediateName::AluRRImmLogic), AluOp Size Reg Reg U64),
     row!(b"AluRRImmShift", Name::Immediate(ImmediateName::AluRRImmShift), AluOp Size Reg Reg ImmShift),
+    row!(b"MovWide", Name::Immediate(ImmediateName::MovWide), MoveWideOp Reg Wide Size),
+    row!(b"MovK", Name::Immediate(ImmediateName::MovK), Reg Reg Wide Size),
+    row!(b"Extend", Name::Immediate(ImmediateName::Extend), Reg Reg Bool U8 U8),
+    row!(b"BitfieldMove", Name::Immediate(ImmediateName::BitfieldMove), Size BfmOp Reg Reg UImm6 UImm6),
+    row!(b"BitfieldMoveMod", Name::Immediate(ImmediateName::BitfieldMoveMod), Size Reg Reg Reg UImm6 UImm6),
+    row!(b"Adr", Name::Immediate(ImmediateName::Adr), Reg I32),
+    row!(b"Adrp", Name::Immediate(ImmediateName::Adrp), Reg I32),
+];
+
+/// Their rows.
+#[inline(always)]
+pub fn immediate_rows() -> &'static [Row<Name>]
+    ensures { AreRows name_text kinds_of (map (λ row. row.2) IMMEDIATE_NAMES) result.now }
+{
+    &IMMEDIATE_NAMES
+}
+
+/// The names of operations on registers.
+pub static REGISTER_NAMES: [Row<Name>; 14] = [
+    row!(b"AluRRR", Name::Register(RegisterName::AluRRR), AluOp Size Reg Reg Reg),
+    row!(b"AluRRRR", Name::Register(RegisterName::AluRRRR), AluOp3 Size Reg Reg Reg Reg),
     row!(b"AluRRRShift", Name::Register(RegisterName::AluRRRShift), AluOp Size Reg Reg Reg Shift),
     row!(b"AluRRRExtend", Name::Register(RegisterName::AluRRRExtend), AluOp Size Reg Reg Reg Extend),
     row!(b"BitRR", Name::Register(RegisterName::BitRR), BitOp Size Reg Reg),
     row!(b"Mov", Name::Register(RegisterName::Mov), Size Reg Reg),
     row!(b"MovFromPReg", Name::Register(RegisterName::MovFromPReg), Reg PReg),
     row!(b"MovToPReg", Name::Register(RegisterName::MovToPReg), PReg Reg),
-    row!(b"MovWide", Name::Immediate(ImmediateName::MovWide), MoveWideOp Reg Wide Size),
-    row!(b"MovK", Name::Immediate(ImmediateName::MovK), Reg Reg Wide Size),
     row!(b"CSel", Name::Register(RegisterName::CSel), Reg Reg Reg Cond),
     row!(b"CSNeg", Name::Register(RegisterName::CSNeg), Reg Reg Reg Cond),
     row!(b"CSet", Name::Register(RegisterName::CSet), Reg Cond),
     row!(b"CSetm", Name::Register(RegisterName::CSetm), Reg Cond),
     row!(b"CCmp", Name::Register(RegisterName::CCmp), Size Reg Reg Nzcv Cond),
     row!(b"CCmpImm", Name::Register(RegisterName::CCmpImm), Size Reg UImm5 Nzcv Cond),
-    row!(b"Extend", Name::Immediate(ImmediateName::Extend), Reg Reg Bool U8 U8),
-    row!(b"BitfieldMove", Name::Immediate(ImmediateName::BitfieldMove), Size BfmOp Reg Reg UImm6 UImm6),
-    row!(b"BitfieldMoveMod", Name::Immediate(ImmediateName::BitfieldMoveMod), Size Reg Reg Reg UImm6 UImm6),
+];
+
+/// Their rows.
+#[inline(always)]
+pub fn register_rows() -> &'static [Row<Name>]
+    ensures { AreRows name_text kinds_of (map (λ row. row.2) REGISTER_NAMES) result.now }
+{
+    &REGISTER_NAMES
+}
+
+/// The names of operations on scalar floats.
+pub static FLOAT_NAMES: [Row<Name>; 19] = [
+    row!(b"FpuMove32", Name::Float(FloatName::FpuMove32), Reg Reg),
+    row!(b"FpuMove64", Name::Float(FloatName::FpuMove64), Reg Reg),
+    row!(b"FpuMove128", Name::Float(FloatName::FpuMove128), Reg Reg),
+    row!(b"FpuMoveFromVec", Name::Float(FloatName::FpuMoveFromVec), Reg Reg U8 VectorSize),
+    row!(b"FpuExtend", Name::Float(FloatName::FpuExtend), Reg Reg ScalarSize),
+    row!(b"FpuRR", Name::Float(FloatName::FpuRR), FpuOp1 ScalarSize Reg Reg),
+    row!(b"FpuRRR", Name::Float(FloatName::FpuRRR), FpuOp2 ScalarSize Reg Reg Reg),
+    row!(b"FpuRRI", Name::Float(FloatName::FpuRRI), FpuOpRI Reg Reg),
+    row!(b"FpuRRIMod", Name::Float(FloatName::FpuRRIMod), FpuOpRIMod Reg Reg Reg),
+    row!(b"FpuRRRR", Name::Float(FloatName::FpuRRRR), FpuOp3 ScalarSize Reg Reg Reg Reg),
+    row!(b"FpuCmp", Name::Float(FloatName::FpuCmp), ScalarSize Reg Reg),
+    row!(b"FpuToInt", Name::Float(FloatName::FpuToInt), FpuToIntOp Reg Reg),
+    row!(b"IntToFpu", Name::Float(FloatName::IntToFpu), IntToFpuOp Reg Reg),
+    row!(b"FpuCSel16", Name::Float(FloatName::FpuCSel16), Reg Reg Reg Cond),
+    row!(b"FpuCSel32", Name::Float(FloatName::FpuCSel32), Reg Reg Reg Cond),
+    row!(b"FpuCSel64", Name::Float(FloatName::FpuCSel64), Reg Reg Reg Cond),
+    row!(b"FpuRound", Name::Float(FloatName::FpuRound), FpuRoundMode Reg Reg),
+    row!(b"MovToFpu", Name::Float(FloatName::MovToFpu), Reg Reg ScalarSize),
+    row!(b"FpuMoveFPImm", Name::Float(FloatName::FpuMoveFPImm), Reg U8 ScalarSize),
+];
+
+/// Their rows.
+#[inline(always)]
+pub fn float_rows() -> &'static [Row<Name>]
+    ensures { AreRows name_text kinds_of (map (λ row. row.2) FLOAT_NAMES) result.now }
+{
+    &FLOAT_NAMES
+}
+
+/// The names of hints, of accesses to the flags and of instructions of control.
+pub static CONTROL_NAMES: [Row<Name>; 16] = [
+    row!(b"Nop0", Name::System(SystemName::Nop0)),
+    row!(b"Nop4", Name::System(SystemName::Nop4)),
     row!(b"MovToNZCV", Name::System(SystemName::MovToNZCV), Reg),
     row!(b"MovFromNZCV", Name::System(SystemName::MovFromNZCV), Reg),
-    row!(b"Adr", Name::Immediate(ImmediateName::Adr), Reg I32),
-    row!(b"Adrp", Name::Immediate(ImmediateName::Adrp), Reg I32),
     row!(b"Ret", Name::Control(ControlName::Ret)),
     row!(b"Jump", Name::Control(ControlName::Jump), Target),
     row!(b"CondBr", Name::Control(ControlName::CondBr), Target Target CondBrKind),
@@ -75,6 +187,18 @@ pub static NAMES: [Row<Name>; 79] = [
     row!(b"Word8", Name::Control(ControlName::Word8), U64),
     row!(b"EmitIsland", Name::Control(ControlName::EmitIsland), U32),
     row!(b"LabelAddress", Name::Control(ControlName::LabelAddress), Reg Label),
+];
+
+/// Their rows.
+#[inline(always)]
+pub fn control_rows() -> &'static [Row<Name>]
+    ensures { AreRows name_text kinds_of (map (λ row. row.2) CONTROL_NAMES) result.now }
+{
+    &CONTROL_NAMES
+}
+
+/// The names of sequences and of calls.
+pub static SEQUENCE_NAMES: [Row<Name>; 13] = [
     row!(b"Args", Name::Sequence(SequenceName::Args), List),
     row!(b"Rets", Name::Sequence(SequenceName::Rets), List),
     row!(b"DummyUse", Name::Sequence(SequenceName::DummyUse), Reg),
@@ -91,14 +215,18 @@ pub static NAMES: [Row<Name>; 79] = [
     row!(b"CallInd", Name::Call(CallName::CallInd), Reg List List List Convention Convention U32 Bool Map),
     row!(b"ReturnCall", Name::Call(CallName::ReturnCall), U32 List U32 Key Bool),
     row!(b"ReturnCallInd", Name::Call(CallName::ReturnCallInd), Reg List U32 Key Bool),
-    row!(b"LoadP64", Name::Memory(MemoryName::LoadP64), Reg Reg PairMode Flags),
-    row!(b"StoreP64", Name::Memory(MemoryName::StoreP64), Reg Reg PairMode Flags),
-    row!(b"LoadAddr", Name::Memory(MemoryName::LoadAddr), Reg Mode),
-    row!(b"AtomicRMW", Name::Memory(MemoryName::AtomicRMW), Type AtomicRmwOp Reg Reg Reg Flags),
-    row!(b"AtomicCAS", Name::Memory(MemoryName::AtomicCAS), Reg Reg Reg Reg Type Flags),
-    row!(b"AtomicCAS128", Name::Memory(MemoryName::AtomicCAS128), Reg Reg Reg Reg Reg Reg Reg Flags),
-    row!(b"LoadAcquire", Name::Memory(MemoryName::LoadAcquire), Type Reg Reg Flags),
-    row!(b"StoreRelease", Name::Memory(MemoryName::StoreRelease), Type Reg Reg Flags),
+];
+
+/// Their rows.
+#[inline(always)]
+pub fn sequence_rows() -> &'static [Row<Name>]
+    ensures { AreRows name_text kinds_of (map (λ row. row.2) SEQUENCE_NAMES) result.now }
+{
+    &SEQUENCE_NAMES
+}
+
+/// The names of loads and stores of one register.
+pub static ACCESS_NAMES: [Row<Name>; 19] = [
     row!(b"ULoad8", Name::Access(AccessOp::ULoad8), Reg Mode Flags),
     row!(b"SLoad8", Name::Access(AccessOp::SLoad8), Reg Mode Flags),
     row!(b"ULoad16", Name::Access(AccessOp::ULoad16), Reg Mode Flags),
@@ -118,8 +246,36 @@ pub static NAMES: [Row<Name>; 79] = [
     row!(b"FpuStore32", Name::Access(AccessOp::FpuStore32), Reg Mode Flags),
     row!(b"FpuStore64", Name::Access(AccessOp::FpuStore64), Reg Mode Flags),
     row!(b"FpuStore128", Name::Access(AccessOp::FpuStore128), Reg Mode Flags),
+];
+
+/// Their rows.
+#[inline(always)]
+pub fn access_rows() -> &'static [Row<Name>]
+    ensures { AreRows name_text kinds_of (map (λ row. row.2) ACCESS_NAMES) result.now }
+{
+    &ACCESS_NAMES
+}
+
+/// The names of other instructions of memory, and of entries that are no instruction.
+pub static OTHER_NAMES: [Row<Name>; 12] = [
+    row!(b"LoadP64", Name::Memory(MemoryName::LoadP64), Reg Reg PairMode Flags),
+    row!(b"StoreP64", Name::Memory(MemoryName::StoreP64), Reg Reg PairMode Flags),
+    row!(b"LoadAddr", Name::Memory(MemoryName::LoadAddr), Reg Mode),
+    row!(b"AtomicRMW", Name::Memory(MemoryName::AtomicRMW), Type AtomicRmwOp Reg Reg Reg Flags),
+    row!(b"AtomicCAS", Name::Memory(MemoryName::AtomicCAS), Reg Reg Reg Reg Type Flags),
+    row!(b"AtomicCAS128", Name::Memory(MemoryName::AtomicCAS128), Reg Reg Reg Reg Reg Reg Reg Flags),
+    row!(b"LoadAcquire", Name::Memory(MemoryName::LoadAcquire), Type Reg Reg Flags),
+    row!(b"StoreRelease", Name::Memory(MemoryName::StoreRelease), Type Reg Reg Flags),
     row!(b"bind", Name::Bind, Label),
     row!(b"const", Name::Const, U32 List),
     row!(b"frame", Name::Frame, FrameField U32),
     row!(b"flag", Name::Flag, EmitFlag),
 ];
+
+/// Their rows.
+#[inline(always)]
+pub fn other_rows() -> &'static [Row<Name>]
+    ensures { AreRows name_text kinds_of (map (λ row. row.2) OTHER_NAMES) result.now }
+{
+    &OTHER_NAMES
+}

@@ -15,6 +15,7 @@ use crate::file::{File, FileError};
 use crate::make::call::put_call;
 use crate::make::control::put_control;
 use crate::make::memory::{put_access, put_memory};
+use crate::make::plain::float::put_float;
 use crate::make::plain::{put_immediate, put_register, put_system};
 use crate::make::sequence::put_sequence;
 use crate::make::{make_constant, make_flag, make_frame, put_bind};
@@ -136,6 +137,7 @@ fn add_made(
     match name {
         Name::Immediate(name) => Ok(put_immediate(&mut state.file.items, name, values)),
         Name::Register(name) => Ok(put_register(&mut state.file.items, name, values)),
+        Name::Float(name) => Ok(put_float(&mut state.file.items, name, values)),
         Name::System(name) => Ok(put_system(&mut state.file.items, name, values)),
         Name::Control(name) => put_control(alloc, &mut state.file.items, name, values),
         Name::Sequence(name) => put_sequence(alloc, &mut state.file.items, name, values),

@@ -5,6 +5,7 @@ ghost use Rattle.std.specs.Vec.{vec_len, vec_capacity};
 ghost use Rattle.a64_text.specs.declared.name.Name.TheVariants as names;
 ghost use Rattle.a64_text.specs.declared.name.ImmediateName.TheVariants as immediate;
 ghost use Rattle.a64_text.specs.Makes.{emitted, Makes};
+ghost use Rattle.a64_text.specs.Names.{logic_name};
 ghost use Rattle.a64_text.specs.Puts.{Puts};
 
 use crate::logic::logic_of;
@@ -20,6 +21,7 @@ macro_rules! field_at {
     ($values:expr, $i:tt; Def $class:tt) => { Writable::from_reg(at::get($values, $i)) };
     ($values:expr, $i:tt; Use $class:tt) => { at::get($values, $i) };
     ($values:expr, $i:tt; Is Logic) => { unreachable!() };
+    ($values:expr, $i:tt; Is FloatImm) => { unreachable!() };
     ($values:expr, $i:tt; Is $kind:tt) => { at::get($values, $i) };
 }
 
@@ -40,10 +42,12 @@ macro_rules! put_arms {
     };
 }
 
+pub mod float;
+
 /// The operation with the immediate that the constructor gives for the number at the size.
 #[tactic(auto, unfolding(crate::specs::Makes::Makes))]
 fn alu_rr_imm_logic(values: &[Value]) -> Option<Inst>
-    ensures { Makes (names.Immediate immediate.AluRRImmLogic) values.now (option_map emitted result) }
+    ensures { Makes logic_name values.now (option_map emitted result) }
 {
     let size = at::get::<OperandSize>(values, 1);
     Some(Inst::AluRRImmLogic {
@@ -61,7 +65,7 @@ fn alu_rr_imm_logic(values: &[Value]) -> Option<Inst>
 #[inline(never)]
 fn put_alu_rr_imm_logic(items: &mut Vec<Item>, values: &[Value]) -> bool
     requires { vec_len items.old < vec_capacity items.old }
-    ensures { Puts (names.Immediate immediate.AluRRImmLogic) values.now items.old.items items.new.items result }
+    ensures { Puts logic_name values.now items.old.items items.new.items result }
 {
     emit_some(items, alu_rr_imm_logic(values))
 }

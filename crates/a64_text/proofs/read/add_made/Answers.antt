@@ -18,6 +18,9 @@ returns-in-Immediate c = put_adds c.args.state.now (with_items c.args.state.now 
 pub returns-in-Register : goal.returns-in-Register
 returns-in-Register c = put_adds c.args.state.now (with_items c.args.state.now c.put_register.new.items) refl refl c.args.name (names.Register c.in-Register.name) c.args.values.now c.reserve.new.self.items c.put_register.result c.in-Register.is c.reserve.ensures.items c.put_register.ensures
 
+pub returns-in-Float : goal.returns-in-Float
+returns-in-Float c = put_adds c.args.state.now (with_items c.args.state.now c.put_float.new.items) refl refl c.args.name (names.Float c.in-Float.name) c.args.values.now c.reserve.new.self.items c.put_float.result c.in-Float.is c.reserve.ensures.items c.put_float.ensures
+
 pub returns-in-System : goal.returns-in-System
 returns-in-System c = put_adds c.args.state.now (with_items c.args.state.now c.put_system.new.items) refl refl c.args.name (names.System c.in-System.name) c.args.values.now c.reserve.new.self.items c.put_system.result c.in-System.is c.reserve.ensures.items c.put_system.ensures
 

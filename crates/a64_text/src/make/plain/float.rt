@@ -1,0 +1,62 @@
+//! Makes operations on scalar floats of their fields.
+
+ghost use Rattle.std.specs.Prelude.{◌<◌, ◌≢◌, option_map};
+ghost use Rattle.std.specs.Vec.{vec_len, vec_capacity};
+ghost use Rattle.a64_text.specs.declared.name.FloatName.TheVariants as float;
+ghost use Rattle.a64_text.specs.declared.name.Name.TheVariants as names;
+ghost use Rattle.a64_text.specs.Makes.{emitted, Makes};
+ghost use Rattle.a64_text.specs.Names.{float_imm_name};
+ghost use Rattle.a64_text.specs.Puts.{Puts};
+
+use crate::float_imm::float_imm_of;
+use crate::make::{emit, emit_some};
+use crate::name::FloatName;
+use a64_base::{ScalarSize, Writable};
+use a64_inst::{Inst, Item, float_list};
+use a64_read::at;
+use a64_read::value::Value;
+
+/// The move of the float that the eight bits are at the size.
+#[tactic(auto, unfolding(crate::specs::Makes::Makes))]
+fn fpu_move_fp_imm(values: &[Value]) -> Option<Inst>
+    ensures { Makes float_imm_name values.now (option_map emitted result) }
+{
+    let size = at::get::<ScalarSize>(values, 2);
+    Some(Inst::FpuMoveFPImm {
+        rd: Writable::from_reg(at::get(values, 0)),
+        imm: float_imm_of(size, at::get(values, 1))?,
+        size,
+    })
+}
+
+/// Puts the move of the float behind the items, where there is one.
+#[tactic(auto, unfolding(crate::specs::Puts::Puts))]
+fn put_fpu_move_fp_imm(items: &mut Vec<Item>, values: &[Value]) -> bool
+    requires { vec_len items.old < vec_capacity items.old }
+    ensures { Puts float_imm_name values.now items.old.items items.new.items result }
+{
+    emit_some(items, fpu_move_fp_imm(values))
+}
+
+/// Puts the operation of this name, of which the fields are all, behind the items.
+#[tactic(auto, unfolding(crate::specs::Puts::Puts))]
+fn put_other_float(items: &mut Vec<Item>, name: FloatName, values: &[Value]) -> bool
+    requires room { vec_len items.old < vec_capacity items.old }
+    requires other { name ≢ float.FpuMoveFPImm }
+    ensures { Puts (names.Float name) values.now items.old.items items.new.items result }
+{
+    float_list!(put_arms, virtuals, items, name, FloatName, values)
+}
+
+/// Puts the operation on scalar floats of this name with these fields behind the items, where there
+/// is one.
+#[inline(never)]
+pub fn put_float(items: &mut Vec<Item>, name: FloatName, values: &[Value]) -> bool
+    requires { vec_len items.old < vec_capacity items.old }
+    ensures { Puts (names.Float name) values.now items.old.items items.new.items result }
+{
+    match name {
+        FloatName::FpuMoveFPImm => put_fpu_move_fp_imm(items, values),
+        _ => put_other_float(items, name, values),
+    }
+}
