@@ -1,11 +1,14 @@
 -- What contents are as bytes.
-use Rattle.std.proofs.Common.{ℕ, ◌≡◌, Bool, true, false, cond, List, [], ◌∷◌, Option, None, Some, map, refl, sym, ◌∙◌, ap, subst, nat_cmp}
+use Rattle.std.proofs.Common.{ℕ, ◌≡◌, ◌≤◌, Bool, true, false, cond, List, [], ◌∷◌, length, Option, None, Some, map, refl, sym, ◌∙◌, ap, subst, arith, inl, inr, nat_cmp}
 use Rattle.std.specs.Prelude.{option_map, is_some, IfSome}
 use Rattle.std.specs.Cmp.{nat_cmp_total}
 use Rattle.std.specs.Ordering.{eq_by_cmp}
 use Rattle.std.specs.FinMap.{FinMap, get, insert, empty, entries, find, get-empty, get-entries, get-from_entries, get-insert, same_map, nat_cmp-IsAntisymmetric}
-use Rattle.a64_buffer.specs.declared.constants.Content.{Content}
-use Rattle.a64_buffer.specs.Constants.{IsConstant, AreConstants, content_bytes, contents_bytes}
+use Rattle.std.proofs.lemmas.List.{length-take-le}
+use Rattle.a64_buffer.specs.declared.content.Content.{Content}
+use Rattle.a64_buffer.specs.declared.content.ContentSize.{ContentSize}
+use Rattle.a64_buffer.specs.declared.content.ContentSize.TheVariants.{Word, Doubleword, Quadword}
+use Rattle.a64_buffer.specs.Constants.{IsConstant, AreConstants, size_bytes, content_bytes, contents_bytes}
 
 -- entries whose values are mapped
 find_mapped : {X Y : Type 0} (f : X → Y) (q : ℕ) (es : List (ℕ × X)) → find nat_cmp q (map (λ e. (e.0, f e.1)) es) ≡ option_map f (find nat_cmp q es)
@@ -47,14 +50,27 @@ some_bytes contents number = ap is_some (bytes_at contents number) ∙ mapped (g
     mapped None = refl
     mapped (Some content) = refl
 
--- no constants, and one more
-pub constants_none : AreConstants empty
-constants_none number = subst (λ o. IfSome o IsConstant) (sym (get-empty nat_cmp number)) tt
-
-pub constants_more : (m : FinMap nat_cmp (List ℕ)) (number : ℕ) (content : List ℕ) → AreConstants m → IsConstant content → AreConstants (insert m number content)
-constants_more m number content all one q =
-    subst (λ o. IfSome o IsConstant) (sym (get-insert nat_cmp_total m number content q)) (go (eq_by_cmp nat_cmp q number))
+-- how many bytes a content has
+pub content_length : (content : Content) → length (content_bytes content) ≡ size_bytes content.size
+content_length content = length-take-le (size_bytes content.size) content.bytes (omega (arith, most content.size, content.whole))
   where
-    go : (t : Bool) → IfSome (cond t (Some content) (get m q)) IsConstant
-    go true = one
-    go false = all q
+    most : (size : ContentSize) → size_bytes size ≤ 16
+    most Word = omega arith
+    most Doubleword = omega arith
+    most Quadword = omega arith
+
+sized : (bytes : List ℕ) (size : ContentSize) → length bytes ≡ size_bytes size → IsConstant bytes
+sized bytes Word e = inl e
+sized bytes Doubleword e = inr (inl e)
+sized bytes Quadword e = inr (inr e)
+
+-- so contents are constants
+pub content_sized : (content : Content) → IsConstant (content_bytes content)
+content_sized content = sized (content_bytes content) content.size (content_length content)
+
+pub contents_sized : (contents : FinMap nat_cmp Content) → AreConstants (contents_bytes contents)
+contents_sized contents number = subst (λ o. IfSome o IsConstant) (sym (bytes_at contents number)) (go (get contents number))
+  where
+    go : (o : Option Content) → IfSome (option_map content_bytes o) IsConstant
+    go None = tt
+    go (Some content) = content_sized content

@@ -3,54 +3,13 @@
 ghost use Rattle.std.specs.Prelude.{◌≡◌, ◌^◌, ◌<◌, ◌⊎◌, length, option_map, IfSome, IsSome, is_some, not, IfOk, OnOk, OnErr, if◌then◌else◌};
 ghost use Rattle.std.specs.FinMap as map;
 ghost use Rattle.a64_buffer.specs.Constants as constants;
-ghost use Rattle.a64_buffer.specs.Constants.{IsConstant, content_bytes, inserted};
+ghost use Rattle.a64_buffer.specs.Constants.{IsConstant, inserted};
 
+use crate::content::Content;
 use a64_base::VCodeConstant;
 use a64_label_map::LabelMap;
 use std::alloc::{AllocError, Global};
 use std::marker::Model;
-
-/// The bytes of a constant.
-#[derive(Clone, Copy)]
-pub enum Content {
-    /// 4 bytes.
-    Word([u8; 4]),
-    /// 8 bytes.
-    Doubleword([u8; 8]),
-    /// 16 bytes.
-    Quadword([u8; 16]),
-}
-
-impl Content {
-    /// The content of these bytes.
-    fn new(bytes: &[u8]) -> Content
-        requires { IsConstant bytes.now }
-        ensures { content_bytes result ≡ bytes.now }
-    {
-        if let Ok(word) = <[u8; 4]>::try_from(bytes) {
-            return Content::Word(word);
-        }
-        if let Ok(doubleword) = <[u8; 8]>::try_from(bytes) {
-            return Content::Doubleword(doubleword);
-        }
-        match <[u8; 16]>::try_from(bytes) {
-            Ok(quadword) => Content::Quadword(quadword),
-            Err(_) => unreachable!(),
-        }
-    }
-
-    /// The bytes.
-    #[inline(always)]
-    fn as_slice(&self) -> &[u8]
-        ensures { result.now ≡ content_bytes self.now }
-    {
-        match self {
-            Content::Word(bytes) => bytes.as_slice(),
-            Content::Doubleword(bytes) => bytes.as_slice(),
-            Content::Quadword(bytes) => bytes.as_slice(),
-        }
-    }
-}
 
 /// The constants that code may load, by their numbers.
 #[derive(Drop)]
@@ -64,15 +23,13 @@ impl Model for Constants {
     ghost use Rattle.std.specs.Ordering.{nat_cmp};
     ghost use Rattle.std.specs.FinMap.{FinMap, code};
     ghost use Rattle.std.specs.Coded.{coded_ℕ, coded_list};
-    ghost use Rattle.a64_buffer.specs.Constants.{AreConstants, contents_bytes};
+    ghost use Rattle.a64_buffer.specs.Constants.{contents_bytes};
 
     ghost Value = { FinMap nat_cmp (List ℕ) };
 
     ghost coded = { code {R = nat_cmp} coded_ℕ (coded_list coded_ℕ) };
 
     ghost view = { λ c. contents_bytes c.contents };
-
-    ghost invariant = { λ c. AreConstants (contents_bytes c.contents) };
 }
 
 impl Constants {
@@ -105,7 +62,6 @@ impl Constants {
     }
 
     /// The bytes of a constant; `None` where its number has none.
-    #[inline(always)]
     pub fn bytes_of(&self, constant: VCodeConstant) -> Option<&[u8]>
         ensures is { option_map (λ b. b.now) result ≡ map.get self.now constant.0 }
         ensures sized { IfSome result (λ b. IsConstant b.now) }
@@ -129,7 +85,9 @@ impl Constants {
     pub fn size_of(&self, constant: VCodeConstant) -> Option<u32>
         ensures { result ≡ option_map length (map.get self.now constant.0) }
     {
-        let bytes = self.bytes_of(constant)?;
-        Some(bytes.len() as u32)
+        match self.contents.get(constant.0) {
+            Some(content) => Some(content.size()),
+            None => None,
+        }
     }
 }

@@ -6,6 +6,7 @@ mod buffer;
 mod chain;
 mod class;
 mod constants;
+mod content;
 mod copy;
 mod field;
 mod finish;

@@ -1,8 +1,8 @@
 use Rattle.std.proofs.Common.{Some, sym, ◌∙◌, ap, subst}
-use Rattle.std.specs.Prelude.{option_map, IfSome}
+use Rattle.std.specs.Prelude.{option_map}
 use Rattle.std.specs.FinMap.{get}
 use Rattle.a64_buffer.specs.Constants.{IsConstant, content_bytes}
-use Rattle.a64_buffer.proofs.Contents.{bytes_at}
+use Rattle.a64_buffer.proofs.Contents.{bytes_at, content_sized}
 use Rattle.a64_buffer.proofs.constants.Constants.bytes_of.Goals as goal
 
 pub returns-in-Some-clause-is : goal.returns-in-Some-clause-is
@@ -12,10 +12,7 @@ returns-in-Some-clause-is c =
     ∙ (sym (bytes_at c.self.inside.contents c.args.constant.0) ∙ ap (λ m. get m c.args.constant.0) c.self.view_is))
 
 pub returns-in-Some-clause-sized : goal.returns-in-Some-clause-sized
-returns-in-Some-clause-sized c =
-    subst (λ o. IfSome o IsConstant)
-    (bytes_at c.self.inside.contents c.args.constant.0 ∙ (ap (option_map content_bytes) (sym c.in-Some.ensures) ∙ ap (λ b. Some b) (sym c.as_slice.ensures)))
-    (c.self.invariant c.args.constant.0)
+returns-in-Some-clause-sized c = subst IsConstant (sym c.as_slice.ensures) (content_sized c.in-Some.content.now)
 
 pub returns-in-None-clause-is : goal.returns-in-None-clause-is
 returns-in-None-clause-is c =

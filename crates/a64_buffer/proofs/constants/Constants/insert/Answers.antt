@@ -1,9 +1,9 @@
-use Rattle.std.proofs.Common.{ℕ, ◌≡◌, Bool, true, false, cond, List, sym, ◌∙◌, ap, subst, nat_cmp}
+use Rattle.std.proofs.Common.{ℕ, ◌≡◌, Bool, true, false, cond, List, sym, ◌∙◌, ap, nat_cmp}
 use Rattle.std.specs.Prelude.{is_some, not}
 use Rattle.std.specs.FinMap.{FinMap, get, insert, contains_key}
-use Rattle.a64_buffer.specs.declared.constants.Content.{Content}
-use Rattle.a64_buffer.specs.Constants.{AreConstants, content_bytes, contents_bytes}
-use Rattle.a64_buffer.proofs.Contents.{bytes_more, some_bytes, constants_more}
+use Rattle.a64_buffer.specs.declared.content.Content.{Content}
+use Rattle.a64_buffer.specs.Constants.{content_bytes, contents_bytes}
+use Rattle.a64_buffer.proofs.Contents.{bytes_more, some_bytes}
 use Rattle.a64_buffer.proofs.constants.Constants.insert.Goals as goal
 
 -- whether a number has a constant
@@ -22,11 +22,6 @@ returns-then-contains-clause-answer c =
 pub returns-then-contains-clause-ok : goal.returns-then-contains-clause-ok
 returns-then-contains-clause-ok c =
     sym (ap (λ t. cond t c.args.self.now (insert c.args.self.now c.args.constant.0 c.args.bytes.now)) (there c.self.inside.contents c.args.self.now c.args.constant.0 c.contains.result true c.self.view_is c.contains.ensures c.if-contains.true))
-
-pub invariant_of-self-2 : goal.invariant_of-self-2
-invariant_of-self-2 c =
-    subst AreConstants (sym (more c.self.inside.contents c.insert.new.self c.args.constant.0 c.new.result c.args.bytes.now c.in_ok-insert.ensures.ok c.new.ensures))
-    (constants_more (contents_bytes c.self.inside.contents) c.args.constant.0 c.args.bytes.now c.self.invariant c.requires)
 
 pub returns-clause-answer : goal.returns-clause-answer
 returns-clause-answer c =

@@ -1,0 +1,58 @@
+//! The bytes of a constant.
+
+ghost use Rattle.std.specs.Prelude.{◌≡◌, ◌⊎◌, length};
+
+/// How many bytes a constant has.
+#[derive(Clone, Copy)]
+pub enum ContentSize {
+    /// 4 bytes.
+    Word = 4,
+    /// 8 bytes.
+    Doubleword = 8,
+    /// 16 bytes.
+    Quadword = 16,
+}
+
+/// The bytes of a constant: 4, 8 or 16.
+#[derive(Clone, Copy)]
+pub struct Content {
+    /// How many there are.
+    size: ContentSize,
+    /// The bytes, and zeros behind them.
+    bytes: [u8; 16],
+    ghost whole: { length bytes ≡ 16 },
+}
+
+impl Content {
+    ghost use Rattle.a64_buffer.specs.Constants.{IsConstant, content_bytes};
+
+    /// The content of these bytes.
+    pub fn new(part: &[u8]) -> Content
+        requires { IsConstant part.now }
+        ensures { content_bytes result ≡ part.now }
+    {
+        let size = match part.len() {
+            4 => ContentSize::Word,
+            8 => ContentSize::Doubleword,
+            _ => ContentSize::Quadword,
+        };
+        let mut bytes = [0; 16];
+        bytes[..part.len()].copy_from_slice(part);
+        Content { size, bytes }
+    }
+
+    /// How many bytes there are.
+    #[inline(always)]
+    pub fn size(self) -> u32
+        ensures { result ≡ length (content_bytes self) }
+    {
+        self.size as u32
+    }
+
+    /// The bytes.
+    pub fn as_slice(&self) -> &[u8]
+        ensures { result.now ≡ content_bytes self.now }
+    {
+        &self.bytes[..self.size as usize]
+    }
+}
