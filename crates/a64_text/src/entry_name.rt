@@ -27,14 +27,16 @@ impl Named for Name {
 
     #[inline(always)]
     fn row_table(class: u8) -> &'static [Row<Name>] {
-        match class {
+        // Each number below 8 has an arm, so that the class is not compared with the number of classes.
+        match class % 8 {
             0 => immediate_rows(),
             1 => register_rows(),
             2 => float_rows(),
             3 => control_rows(),
             4 => sequence_rows(),
             5 => access_rows(),
-            _ => other_rows(),
+            6..=7 => other_rows(),
+            _ => unreachable!(),
         }
     }
 
