@@ -81,6 +81,11 @@ system_text system.Nop0 = codes "Nop0"
 system_text system.Nop4 = codes "Nop4"
 system_text system.MovToNZCV = codes "MovToNZCV"
 system_text system.MovFromNZCV = codes "MovFromNZCV"
+system_text system.Csdb = codes "Csdb"
+system_text system.Fence = codes "Fence"
+system_text system.Paci = codes "Paci"
+system_text system.Xpaclri = codes "Xpaclri"
+system_text system.Bti = codes "Bti"
 
 -- the operation with a bitmask immediate, and the move of a float, whose immediates their constructors give
 abbrev pub logic_name : Name

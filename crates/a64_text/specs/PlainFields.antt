@@ -19,7 +19,7 @@ use Rattle.a64_text.specs.declared.name.SystemName.{SystemName}
 use Rattle.a64_text.specs.declared.name.SystemName.TheVariants as system
 use Rattle.a64_read.specs.declared.value.Value.{Value}
 use Rattle.a64_read.specs.declared.value.Value.TheVariants as values
-use Rattle.a64_read.specs.At.{alu_op3_at, alu_op_at, bfm_op_at, bit_op_at, cond_at, extend_at, fpu_op1_at, fpu_op2_at, fpu_op3_at, fpu_op_ri_at, fpu_op_ri_mod_at, fpu_round_mode_at, fpu_to_int_op_at, i32_at, imm12_at, imm_shift_at, int_to_fpu_op_at, move_wide_op_at, nzcv_at, preg_at, reg_at, scalar_size_at, shift_at, size_at, truth_at, u8_at, uimm5_at, uimm6_at, vector_size_at, wide_at}
+use Rattle.a64_read.specs.At.{alu_op3_at, alu_op_at, api_key_at, bfm_op_at, bit_op_at, branch_target_type_at, cond_at, extend_at, fpu_op1_at, fpu_op2_at, fpu_op3_at, fpu_op_ri_at, fpu_op_ri_mod_at, fpu_round_mode_at, fpu_to_int_op_at, i32_at, imm12_at, imm_shift_at, int_to_fpu_op_at, move_wide_op_at, nzcv_at, preg_at, reg_at, scalar_size_at, shift_at, size_at, truth_at, u8_at, uimm5_at, uimm6_at, vector_size_at, wide_at}
 
 -- ---- fields
 
@@ -54,6 +54,8 @@ operand_value (fields.Extend x) = values.Extend x
 operand_value (fields.Cond x) = values.Cond x
 operand_value (fields.Nzcv x) = values.Nzcv x
 operand_value (fields.Bool x) = values.Bool x
+operand_value (fields.ApiKey x) = values.ApiKey x
+operand_value (fields.BranchTargetType x) = values.BranchTargetType x
 operand_value (fields.U8 x) = values.U8 x
 operand_value (fields.I32 x) = values.I32 x
 
@@ -122,6 +124,11 @@ system_of system.Nop0 vs = insts.Nop0
 system_of system.Nop4 vs = insts.Nop4
 system_of system.MovToNZCV vs = insts.MovToNZCV (reg_at vs 0)
 system_of system.MovFromNZCV vs = insts.MovFromNZCV (reg_at vs 0)
+system_of system.Csdb vs = insts.Csdb
+system_of system.Fence vs = insts.Fence
+system_of system.Paci vs = insts.Paci (api_key_at vs 0)
+system_of system.Xpaclri vs = insts.Xpaclri
+system_of system.Bti vs = insts.Bti (branch_target_type_at vs 0)
 
 -- ---- the name of an instruction
 
@@ -172,4 +179,9 @@ plain_name (insts.FpuMoveFPImm rd imm scalar) = names.Float float.FpuMoveFPImm
 plain_name insts.Nop0 = names.System system.Nop0
 plain_name (insts.MovToNZCV rn) = names.System system.MovToNZCV
 plain_name (insts.MovFromNZCV rd) = names.System system.MovFromNZCV
+plain_name insts.Csdb = names.System system.Csdb
+plain_name insts.Fence = names.System system.Fence
+plain_name (insts.Paci key) = names.System system.Paci
+plain_name insts.Xpaclri = names.System system.Xpaclri
+plain_name (insts.Bti targets) = names.System system.Bti
 plain_name _ = names.System system.Nop4

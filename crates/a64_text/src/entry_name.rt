@@ -8,7 +8,7 @@ ghost use Rattle.a64_text.specs.Makers.{name_found};
 use crate::name::Name;
 use crate::name_table::{
     NAME_HOMES, access_rows, control_rows, float_rows, immediate_rows, other_rows, register_rows,
-    sequence_rows,
+    sequence_rows, system_rows,
 };
 use a64_read::named::{Named, Row};
 
@@ -35,7 +35,8 @@ impl Named for Name {
             3 => control_rows(),
             4 => sequence_rows(),
             5 => access_rows(),
-            6..=7 => other_rows(),
+            6 => system_rows(),
+            7 => other_rows(),
             _ => unreachable!(),
         }
     }

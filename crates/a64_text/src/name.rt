@@ -103,7 +103,7 @@ pub enum FloatName {
     FpuMoveFPImm,
 }
 
-/// The name of a hint, or of an access to the flags.
+/// The name of a hint, of a barrier, or of an access to the flags.
 #[derive(Clone, Copy)]
 pub enum SystemName {
     /// `Nop0`.
@@ -114,6 +114,16 @@ pub enum SystemName {
     MovToNZCV,
     /// `MovFromNZCV`.
     MovFromNZCV,
+    /// `Csdb`.
+    Csdb,
+    /// `Fence`.
+    Fence,
+    /// `Paci`.
+    Paci,
+    /// `Xpaclri`.
+    Xpaclri,
+    /// `Bti`.
+    Bti,
 }
 
 /// The name of a control instruction.
@@ -211,7 +221,7 @@ pub enum Name {
     Register(RegisterName),
     /// An operation on scalar floats.
     Float(FloatName),
-    /// A hint, or an access to the flags.
+    /// A hint, a barrier, or an access to the flags.
     System(SystemName),
     /// A branch or another instruction of control.
     Control(ControlName),

@@ -103,7 +103,7 @@ pub fn put_register(items: &mut Vec<Item>, name: RegisterName, values: &[Value])
     register_list!(put_arms, virtuals, items, name, RegisterName, values)
 }
 
-/// Puts the hint, or the access to the flags, of this name with these fields behind the items.
+/// Puts the hint, the barrier, or the access to the flags, of this name with these fields behind the items.
 #[tactic(auto, unfolding(crate::specs::Puts::Puts))]
 #[inline(always)]
 pub fn put_system(items: &mut Vec<Item>, name: SystemName, values: &[Value]) -> bool
@@ -123,6 +123,21 @@ pub fn put_system(items: &mut Vec<Item>, name: SystemName, values: &[Value]) -> 
             items,
             Inst::MovFromNZCV {
                 rd: Writable::from_reg(at::get(values, 0)),
+            },
+        ),
+        SystemName::Csdb => emit(items, Inst::Csdb),
+        SystemName::Fence => emit(items, Inst::Fence),
+        SystemName::Paci => emit(
+            items,
+            Inst::Paci {
+                key: at::get(values, 0),
+            },
+        ),
+        SystemName::Xpaclri => emit(items, Inst::Xpaclri),
+        SystemName::Bti => emit(
+            items,
+            Inst::Bti {
+                targets: at::get(values, 0),
             },
         ),
     }
