@@ -1,14 +1,14 @@
 -- What contents are as bytes.
-use Rattle.std.proofs.Common.{ℕ, ◌≡◌, ◌≤◌, Bool, true, false, cond, List, [], ◌∷◌, length, Option, None, Some, map, refl, sym, ◌∙◌, ap, subst, arith, inl, inr, nat_cmp}
-use Rattle.std.specs.Prelude.{option_map, is_some, IfSome}
+use Rattle.std.proofs.Common.{ℕ, ◌≡◌, Bool, true, false, cond, List, [], ◌∷◌, length, Option, None, Some, map, refl, sym, ◌∙◌, ap, subst, arith, inl, inr, nat_cmp}
+use Rattle.std.specs.Prelude.{◌⊎◌, ◌==◌, ◌||◌, IsTrue, option_map, is_some, IfSome}
 use Rattle.std.specs.Cmp.{nat_cmp_total}
 use Rattle.std.specs.Ordering.{eq_by_cmp}
 use Rattle.std.specs.FinMap.{FinMap, get, insert, empty, entries, find, get-empty, get-entries, get-from_entries, get-insert, same_map, nat_cmp-IsAntisymmetric}
+use Rattle.std.proofs.lemmas.Bool.{false≢true}
+use Rattle.std.proofs.lemmas.Bool.Decides.{eqb_tells}
 use Rattle.std.proofs.lemmas.List.{length-take-le}
 use Rattle.a64_buffer.specs.declared.content.Content.{Content}
-use Rattle.a64_buffer.specs.declared.content.ContentSize.{ContentSize}
-use Rattle.a64_buffer.specs.declared.content.ContentSize.TheVariants.{Word, Doubleword, Quadword}
-use Rattle.a64_buffer.specs.Constants.{IsConstant, AreConstants, size_bytes, content_bytes, contents_bytes}
+use Rattle.a64_buffer.specs.Constants.{IsConstant, AreConstants, content_bytes, contents_bytes}
 
 -- entries whose values are mapped
 find_mapped : {X Y : Type 0} (f : X → Y) (q : ℕ) (es : List (ℕ × X)) → find nat_cmp q (map (λ e. (e.0, f e.1)) es) ≡ option_map f (find nat_cmp q es)
@@ -50,23 +50,26 @@ some_bytes contents number = ap is_some (bytes_at contents number) ∙ mapped (g
     mapped None = refl
     mapped (Some content) = refl
 
--- how many bytes a content has
-pub content_length : (content : Content) → length (content_bytes content) ≡ size_bytes content.size
-content_length content = length-take-le (size_bytes content.size) content.bytes (omega (arith, most content.size, content.whole))
-  where
-    most : (size : ContentSize) → size_bytes size ≤ 16
-    most Word = omega arith
-    most Doubleword = omega arith
-    most Quadword = omega arith
+-- how many bytes a content may have
+pub some_size : (size : ℕ) → IsTrue (size == 4 || size == 8 || size == 16) → (size ≡ 4) ⊎ (size ≡ 8) ⊎ (size ≡ 16)
+some_size size h = elim (eqb_tells size 4) [
+  | inl e ↦ inl e.1
+  | inr a ↦ elim (eqb_tells size 8) [
+    | inl e ↦ inr (inl e.1)
+    | inr b ↦ elim (eqb_tells size 16) [
+      | inl e ↦ inr (inr e.1)
+      | inr d ↦ absurd (false≢true (sym (ap (λ t. t || size == 8 || size == 16) a.0 ∙ (ap (λ t. t || size == 16) b.0 ∙ d.0)) ∙ h))
+    ]
+  ]
+]
 
-sized : (bytes : List ℕ) (size : ContentSize) → length bytes ≡ size_bytes size → IsConstant bytes
-sized bytes Word e = inl e
-sized bytes Doubleword e = inr (inl e)
-sized bytes Quadword e = inr (inr e)
+-- and how many it has
+pub content_length : (content : Content) → length (content_bytes content) ≡ content.size
+content_length content = length-take-le content.size content.bytes (omega (arith, some_size content.size content.sized, content.whole))
 
 -- so contents are constants
 pub content_sized : (content : Content) → IsConstant (content_bytes content)
-content_sized content = sized (content_bytes content) content.size (content_length content)
+content_sized content = subst (λ n. (n ≡ 4) ⊎ (n ≡ 8) ⊎ (n ≡ 16)) (sym (content_length content)) (some_size content.size content.sized)
 
 pub contents_sized : (contents : FinMap nat_cmp Content) → AreConstants (contents_bytes contents)
 contents_sized contents number = subst (λ o. IfSome o IsConstant) (sym (bytes_at contents number)) (go (get contents number))

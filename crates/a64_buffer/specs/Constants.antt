@@ -3,8 +3,6 @@ use Rattle.std.specs.Prelude.{ℕ, ◌≡◌, ◌⊎◌, List, length, map, take
 use Rattle.std.specs.Ordering.{nat_cmp}
 use Rattle.std.specs.FinMap.{FinMap, get, insert, entries, from_entries}
 use Rattle.a64_buffer.specs.declared.content.Content.{Content}
-use Rattle.a64_buffer.specs.declared.content.ContentSize.{ContentSize}
-use Rattle.a64_buffer.specs.declared.content.ContentSize.TheVariants.{Word, Doubleword, Quadword}
 
 -- the bytes of a constant: 4, 8 or 16
 abbrev pub IsConstant : List ℕ → Type 0
@@ -13,14 +11,9 @@ IsConstant content = (length content ≡ 4) ⊎ (length content ≡ 8) ⊎ (leng
 abbrev pub AreConstants : FinMap nat_cmp (List ℕ) → Type 0
 AreConstants constants = (number : ℕ) → IfSome (get constants number) IsConstant
 
--- how many bytes a size is, and the bytes of a content
-abbrev pub size_bytes : ContentSize → ℕ
-size_bytes Word = 4
-size_bytes Doubleword = 8
-size_bytes Quadword = 16
-
+-- the bytes of a content
 abbrev pub content_bytes : Content → List ℕ
-content_bytes content = take (size_bytes content.size) content.bytes
+content_bytes content = take content.size content.bytes
 
 -- the bytes of the contents of a map
 abbrev pub contents_bytes : FinMap nat_cmp Content → FinMap nat_cmp (List ℕ)

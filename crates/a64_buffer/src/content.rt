@@ -1,25 +1,15 @@
 //! The bytes of a constant.
 
-ghost use Rattle.std.specs.Prelude.{◌≡◌, ◌⊎◌, length};
-
-/// How many bytes a constant has.
-#[derive(Clone, Copy)]
-pub enum ContentSize {
-    /// 4 bytes.
-    Word = 4,
-    /// 8 bytes.
-    Doubleword = 8,
-    /// 16 bytes.
-    Quadword = 16,
-}
+ghost use Rattle.std.specs.Prelude.{◌≡◌, ◌==◌, ◌||◌, IsTrue, length};
 
 /// The bytes of a constant: 4, 8 or 16.
 #[derive(Clone, Copy)]
 pub struct Content {
     /// How many there are.
-    size: ContentSize,
+    size: u32,
     /// The bytes, and zeros behind them.
     bytes: [u8; 16],
+    ghost sized: { IsTrue (size == 4 || size == 8 || size == 16) },
     ghost whole: { length bytes ≡ 16 },
 }
 
@@ -31,14 +21,12 @@ impl Content {
         requires { IsConstant part.now }
         ensures { content_bytes result ≡ part.now }
     {
-        let size = match part.len() {
-            4 => ContentSize::Word,
-            8 => ContentSize::Doubleword,
-            _ => ContentSize::Quadword,
-        };
         let mut bytes = [0; 16];
         bytes[..part.len()].copy_from_slice(part);
-        Content { size, bytes }
+        Content {
+            size: part.len() as u32,
+            bytes,
+        }
     }
 
     /// How many bytes there are.
@@ -46,7 +34,7 @@ impl Content {
     pub fn size(self) -> u32
         ensures { result ≡ length (content_bytes self) }
     {
-        self.size as u32
+        self.size
     }
 
     /// The bytes.
