@@ -12,7 +12,8 @@ python3 - "$folder" <<'P'
 import re, subprocess, sys
 folder = sys.argv[1]
 source = open("crates/a64_inst/src/inst.rt").read()
-names = set(re.findall(r"^    (\w+)(?: \{|,)$", source[source.index("pub enum Inst"):source.index("impl Inst")], re.M))
+start = source.index("pub enum Inst")
+names = set(re.findall(r"^    (\w+)(?: \{|,)$", source[start:source.index("\n}\n", start)], re.M))
 
 def rows(name):
     for row in open(f"{folder}/{name}"):
