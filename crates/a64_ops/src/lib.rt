@@ -5,8 +5,13 @@ mod access;
 mod float;
 mod operator;
 mod system;
+mod vector;
 
 pub use access::AccessOp;
 pub use float::{FPUOp1, FPUOp2, FPUOp3, FpuRoundMode, FpuToIntOp, IntToFpuOp};
-pub use operator::{ALUOp, ALUOp3, AtomicRMWOp, BfmOp, BitOp, MoveWideOp};
+pub use operator::{ALUOp, ALUOp3, AtomicRMWLoopOp, AtomicRMWOp, BfmOp, BitOp, MoveWideOp};
 pub use system::BranchTargetType;
+pub use vector::{
+    VecALUModOp, VecALUOp, VecExtendOp, VecLanesOp, VecMisc2, VecPairOp, VecRRLongOp,
+    VecRRNarrowOp, VecRRPairLongOp, VecRRRLongModOp, VecRRRLongOp, VecShiftImmModOp, VecShiftImmOp,
+};

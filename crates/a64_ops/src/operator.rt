@@ -155,3 +155,30 @@ pub enum AtomicRMWOp {
     /// The register in place of what was there.
     Swp,
 }
+
+/// An atomic operation of memory and a register that is a loop of its own (Cranelift's `AtomicRMWLoopOp`).
+#[derive(Clone, Copy, Debug, PartialEq, Eq)]
+pub enum AtomicRMWLoopOp {
+    /// Addition.
+    Add,
+    /// Subtraction of the operand.
+    Sub,
+    /// And.
+    And,
+    /// The complement of and.
+    Nand,
+    /// Exclusive or.
+    Eor,
+    /// Or.
+    Orr,
+    /// The greater of two signed numbers.
+    Smax,
+    /// The lesser of two signed numbers.
+    Smin,
+    /// The greater of two unsigned numbers.
+    Umax,
+    /// The lesser of two unsigned numbers.
+    Umin,
+    /// The operand in place of what was there.
+    Xchg,
+}
