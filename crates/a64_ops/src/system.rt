@@ -1,14 +1,14 @@
 //! The operators of system instructions.
 
-/// The branches that may go to a place (Cranelift's `BranchTargetType`; Arm Architecture Reference Manual,
-/// C6.2, BTI).
+/// The indirect branches that may go to a place in guarded memory (Cranelift's `BranchTargetType`; Arm Architecture
+/// Reference Manual, C6.2, BTI).
 #[derive(Clone, Copy, Debug, PartialEq, Eq)]
 pub enum BranchTargetType {
     /// None.
     None,
-    /// Calls.
+    /// Calls (`blr`), and jumps by x16 or x17.
     C,
-    /// Jumps.
+    /// Jumps (`br`).
     J,
     /// Calls and jumps.
     JC,
