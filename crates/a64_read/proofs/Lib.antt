@@ -14,6 +14,7 @@ pub mod Fronts
 pub mod SameBytes
 pub mod Calls
 pub mod Between
+pub mod VecPlain
 pub mod Plain
 pub mod Shifts
 pub mod FloatShifts
