@@ -93,6 +93,7 @@ fn copied_control(alloc: Global, inst: &Inst) -> Result<Inst, AllocError>
         MovToNZCV { rn },
         MovFromNZCV { rd },
         Ret {},
+        AuthenticatedRet { key, is_hint },
         Jump { dest },
         CondBr { taken, not_taken, kind },
         TestBitAndBranch { kind, taken, not_taken, rn, bit },
@@ -106,7 +107,7 @@ fn copied_control(alloc: Global, inst: &Inst) -> Result<Inst, AllocError>
     )
 }
 
-/// An equal sequence around a table, a symbol or the stack, or what has no word.
+/// An equal sequence around a table, a symbol or the stack, loop of atomic accesses, or what has no word.
 fn copied_sequence(alloc: Global, inst: &Inst) -> Result<Inst, AllocError>
     requires { group_of inst.now ≡ groups.Sequence }
     ensures { IfOk result (λ copy. copy ≡ inst.now) }
@@ -140,7 +141,9 @@ fn copied_sequence(alloc: Global, inst: &Inst) -> Result<Inst, AllocError>
             LoadExtNameGot { rd, name },
             LoadExtNameNear { rd, name, offset },
             LoadExtNameFar { rd, name, offset },
-            StackProbeLoop { start, end, step }
+            StackProbeLoop { start, end, step },
+            AtomicRMWLoop { ty, op, flags, addr, operand, oldval, scratch1, scratch2 },
+            AtomicCASLoop { ty, flags, addr, expected, replacement, oldval, scratch }
         ),
     }
 }
@@ -178,6 +181,10 @@ fn copied_memory(inst: &Inst) -> Result<Inst, AllocError>
     copied!(inst;
         LoadP64 { rt, rt2, mem, flags },
         StoreP64 { rt, rt2, mem, flags },
+        FpuLoadP64 { rt, rt2, mem, flags },
+        FpuStoreP64 { rt, rt2, mem, flags },
+        FpuLoadP128 { rt, rt2, mem, flags },
+        FpuStoreP128 { rt, rt2, mem, flags },
         LoadAddr { rd, mem },
         AtomicRMW { ty, op, rs, rt, rn, flags },
         AtomicCAS { rd, rs, rt, rn, ty, flags },

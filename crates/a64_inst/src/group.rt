@@ -15,7 +15,7 @@ pub enum Group {
     Plain(PlainGroup),
     /// Branches, hints, accesses to system registers, data, and addresses of labels.
     Control,
-    /// Sequences around tables, symbols and the stack, and what has no word.
+    /// Sequences around tables, symbols and the stack, loops of atomic accesses, and what has no word.
     Sequence,
     /// Calls, and returns that call another function.
     Call,
@@ -93,6 +93,7 @@ impl Inst {
             | Inst::MovToNZCV { .. }
             | Inst::MovFromNZCV { .. }
             | Inst::Ret
+            | Inst::AuthenticatedRet { .. }
             | Inst::Jump { .. }
             | Inst::CondBr { .. }
             | Inst::TestBitAndBranch { .. }
@@ -112,13 +113,19 @@ impl Inst {
             | Inst::LoadExtNameGot { .. }
             | Inst::LoadExtNameNear { .. }
             | Inst::LoadExtNameFar { .. }
-            | Inst::StackProbeLoop { .. } => Group::Sequence,
+            | Inst::StackProbeLoop { .. }
+            | Inst::AtomicRMWLoop { .. }
+            | Inst::AtomicCASLoop { .. } => Group::Sequence,
             Inst::Call { .. }
             | Inst::CallInd { .. }
             | Inst::ReturnCall { .. }
             | Inst::ReturnCallInd { .. } => Group::Call,
             Inst::LoadP64 { .. }
             | Inst::StoreP64 { .. }
+            | Inst::FpuLoadP64 { .. }
+            | Inst::FpuStoreP64 { .. }
+            | Inst::FpuLoadP128 { .. }
+            | Inst::FpuStoreP128 { .. }
             | Inst::LoadAddr { .. }
             | Inst::AtomicRMW { .. }
             | Inst::AtomicCAS { .. }

@@ -25,8 +25,8 @@ mod virtuals;
 
 pub use crate::item::Item;
 pub use a64_ops::{
-    ALUOp, ALUOp3, AccessOp, AtomicRMWOp, BfmOp, BitOp, BranchTargetType, FPUOp1, FPUOp2, FPUOp3,
-    FpuRoundMode, FpuToIntOp, IntToFpuOp, MoveWideOp,
+    ALUOp, ALUOp3, AccessOp, AtomicRMWLoopOp, AtomicRMWOp, BfmOp, BitOp, BranchTargetType, FPUOp1,
+    FPUOp2, FPUOp3, FpuRoundMode, FpuToIntOp, IntToFpuOp, MoveWideOp,
 };
 pub use a64_plan::{ConstStep, const_plan};
 pub use access::{Access, AccessRef};

@@ -1,5 +1,5 @@
-//! Whether the operands of sequences around tables, symbols and the stack, and of what has no word, are
-//! in their sets.
+//! Whether the operands of sequences around tables, symbols and the stack, of loops of atomic accesses, and
+//! of what has no word, are in their sets.
 
 ghost use Rattle.std.specs.Prelude.{◌≡◌};
 ghost use Rattle.a64_inst.specs.declared.group.Group.TheVariants.{Sequence};
@@ -8,10 +8,12 @@ ghost use Rattle.a64_inst.specs.Faults.{has_operands};
 ghost use Rattle.a64_inst.specs.SequenceOperands as sets;
 
 use crate::emission::EmitInfo;
+use crate::fault::memory::atomic::{are_loop_operands, is_loop_result};
 use crate::frame::FrameLayout;
 use crate::inst::Inst;
 use crate::operand::{
-    is_any_register, is_imm12, is_other_register, is_register, is_register_or_zero,
+    is_any_register, is_fixed_register, is_imm12, is_other_register, is_register,
+    is_register_or_zero,
 };
 use crate::pair::{ArgPair, RetPair};
 use crate::virtuals::VirtualRegisters;
@@ -59,8 +61,8 @@ fn probe(info: &EmitInfo, virtuals: VirtualRegisters, start: &Reg, end: Reg, ste
         && is_imm12(step)
 }
 
-/// Whether the operands of a sequence around a table, a symbol or the stack, or of what has no word,
-/// are in their sets.
+/// Whether the operands of a sequence around a table, a symbol or the stack, of a loop of atomic accesses, or
+/// of what has no word, are in their sets.
 pub fn has_sequence_operands(
     inst: &Inst,
     frame: &FrameLayout,
@@ -87,6 +89,33 @@ pub fn has_sequence_operands(
         | Inst::LoadExtNameFar { rd, .. } => is_register(virtuals, &rd.to_reg()),
         Inst::StackProbeLoop { start, end, step } => {
             probe(info, virtuals, &start.to_reg(), *end, *step)
+        }
+        Inst::AtomicRMWLoop {
+            ty,
+            op,
+            flags: _,
+            addr,
+            operand,
+            oldval,
+            scratch1,
+            scratch2,
+        } => {
+            let (oldval, failed) = (oldval.to_reg(), scratch1.to_reg());
+            are_loop_operands(virtuals, *ty, addr, operand, &oldval, &failed)
+                && is_loop_result(virtuals, *op, &scratch2.to_reg())
+        }
+        Inst::AtomicCASLoop {
+            ty,
+            flags: _,
+            addr,
+            expected,
+            replacement,
+            oldval,
+            scratch,
+        } => {
+            let (oldval, failed) = (oldval.to_reg(), scratch.to_reg());
+            are_loop_operands(virtuals, *ty, addr, expected, &oldval, &failed)
+                && is_fixed_register(virtuals, 28, replacement)
         }
         _ => unreachable!(),
     }
