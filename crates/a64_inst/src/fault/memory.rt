@@ -1,6 +1,6 @@
 //! What is wrong with loads and stores by themselves.
 
-mod atomic;
+pub mod atomic;
 mod constant;
 mod mode;
 pub mod operand;
@@ -23,6 +23,7 @@ use crate::frame::FrameLayout;
 use crate::inst::Inst;
 use crate::mode::AMode;
 use crate::virtuals::VirtualRegisters;
+use a64_base::IrType;
 
 /// What is wrong by itself with a load in the mode of a constant of such a size.
 #[inline(always)]
@@ -77,7 +78,8 @@ fn access_fault(
     None
 }
 
-/// Whether the operands of a pair, of the address of a mode or of an atomic access are in their sets.
+/// Whether the operands of a pair, of the address of a mode, of an atomic access or of a load to all lanes are in their
+/// sets.
 fn has_operands(
     inst: &Inst,
     frame: &FrameLayout,
@@ -101,6 +103,30 @@ fn has_operands(
             mem,
             flags: _,
         } => operand::pair(virtuals, *rt, *rt2, mem),
+        Inst::FpuLoadP64 {
+            rt,
+            rt2,
+            mem,
+            flags: _,
+        } => operand::float_pair(virtuals, IrType::F64, rt.to_reg(), rt2.to_reg(), mem),
+        Inst::FpuStoreP64 {
+            rt,
+            rt2,
+            mem,
+            flags: _,
+        } => operand::float_pair(virtuals, IrType::F64, *rt, *rt2, mem),
+        Inst::FpuLoadP128 {
+            rt,
+            rt2,
+            mem,
+            flags: _,
+        } => operand::float_pair(virtuals, IrType::I8X16, rt.to_reg(), rt2.to_reg(), mem),
+        Inst::FpuStoreP128 {
+            rt,
+            rt2,
+            mem,
+            flags: _,
+        } => operand::float_pair(virtuals, IrType::I8X16, *rt, *rt2, mem),
         Inst::LoadAddr { rd, mem } => operand::address(frame, virtuals, rd.to_reg(), mem),
         Inst::AtomicRMW {
             ty,
@@ -131,6 +157,7 @@ fn has_operands(
             rn,
             flags: _,
         } => atomic::ordered(virtuals, *access_ty, *rt, *rn),
+        Inst::VecLoadReplicate { rd, rn, .. } => operand::replicate(virtuals, rd.to_reg(), *rn),
         _ => unreachable!(),
     }
 }
