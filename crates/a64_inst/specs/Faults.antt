@@ -15,6 +15,7 @@ use Rattle.a64_inst.specs.AtomicOperands as atomic
 use Rattle.a64_inst.specs.ControlOperands as control
 use Rattle.a64_inst.specs.MemoryOperands as memory
 use Rattle.a64_inst.specs.SequenceOperands as sequence
+use Rattle.a64_inst.specs.VectorOperands as vector
 use Rattle.a64_inst.specs.CallOperands as calls
 use Rattle.a64_inst.specs.Groups.{group_of, is_plain}
 use Rattle.a64_inst.specs.Lone.{is_lone}
@@ -85,6 +86,7 @@ module _ (frame : FrameLayout) (flags : EmitFlags) (virtuals : VirtualRegisters)
   has_plain_operands (insts.LoadExtNameNear rd name offset) = is_register virtuals rd
   has_plain_operands (insts.LoadExtNameFar rd name offset) = is_register virtuals rd
   has_plain_operands (insts.StackProbeLoop start end step) = sequence.are_probe_operands flags virtuals start end step
+  has_plain_operands (insts.VecCSel rd rn rm cond) = vector.are_select_operands virtuals rd rn rm
   has_plain_operands (insts.LoadP64 rt rt2 mem flags) = memory.are_pair_operands virtuals rt rt2 mem
   has_plain_operands (insts.StoreP64 rt rt2 mem flags) = memory.are_pair_operands virtuals rt rt2 mem
   has_plain_operands (insts.LoadAddr rd mem) = memory.are_address_operands frame virtuals rd mem
@@ -93,6 +95,7 @@ module _ (frame : FrameLayout) (flags : EmitFlags) (virtuals : VirtualRegisters)
   has_plain_operands (insts.AtomicCAS128 args) = atomic.are_cas128_operands virtuals args
   has_plain_operands (insts.LoadAcquire access_ty rt rn flags) = atomic.are_ordered_operands virtuals access_ty rt rn
   has_plain_operands (insts.StoreRelease access_ty rt rn flags) = atomic.are_ordered_operands virtuals access_ty rt rn
+  has_plain_operands (insts.VecLoadReplicate rd rn size flags) = vector.are_replicate_operands virtuals rd rn
   has_plain_operands inst = is_plain (group_of inst) && fields_fit virtuals (sheet inst) (has_rest virtuals inst)
 
   -- a frame can restore an instruction: it is one word without a use, and no call, and has no fault of its operands, its mode and its

@@ -11,6 +11,7 @@ use Rattle.a64_base.specs.declared.size.VectorSize as vector_sizes
 use Rattle.a64_base.specs.RegisterNumbers.{RealRegister}
 use Rattle.a64_base.specs.ShiftParts as shifts
 use Rattle.a64_imms.specs.declared.asimd_fp.ASIMDFPModImm.{ASIMDFPModImm}
+use Rattle.a64_imms.specs.declared.asimd_mov.ASIMDMovModImm.{ASIMDMovModImm}
 use Rattle.a64_imms.specs.declared.flags.NZCV.{NZCV}
 use Rattle.a64_imms.specs.declared.imm12.Imm12 as imm12s
 use Rattle.a64_imms.specs.declared.imm_logic.ImmLogic.{ImmLogic}
@@ -30,6 +31,19 @@ use Rattle.a64_ops.specs.declared.operator.BfmOp as bfm_ops
 use Rattle.a64_ops.specs.declared.operator.BitOp as bit_ops
 use Rattle.a64_ops.specs.declared.operator.MoveWideOp as move_wide_ops
 use Rattle.a64_ops.specs.declared.system.BranchTargetType as branch_target_types
+use Rattle.a64_ops.specs.declared.vector.VecALUModOp.{VecALUModOp}
+use Rattle.a64_ops.specs.declared.vector.VecALUOp.{VecALUOp}
+use Rattle.a64_ops.specs.declared.vector.VecExtendOp as vec_extend_ops
+use Rattle.a64_ops.specs.declared.vector.VecLanesOp as vec_lanes_ops
+use Rattle.a64_ops.specs.declared.vector.VecMisc2 as vec_misc_ops
+use Rattle.a64_ops.specs.declared.vector.VecPairOp as vec_pair_ops
+use Rattle.a64_ops.specs.declared.vector.VecRRLongOp as vec_long_ops
+use Rattle.a64_ops.specs.declared.vector.VecRRNarrowOp as vec_narrow_ops
+use Rattle.a64_ops.specs.declared.vector.VecRRPairLongOp as vec_pair_long_ops
+use Rattle.a64_ops.specs.declared.vector.VecRRRLongModOp as vec_long_mod_ops
+use Rattle.a64_ops.specs.declared.vector.VecRRRLongOp as vec_product_ops
+use Rattle.a64_ops.specs.declared.vector.VecShiftImmModOp as vec_shift_mod_ops
+use Rattle.a64_ops.specs.declared.vector.VecShiftImmOp as vec_shift_ops
 use Rattle.a64_inst.specs.declared.class.Class.{Class}
 use Rattle.a64_inst.specs.declared.fpu_op.FPUOpRI.{FPUOpRI}
 use Rattle.a64_inst.specs.declared.fpu_op.FPUOpRIMod.{FPUOpRIMod}
@@ -49,6 +63,19 @@ pub data Operand : Type 0 where
   FpuToIntOp : fpu_to_int_ops.FpuToIntOp → Operand
   IntToFpuOp : int_to_fpu_ops.IntToFpuOp → Operand
   FpuRoundMode : fpu_round_modes.FpuRoundMode → Operand
+  VecAluOp : VecALUOp → Operand
+  VecAluModOp : VecALUModOp → Operand
+  VecMisc2 : vec_misc_ops.VecMisc2 → Operand
+  VecLanesOp : vec_lanes_ops.VecLanesOp → Operand
+  VecExtendOp : vec_extend_ops.VecExtendOp → Operand
+  VecRRLongOp : vec_long_ops.VecRRLongOp → Operand
+  VecRRNarrowOp : vec_narrow_ops.VecRRNarrowOp → Operand
+  VecPairOp : vec_pair_ops.VecPairOp → Operand
+  VecRRPairLongOp : vec_pair_long_ops.VecRRPairLongOp → Operand
+  VecRRRLongOp : vec_product_ops.VecRRRLongOp → Operand
+  VecRRRLongModOp : vec_long_mod_ops.VecRRRLongModOp → Operand
+  VecShiftImmOp : vec_shift_ops.VecShiftImmOp → Operand
+  VecShiftImmModOp : vec_shift_mod_ops.VecShiftImmModOp → Operand
   Size : OperandSize → Operand
   ScalarSize : scalar_sizes.ScalarSize → Operand
   VectorSize : vector_sizes.VectorSize → Operand
@@ -57,6 +84,7 @@ pub data Operand : Type 0 where
   Logic : ImmLogic → Operand
   Wide : MoveWideConst → Operand
   FloatImm : ASIMDFPModImm → Operand
+  MovImm : ASIMDMovModImm → Operand
   ImmShift : imm_shifts.ImmShift → Operand
   UImm5 : uimm5s.UImm5 → Operand
   UImm6 : uimm6s.UImm6 → Operand

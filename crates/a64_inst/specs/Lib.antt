@@ -17,3 +17,4 @@ pub mod Accesses
 pub mod FinalModes
 pub mod MemoryOperands
 pub mod AtomicOperands
+pub mod VectorOperands

@@ -69,6 +69,7 @@ is_lone_other frame (insts.LoadExtNameGot rd name) = false
 is_lone_other frame (insts.LoadExtNameNear rd name offset) = false
 is_lone_other frame (insts.LoadExtNameFar rd name offset) = false
 is_lone_other frame (insts.StackProbeLoop start end step) = false
+is_lone_other frame (insts.VecCSel rd rn rm cond) = false
 is_lone_other frame (insts.Call info) = false
 is_lone_other frame (insts.CallInd info) = false
 is_lone_other frame (insts.ReturnCall info) = false

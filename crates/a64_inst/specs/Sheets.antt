@@ -1,6 +1,6 @@
 -- The fields of each instruction that is one plain word, in the order of a file, and what must hold of them (Arm Architecture
 -- Reference Manual, C6.2 and C7.2).
-use Rattle.std.specs.Prelude.{Bool, true, ◌&&◌, List, [], ◌∷◌}
+use Rattle.std.specs.Prelude.{Bool, true, ◌&&◌, List, [], ◌∷◌, nat_lt}
 use Rattle.a64_base.specs.declared.reg.Reg.{Reg}
 use Rattle.a64_base.specs.ScalarSizes.{has_ftype}
 use Rattle.a64_inst.specs.declared.class.Class.{Class}
@@ -13,7 +13,8 @@ use Rattle.a64_inst.specs.Fields.{Field, Def, Use, Is}
 use Rattle.a64_inst.specs.FloatOperands as float
 use Rattle.a64_inst.specs.IntegerOperands as integer
 use Rattle.a64_inst.specs.IntegerOperands.{add_sub_class, logic_class}
-use Rattle.a64_inst.specs.Operands.{is_register_or_stack, is_register_or_zero, is_vector_register, is_wide_in, is_near}
+use Rattle.a64_inst.specs.VectorOperands as vector
+use Rattle.a64_inst.specs.Operands.{is_lane, is_register_or_stack, is_register_or_zero, is_same_register, is_vector_register, is_wide_in, is_near}
 
 -- the fields
 abbrev pub sheet : Inst → List Field
@@ -60,26 +61,79 @@ sheet (insts.CCmpImm size rn imm nzcv cond) =
 sheet (insts.FpuMove32 rd rn) = Def Vector rd ∷ Use Vector rn ∷ []
 sheet (insts.FpuMove64 rd rn) = Def Vector rd ∷ Use Vector rn ∷ []
 sheet (insts.FpuMove128 rd rn) = Def Vector rd ∷ Use Vector rn ∷ []
-sheet (insts.FpuMoveFromVec rd rn idx lanes) =
-    Def Vector rd ∷ Use Vector rn ∷ Is (fields.U8 idx) ∷ Is (fields.VectorSize lanes) ∷ []
-sheet (insts.FpuExtend rd rn scalar) = Def Vector rd ∷ Use Vector rn ∷ Is (fields.ScalarSize scalar) ∷ []
-sheet (insts.FpuRR fpu_op scalar rd rn) =
-    Is (fields.FpuOp1 fpu_op) ∷ Is (fields.ScalarSize scalar) ∷ Def Vector rd ∷ Use Vector rn ∷ []
-sheet (insts.FpuRRR fpu_op scalar rd rn rm) =
-    Is (fields.FpuOp2 fpu_op) ∷ Is (fields.ScalarSize scalar) ∷ Def Vector rd ∷ Use Vector rn ∷ Use Vector rm ∷ []
+sheet (insts.FpuMoveFromVec rd rn idx size) =
+    Def Vector rd ∷ Use Vector rn ∷ Is (fields.U8 idx) ∷ Is (fields.VectorSize size) ∷ []
+sheet (insts.FpuExtend rd rn size) = Def Vector rd ∷ Use Vector rn ∷ Is (fields.ScalarSize size) ∷ []
+sheet (insts.FpuRR fpu_op size rd rn) =
+    Is (fields.FpuOp1 fpu_op) ∷ Is (fields.ScalarSize size) ∷ Def Vector rd ∷ Use Vector rn ∷ []
+sheet (insts.FpuRRR fpu_op size rd rn rm) =
+    Is (fields.FpuOp2 fpu_op) ∷ Is (fields.ScalarSize size) ∷ Def Vector rd ∷ Use Vector rn ∷ Use Vector rm ∷ []
 sheet (insts.FpuRRI fpu_op rd rn) = Is (fields.FpuOpRI fpu_op) ∷ Def Vector rd ∷ Use Vector rn ∷ []
 sheet (insts.FpuRRIMod fpu_op rd ri rn) = Is (fields.FpuOpRIMod fpu_op) ∷ Def Vector rd ∷ Use Vector ri ∷ Use Vector rn ∷ []
-sheet (insts.FpuRRRR fpu_op scalar rd rn rm ra) =
-    Is (fields.FpuOp3 fpu_op) ∷ Is (fields.ScalarSize scalar) ∷ Def Vector rd ∷ Use Vector rn ∷ Use Vector rm ∷ Use Vector ra ∷ []
-sheet (insts.FpuCmp scalar rn rm) = Is (fields.ScalarSize scalar) ∷ Use Vector rn ∷ Use Vector rm ∷ []
+sheet (insts.FpuRRRR fpu_op size rd rn rm ra) =
+    Is (fields.FpuOp3 fpu_op) ∷ Is (fields.ScalarSize size) ∷ Def Vector rd ∷ Use Vector rn ∷ Use Vector rm ∷ Use Vector ra ∷ []
+sheet (insts.FpuCmp size rn rm) = Is (fields.ScalarSize size) ∷ Use Vector rn ∷ Use Vector rm ∷ []
 sheet (insts.FpuToInt op rd rn) = Is (fields.FpuToIntOp op) ∷ Def Zero rd ∷ Use Vector rn ∷ []
 sheet (insts.IntToFpu op rd rn) = Is (fields.IntToFpuOp op) ∷ Def Vector rd ∷ Use Zero rn ∷ []
 sheet (insts.FpuCSel16 rd rn rm cond) = Def Vector rd ∷ Use Vector rn ∷ Use Vector rm ∷ Is (fields.Cond cond) ∷ []
 sheet (insts.FpuCSel32 rd rn rm cond) = Def Vector rd ∷ Use Vector rn ∷ Use Vector rm ∷ Is (fields.Cond cond) ∷ []
 sheet (insts.FpuCSel64 rd rn rm cond) = Def Vector rd ∷ Use Vector rn ∷ Use Vector rm ∷ Is (fields.Cond cond) ∷ []
 sheet (insts.FpuRound op rd rn) = Is (fields.FpuRoundMode op) ∷ Def Vector rd ∷ Use Vector rn ∷ []
-sheet (insts.MovToFpu rd rn scalar) = Def Vector rd ∷ Use Zero rn ∷ Is (fields.ScalarSize scalar) ∷ []
-sheet (insts.FpuMoveFPImm rd imm scalar) = Def Vector rd ∷ Is (fields.FloatImm imm) ∷ Is (fields.ScalarSize scalar) ∷ []
+sheet (insts.MovToFpu rd rn size) = Def Vector rd ∷ Use Zero rn ∷ Is (fields.ScalarSize size) ∷ []
+sheet (insts.FpuMoveFPImm rd imm size) = Def Vector rd ∷ Is (fields.FloatImm imm) ∷ Is (fields.ScalarSize size) ∷ []
+-- operations on vectors
+sheet (insts.VecExtend t rd rn high_half lane_size) =
+    Is (fields.VecExtendOp t) ∷ Def Vector rd ∷ Use Vector rn
+    ∷ Is (fields.Bool high_half) ∷ Is (fields.ScalarSize lane_size) ∷ []
+sheet (insts.VecRRLong op rd rn high_half) =
+    Is (fields.VecRRLongOp op) ∷ Def Vector rd ∷ Use Vector rn ∷ Is (fields.Bool high_half) ∷ []
+sheet (insts.VecRRNarrowLow op rd rn lane_size) =
+    Is (fields.VecRRNarrowOp op) ∷ Def Vector rd ∷ Use Vector rn ∷ Is (fields.ScalarSize lane_size) ∷ []
+sheet (insts.VecRRNarrowHigh op rd ri rn lane_size) =
+    Is (fields.VecRRNarrowOp op) ∷ Def Vector rd ∷ Use Vector ri ∷ Use Vector rn ∷ Is (fields.ScalarSize lane_size) ∷ []
+sheet (insts.VecRRPair op rd rn) = Is (fields.VecPairOp op) ∷ Def Vector rd ∷ Use Vector rn ∷ []
+sheet (insts.VecRRRLong alu_op rd rn rm high_half) =
+    Is (fields.VecRRRLongOp alu_op) ∷ Def Vector rd ∷ Use Vector rn ∷ Use Vector rm ∷ Is (fields.Bool high_half) ∷ []
+sheet (insts.VecRRRLongMod alu_op rd ri rn rm high_half) =
+    Is (fields.VecRRRLongModOp alu_op) ∷ Def Vector rd ∷ Use Vector ri ∷ Use Vector rn
+    ∷ Use Vector rm ∷ Is (fields.Bool high_half) ∷ []
+sheet (insts.VecRRPairLong op rd rn) = Is (fields.VecRRPairLongOp op) ∷ Def Vector rd ∷ Use Vector rn ∷ []
+sheet (insts.VecRRR alu_op rd rn rm size) =
+    Is (fields.VecAluOp alu_op) ∷ Def Vector rd ∷ Use Vector rn ∷ Use Vector rm ∷ Is (fields.VectorSize size) ∷ []
+sheet (insts.VecRRRMod alu_op rd ri rn rm size) =
+    Is (fields.VecAluModOp alu_op) ∷ Def Vector rd ∷ Use Vector ri ∷ Use Vector rn
+    ∷ Use Vector rm ∷ Is (fields.VectorSize size) ∷ []
+sheet (insts.VecFmlaElem alu_op rd ri rn rm size idx) =
+    Is (fields.VecAluModOp alu_op) ∷ Def Vector rd ∷ Use Vector ri ∷ Use Vector rn
+    ∷ Use Vector rm ∷ Is (fields.VectorSize size) ∷ Is (fields.U8 idx) ∷ []
+sheet (insts.VecMisc op rd rn size) = Is (fields.VecMisc2 op) ∷ Def Vector rd ∷ Use Vector rn ∷ Is (fields.VectorSize size) ∷ []
+sheet (insts.VecLanes op rd rn size) =
+    Is (fields.VecLanesOp op) ∷ Def Vector rd ∷ Use Vector rn ∷ Is (fields.VectorSize size) ∷ []
+sheet (insts.VecShiftImm op rd rn size imm) =
+    Is (fields.VecShiftImmOp op) ∷ Def Vector rd ∷ Use Vector rn ∷ Is (fields.VectorSize size) ∷ Is (fields.U8 imm) ∷ []
+sheet (insts.VecShiftImmMod op rd ri rn size imm) =
+    Is (fields.VecShiftImmModOp op) ∷ Def Vector rd ∷ Use Vector ri ∷ Use Vector rn
+    ∷ Is (fields.VectorSize size) ∷ Is (fields.U8 imm) ∷ []
+-- moves of lanes, and tables of bytes
+sheet (insts.MovToVec rd ri rn idx size) =
+    Def Vector rd ∷ Use Vector ri ∷ Use Zero rn ∷ Is (fields.U8 idx) ∷ Is (fields.VectorSize size) ∷ []
+sheet (insts.MovFromVec rd rn idx size) = Def Zero rd ∷ Use Vector rn ∷ Is (fields.U8 idx) ∷ Is (fields.ScalarSize size) ∷ []
+sheet (insts.MovFromVecSigned rd rn idx size scalar_size) =
+    Def Zero rd ∷ Use Vector rn ∷ Is (fields.U8 idx) ∷ Is (fields.VectorSize size) ∷ Is (fields.Size scalar_size) ∷ []
+sheet (insts.VecDup rd rn size) = Def Vector rd ∷ Use Zero rn ∷ Is (fields.VectorSize size) ∷ []
+sheet (insts.VecDupFromFpu rd rn size lane) =
+    Def Vector rd ∷ Use Vector rn ∷ Is (fields.VectorSize size) ∷ Is (fields.U8 lane) ∷ []
+sheet (insts.VecDupFPImm rd imm size) = Def Vector rd ∷ Is (fields.FloatImm imm) ∷ Is (fields.VectorSize size) ∷ []
+sheet (insts.VecDupImm rd imm invert size) =
+    Def Vector rd ∷ Is (fields.MovImm imm) ∷ Is (fields.Bool invert) ∷ Is (fields.VectorSize size) ∷ []
+sheet (insts.VecMovElement rd ri rn dest_idx src_idx size) =
+    Def Vector rd ∷ Use Vector ri ∷ Use Vector rn ∷ Is (fields.U8 dest_idx)
+    ∷ Is (fields.U8 src_idx) ∷ Is (fields.VectorSize size) ∷ []
+sheet (insts.VecExtract rd rn rm imm4) = Def Vector rd ∷ Use Vector rn ∷ Use Vector rm ∷ Is (fields.U8 imm4) ∷ []
+sheet (insts.VecTbl rd rn rm) = Def Vector rd ∷ Use Vector rn ∷ Use Vector rm ∷ []
+sheet (insts.VecTblExt rd ri rn rm) = Def Vector rd ∷ Use Vector ri ∷ Use Vector rn ∷ Use Vector rm ∷ []
+sheet (insts.VecTbl2 rd rn rn2 rm) = Def Vector rd ∷ Use Vector rn ∷ Use Vector rn2 ∷ Use Vector rm ∷ []
+sheet (insts.VecTbl2Ext rd ri rn rn2 rm) = Def Vector rd ∷ Use Vector ri ∷ Use Vector rn ∷ Use Vector rn2 ∷ Use Vector rm ∷ []
 -- hints and barriers
 sheet insts.Csdb = []
 sheet insts.Fence = []
@@ -109,16 +163,38 @@ has_rest virtuals (insts.BitRR op size rd rn) = integer.is_bit_op_at op size
 has_rest virtuals (insts.Mov size rd rm) = integer.is_move virtuals size rd rm
 has_rest virtuals (insts.MovFromPReg rd rm) = integer.is_move_from virtuals rd rm
 has_rest virtuals (insts.MovToPReg rd rm) = integer.is_move_to virtuals rd rm
-has_rest virtuals (insts.FpuMoveFromVec rd rn idx lanes) = float.is_float_lane lanes idx
-has_rest virtuals (insts.FpuExtend rd rn scalar) = has_ftype scalar
-has_rest virtuals (insts.FpuRR fpu_op scalar rd rn) = float.is_fpu_op1_at fpu_op scalar
-has_rest virtuals (insts.FpuRRR fpu_op scalar rd rn rm) = has_ftype scalar
+has_rest virtuals (insts.FpuMoveFromVec rd rn idx size) = float.is_float_lane size idx
+has_rest virtuals (insts.FpuExtend rd rn size) = has_ftype size
+has_rest virtuals (insts.FpuRR fpu_op size rd rn) = float.is_fpu_op1_at fpu_op size
+has_rest virtuals (insts.FpuRRR fpu_op size rd rn rm) = has_ftype size
 has_rest virtuals (insts.FpuRRI fpu_op rd rn) = float.is_right_shift fpu_op
 has_rest virtuals (insts.FpuRRIMod fpu_op rd ri rn) = float.is_kept_shift rd ri fpu_op
-has_rest virtuals (insts.FpuRRRR fpu_op scalar rd rn rm ra) = has_ftype scalar
-has_rest virtuals (insts.FpuCmp scalar rn rm) = has_ftype scalar
-has_rest virtuals (insts.MovToFpu rd rn scalar) = has_ftype scalar
-has_rest virtuals (insts.FpuMoveFPImm rd imm scalar) = float.is_float_imm_of scalar imm
+has_rest virtuals (insts.FpuRRRR fpu_op size rd rn rm ra) = has_ftype size
+has_rest virtuals (insts.FpuCmp size rn rm) = has_ftype size
+has_rest virtuals (insts.MovToFpu rd rn size) = has_ftype size
+has_rest virtuals (insts.FpuMoveFPImm rd imm size) = float.is_float_imm_of size imm
+has_rest virtuals (insts.VecExtend t rd rn high_half lane_size) = has_ftype lane_size
+has_rest virtuals (insts.VecRRNarrowLow op rd rn lane_size) = vector.is_narrow_at op lane_size
+has_rest virtuals (insts.VecRRNarrowHigh op rd ri rn lane_size) = vector.is_kept_narrow rd ri op lane_size
+has_rest virtuals (insts.VecRRRLongMod alu_op rd ri rn rm high_half) = is_same_register rd ri
+has_rest virtuals (insts.VecRRR alu_op rd rn rm size) = vector.is_alu_at alu_op size
+has_rest virtuals (insts.VecRRRMod alu_op rd ri rn rm size) = vector.is_mod_at rd ri alu_op size
+has_rest virtuals (insts.VecFmlaElem alu_op rd ri rn rm size idx) = vector.is_elem_at rd ri alu_op size idx
+has_rest virtuals (insts.VecMisc op rd rn size) = vector.is_misc_at op size
+has_rest virtuals (insts.VecLanes op rd rn size) = vector.is_across size
+has_rest virtuals (insts.VecShiftImm op rd rn size imm) = vector.is_amount op size imm
+has_rest virtuals (insts.VecShiftImmMod op rd ri rn size imm) = vector.is_kept_amount rd ri size imm
+has_rest virtuals (insts.MovToVec rd ri rn idx size) = vector.is_kept_lane rd ri size idx
+has_rest virtuals (insts.MovFromVec rd rn idx size) = vector.is_scalar_lane size idx
+has_rest virtuals (insts.MovFromVecSigned rd rn idx size scalar_size) = vector.is_signed_lane size idx scalar_size
+has_rest virtuals (insts.VecDupFromFpu rd rn size lane) = is_lane size lane
+has_rest virtuals (insts.VecDupFPImm rd imm size) = vector.is_float_imm_in size imm
+has_rest virtuals (insts.VecDupImm rd imm invert size) = vector.is_mov_imm_in size imm invert
+has_rest virtuals (insts.VecMovElement rd ri rn dest_idx src_idx size) = vector.are_kept_lanes rd ri size dest_idx src_idx
+has_rest virtuals (insts.VecExtract rd rn rm imm4) = nat_lt imm4 16
+has_rest virtuals (insts.VecTblExt rd ri rn rm) = is_same_register rd ri
+has_rest virtuals (insts.VecTbl2 rd rn rn2 rm) = vector.is_next_vector rn rn2
+has_rest virtuals (insts.VecTbl2Ext rd ri rn rn2 rm) = vector.is_kept_table rd ri rn rn2
 has_rest virtuals _ = true
 
 -- a register is of a class

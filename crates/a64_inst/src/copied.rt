@@ -8,7 +8,9 @@ ghost use Rattle.a64_inst.specs.Groups.{group_of};
 use crate::boxed::Boxed;
 use crate::group::{Group, PlainGroup};
 use crate::inst::Inst;
-use crate::{float_list, immediate_list, register_list, system_list};
+use crate::{
+    float_list, immediate_list, register_list, system_list, vector_list, vector_move_list,
+};
 use std::alloc::{AllocError, Global};
 
 /// An equal instruction, of these variants with these fields.
@@ -55,6 +57,22 @@ fn copied_float(inst: &Inst) -> Inst
     float_list!(copied_arms, virtuals, inst)
 }
 
+/// An equal operation on vectors.
+fn copied_vector(inst: &Inst) -> Inst
+    requires { group_of inst.now ≡ groups.Plain plain.Vector }
+    ensures { result ≡ inst.now }
+{
+    vector_list!(copied_arms, virtuals, inst)
+}
+
+/// An equal move of lanes, or table of bytes.
+fn copied_vector_move(inst: &Inst) -> Inst
+    requires { group_of inst.now ≡ groups.Plain plain.VectorMove }
+    ensures { result ≡ inst.now }
+{
+    vector_move_list!(copied_arms, virtuals, inst)
+}
+
 /// An equal hint or barrier.
 fn copied_system(inst: &Inst) -> Inst
     requires { group_of inst.now ≡ groups.Plain plain.System }
@@ -72,11 +90,13 @@ fn copied_plain(inst: &Inst, group: PlainGroup) -> Inst
         PlainGroup::Immediate => copied_immediate(inst),
         PlainGroup::Register => copied_register(inst),
         PlainGroup::Float => copied_float(inst),
+        PlainGroup::Vector => copied_vector(inst),
+        PlainGroup::VectorMove => copied_vector_move(inst),
         PlainGroup::System => copied_system(inst),
     }
 }
 
-/// An equal branch, hint, access to a system register, word of data or address of a label.
+/// An equal branch, `nop`, access to the flags, word of data or address of a label.
 fn copied_control(alloc: Global, inst: &Inst) -> Result<Inst, AllocError>
     requires { group_of inst.now ≡ groups.Control }
     ensures { IfOk result (λ copy. copy ≡ inst.now) }
@@ -106,7 +126,7 @@ fn copied_control(alloc: Global, inst: &Inst) -> Result<Inst, AllocError>
     )
 }
 
-/// An equal sequence around a table, a symbol or the stack, or what has no word.
+/// An equal sequence around a table, a symbol or the stack, select of vectors, or what has no word.
 fn copied_sequence(alloc: Global, inst: &Inst) -> Result<Inst, AllocError>
     requires { group_of inst.now ≡ groups.Sequence }
     ensures { IfOk result (λ copy. copy ≡ inst.now) }
@@ -140,7 +160,8 @@ fn copied_sequence(alloc: Global, inst: &Inst) -> Result<Inst, AllocError>
             LoadExtNameGot { rd, name },
             LoadExtNameNear { rd, name, offset },
             LoadExtNameFar { rd, name, offset },
-            StackProbeLoop { start, end, step }
+            StackProbeLoop { start, end, step },
+            VecCSel { rd, rn, rm, cond }
         ),
     }
 }
@@ -183,7 +204,8 @@ fn copied_memory(inst: &Inst) -> Result<Inst, AllocError>
         AtomicCAS { rd, rs, rt, rn, ty, flags },
         AtomicCAS128 { args },
         LoadAcquire { access_ty, rt, rn, flags },
-        StoreRelease { access_ty, rt, rn, flags }
+        StoreRelease { access_ty, rt, rn, flags },
+        VecLoadReplicate { rd, rn, size, flags }
     )
 }
 

@@ -13,9 +13,9 @@ use crate::inst::Inst;
 pub enum Group {
     /// Instructions that are one word each, which is no use.
     Plain(PlainGroup),
-    /// Branches, hints, accesses to system registers, data, and addresses of labels.
+    /// Branches, `nop`, accesses to the flags, data, and addresses of labels.
     Control,
-    /// Sequences around tables, symbols and the stack, and what has no word.
+    /// Sequences around tables, symbols and the stack, selects of vectors, and what has no word.
     Sequence,
     /// Calls, and returns that call another function.
     Call,
@@ -32,6 +32,10 @@ pub enum PlainGroup {
     Register,
     /// Operations on scalar floats, and moves of them.
     Float,
+    /// Operations on vectors.
+    Vector,
+    /// Moves to, from and between lanes of vectors, and tables of bytes.
+    VectorMove,
     /// Hints and barriers.
     System,
 }
@@ -86,6 +90,34 @@ impl Inst {
             | Inst::FpuRound { .. }
             | Inst::MovToFpu { .. }
             | Inst::FpuMoveFPImm { .. } => Group::Plain(PlainGroup::Float),
+            Inst::VecExtend { .. }
+            | Inst::VecRRLong { .. }
+            | Inst::VecRRNarrowLow { .. }
+            | Inst::VecRRNarrowHigh { .. }
+            | Inst::VecRRPair { .. }
+            | Inst::VecRRRLong { .. }
+            | Inst::VecRRRLongMod { .. }
+            | Inst::VecRRPairLong { .. }
+            | Inst::VecRRR { .. }
+            | Inst::VecRRRMod { .. }
+            | Inst::VecFmlaElem { .. }
+            | Inst::VecMisc { .. }
+            | Inst::VecLanes { .. }
+            | Inst::VecShiftImm { .. }
+            | Inst::VecShiftImmMod { .. } => Group::Plain(PlainGroup::Vector),
+            Inst::MovToVec { .. }
+            | Inst::MovFromVec { .. }
+            | Inst::MovFromVecSigned { .. }
+            | Inst::VecDup { .. }
+            | Inst::VecDupFromFpu { .. }
+            | Inst::VecDupFPImm { .. }
+            | Inst::VecDupImm { .. }
+            | Inst::VecMovElement { .. }
+            | Inst::VecExtract { .. }
+            | Inst::VecTbl { .. }
+            | Inst::VecTblExt { .. }
+            | Inst::VecTbl2 { .. }
+            | Inst::VecTbl2Ext { .. } => Group::Plain(PlainGroup::VectorMove),
             Inst::Csdb | Inst::Fence | Inst::Paci { .. } | Inst::Xpaclri | Inst::Bti { .. } =>
                 Group::Plain(PlainGroup::System),
             Inst::Nop0
@@ -112,7 +144,8 @@ impl Inst {
             | Inst::LoadExtNameGot { .. }
             | Inst::LoadExtNameNear { .. }
             | Inst::LoadExtNameFar { .. }
-            | Inst::StackProbeLoop { .. } => Group::Sequence,
+            | Inst::StackProbeLoop { .. }
+            | Inst::VecCSel { .. } => Group::Sequence,
             Inst::Call { .. }
             | Inst::CallInd { .. }
             | Inst::ReturnCall { .. }
@@ -125,6 +158,7 @@ impl Inst {
             | Inst::AtomicCAS128 { .. }
             | Inst::LoadAcquire { .. }
             | Inst::StoreRelease { .. }
+            | Inst::VecLoadReplicate { .. }
             | Inst::ULoad8 { .. }
             | Inst::SLoad8 { .. }
             | Inst::ULoad16 { .. }

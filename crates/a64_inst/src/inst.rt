@@ -13,11 +13,15 @@ use a64_base::{
     MemFlagsData, OperandSize, PReg, Reg, ScalarSize, ShiftOpAndAmt, TestBitAndBranchKind,
     TrapCode, VectorSize, Writable,
 };
-use a64_imms::{ASIMDFPModImm, Imm12, ImmLogic, ImmShift, MoveWideConst, NZCV, UImm5, UImm6};
+use a64_imms::{
+    ASIMDFPModImm, ASIMDMovModImm, Imm12, ImmLogic, ImmShift, MoveWideConst, NZCV, UImm5, UImm6,
+};
 use a64_list::ListVec;
 use a64_ops::{
     ALUOp, ALUOp3, AtomicRMWOp, BfmOp, BitOp, BranchTargetType, FPUOp1, FPUOp2, FPUOp3,
-    FpuRoundMode, FpuToIntOp, IntToFpuOp, MoveWideOp,
+    FpuRoundMode, FpuToIntOp, IntToFpuOp, MoveWideOp, VecALUModOp, VecALUOp, VecExtendOp,
+    VecLanesOp, VecMisc2, VecPairOp, VecRRLongOp, VecRRNarrowOp, VecRRPairLongOp, VecRRRLongModOp,
+    VecRRRLongOp, VecShiftImmModOp, VecShiftImmOp,
 };
 use std::alloc::Global;
 use std::default::MadeWith;
@@ -380,7 +384,7 @@ pub enum Inst {
         /// The second operand.
         rm: Reg,
     },
-    /// A shift of the lowest bits of a vector register, with zeros above the result.
+    /// `ushr` of the lowest 64 bits of a vector register, in one lane or in two, with zeros above the result.
     FpuRRI {
         /// The operator, with the amount.
         fpu_op: FPUOpRI,
@@ -389,13 +393,14 @@ pub enum Inst {
         /// What is shifted.
         rn: Reg,
     },
-    /// A shift of the lowest bits of a vector register, of which the result keeps as many bits as it shifts by.
+    /// `sli` of the lowest 64 bits of a vector register, in one lane or in two, with zeros above the result. In each lane
+    /// the result keeps its own lowest bits, as many as the amount.
     FpuRRIMod {
         /// The operator, with the amount.
         fpu_op: FPUOpRIMod,
         /// The result.
         rd: Writable<Reg>,
-        /// The register of which the lowest bits stay, which is the result's.
+        /// The register of which each lane's lowest bits stay, which is the result's.
         ri: Reg,
         /// What is shifted.
         rn: Reg,
@@ -412,7 +417,7 @@ pub enum Inst {
         rn: Reg,
         /// The second factor.
         rm: Reg,
-        /// What the product is added to, or subtracted from.
+        /// The addend, which some operators negate.
         ra: Reg,
     },
     /// `fcmp` of two floats of 16, 32 or 64 bits, which sets the flags.
@@ -501,6 +506,366 @@ pub enum Inst {
         imm: ASIMDFPModImm,
         /// The size of the float.
         size: ScalarSize,
+    },
+    /// `mov` of a general register to one lane, of which the others stay.
+    MovToVec {
+        /// The result.
+        rd: Writable<Reg>,
+        /// The register of which the other lanes stay, which is the result's.
+        ri: Reg,
+        /// What is moved, a general register.
+        rn: Reg,
+        /// The lane's number, below 16, 8, 4 or 2 for lanes of 8, 16, 32 or 64 bits.
+        idx: u8,
+        /// The lanes.
+        size: VectorSize,
+    },
+    /// `umov` of one lane to a general register, with zeros above it.
+    MovFromVec {
+        /// The result, a general register.
+        rd: Writable<Reg>,
+        /// The vector.
+        rn: Reg,
+        /// The lane's number, below 16, 8, 4 or 2 for lanes of 8, 16, 32 or 64 bits.
+        idx: u8,
+        /// The size of the lane: 8, 16, 32 or 64 bits.
+        size: ScalarSize,
+    },
+    /// `smov` of one lane to a general register, with its sign above it.
+    MovFromVecSigned {
+        /// The result, a general register.
+        rd: Writable<Reg>,
+        /// The vector.
+        rn: Reg,
+        /// The lane's number, below how many lanes the size has.
+        idx: u8,
+        /// The lanes, of 8, 16 or 32 bits.
+        size: VectorSize,
+        /// The size of the result: 64 bits where lanes have 32.
+        scalar_size: OperandSize,
+    },
+    /// `dup` of a general register to all lanes.
+    VecDup {
+        /// The result.
+        rd: Writable<Reg>,
+        /// What is copied, a general register.
+        rn: Reg,
+        /// The lanes.
+        size: VectorSize,
+    },
+    /// `dup` of one lane to all lanes.
+    VecDupFromFpu {
+        /// The result.
+        rd: Writable<Reg>,
+        /// The vector with the lane.
+        rn: Reg,
+        /// The lanes.
+        size: VectorSize,
+        /// The lane's number, below 16, 8, 4 or 2 for lanes of 8, 16, 32 or 64 bits.
+        lane: u8,
+    },
+    /// `fmov` of an immediate float to all lanes.
+    VecDupFPImm {
+        /// The result.
+        rd: Writable<Reg>,
+        /// The float, which is one of a lane's size.
+        imm: ASIMDFPModImm,
+        /// The lanes, of 32 or 64 bits.
+        size: VectorSize,
+    },
+    /// `movi` or `mvni` of an immediate to all lanes.
+    VecDupImm {
+        /// The result.
+        rd: Writable<Reg>,
+        /// The immediate, which is of 64 bits exactly where lanes are. Its shift is 0 for lanes of 8 and 64
+        /// bits, 0 or 8 for those of 16, and 0, 8, 16 or 24 for those of 32, or 8 or 16 where ones are shifted
+        /// in.
+        imm: ASIMDMovModImm,
+        /// Whether the complement is copied: for lanes of 16 and 32 bits alone.
+        invert: bool,
+        /// The lanes.
+        size: VectorSize,
+    },
+    /// `sxtl`, `sxtl2`, `uxtl` or `uxtl2`: half of the lanes, each extended to twice its bits.
+    VecExtend {
+        /// The operator.
+        t: VecExtendOp,
+        /// The result.
+        rd: Writable<Reg>,
+        /// The operand.
+        rn: Reg,
+        /// Whether the upper half of the lanes is read.
+        high_half: bool,
+        /// The size of a lane of the result: 16, 32 or 64 bits.
+        lane_size: ScalarSize,
+    },
+    /// `mov` of one lane to another, of which the others stay.
+    VecMovElement {
+        /// The result.
+        rd: Writable<Reg>,
+        /// The register of which the other lanes stay, which is the result's.
+        ri: Reg,
+        /// The vector with the lane that is moved.
+        rn: Reg,
+        /// The number of the lane that is written, below 16, 8, 4 or 2 for lanes of 8, 16, 32 or 64 bits.
+        dest_idx: u8,
+        /// The number of the lane that is read, in the same range.
+        src_idx: u8,
+        /// The lanes.
+        size: VectorSize,
+    },
+    /// An operation on half of the lanes, whose results have twice the bits.
+    VecRRLong {
+        /// The operator.
+        op: VecRRLongOp,
+        /// The result.
+        rd: Writable<Reg>,
+        /// The operand.
+        rn: Reg,
+        /// Whether the upper half of the lanes is read.
+        high_half: bool,
+    },
+    /// An operation whose results have half the bits: they fill the lower half, with zeros above it.
+    VecRRNarrowLow {
+        /// The operator.
+        op: VecRRNarrowOp,
+        /// The result.
+        rd: Writable<Reg>,
+        /// The operand.
+        rn: Reg,
+        /// The size of a lane of the result: 8, 16 or 32 bits; 16 or 32 for floats.
+        lane_size: ScalarSize,
+    },
+    /// An operation whose results have half the bits: they fill the upper half, and the lower one stays.
+    VecRRNarrowHigh {
+        /// The operator.
+        op: VecRRNarrowOp,
+        /// The result.
+        rd: Writable<Reg>,
+        /// The register of which the lower half stays, which is the result's.
+        ri: Reg,
+        /// The operand.
+        rn: Reg,
+        /// The size of a lane of the result: 8, 16 or 32 bits; 16 or 32 for floats.
+        lane_size: ScalarSize,
+    },
+    /// An operation on the two lanes of 64 bits, with zeros above the result.
+    VecRRPair {
+        /// The operator.
+        op: VecPairOp,
+        /// The result.
+        rd: Writable<Reg>,
+        /// The operand.
+        rn: Reg,
+    },
+    /// An operation on half of the lanes of two vectors, whose results have twice the bits.
+    VecRRRLong {
+        /// The operator.
+        alu_op: VecRRRLongOp,
+        /// The result.
+        rd: Writable<Reg>,
+        /// The first operand.
+        rn: Reg,
+        /// The second operand.
+        rm: Reg,
+        /// Whether the upper halves of the lanes are read.
+        high_half: bool,
+    },
+    /// An operation on half of the lanes of two vectors, which adds to the lanes of its result.
+    VecRRRLongMod {
+        /// The operator.
+        alu_op: VecRRRLongModOp,
+        /// The result.
+        rd: Writable<Reg>,
+        /// The register with the addends, which is the result's.
+        ri: Reg,
+        /// The first operand.
+        rn: Reg,
+        /// The second operand.
+        rm: Reg,
+        /// Whether the upper halves of the lanes are read.
+        high_half: bool,
+    },
+    /// An operation on each two neighbouring lanes, whose results have twice the bits.
+    VecRRPairLong {
+        /// The operator.
+        op: VecRRPairLongOp,
+        /// The result.
+        rd: Writable<Reg>,
+        /// The operand.
+        rn: Reg,
+    },
+    /// An operation on two vectors.
+    VecRRR {
+        /// The operator.
+        alu_op: VecALUOp,
+        /// The result.
+        rd: Writable<Reg>,
+        /// The first operand.
+        rn: Reg,
+        /// The second operand.
+        rm: Reg,
+        /// The lanes, which the operator has.
+        size: VectorSize,
+    },
+    /// An operation on two vectors and the register of its result.
+    VecRRRMod {
+        /// The operator.
+        alu_op: VecALUModOp,
+        /// The result.
+        rd: Writable<Reg>,
+        /// The third operand, which is the result's register.
+        ri: Reg,
+        /// The first operand.
+        rn: Reg,
+        /// The second operand.
+        rm: Reg,
+        /// The lanes, of 32 or 64 bits for `Fmla` and `Fmls`. Of the others only their width counts.
+        size: VectorSize,
+    },
+    /// `fmla` or `fmls` of a vector and one lane of another.
+    VecFmlaElem {
+        /// The operator: `Fmla` or `Fmls`.
+        alu_op: VecALUModOp,
+        /// The result.
+        rd: Writable<Reg>,
+        /// The addends, which is the result's register.
+        ri: Reg,
+        /// The first operand.
+        rn: Reg,
+        /// The vector with the lane.
+        rm: Reg,
+        /// The lanes: 4 of 32 bits, or 2 of 64.
+        size: VectorSize,
+        /// The lane's number, below how many lanes the size has.
+        idx: u8,
+    },
+    /// An operation on one vector.
+    VecMisc {
+        /// The operator.
+        op: VecMisc2,
+        /// The result.
+        rd: Writable<Reg>,
+        /// The operand.
+        rn: Reg,
+        /// The lanes, which the operator has.
+        size: VectorSize,
+    },
+    /// An operation over the lanes of one vector, with zeros above the result.
+    VecLanes {
+        /// The operator.
+        op: VecLanesOp,
+        /// The result.
+        rd: Writable<Reg>,
+        /// The operand.
+        rn: Reg,
+        /// The lanes: at least four of them.
+        size: VectorSize,
+    },
+    /// A shift of each lane by a number.
+    VecShiftImm {
+        /// The operator.
+        op: VecShiftImmOp,
+        /// The result.
+        rd: Writable<Reg>,
+        /// The operand.
+        rn: Reg,
+        /// The lanes.
+        size: VectorSize,
+        /// The amount in bits: below a lane's bits to the left, and from 1 to a lane's bits to the right.
+        imm: u8,
+    },
+    /// A shift of each lane by a number, which keeps bits of its result.
+    VecShiftImmMod {
+        /// The operator.
+        op: VecShiftImmModOp,
+        /// The result.
+        rd: Writable<Reg>,
+        /// The register of which bits stay, in each lane those below the amount, which is the result's.
+        ri: Reg,
+        /// The operand.
+        rn: Reg,
+        /// The lanes.
+        size: VectorSize,
+        /// The amount in bits, below a lane's bits.
+        imm: u8,
+    },
+    /// `ext`: 16 bytes out of two vectors one behind the other.
+    VecExtract {
+        /// The result.
+        rd: Writable<Reg>,
+        /// The lower vector.
+        rn: Reg,
+        /// The upper vector.
+        rm: Reg,
+        /// How many bytes stand below those that are taken, less than 16.
+        imm4: u8,
+    },
+    /// `tbl` with one vector: bytes of a table by their numbers, or 0 where a number is too large.
+    VecTbl {
+        /// The result.
+        rd: Writable<Reg>,
+        /// The table of 16 bytes.
+        rn: Reg,
+        /// The numbers.
+        rm: Reg,
+    },
+    /// `tbx` with one vector: bytes of a table by their numbers; where a number is too large, a byte stays.
+    VecTblExt {
+        /// The result.
+        rd: Writable<Reg>,
+        /// The register of which bytes stay, which is the result's.
+        ri: Reg,
+        /// The table of 16 bytes.
+        rn: Reg,
+        /// The numbers.
+        rm: Reg,
+    },
+    /// `tbl` with two vectors: bytes of a table by their numbers, or 0 where a number is too large.
+    VecTbl2 {
+        /// The result.
+        rd: Writable<Reg>,
+        /// The lower half of the table of 32 bytes.
+        rn: Reg,
+        /// Its upper half: the register behind `rn`, which is v0 behind v31.
+        rn2: Reg,
+        /// The numbers.
+        rm: Reg,
+    },
+    /// `tbx` with two vectors: bytes of a table by their numbers; where a number is too large, a byte stays.
+    VecTbl2Ext {
+        /// The result.
+        rd: Writable<Reg>,
+        /// The register of which bytes stay, which is the result's.
+        ri: Reg,
+        /// The lower half of the table of 32 bytes.
+        rn: Reg,
+        /// Its upper half: the register behind `rn`, which is v0 behind v31.
+        rn2: Reg,
+        /// The numbers.
+        rm: Reg,
+    },
+    /// `ld1r`: a load of one value to all lanes.
+    VecLoadReplicate {
+        /// The result.
+        rd: Writable<Reg>,
+        /// The address: x0 to x30, or the stack pointer.
+        rn: Reg,
+        /// The lanes.
+        size: VectorSize,
+        /// What is known of the access.
+        flags: MemFlagsData,
+    },
+    /// A select of one of two vectors by a condition: two branches and two moves.
+    VecCSel {
+        /// The result.
+        rd: Writable<Reg>,
+        /// What the result is where the condition holds.
+        rn: Reg,
+        /// What it is where the condition fails.
+        rm: Reg,
+        /// The condition.
+        cond: Cond,
     },
     /// `ret`: a return to the address in x30.
     Ret,

@@ -15,6 +15,7 @@ mod frame;
 mod group;
 mod inst;
 mod item;
+mod lanes;
 mod lists;
 mod mode;
 mod operand;
@@ -25,8 +26,10 @@ mod virtuals;
 
 pub use crate::item::Item;
 pub use a64_ops::{
-    ALUOp, ALUOp3, AccessOp, AtomicRMWOp, BfmOp, BitOp, BranchTargetType, FPUOp1, FPUOp2, FPUOp3,
-    FpuRoundMode, FpuToIntOp, IntToFpuOp, MoveWideOp,
+    ALUOp, ALUOp3, AccessOp, AtomicRMWLoopOp, AtomicRMWOp, BfmOp, BitOp, BranchTargetType, FPUOp1,
+    FPUOp2, FPUOp3, FpuRoundMode, FpuToIntOp, IntToFpuOp, MoveWideOp, VecALUModOp, VecALUOp,
+    VecExtendOp, VecLanesOp, VecMisc2, VecPairOp, VecRRLongOp, VecRRNarrowOp, VecRRPairLongOp,
+    VecRRRLongModOp, VecRRRLongOp, VecShiftImmModOp, VecShiftImmOp,
 };
 pub use a64_plan::{ConstStep, const_plan};
 pub use access::{Access, AccessRef};
@@ -40,6 +43,7 @@ pub use fpu_op::{FPUOpRI, FPUOpRIMod};
 pub use frame::FrameLayout;
 pub use group::{Group, PlainGroup};
 pub use inst::Inst;
+pub use lanes::Lanes;
 pub use mode::{AMode, MemLabel, PairAMode};
 pub use pair::{ArgPair, RetPair};
 pub use place::{Place, is_far, place_of};

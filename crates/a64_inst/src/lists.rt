@@ -76,6 +76,52 @@ macro_rules! float_list {
     };
 }
 
+/// Hands the operations on vectors to a macro.
+#[macro_export]
+macro_rules! vector_list {
+    ($arms:ident, $virtuals:ident, $($args:tt),+) => {
+        $arms! { $virtuals, $($args),+;
+            VecExtend { t: Is VecExtendOp, rd: Def Vector, rn: Use Vector, high_half: Is Bool, lane_size: Is ScalarSize } if is_float_size(*lane_size);
+            VecRRLong { op: Is VecRRLongOp, rd: Def Vector, rn: Use Vector, high_half: Is Bool } if true;
+            VecRRNarrowLow { op: Is VecRRNarrowOp, rd: Def Vector, rn: Use Vector, lane_size: Is ScalarSize } if is_narrow_at(*op, *lane_size);
+            VecRRNarrowHigh { op: Is VecRRNarrowOp, rd: Def Vector, ri: Use Vector, rn: Use Vector, lane_size: Is ScalarSize } if is_kept_narrow(&rd.to_reg(), ri, *op, *lane_size);
+            VecRRPair { op: Is VecPairOp, rd: Def Vector, rn: Use Vector } if true;
+            VecRRRLong { alu_op: Is VecRRRLongOp, rd: Def Vector, rn: Use Vector, rm: Use Vector, high_half: Is Bool } if true;
+            VecRRRLongMod { alu_op: Is VecRRRLongModOp, rd: Def Vector, ri: Use Vector, rn: Use Vector, rm: Use Vector, high_half: Is Bool } if is_same_register(&rd.to_reg(), ri);
+            VecRRPairLong { op: Is VecRRPairLongOp, rd: Def Vector, rn: Use Vector } if true;
+            VecRRR { alu_op: Is VecAluOp, rd: Def Vector, rn: Use Vector, rm: Use Vector, size: Is VectorSize } if is_alu_at(*alu_op, *size);
+            VecRRRMod { alu_op: Is VecAluModOp, rd: Def Vector, ri: Use Vector, rn: Use Vector, rm: Use Vector, size: Is VectorSize } if is_mod_at(&rd.to_reg(), ri, *alu_op, *size);
+            VecFmlaElem { alu_op: Is VecAluModOp, rd: Def Vector, ri: Use Vector, rn: Use Vector, rm: Use Vector, size: Is VectorSize, idx: Is U8 } if is_elem_at(&rd.to_reg(), ri, *alu_op, *size, *idx);
+            VecMisc { op: Is VecMisc2, rd: Def Vector, rn: Use Vector, size: Is VectorSize } if is_misc_at(*op, *size);
+            VecLanes { op: Is VecLanesOp, rd: Def Vector, rn: Use Vector, size: Is VectorSize } if is_across(*size);
+            VecShiftImm { op: Is VecShiftImmOp, rd: Def Vector, rn: Use Vector, size: Is VectorSize, imm: Is U8 } if is_amount(*op, *size, *imm);
+            VecShiftImmMod { op: Is VecShiftImmModOp, rd: Def Vector, ri: Use Vector, rn: Use Vector, size: Is VectorSize, imm: Is U8 } if is_kept_amount(&rd.to_reg(), ri, *size, *imm);
+        }
+    };
+}
+
+/// Hands the moves of lanes and the tables of bytes to a macro.
+#[macro_export]
+macro_rules! vector_move_list {
+    ($arms:ident, $virtuals:ident, $($args:tt),+) => {
+        $arms! { $virtuals, $($args),+;
+            MovToVec { rd: Def Vector, ri: Use Vector, rn: Use Zero, idx: Is U8, size: Is VectorSize } if is_kept_lane(&rd.to_reg(), ri, *size, *idx);
+            MovFromVec { rd: Def Zero, rn: Use Vector, idx: Is U8, size: Is ScalarSize } if is_scalar_lane(*size, *idx);
+            MovFromVecSigned { rd: Def Zero, rn: Use Vector, idx: Is U8, size: Is VectorSize, scalar_size: Is Size } if is_signed_lane(*size, *idx, *scalar_size);
+            VecDup { rd: Def Vector, rn: Use Zero, size: Is VectorSize } if true;
+            VecDupFromFpu { rd: Def Vector, rn: Use Vector, size: Is VectorSize, lane: Is U8 } if is_lane(*size, *lane);
+            VecDupFPImm { rd: Def Vector, imm: Is FloatImm, size: Is VectorSize } if is_float_imm_in(*size, *imm);
+            VecDupImm { rd: Def Vector, imm: Is MovImm, invert: Is Bool, size: Is VectorSize } if is_mov_imm_in(*size, *imm, *invert);
+            VecMovElement { rd: Def Vector, ri: Use Vector, rn: Use Vector, dest_idx: Is U8, src_idx: Is U8, size: Is VectorSize } if are_kept_lanes(&rd.to_reg(), ri, *size, *dest_idx, *src_idx);
+            VecExtract { rd: Def Vector, rn: Use Vector, rm: Use Vector, imm4: Is U8 } if *imm4 < 16;
+            VecTbl { rd: Def Vector, rn: Use Vector, rm: Use Vector } if true;
+            VecTblExt { rd: Def Vector, ri: Use Vector, rn: Use Vector, rm: Use Vector } if is_same_register(&rd.to_reg(), ri);
+            VecTbl2 { rd: Def Vector, rn: Use Vector, rn2: Use Vector, rm: Use Vector } if is_next_vector(rn, rn2);
+            VecTbl2Ext { rd: Def Vector, ri: Use Vector, rn: Use Vector, rn2: Use Vector, rm: Use Vector } if is_kept_table(&rd.to_reg(), ri, rn, rn2);
+        }
+    };
+}
+
 /// Hands the hints and barriers to a macro.
 #[macro_export]
 macro_rules! system_list {

@@ -1,4 +1,4 @@
-//! Whether the operands of branches, hints, accesses to system registers, data and addresses of
+//! Whether the operands of branches, `nop`, accesses to the flags, data and addresses of
 //! labels are in their sets.
 
 ghost use Rattle.std.specs.Prelude.{◌≡◌};
@@ -71,7 +71,7 @@ fn test_bit(
     is_target(1 << 15, taken) && jump(not_taken) && is_register_or_zero(virtuals, rn) && bit < 64
 }
 
-/// Whether the operands of a branch, a hint, an access to a system register, a word of data or an
+/// Whether the operands of a branch, a `nop`, an access to the flags, a word of data or an
 /// address of a label are in their sets.
 #[inline(always)]
 pub fn has_control_operands(

@@ -75,7 +75,7 @@ fn is_lone_address(rd: &Reg, frame: &FrameLayout, mem: &AMode) -> bool
     }
 }
 
-/// Whether a branch, a hint, data or the like is one word that is no use.
+/// Whether a branch, a `nop`, data or the like is one word that is no use.
 fn is_lone_control(inst: &Inst, _frame: &FrameLayout) -> bool
     requires { group_of inst.now ≡ Control }
     ensures { result ≡ lone.is_lone _frame.now inst.now }

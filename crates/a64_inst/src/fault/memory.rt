@@ -77,7 +77,8 @@ fn access_fault(
     None
 }
 
-/// Whether the operands of a pair, of the address of a mode or of an atomic access are in their sets.
+/// Whether the operands of a pair, of the address of a mode, of an atomic access or of a load to all lanes are in their
+/// sets.
 fn has_operands(
     inst: &Inst,
     frame: &FrameLayout,
@@ -131,6 +132,7 @@ fn has_operands(
             rn,
             flags: _,
         } => atomic::ordered(virtuals, *access_ty, *rt, *rn),
+        Inst::VecLoadReplicate { rd, rn, .. } => operand::replicate(virtuals, rd.to_reg(), *rn),
         _ => unreachable!(),
     }
 }

@@ -2,11 +2,13 @@
 
 mod float;
 mod immediate;
+mod lane;
 mod register;
+mod vector;
 
 ghost use Rattle.std.specs.Prelude.{◌≡◌};
 ghost use Rattle.a64_inst.specs.declared.group.Group.TheVariants.{Plain};
-ghost use Rattle.a64_inst.specs.declared.group.PlainGroup.TheVariants.{Float, Immediate, Register, System};
+ghost use Rattle.a64_inst.specs.declared.group.PlainGroup.TheVariants.{Float, Immediate, Register, System, Vector, VectorMove};
 ghost use Rattle.a64_inst.specs.Groups.{group_of};
 ghost use Rattle.a64_inst.specs.Faults.{has_operands};
 
@@ -19,16 +21,26 @@ use crate::fault::plain::immediate::{
     is_add_sub_imm12, is_bitfield, is_extended, is_kept, is_kept_bitfield, is_logic_imm,
     is_shift_by, logic_class,
 };
+use crate::fault::plain::lane::{
+    are_kept_lanes, is_float_imm_in, is_kept_lane, is_kept_table, is_mov_imm_in, is_next_vector,
+    is_scalar_lane, is_signed_lane,
+};
 use crate::fault::plain::register::{
     add_sub_class, is_add_sub, is_bit_op_at, is_long_product_at, is_move, is_move_from, is_move_to,
     is_product_at, is_shifted,
 };
+use crate::fault::plain::vector::{
+    is_across, is_alu_at, is_amount, is_elem_at, is_kept_amount, is_kept_narrow, is_misc_at,
+    is_mod_at, is_narrow_at,
+};
 use crate::frame::FrameLayout;
 use crate::group::PlainGroup;
 use crate::inst::Inst;
-use crate::operand::{is_near, is_wide_in};
+use crate::operand::{is_lane, is_near, is_same_register, is_wide_in};
 use crate::virtuals::VirtualRegisters;
-use crate::{float_list, immediate_list, register_list, system_list};
+use crate::{
+    float_list, immediate_list, register_list, system_list, vector_list, vector_move_list,
+};
 
 /// Whether the registers among the fields are of their classes, and the rest holds.
 macro_rules! fields_fit {
@@ -96,6 +108,32 @@ fn has_float_operands(
     float_list!(operand_arms, virtuals, inst)
 }
 
+/// Whether the operands of an operation on vectors are in their sets.
+fn has_vector_operands(
+    inst: &Inst,
+    frame: &FrameLayout,
+    info: &EmitInfo,
+    virtuals: VirtualRegisters,
+) -> bool
+    requires { group_of inst.now ≡ Plain Vector }
+    ensures { result ≡ has_operands frame.now info.now virtuals inst.now }
+{
+    vector_list!(operand_arms, virtuals, inst)
+}
+
+/// Whether the operands of a move of lanes or a table of bytes are in their sets.
+fn has_vector_move_operands(
+    inst: &Inst,
+    frame: &FrameLayout,
+    info: &EmitInfo,
+    virtuals: VirtualRegisters,
+) -> bool
+    requires { group_of inst.now ≡ Plain VectorMove }
+    ensures { result ≡ has_operands frame.now info.now virtuals inst.now }
+{
+    vector_move_list!(operand_arms, virtuals, inst)
+}
+
 /// Whether the operands of a hint or a barrier are in their sets.
 fn has_system_operands(
     inst: &Inst,
@@ -125,6 +163,8 @@ pub fn has_plain_operands(
         PlainGroup::Immediate => has_immediate_operands(inst, frame, info, virtuals),
         PlainGroup::Register => has_register_operands(inst, frame, info, virtuals),
         PlainGroup::Float => has_float_operands(inst, frame, info, virtuals),
+        PlainGroup::Vector => has_vector_operands(inst, frame, info, virtuals),
+        PlainGroup::VectorMove => has_vector_move_operands(inst, frame, info, virtuals),
         PlainGroup::System => has_system_operands(inst, frame, info, virtuals),
     }
 }

@@ -1,17 +1,19 @@
-//! Whether the operands of sequences around tables, symbols and the stack, and of what has no word, are
-//! in their sets.
+//! Whether the operands of sequences around tables, symbols and the stack, of selects of vectors, and of what has no
+//! word, are in their sets.
 
 ghost use Rattle.std.specs.Prelude.{◌≡◌};
 ghost use Rattle.a64_inst.specs.declared.group.Group.TheVariants.{Sequence};
 ghost use Rattle.a64_inst.specs.Groups.{group_of};
 ghost use Rattle.a64_inst.specs.Faults.{has_operands};
 ghost use Rattle.a64_inst.specs.SequenceOperands as sets;
+ghost use Rattle.a64_inst.specs.VectorOperands as vectors;
 
 use crate::emission::EmitInfo;
 use crate::frame::FrameLayout;
 use crate::inst::Inst;
 use crate::operand::{
     is_any_register, is_imm12, is_other_register, is_register, is_register_or_zero,
+    is_vector_register,
 };
 use crate::pair::{ArgPair, RetPair};
 use crate::virtuals::VirtualRegisters;
@@ -59,8 +61,17 @@ fn probe(info: &EmitInfo, virtuals: VirtualRegisters, start: &Reg, end: Reg, ste
         && is_imm12(step)
 }
 
-/// Whether the operands of a sequence around a table, a symbol or the stack, or of what has no word,
-/// are in their sets.
+/// Of a `VecCSel`.
+#[tactic(auto, unfolding(crate::specs::VectorOperands::are_select_operands))]
+fn select(virtuals: VirtualRegisters, rd: Reg, rn: Reg, rm: Reg) -> bool
+    ensures { result ≡ vectors.are_select_operands virtuals rd rn rm }
+{
+    is_vector_register(virtuals, rd)
+        && (is_vector_register(virtuals, rn) && is_vector_register(virtuals, rm))
+}
+
+/// Whether the operands of a sequence around a table, a symbol or the stack, of a select of vectors, or of what has no
+/// word, are in their sets.
 pub fn has_sequence_operands(
     inst: &Inst,
     frame: &FrameLayout,
@@ -88,6 +99,7 @@ pub fn has_sequence_operands(
         Inst::StackProbeLoop { start, end, step } => {
             probe(info, virtuals, &start.to_reg(), *end, *step)
         }
+        Inst::VecCSel { rd, rn, rm, .. } => select(virtuals, rd.to_reg(), *rn, *rm),
         _ => unreachable!(),
     }
 }

@@ -2,13 +2,14 @@
 
 ghost use Rattle.std.specs.Prelude.{◌≡◌};
 ghost use Rattle.a64_inst.specs.MemoryOperands as sets;
+ghost use Rattle.a64_inst.specs.VectorOperands as vectors;
 
 use crate::access::AccessRef;
 use crate::fault::memory::mode::{are_operands, are_pair_parts, has_units};
 use crate::fault::memory::scratch::needs_x17_beside;
 use crate::frame::FrameLayout;
 use crate::mode::{AMode, PairAMode};
-use crate::operand::{is_register, is_register_or_zero, is_vector_register};
+use crate::operand::{is_register, is_register_or_stack, is_register_or_zero, is_vector_register};
 use crate::virtuals::VirtualRegisters;
 use a64_base::{IrType, Reg};
 use a64_ops::AccessOp;
@@ -44,6 +45,14 @@ pub fn pair(virtuals: VirtualRegisters, rt: Reg, rt2: Reg, mem: &PairAMode) -> b
     is_register_or_zero(virtuals, rt)
         && is_register_or_zero(virtuals, rt2)
         && are_pair_parts(virtuals, IrType::I64, mem)
+}
+
+/// Of a `VecLoadReplicate`.
+#[tactic(auto, unfolding(crate::specs::VectorOperands::are_replicate_operands))]
+pub fn replicate(virtuals: VirtualRegisters, rd: Reg, rn: Reg) -> bool
+    ensures { result ≡ vectors.are_replicate_operands virtuals rd rn }
+{
+    is_vector_register(virtuals, rd) && is_register_or_stack(virtuals, rn)
 }
 
 /// Of a `LoadAddr`.
