@@ -19,6 +19,7 @@ pub mod Operands
 pub mod PlainOperands
 pub mod OneWord
 pub mod FloatForms
+pub mod VectorForms
 pub mod ImmediateForms
 pub mod RegisterForms
 pub mod BranchForms
