@@ -4,3 +4,5 @@ pub mod Groups
 pub mod Units
 pub mod Restored
 pub mod Pools
+pub mod Late
+pub mod LateFields

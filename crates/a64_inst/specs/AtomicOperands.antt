@@ -1,5 +1,5 @@
--- Which operands atomic accesses may have (Arm Architecture Reference Manual, C3.2: load-acquire and store-release, atomic
--- memory operations, and compare and swap).
+-- Which operands atomic accesses may have, and loops of them (Arm Architecture Reference Manual, C3.2: load-acquire and
+-- store-release, load-exclusive and store-exclusive, atomic memory operations, and compare and swap).
 use Rattle.std.specs.Prelude.{◌+◌, ◌%◌, Bool, true, false, ◌&&◌, nat_le, nat_eq}
 use Rattle.a64_base.specs.declared.ir_type.IrType.{IrType}
 use Rattle.a64_base.specs.declared.ir_type.IrType.TheVariants.{I8, I16, I32, I64}
@@ -7,7 +7,9 @@ use Rattle.a64_base.specs.declared.reg.Reg.{Reg}
 use Rattle.a64_base.specs.declared.reg.Reg.TheVariants.{Real, Virtual}
 use Rattle.a64_inst.specs.declared.atomic.AtomicCAS128Args.{AtomicCAS128Args}
 use Rattle.a64_inst.specs.declared.virtuals.VirtualRegisters.{VirtualRegisters}
-use Rattle.a64_inst.specs.Operands.{are_allowed, is_int, is_register, is_register_or_stack, is_register_or_zero, is_same_class, is_same_register}
+use Rattle.a64_ops.specs.declared.operator.AtomicRMWLoopOp.{AtomicRMWLoopOp}
+use Rattle.a64_ops.specs.declared.operator.AtomicRMWLoopOp.TheVariants.{Xchg}
+use Rattle.a64_inst.specs.Operands.{are_allowed, is_fixed_register, is_int, is_register, is_register_or_stack, is_register_or_zero, is_same_class, is_same_register}
 
 -- the types of the values: integers of 8, 16, 32 and 64 bits
 abbrev pub is_atomic_type : IrType → Bool
@@ -50,6 +52,28 @@ are_cas128_operands virtuals args =
     && (is_register_or_zero virtuals args.rd_lo && is_register_or_zero virtuals args.rd_hi)
     && (is_same_register args.rd_lo args.rs_lo && is_same_register args.rd_hi args.rs_hi)
     && is_register_or_stack virtuals args.rn
+
+-- the values of a loop, and the registers of its address, of its operand, of what was there, and of whether the store failed
+unfoldable pub are_loop_operands : VirtualRegisters → IrType → Reg → Reg → Reg → Reg → Bool
+are_loop_operands virtuals ty addr operand oldval failed =
+    is_atomic_type ty
+    && (is_fixed_register virtuals 25 addr && is_fixed_register virtuals 26 operand)
+    && (is_fixed_register virtuals 27 oldval && is_fixed_register virtuals 24 failed)
+
+-- the register of what a loop stores; an exchange stores its operand, and may have any
+abbrev pub is_loop_result : VirtualRegisters → AtomicRMWLoopOp → Reg → Bool
+is_loop_result virtuals Xchg reg = is_register_or_zero virtuals reg
+is_loop_result virtuals _ reg = is_fixed_register virtuals 28 reg
+
+-- an operation as a loop
+abbrev pub are_rmw_loop_operands : VirtualRegisters → IrType → AtomicRMWLoopOp → Reg → Reg → Reg → Reg → Reg → Bool
+are_rmw_loop_operands virtuals ty op addr operand oldval scratch1 scratch2 =
+    are_loop_operands virtuals ty addr operand oldval scratch1 && is_loop_result virtuals op scratch2
+
+-- a compare and swap as a loop
+abbrev pub are_cas_loop_operands : VirtualRegisters → IrType → Reg → Reg → Reg → Reg → Reg → Bool
+are_cas_loop_operands virtuals ty addr expected replacement oldval scratch =
+    are_loop_operands virtuals ty addr expected oldval scratch && is_fixed_register virtuals 28 replacement
 
 -- a load with acquire, or a store with release
 unfoldable pub are_ordered_operands : VirtualRegisters → IrType → Reg → Reg → Bool

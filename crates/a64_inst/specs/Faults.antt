@@ -3,6 +3,7 @@ use Rattle.std.specs.Prelude.{ℕ, Bool, true, false, ◌&&◌, ◌||◌, List, 
 use Rattle.std.specs.Ordering.{nat_cmp}
 use Rattle.std.specs.FinMap.{FinMap, get}
 use Rattle.a64_base.specs.declared.entity.VCodeConstant.{VCodeConstant}
+use Rattle.a64_base.specs.declared.ir_type.IrType.TheVariants.{F64, I8X16}
 use Rattle.a64_inst.specs.declared.emission.EmitFlags.{EmitFlags}
 use Rattle.a64_inst.specs.declared.frame.FrameLayout.{FrameLayout}
 use Rattle.a64_inst.specs.declared.virtuals.VirtualRegisters.{VirtualRegisters}
@@ -66,6 +67,7 @@ module _ (frame : FrameLayout) (flags : EmitFlags) (virtuals : VirtualRegisters)
   has_plain_operands (insts.MovToNZCV rn) = is_register_or_zero virtuals rn
   has_plain_operands (insts.MovFromNZCV rd) = is_register_or_zero virtuals rd
   has_plain_operands insts.Ret = true
+  has_plain_operands (insts.AuthenticatedRet key is_hint) = true
   has_plain_operands (insts.Jump dest) = control.are_jump_operands dest
   has_plain_operands (insts.CondBr taken not_taken kind) = control.are_cond_br_operands virtuals taken not_taken kind
   has_plain_operands (insts.TestBitAndBranch kind taken not_taken rn bit) = control.are_test_bit_operands virtuals taken not_taken rn bit
@@ -87,8 +89,14 @@ module _ (frame : FrameLayout) (flags : EmitFlags) (virtuals : VirtualRegisters)
   has_plain_operands (insts.LoadExtNameFar rd name offset) = is_register virtuals rd
   has_plain_operands (insts.StackProbeLoop start end step) = sequence.are_probe_operands flags virtuals start end step
   has_plain_operands (insts.VecCSel rd rn rm cond) = vector.are_select_operands virtuals rd rn rm
+  has_plain_operands (insts.AtomicRMWLoop ty op flags addr operand oldval scratch1 scratch2) = atomic.are_rmw_loop_operands virtuals ty op addr operand oldval scratch1 scratch2
+  has_plain_operands (insts.AtomicCASLoop ty flags addr expected replacement oldval scratch) = atomic.are_cas_loop_operands virtuals ty addr expected replacement oldval scratch
   has_plain_operands (insts.LoadP64 rt rt2 mem flags) = memory.are_pair_operands virtuals rt rt2 mem
   has_plain_operands (insts.StoreP64 rt rt2 mem flags) = memory.are_pair_operands virtuals rt rt2 mem
+  has_plain_operands (insts.FpuLoadP64 rt rt2 mem flags) = memory.are_float_pair_operands virtuals F64 rt rt2 mem
+  has_plain_operands (insts.FpuStoreP64 rt rt2 mem flags) = memory.are_float_pair_operands virtuals F64 rt rt2 mem
+  has_plain_operands (insts.FpuLoadP128 rt rt2 mem flags) = memory.are_float_pair_operands virtuals I8X16 rt rt2 mem
+  has_plain_operands (insts.FpuStoreP128 rt rt2 mem flags) = memory.are_float_pair_operands virtuals I8X16 rt rt2 mem
   has_plain_operands (insts.LoadAddr rd mem) = memory.are_address_operands frame virtuals rd mem
   has_plain_operands (insts.AtomicRMW ty op rs rt rn flags) = atomic.are_rmw_operands virtuals ty rs rt rn
   has_plain_operands (insts.AtomicCAS rd rs rt rn ty flags) = atomic.are_cas_operands virtuals rd rs rt rn ty

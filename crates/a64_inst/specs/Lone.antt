@@ -2,6 +2,8 @@
 use Rattle.std.specs.Prelude.{ℤ, pos, Bool, true, false, not, ◌&&◌, if◌then◌else◌, None, Some}
 use Rattle.std.specs.Ordering.{int_eq}
 use Rattle.std.specs.Int.RustNames.{unsigned_abs}
+use Rattle.a64_base.specs.declared.key.APIKey.{APIKey}
+use Rattle.a64_base.specs.declared.key.APIKey.TheVariants.{ASP, BSP}
 use Rattle.a64_base.specs.declared.reg.Reg.{Reg}
 use Rattle.a64_base.specs.declared.ir_type.IrType.TheVariants.{I8}
 use Rattle.a64_base.specs.declared.target.BranchTarget.{BranchTarget}
@@ -50,9 +52,16 @@ is_lone_address rd steps (ScaledOffset rn offset ty) = is_lone_sum rd rn (pos of
 is_lone_address rd steps (Other (modes.RegExtended rn rm extendop)) = not steps
 is_lone_address rd steps (Other _) = false
 
+-- a return that authenticates its address in the same word: by the stack pointer, where no hint is asked for
+abbrev pub is_lone_return : APIKey → Bool → Bool
+is_lone_return ASP false = true
+is_lone_return BSP false = true
+is_lone_return _ _ = false
+
 -- an instruction that is no load or store of one register: most are one word
 abbrev pub is_lone_other : FrameLayout → Inst → Bool
 is_lone_other frame insts.Nop0 = false
+is_lone_other frame (insts.AuthenticatedRet key is_hint) = is_lone_return key is_hint
 is_lone_other frame (insts.Jump dest) = is_resolved dest
 is_lone_other frame (insts.CondBr taken not_taken kind) = false
 is_lone_other frame (insts.TestBitAndBranch kind taken not_taken rn bit) = false
@@ -70,6 +79,8 @@ is_lone_other frame (insts.LoadExtNameNear rd name offset) = false
 is_lone_other frame (insts.LoadExtNameFar rd name offset) = false
 is_lone_other frame (insts.StackProbeLoop start end step) = false
 is_lone_other frame (insts.VecCSel rd rn rm cond) = false
+is_lone_other frame (insts.AtomicRMWLoop ty op flags addr operand oldval scratch1 scratch2) = false
+is_lone_other frame (insts.AtomicCASLoop ty flags addr expected replacement oldval scratch) = false
 is_lone_other frame (insts.Call info) = false
 is_lone_other frame (insts.CallInd info) = false
 is_lone_other frame (insts.ReturnCall info) = false

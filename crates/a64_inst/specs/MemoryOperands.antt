@@ -148,6 +148,11 @@ unfoldable pub are_pair_operands : VirtualRegisters → Reg → Reg → PairAMod
 are_pair_operands virtuals rt rt2 mem =
     (is_register_or_zero virtuals rt && is_register_or_zero virtuals rt2) && are_pair_parts virtuals I64 mem
 
+-- a pair of vector registers, with an offset in units of what one of them moves
+unfoldable pub are_float_pair_operands : VirtualRegisters → IrType → Reg → Reg → PairAMode → Bool
+are_float_pair_operands virtuals scale rt rt2 mem =
+    (is_vector_register virtuals rt && is_vector_register virtuals rt2) && are_pair_parts virtuals scale mem
+
 -- ---- addresses
 
 -- a mode whose address one addition gives, or two instructions: a base and an offset, or a base and an extended index

@@ -49,10 +49,14 @@ abbrev pub is_vector_register : VirtualRegisters → Reg → Bool
 is_vector_register virtuals (Real p) = not (is_int p.class) && nat_lt p.number 32
 is_vector_register virtuals (Virtual index class) = are_allowed virtuals && not (is_int class)
 
+-- the integer register with this number
+abbrev pub is_fixed_register : VirtualRegisters → ℕ → Reg → Bool
+is_fixed_register virtuals number (Real p) = is_int p.class && nat_eq p.number number
+is_fixed_register virtuals number (Virtual index class) = are_allowed virtuals && is_int class
+
 -- the stack pointer
 abbrev pub is_stack_pointer : VirtualRegisters → Reg → Bool
-is_stack_pointer virtuals (Real p) = is_int p.class && nat_eq p.number 63
-is_stack_pointer virtuals (Virtual index class) = are_allowed virtuals && is_int class
+is_stack_pointer virtuals reg = is_fixed_register virtuals 63 reg
 
 abbrev pub is_same_class : RegClass → RegClass → Bool
 is_same_class Int Int = true

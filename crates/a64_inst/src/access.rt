@@ -213,71 +213,19 @@ impl Inst {
                 mem,
                 flags,
             },
-            AccessOp::ULoad64 => Inst::ULoad64 {
-                rd: Writable::from_reg(reg),
-                mem,
-                flags,
-            },
-            AccessOp::FpuLoad16 => Inst::FpuLoad16 {
-                rd: Writable::from_reg(reg),
-                mem,
-                flags,
-            },
-            AccessOp::FpuLoad32 => Inst::FpuLoad32 {
-                rd: Writable::from_reg(reg),
-                mem,
-                flags,
-            },
-            AccessOp::FpuLoad64 => Inst::FpuLoad64 {
-                rd: Writable::from_reg(reg),
-                mem,
-                flags,
-            },
-            AccessOp::FpuLoad128 => Inst::FpuLoad128 {
-                rd: Writable::from_reg(reg),
-                mem,
-                flags,
-            },
-            AccessOp::Store8 => Inst::Store8 {
-                rd: reg,
-                mem,
-                flags,
-            },
-            AccessOp::Store16 => Inst::Store16 {
-                rd: reg,
-                mem,
-                flags,
-            },
-            AccessOp::Store32 => Inst::Store32 {
-                rd: reg,
-                mem,
-                flags,
-            },
-            AccessOp::Store64 => Inst::Store64 {
-                rd: reg,
-                mem,
-                flags,
-            },
-            AccessOp::FpuStore16 => Inst::FpuStore16 {
-                rd: reg,
-                mem,
-                flags,
-            },
-            AccessOp::FpuStore32 => Inst::FpuStore32 {
-                rd: reg,
-                mem,
-                flags,
-            },
-            AccessOp::FpuStore64 => Inst::FpuStore64 {
-                rd: reg,
-                mem,
-                flags,
-            },
-            AccessOp::FpuStore128 => Inst::FpuStore128 {
-                rd: reg,
-                mem,
-                flags,
-            },
+            AccessOp::ULoad64 => Inst::uload64(Writable::from_reg(reg), mem, flags),
+            AccessOp::FpuLoad16 => Inst::fpu_load16(Writable::from_reg(reg), mem, flags),
+            AccessOp::FpuLoad32 => Inst::fpu_load32(Writable::from_reg(reg), mem, flags),
+            AccessOp::FpuLoad64 => Inst::fpu_load64(Writable::from_reg(reg), mem, flags),
+            AccessOp::FpuLoad128 => Inst::fpu_load128(Writable::from_reg(reg), mem, flags),
+            AccessOp::Store8 => Inst::store8(reg, mem, flags),
+            AccessOp::Store16 => Inst::store16(reg, mem, flags),
+            AccessOp::Store32 => Inst::store32(reg, mem, flags),
+            AccessOp::Store64 => Inst::store64(reg, mem, flags),
+            AccessOp::FpuStore16 => Inst::fpu_store16(reg, mem, flags),
+            AccessOp::FpuStore32 => Inst::fpu_store32(reg, mem, flags),
+            AccessOp::FpuStore64 => Inst::fpu_store64(reg, mem, flags),
+            AccessOp::FpuStore128 => Inst::fpu_store128(reg, mem, flags),
         }
     }
 

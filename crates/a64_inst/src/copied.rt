@@ -113,6 +113,7 @@ fn copied_control(alloc: Global, inst: &Inst) -> Result<Inst, AllocError>
         MovToNZCV { rn },
         MovFromNZCV { rd },
         Ret {},
+        AuthenticatedRet { key, is_hint },
         Jump { dest },
         CondBr { taken, not_taken, kind },
         TestBitAndBranch { kind, taken, not_taken, rn, bit },
@@ -126,7 +127,8 @@ fn copied_control(alloc: Global, inst: &Inst) -> Result<Inst, AllocError>
     )
 }
 
-/// An equal sequence around a table, a symbol or the stack, select of vectors, or what has no word.
+/// An equal sequence around a table, a symbol or the stack, loop of atomic accesses, select of vectors, or what has no
+/// word.
 fn copied_sequence(alloc: Global, inst: &Inst) -> Result<Inst, AllocError>
     requires { group_of inst.now ≡ groups.Sequence }
     ensures { IfOk result (λ copy. copy ≡ inst.now) }
@@ -161,7 +163,9 @@ fn copied_sequence(alloc: Global, inst: &Inst) -> Result<Inst, AllocError>
             LoadExtNameNear { rd, name, offset },
             LoadExtNameFar { rd, name, offset },
             StackProbeLoop { start, end, step },
-            VecCSel { rd, rn, rm, cond }
+            VecCSel { rd, rn, rm, cond },
+            AtomicRMWLoop { ty, op, flags, addr, operand, oldval, scratch1, scratch2 },
+            AtomicCASLoop { ty, flags, addr, expected, replacement, oldval, scratch }
         ),
     }
 }
@@ -199,6 +203,10 @@ fn copied_memory(inst: &Inst) -> Result<Inst, AllocError>
     copied!(inst;
         LoadP64 { rt, rt2, mem, flags },
         StoreP64 { rt, rt2, mem, flags },
+        FpuLoadP64 { rt, rt2, mem, flags },
+        FpuStoreP64 { rt, rt2, mem, flags },
+        FpuLoadP128 { rt, rt2, mem, flags },
+        FpuStoreP128 { rt, rt2, mem, flags },
         LoadAddr { rd, mem },
         AtomicRMW { ty, op, rs, rt, rn, flags },
         AtomicCAS { rd, rs, rt, rn, ty, flags },

@@ -15,7 +15,8 @@ pub enum Group {
     Plain(PlainGroup),
     /// Branches, `nop`, accesses to the flags, data, and addresses of labels.
     Control,
-    /// Sequences around tables, symbols and the stack, selects of vectors, and what has no word.
+    /// Sequences around tables, symbols and the stack, loops of atomic accesses, selects of vectors, and what has no
+    /// word.
     Sequence,
     /// Calls, and returns that call another function.
     Call,
@@ -125,6 +126,7 @@ impl Inst {
             | Inst::MovToNZCV { .. }
             | Inst::MovFromNZCV { .. }
             | Inst::Ret
+            | Inst::AuthenticatedRet { .. }
             | Inst::Jump { .. }
             | Inst::CondBr { .. }
             | Inst::TestBitAndBranch { .. }
@@ -145,13 +147,19 @@ impl Inst {
             | Inst::LoadExtNameNear { .. }
             | Inst::LoadExtNameFar { .. }
             | Inst::StackProbeLoop { .. }
-            | Inst::VecCSel { .. } => Group::Sequence,
+            | Inst::VecCSel { .. }
+            | Inst::AtomicRMWLoop { .. }
+            | Inst::AtomicCASLoop { .. } => Group::Sequence,
             Inst::Call { .. }
             | Inst::CallInd { .. }
             | Inst::ReturnCall { .. }
             | Inst::ReturnCallInd { .. } => Group::Call,
             Inst::LoadP64 { .. }
             | Inst::StoreP64 { .. }
+            | Inst::FpuLoadP64 { .. }
+            | Inst::FpuStoreP64 { .. }
+            | Inst::FpuLoadP128 { .. }
+            | Inst::FpuStoreP128 { .. }
             | Inst::LoadAddr { .. }
             | Inst::AtomicRMW { .. }
             | Inst::AtomicCAS { .. }

@@ -18,8 +18,8 @@ use a64_imms::{
 };
 use a64_list::ListVec;
 use a64_ops::{
-    ALUOp, ALUOp3, AtomicRMWOp, BfmOp, BitOp, BranchTargetType, FPUOp1, FPUOp2, FPUOp3,
-    FpuRoundMode, FpuToIntOp, IntToFpuOp, MoveWideOp, VecALUModOp, VecALUOp, VecExtendOp,
+    ALUOp, ALUOp3, AtomicRMWLoopOp, AtomicRMWOp, BfmOp, BitOp, BranchTargetType, FPUOp1, FPUOp2,
+    FPUOp3, FpuRoundMode, FpuToIntOp, IntToFpuOp, MoveWideOp, VecALUModOp, VecALUOp, VecExtendOp,
     VecLanesOp, VecMisc2, VecPairOp, VecRRLongOp, VecRRNarrowOp, VecRRPairLongOp, VecRRRLongModOp,
     VecRRRLongOp, VecShiftImmModOp, VecShiftImmOp,
 };
@@ -869,6 +869,14 @@ pub enum Inst {
     },
     /// `ret`: a return to the address in x30.
     Ret,
+    /// A return to the address in x30, which is authenticated before: `retaa` or `retab` where the modifier is the
+    /// stack pointer and no hint is asked for, else a hint (`autiasp` and its like), and behind it `ret`.
+    AuthenticatedRet {
+        /// The key and the modifier.
+        key: APIKey,
+        /// Whether the address is authenticated by a hint, which older processors pass over.
+        is_hint: bool,
+    },
     /// `paciaz`, `paciasp`, `pacibz` or `pacibsp`: signs the return address in x30.
     Paci {
         /// The key and the modifier.
@@ -1066,6 +1074,50 @@ pub enum Inst {
         /// What is known of the access.
         flags: MemFlagsData,
     },
+    /// `ldp` of the lower 64 bits of two vector registers, with zeros above them.
+    FpuLoadP64 {
+        /// What is loaded from the address.
+        rt: Writable<Reg>,
+        /// What is loaded from 8 bytes behind it.
+        rt2: Writable<Reg>,
+        /// The address, with an offset in units of `F64`.
+        mem: PairAMode,
+        /// What is known of the access.
+        flags: MemFlagsData,
+    },
+    /// `stp` of the lower 64 bits of two vector registers.
+    FpuStoreP64 {
+        /// What is stored at the address.
+        rt: Reg,
+        /// What is stored 8 bytes behind it.
+        rt2: Reg,
+        /// The address, with an offset in units of `F64`.
+        mem: PairAMode,
+        /// What is known of the access.
+        flags: MemFlagsData,
+    },
+    /// `ldp` of two whole vector registers.
+    FpuLoadP128 {
+        /// What is loaded from the address.
+        rt: Writable<Reg>,
+        /// What is loaded from 16 bytes behind it.
+        rt2: Writable<Reg>,
+        /// The address, with an offset in units of `I8X16`.
+        mem: PairAMode,
+        /// What is known of the access.
+        flags: MemFlagsData,
+    },
+    /// `stp` of two whole vector registers.
+    FpuStoreP128 {
+        /// What is stored at the address.
+        rt: Reg,
+        /// What is stored 16 bytes behind it.
+        rt2: Reg,
+        /// The address, with an offset in units of `I8X16`.
+        mem: PairAMode,
+        /// What is known of the access.
+        flags: MemFlagsData,
+    },
     /// The address of an addressing mode, of which nothing is loaded.
     LoadAddr {
         /// The result, x0 to x30.
@@ -1089,6 +1141,28 @@ pub enum Inst {
         /// What is known of the access.
         flags: MemFlagsData,
     },
+    /// An atomic operation on a register and memory as a loop, with acquire and release: `ldaxr`, the operation,
+    /// `stlxr`, and `cbnz` back to the first where the store failed. Where the operator is a minimum or a maximum,
+    /// it changes the flags.
+    AtomicRMWLoop {
+        /// The type of the value: 8, 16, 32 or 64 bits.
+        ty: IrType,
+        /// The operator.
+        op: AtomicRMWLoopOp,
+        /// What is known of the two accesses.
+        flags: MemFlagsData,
+        /// The address: x25.
+        addr: Reg,
+        /// The operand: x26.
+        operand: Reg,
+        /// What was there before, with zeros above it; `Smax` and `Smin` extend 8 and 16 bits with their sign to
+        /// 32: x27.
+        oldval: Writable<Reg>,
+        /// Whether the store failed: x24.
+        scratch1: Writable<Reg>,
+        /// What is stored: x28. `Xchg` stores its operand and leaves this register, which may be any, alone.
+        scratch2: Writable<Reg>,
+    },
     /// `casal`: a compare and swap with acquire and release.
     AtomicCAS {
         /// What was there before: the register of `rs`.
@@ -1108,6 +1182,24 @@ pub enum Inst {
     AtomicCAS128 {
         /// The registers, and what is known of the access.
         args: AtomicCAS128Args,
+    },
+    /// A compare and swap as a loop, with acquire and release: `ldaxr`, a comparison that changes the flags, `b.ne`
+    /// out of the loop, `stlxr`, and `cbnz` back to the first where the store failed.
+    AtomicCASLoop {
+        /// The type of the value: 8, 16, 32 or 64 bits.
+        ty: IrType,
+        /// What is known of the two accesses.
+        flags: MemFlagsData,
+        /// The address: x25.
+        addr: Reg,
+        /// The value that is awaited: x26.
+        expected: Reg,
+        /// The new value, which is stored where the awaited one was there: x28.
+        replacement: Reg,
+        /// What was there before, with zeros above it: x27.
+        oldval: Writable<Reg>,
+        /// Whether the store failed: x24.
+        scratch: Writable<Reg>,
     },
     /// A load with acquire: `ldarb`, `ldarh` or `ldar`.
     LoadAcquire {

@@ -35,7 +35,7 @@ pub enum Lanes {
 impl Lanes {
     /// Whether the lanes of a vector are among these.
     pub fn has(self, size: VectorSize) -> bool
-        ensures { result ≡ sets.has_lanes self.now size }
+        ensures { result ≡ sets.has_lanes self size }
     {
         use VectorSize::*;
         match self {

@@ -17,6 +17,7 @@ mod inst;
 mod item;
 mod lanes;
 mod lists;
+mod makers;
 mod mode;
 mod operand;
 mod own_fault;

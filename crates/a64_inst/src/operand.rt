@@ -59,17 +59,24 @@ pub fn is_vector_register(virtuals: VirtualRegisters, reg: Reg) -> bool
     }
 }
 
-/// Whether a register is the stack pointer.
-pub fn is_stack_pointer(virtuals: VirtualRegisters, reg: &Reg) -> bool
-    ensures { result ≡ operands.is_stack_pointer virtuals reg.now }
+/// Whether a register is the integer register with a number.
+pub fn is_fixed_register(virtuals: VirtualRegisters, number: u8, reg: &Reg) -> bool
+    ensures { result ≡ operands.is_fixed_register virtuals number reg.now }
 {
     match *reg {
         Reg::Real(p) => match p.class() {
-            RegClass::Int => p.hw_enc() == 63,
+            RegClass::Int => p.hw_enc() == number,
             RegClass::Float => false,
         },
         Reg::Virtual { class, .. } => virtuals.are_allowed() && matches!(class, RegClass::Int),
     }
+}
+
+/// Whether a register is the stack pointer.
+pub fn is_stack_pointer(virtuals: VirtualRegisters, reg: &Reg) -> bool
+    ensures { result ≡ operands.is_stack_pointer virtuals reg.now }
+{
+    is_fixed_register(virtuals, 63, reg)
 }
 
 /// Whether a register is one of the machine, of either class, or may be virtual.

@@ -84,7 +84,7 @@ pub fn has_control_operands(
     ensures { result ≡ has_operands frame.now info.now virtuals inst.now }
 {
     match inst {
-        Inst::Nop0 | Inst::Nop4 | Inst::Ret => true,
+        Inst::Nop0 | Inst::Nop4 | Inst::Ret | Inst::AuthenticatedRet { .. } => true,
         Inst::MovToNZCV { rn } => is_register_or_zero(virtuals, *rn),
         Inst::MovFromNZCV { rd } => is_register_or_zero(virtuals, rd.to_reg()),
         Inst::Jump { dest } => jump(*dest),

@@ -16,7 +16,7 @@ use crate::inst::Inst;
 use crate::mode::{AMode, MemLabel};
 use crate::operand::is_other_register;
 use crate::place::{Place, is_far, needs_x16, place_of};
-use a64_base::{BranchTarget, IrType, Reg};
+use a64_base::{APIKey, BranchTarget, IrType, Reg};
 
 /// Whether the word of an access in a mode is no use of a label or of a constant.
 fn is_no_use(mem: &AMode) -> bool
@@ -75,6 +75,13 @@ fn is_lone_address(rd: &Reg, frame: &FrameLayout, mem: &AMode) -> bool
     }
 }
 
+/// Whether a return authenticates its address in the same word.
+fn is_lone_return(key: APIKey, is_hint: bool) -> bool
+    ensures { result ≡ lone.is_lone_return key is_hint }
+{
+    matches!(key, APIKey::ASP | APIKey::BSP) && !is_hint
+}
+
 /// Whether a branch, a `nop`, data or the like is one word that is no use.
 fn is_lone_control(inst: &Inst, _frame: &FrameLayout) -> bool
     requires { group_of inst.now ≡ Control }
@@ -82,6 +89,7 @@ fn is_lone_control(inst: &Inst, _frame: &FrameLayout) -> bool
 {
     match inst {
         Inst::Jump { dest } => matches!(dest, BranchTarget::ResolvedOffset(_)),
+        Inst::AuthenticatedRet { key, is_hint } => is_lone_return(*key, *is_hint),
         Inst::Nop0
         | Inst::CondBr { .. }
         | Inst::TestBitAndBranch { .. }

@@ -1,6 +1,6 @@
 //! What is wrong with loads and stores by themselves.
 
-mod atomic;
+pub mod atomic;
 mod constant;
 mod mode;
 pub mod operand;
@@ -23,6 +23,7 @@ use crate::frame::FrameLayout;
 use crate::inst::Inst;
 use crate::mode::AMode;
 use crate::virtuals::VirtualRegisters;
+use a64_base::IrType;
 
 /// What is wrong by itself with a load in the mode of a constant of such a size.
 #[inline(always)]
@@ -102,6 +103,30 @@ fn has_operands(
             mem,
             flags: _,
         } => operand::pair(virtuals, *rt, *rt2, mem),
+        Inst::FpuLoadP64 {
+            rt,
+            rt2,
+            mem,
+            flags: _,
+        } => operand::float_pair(virtuals, IrType::F64, rt.to_reg(), rt2.to_reg(), mem),
+        Inst::FpuStoreP64 {
+            rt,
+            rt2,
+            mem,
+            flags: _,
+        } => operand::float_pair(virtuals, IrType::F64, *rt, *rt2, mem),
+        Inst::FpuLoadP128 {
+            rt,
+            rt2,
+            mem,
+            flags: _,
+        } => operand::float_pair(virtuals, IrType::I8X16, rt.to_reg(), rt2.to_reg(), mem),
+        Inst::FpuStoreP128 {
+            rt,
+            rt2,
+            mem,
+            flags: _,
+        } => operand::float_pair(virtuals, IrType::I8X16, *rt, *rt2, mem),
         Inst::LoadAddr { rd, mem } => operand::address(frame, virtuals, rd.to_reg(), mem),
         Inst::AtomicRMW {
             ty,

@@ -1,5 +1,5 @@
-//! Whether the operands of sequences around tables, symbols and the stack, of selects of vectors, and of what has no
-//! word, are in their sets.
+//! Whether the operands of sequences around tables, symbols and the stack, of loops of atomic accesses, of selects of
+//! vectors, and of what has no word, are in their sets.
 
 ghost use Rattle.std.specs.Prelude.{◌≡◌};
 ghost use Rattle.a64_inst.specs.declared.group.Group.TheVariants.{Sequence};
@@ -9,11 +9,12 @@ ghost use Rattle.a64_inst.specs.SequenceOperands as sets;
 ghost use Rattle.a64_inst.specs.VectorOperands as vectors;
 
 use crate::emission::EmitInfo;
+use crate::fault::memory::atomic::{are_loop_operands, is_loop_result};
 use crate::frame::FrameLayout;
 use crate::inst::Inst;
 use crate::operand::{
-    is_any_register, is_imm12, is_other_register, is_register, is_register_or_zero,
-    is_vector_register,
+    is_any_register, is_fixed_register, is_imm12, is_other_register, is_register,
+    is_register_or_zero, is_vector_register,
 };
 use crate::pair::{ArgPair, RetPair};
 use crate::virtuals::VirtualRegisters;
@@ -70,8 +71,8 @@ fn select(virtuals: VirtualRegisters, rd: Reg, rn: Reg, rm: Reg) -> bool
         && (is_vector_register(virtuals, rn) && is_vector_register(virtuals, rm))
 }
 
-/// Whether the operands of a sequence around a table, a symbol or the stack, of a select of vectors, or of what has no
-/// word, are in their sets.
+/// Whether the operands of a sequence around a table, a symbol or the stack, of a loop of atomic accesses, of a select
+/// of vectors, or of what has no word, are in their sets.
 pub fn has_sequence_operands(
     inst: &Inst,
     frame: &FrameLayout,
@@ -100,6 +101,33 @@ pub fn has_sequence_operands(
             probe(info, virtuals, &start.to_reg(), *end, *step)
         }
         Inst::VecCSel { rd, rn, rm, .. } => select(virtuals, rd.to_reg(), *rn, *rm),
+        Inst::AtomicRMWLoop {
+            ty,
+            op,
+            flags: _,
+            addr,
+            operand,
+            oldval,
+            scratch1,
+            scratch2,
+        } => {
+            let (oldval, failed) = (oldval.to_reg(), scratch1.to_reg());
+            are_loop_operands(virtuals, *ty, addr, operand, &oldval, &failed)
+                && is_loop_result(virtuals, *op, &scratch2.to_reg())
+        }
+        Inst::AtomicCASLoop {
+            ty,
+            flags: _,
+            addr,
+            expected,
+            replacement,
+            oldval,
+            scratch,
+        } => {
+            let (oldval, failed) = (oldval.to_reg(), scratch.to_reg());
+            are_loop_operands(virtuals, *ty, addr, expected, &oldval, &failed)
+                && is_fixed_register(virtuals, 28, replacement)
+        }
         _ => unreachable!(),
     }
 }

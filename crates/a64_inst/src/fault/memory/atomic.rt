@@ -4,9 +4,12 @@ ghost use Rattle.std.specs.Prelude.{◌≡◌};
 ghost use Rattle.a64_inst.specs.AtomicOperands as sets;
 
 use crate::atomic::AtomicCAS128Args;
-use crate::operand::{is_register, is_register_or_stack, is_register_or_zero, is_same_register};
+use crate::operand::{
+    is_fixed_register, is_register, is_register_or_stack, is_register_or_zero, is_same_register,
+};
 use crate::virtuals::VirtualRegisters;
 use a64_base::{IrType, Reg, RegClass};
+use a64_ops::AtomicRMWLoopOp;
 
 /// Whether an atomic access has values of a type.
 fn is_atomic_type(ty: IrType) -> bool
@@ -82,6 +85,35 @@ pub fn cas128(virtuals: VirtualRegisters, args: &AtomicCAS128Args) -> bool
         && (is_register_or_zero(virtuals, rd_lo) && is_register_or_zero(virtuals, rd_hi))
         && (is_same_register(&rd_lo, &args.rs_lo) && is_same_register(&rd_hi, &args.rs_hi))
         && is_register_or_stack(virtuals, args.rn)
+}
+
+/// Whether a loop has values of a type, and the registers of its address, its operand, what was there, and whether
+/// the store failed.
+#[tactic(auto, unfolding(crate::specs::AtomicOperands::are_loop_operands))]
+pub fn are_loop_operands(
+    virtuals: VirtualRegisters,
+    ty: IrType,
+    addr: &Reg,
+    operand: &Reg,
+    oldval: &Reg,
+    failed: &Reg,
+) -> bool
+    ensures { result ≡ sets.are_loop_operands virtuals ty addr.now operand.now oldval.now failed.now }
+{
+    is_atomic_type(ty)
+        && (is_fixed_register(virtuals, 25, addr) && is_fixed_register(virtuals, 26, operand))
+        && (is_fixed_register(virtuals, 27, oldval) && is_fixed_register(virtuals, 24, failed))
+}
+
+/// Whether the register of what a loop stores is the one for that; an exchange stores its operand, and may have
+/// any.
+pub fn is_loop_result(virtuals: VirtualRegisters, op: AtomicRMWLoopOp, reg: &Reg) -> bool
+    ensures { result ≡ sets.is_loop_result virtuals op reg.now }
+{
+    match op {
+        AtomicRMWLoopOp::Xchg => is_register_or_zero(virtuals, *reg),
+        _ => is_fixed_register(virtuals, 28, reg),
+    }
 }
 
 /// Of a `LoadAcquire` or a `StoreRelease`.

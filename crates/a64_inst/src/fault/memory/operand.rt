@@ -55,6 +55,22 @@ pub fn replicate(virtuals: VirtualRegisters, rd: Reg, rn: Reg) -> bool
     is_vector_register(virtuals, rd) && is_register_or_stack(virtuals, rn)
 }
 
+/// Of a pair of vector registers, which moves a value of this type of each.
+#[tactic(auto, unfolding(crate::specs::MemoryOperands::are_float_pair_operands))]
+pub fn float_pair(
+    virtuals: VirtualRegisters,
+    scale: IrType,
+    rt: Reg,
+    rt2: Reg,
+    mem: &PairAMode,
+) -> bool
+    ensures { result ≡ sets.are_float_pair_operands virtuals scale rt rt2 mem.now }
+{
+    is_vector_register(virtuals, rt)
+        && is_vector_register(virtuals, rt2)
+        && are_pair_parts(virtuals, scale, mem)
+}
+
 /// Of a `LoadAddr`.
 #[tactic(auto, unfolding(crate::specs::MemoryOperands::are_address_operands))]
 pub fn address(frame: &FrameLayout, virtuals: VirtualRegisters, rd: Reg, mem: &AMode) -> bool

@@ -1,0 +1,12 @@
+use mathlib.Core.Path.{refl}
+use Rattle.a64_inst.specs.declared.inst.Inst.TheVariants.{ULoad64}
+use Rattle.a64_inst.specs.contracts.inst.Inst.{the_type}
+use Rattle.a64_inst.proofs.inst.Inst.TheLaws.{the_loose}
+use Rattle.a64_inst.specs.contracts.inst.Inst.uload64.Key.{name}
+use Rattle.a64_inst.proofs.Late.{made_ccc}
+use Rattle.a64_inst.proofs.LateFields.{writable, mode, flags}
+use Rattle.a64_inst.proofs.inst.Inst.uload64.Code as code
+use Rattle.a64_inst.proofs.inst.Inst.uload64.Statement.{statement}
+
+pub uload64_spec : {M : Type 1} → statement M
+uload64_spec 𝓤 𝓛 𝓜 𝓡 wired = made_ccc the_type the_loose tt writable mode flags (λ v. ULoad64 v.0 v.1.0 v.1.1.0) 𝓤 𝓛 𝓜 𝓡 name _ (code.unfolded 𝓤 𝓛.H 𝓜 𝓡 wired) tt (λ v us. refl) (λ v. refl)
