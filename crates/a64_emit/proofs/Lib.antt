@@ -12,6 +12,7 @@ pub mod Emitted
 pub mod Joined
 pub mod AsPut
 pub mod Lasts
+pub mod Quiet
 pub mod Several
 pub mod Targets
 pub mod Accesses

@@ -45,8 +45,9 @@ use Rattle.a64_emit.specs.declared.word.plain.vector_op.TwoFields.{TwoFields}
 use Rattle.a64_emit.specs.declared.word.plain.vector_op.TwoOp.{TwoOp}
 use Rattle.a64_emit.specs.declared.word.plain.vector_op.TwoOp.TheVariants as two
 use Rattle.a64_emit.specs.FloatForms.{lane_number}
-use Rattle.a64_emit.specs.VectorForms.{across_form, dup_float_form, dup_form, dup_immediate_form, dup_lane_form, element_form, element_h, element_l, extend_fields, extend_form, extract_form, half_bits, insert_form, kept_shift_form, left_shift_field, long_product_form, misc_form, mov_cmode, mov_op, move_element_form, pair_form, replicate_form, right_shift_field, shift_field, shift_form, signed_move_form, table_form, three_form, two_fields, two_form, unsigned_move_form}
+use Rattle.a64_emit.specs.VectorForms.{across_form, dup_float_form, dup_form, dup_immediate_form, dup_lane_form, element_form, element_h, element_l, extend_fields, extend_form, extract_form, half_bits, insert_form, kept_shift_form, lane_shift_form, left_shift_field, long_product_form, misc_form, mov_cmode, mov_op, move_element_form, pair_form, replicate_form, right_shift_field, shift_field, shift_form, signed_move_form, table_form, three_form, two_fields, two_form, unsigned_move_form}
 use Rattle.a64_emit.specs.VectorOperators.{across_fields, added_product_fields, element_o2, kept_three_op, long_fields, narrow_fields, pair_long_fields, product_fields, shift_fields, three_op, two_op}
+use Rattle.a64_emit.proofs.FloatForms.{lane_below, lane_number_below}
 use Rattle.a64_emit.proofs.OneWord.{bit_of_below}
 use Rattle.a64_emit.proofs.Operands.{sf_below}
 
@@ -262,8 +263,7 @@ shift_op_within : (op : VecShiftImmOp) → is_shift_op (shift_fields op) ≡ tru
 shift_op_within Shl = refl
 shift_op_within _ = refl
 
-pub shift_is_form : (op : VecShiftImmOp) (size : VectorSize) (imm : ℕ) (rd rn : Reg) → is_amount op size imm ≡ true
-    → IsFormOf (shift_form (q_of size) (shift_fields op) (shift_field op size imm) rd rn)
+pub shift_is_form : (op : VecShiftImmOp) (size : VectorSize) (imm : ℕ) (rd rn : Reg) → is_amount op size imm ≡ true → IsFormOf (lane_shift_form op size imm rd rn)
 shift_is_form op size imm rd rn e =
     shift_form_within (q_of size) (shift_fields op) (shift_field op size imm) rd rn (q_below size) (shift_op_within op) (shift_field_is op size imm e)
 
@@ -290,21 +290,11 @@ extend_is_form t high lane rd rn e =
 
 -- ---- lanes
 
-number_below : (size : ScalarSize) (idx : ℕ) → nat_lt idx (lanes_of size) ≡ true → lane_number size idx < 2 ^ 5
-number_below Size8 idx e = let small : idx < 16 = ltb-true idx 16 e in omega (arith, small)
-number_below Size16 idx e = let small : idx < 8 = ltb-true idx 8 e in omega (arith, small)
-number_below Size32 idx e = let small : idx < 4 = ltb-true idx 4 e in omega (arith, small)
-number_below Size64 idx e = let small : idx < 2 = ltb-true idx 2 e in omega (arith, small)
-number_below Size128 idx e = lit< tt
-
-pub lane_below : (size : VectorSize) (idx : ℕ) → is_lane size idx ≡ true → lane_number (lane_of size) idx < 2 ^ 5
-lane_below size idx e = number_below (lane_of size) idx e
-
 pub first_lane_below : (size : VectorSize) → lane_number (lane_of size) 0 < 2 ^ 5
 first_lane_below size = grind arith
 
 pub scalar_lane_below : (size : ScalarSize) (idx : ℕ) → is_scalar_lane size idx ≡ true → lane_number size idx < 2 ^ 5
-scalar_lane_below size idx e = number_below size idx (and_parts (has_operand_size size) (nat_lt idx (lanes_of size)) e).1
+scalar_lane_below size idx e = lane_number_below size idx (and_parts (has_operand_size size) (nat_lt idx (lanes_of size)) e).1
 
 -- a lane of a vector of 64 bits is one of a whole register
 counted : (size : VectorSize) (idx : ℕ) → nat_lt idx (lane_count size) ≡ true → is_lane size idx ≡ true
@@ -425,6 +415,3 @@ table_is_form false kept rd rn rm = ((field_below rm, (lit< tt, (bit_of_below ke
 
 pub replicate_is_form : (size : VectorSize) (rt rn : Reg) → IsFormOf (replicate_form size rt rn)
 replicate_is_form size rt rn = ((q_below size, (lanes_below size, (field_below rn, (field_below rt, tt)))), refl)
-
--- those that hold whatever the operands
-pub ruleset vector_forms = (three_is_form, kept_three_is_form, product_is_form, added_product_is_form, long_is_form, pair_long_is_form, narrow_low_is_form, narrow_high_is_form, two_is_form, across_is_form, dup_is_form, table_is_form, replicate_is_form)

@@ -7,7 +7,6 @@ use Rattle.a64_base.specs.declared.size.OperandSize.TheVariants.{Size64}
 use Rattle.a64_base.specs.declared.size.ScalarSize.TheVariants as scalars
 use Rattle.a64_base.specs.Conditions.{condition_bits, inverse_of}
 use Rattle.a64_base.specs.OperandSizes.{sf_of}
-use Rattle.a64_base.specs.VectorSizes.{q_of}
 use Rattle.a64_imms.specs.Flags.{flags_of, nzcv_bits}
 use Rattle.a64_imms.specs.Unsigned.{uimm5_value}
 use Rattle.a64_inst.specs.declared.inst.Inst.{Inst}
@@ -154,8 +153,7 @@ plain_form (insts.VecRRRMod alu_op rd ri rn rm size) = Some (vector.three_form (
 plain_form (insts.VecFmlaElem alu_op rd ri rn rm size idx) = Some (vector.element_form alu_op size idx rd rn rm)
 plain_form (insts.VecMisc op rd rn size) = Some (vector.two_form (operators.two_op op) size rd rn)
 plain_form (insts.VecLanes op rd rn size) = Some (vector.across_form (operators.across_fields op) size rd rn)
-plain_form (insts.VecShiftImm op rd rn size imm) =
-    Some (vector.shift_form (q_of size) (operators.shift_fields op) (vector.shift_field op size imm) rd rn)
+plain_form (insts.VecShiftImm op rd rn size imm) = Some (vector.lane_shift_form op size imm rd rn)
 plain_form (insts.VecShiftImmMod op rd ri rn size imm) = Some (vector.kept_shift_form size imm rd rn)
 -- ---- moves of lanes, and tables of bytes
 plain_form (insts.MovToVec rd ri rn idx size) = Some (vector.insert_form size idx rd rn)

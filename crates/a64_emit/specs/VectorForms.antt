@@ -1,5 +1,5 @@
--- The forms of instructions on vectors, and the fields that sizes and immediates give (Arm Architecture Reference Manual, DDI 0487,
--- C4.1, "Data Processing -- Scalar Floating-Point and Advanced SIMD"). PlainForms says which instruction has which.
+-- The forms of instructions on vectors, and the fields that sizes and immediates give (Arm Architecture Reference Manual,
+-- DDI 0487, C4.1, "Data Processing -- Scalar Floating-Point and Advanced SIMD"). PlainForms says which instruction has which.
 use Rattle.std.specs.Prelude.{ℕ, ◌+◌, ◌-◌, ◌*◌, ◌/◌, ◌%◌, Bool, if◌then◌else◌}
 use Rattle.a64_base.specs.declared.reg.Reg.{Reg}
 use Rattle.a64_base.specs.declared.size.OperandSize.{OperandSize}
@@ -28,7 +28,7 @@ use Rattle.a64_emit.specs.declared.word.plain.vector_op.TwoFields.{TwoFields}
 use Rattle.a64_emit.specs.declared.word.plain.vector_op.TwoOp.{TwoOp}
 use Rattle.a64_emit.specs.declared.word.plain.vector_op.TwoOp.TheVariants as two
 use Rattle.a64_emit.specs.FloatForms.{lane_number}
-use Rattle.a64_emit.specs.VectorOperators.{element_o2}
+use Rattle.a64_emit.specs.VectorOperators.{element_o2, shift_fields}
 use Rattle.a64_rows.specs.Forms.{Form}
 use Rattle.a64_rows.specs.Memory.{ld_replicate}
 use Rattle.a64_rows.specs.Vectors.{vec_across, vec_copy, vec_dot, vec_elem, vec_ext, vec_imm, vec_ins_elem, vec_long3, vec_permute, vec_scalar_pair, vec_shift, vec_table, vec_three, vec_two}
@@ -64,7 +64,7 @@ three_form (Permute op) size rd rn rm =
 three_form (Dot us) size rd rn rm =
     vec_dot (record { q = q_of size; us = us; rm = register_field rm; rn = register_field rn; rd = register_field rd })
 
--- the number of an element: H is its upper bit where it has two, and L its lower one. Its rows for lanes that have none are not read
+-- the number of an element: H is its upper bit, or its only one, and L its lower one. Rows for lanes that have none are not read
 abbrev pub element_h : VectorSize → ℕ → ℕ
 element_h Size32x4 idx = idx / 2
 element_h Size64x2 idx = idx
@@ -183,6 +183,10 @@ shift_form q fields imm7 rd rn =
       rd = register_field rd;
     })
 
+-- SHL, USHR and SSHR
+abbrev pub lane_shift_form : VecShiftImmOp → VectorSize → ℕ → Reg → Reg → Form
+lane_shift_form op size imm rd rn = shift_form (q_of size) (shift_fields op) (shift_field op size imm) rd rn
+
 -- SLI
 abbrev pub kept_shift_form : VectorSize → ℕ → Reg → Reg → Form
 kept_shift_form size imm rd rn = shift_form (q_of size) (record { u = 1; op = 10 }) (left_shift_field size imm) rd rn
@@ -275,8 +279,8 @@ modified_form q op cmode imm rd =
 abbrev pub dup_float_form : VectorSize → ASIMDFPModImm → Reg → Form
 dup_float_form size imm rd = modified_form (q_of size) (float_field size) 15 imm.imm rd
 
--- MOVI and MVNI, by the size of a lane: the field op, which is 1 for MVNI and for lanes of 64 bits. Its row for a lane of 128 bits is
--- not read, nor is that of cmode
+-- MOVI and MVNI, by the size of a lane: the field op, which is 1 for MVNI and for lanes of 64 bits. Its row for a lane of 128 bits
+-- is not read, nor is that of cmode
 abbrev pub mov_op : ScalarSize → Bool → ℕ
 mov_op Size8 invert = 0
 mov_op Size16 invert = bit_of invert
@@ -293,7 +297,8 @@ mov_cmode Size64 imm = 14
 mov_cmode Size128 imm = 0
 
 abbrev pub dup_immediate_form : VectorSize → ASIMDMovModImm → Bool → Reg → Form
-dup_immediate_form size imm invert rd = modified_form (q_of size) (mov_op (lane_of size) invert) (mov_cmode (lane_of size) imm) imm.imm rd
+dup_immediate_form size imm invert rd =
+    modified_form (q_of size) (mov_op (lane_of size) invert) (mov_cmode (lane_of size) imm) imm.imm rd
 
 -- ---- loads
 

@@ -1,5 +1,5 @@
--- What the operators of vector instructions fix of their words (Arm Architecture Reference Manual, DDI 0487, C4.1, "Data Processing
--- -- Scalar Floating-Point and Advanced SIMD"): the row, where it is one of several, and fields.
+-- What the operators of vector instructions fix of their words (Arm Architecture Reference Manual, DDI 0487, C4.1,
+-- "Data Processing -- Scalar Floating-Point and Advanced SIMD"): the row, where it is one of several, and fields.
 use Rattle.std.specs.Prelude.{ℕ}
 use Rattle.a64_base.specs.declared.size.ScalarSize.{ScalarSize}
 use Rattle.a64_base.specs.declared.size.ScalarSize.TheVariants.{Size8, Size16, Size32, Size64, Size128}
@@ -175,8 +175,8 @@ pair_long_fields Saddlp16 = record { u = 0; size = 1; op = 2 }
 pair_long_fields Uaddlp8 = record { u = 1; size = 0; op = 2 }
 pair_long_fields Uaddlp16 = record { u = 1; size = 1; op = 2 }
 
--- the field size of an operation whose lanes become half as long, by the lanes that they become. Its rows for lanes that none has are
--- not read
+-- the field size of an operation whose lanes become half as long, by the lanes that they become. Its rows for lanes that none has
+-- are not read
 abbrev pub narrow_size : ScalarSize → ℕ
 narrow_size Size8 = 0
 narrow_size Size16 = 1

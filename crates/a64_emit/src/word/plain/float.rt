@@ -189,7 +189,7 @@ pub fn move_vector_word(rd: Writable<Reg>, rn: Reg) -> u32
 }
 
 /// The word of a move of one lane.
-#[tactic(auto, using(crate::proofs::FloatForms::lane_below))]
+#[tactic(auto, using(crate::proofs::FloatForms::float_lane_below))]
 pub fn move_lane_word(size: VectorSize, idx: u8, rd: Writable<Reg>, rn: Reg) -> u32
     requires lane { sets.is_float_lane size idx ≡ true }
     requires rd { IsReal rd }

@@ -16,7 +16,7 @@ use a64_imms::{ASIMDFPModImm, ASIMDMovModImm};
 use a64_rows::{Row, pack};
 
 /// The word of a move of a general register to a lane.
-#[tactic(auto, using(crate::proofs::VectorForms::lane_below))]
+#[tactic(auto, using(crate::proofs::FloatForms::lane_below))]
 pub fn insert_word(size: VectorSize, idx: u8, rd: Writable<Reg>, rn: Reg) -> u32
     requires lane { operands.is_lane size idx ≡ true }
     requires rd { IsReal rd }
@@ -74,7 +74,7 @@ pub fn dup_word(size: VectorSize, rd: Writable<Reg>, rn: Reg) -> u32
 }
 
 /// The word of a copy of one lane to all lanes.
-#[tactic(auto, using(crate::proofs::VectorForms::lane_below))]
+#[tactic(auto, using(crate::proofs::FloatForms::lane_below))]
 pub fn dup_lane_word(size: VectorSize, idx: u8, rd: Writable<Reg>, rn: Reg) -> u32
     requires lane { operands.is_lane size idx ≡ true }
     requires rd { IsReal rd }
@@ -87,7 +87,7 @@ pub fn dup_lane_word(size: VectorSize, idx: u8, rd: Writable<Reg>, rn: Reg) -> u
 }
 
 /// The word of a move of one lane to another.
-#[tactic(auto, using(crate::proofs::VectorForms::lane_below, crate::proofs::VectorForms::byte_below))]
+#[tactic(auto, using(crate::proofs::FloatForms::lane_below, crate::proofs::VectorForms::byte_below))]
 pub fn move_element_word(
     size: VectorSize,
     dest_idx: u8,

@@ -2,12 +2,11 @@
 
 ghost use Rattle.std.specs.Prelude.{◌≡◌, ◌<◌, true};
 ghost use Rattle.a64_base.specs.ScalarSizes.{has_ftype};
-ghost use Rattle.a64_base.specs.VectorSizes.{float_field, q_of};
+ghost use Rattle.a64_base.specs.VectorSizes.{float_field};
 ghost use Rattle.a64_inst.specs.VectorOperands as sets;
 ghost use Rattle.a64_enc_int.specs.Registers.{IsReal};
 ghost use Rattle.a64_rows.specs.Forms.{form_word, IsFormOf};
 ghost use Rattle.a64_emit.specs.VectorForms as forms;
-ghost use Rattle.a64_emit.specs.VectorOperators as operators;
 
 use crate::word::plain::vector_op::{
     LongFields, OpFields, ThreeOp, TwoFields, TwoOp, element_o2, shift_fields,
@@ -237,7 +236,7 @@ pub fn lane_shift_word(
     requires imm { sets.is_amount op size imm ≡ true }
     requires rd { IsReal rd }
     requires rn { IsReal rn }
-    ensures { result ≡ form_word (forms.shift_form (q_of size) (operators.shift_fields op) (forms.shift_field op size imm) rd rn) }
+    ensures { result ≡ form_word (forms.lane_shift_form op size imm rd rn) }
 {
     shift_word(
         size.enc_size().0,
