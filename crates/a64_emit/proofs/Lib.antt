@@ -12,6 +12,7 @@ pub mod Emitted
 pub mod Joined
 pub mod AsPut
 pub mod Lasts
+pub mod Quiet
 pub mod Several
 pub mod Targets
 pub mod Accesses
@@ -19,6 +20,7 @@ pub mod Operands
 pub mod PlainOperands
 pub mod OneWord
 pub mod FloatForms
+pub mod VectorForms
 pub mod ImmediateForms
 pub mod RegisterForms
 pub mod BranchForms

@@ -1,8 +1,9 @@
--- The cells of sequences around tables, symbols and the stack that have no fault are forms of their rows, or data.
+-- The cells of sequences around tables, symbols and the stack, and of selects of vectors, that have no fault are forms of their rows, or data.
 use Rattle.std.proofs.Common.{ℕ, ℤ, pos, ◌≡◌, ◌+◌, ◌-◌, ◌*◌, ◌≤◌, ◌^◌, Bool, true, false, List, [], ◌∷◌, ◌++◌, length, map, Option, None, Some, inl, inr, refl, sym, subst, lit<, arith, rules}
 use Rattle.std.specs.Prelude.{All, ◌&&◌, if◌then◌else◌, option_map}
 use Rattle.std.proofs.lemmas.Bool.{and_parts, cases_lt}
 use Rattle.std.proofs.lemmas.List.Elements.{All-nil, All-cons, All-append, All-map}
+use Rattle.a64_base.specs.declared.cond.Cond.{Cond}
 use Rattle.a64_base.specs.declared.cond.Cond.TheVariants.{Lo}
 use Rattle.a64_base.specs.declared.entity.ExternalName.{ExternalName}
 use Rattle.a64_base.specs.declared.entity.MachLabel.{MachLabel}
@@ -25,13 +26,14 @@ use Rattle.a64_inst.specs.declared.virtuals.VirtualRegisters.TheVariants.{Refuse
 use Rattle.a64_inst.specs.Operands.{is_imm12, is_register, is_register_or_zero}
 use Rattle.a64_inst.specs.SequenceOperands.{are_probe_operands}
 use Rattle.a64_rows.specs.Forms.{Form, IsFormOf}
-use Rattle.a64_emit.specs.Cells.{Data, plain, last_cell, entry_site, table_labels, table_cells, barrier_forms, table_forms, table_jump, got_cells, near_cells, far_cells, probe_forms}
+use Rattle.a64_emit.specs.Cells.{Data, plain, last_cell, entry_site, table_labels, table_cells, barrier_forms, table_forms, table_jump, got_cells, near_cells, far_cells, probe_forms, vector_select_forms}
 use Rattle.a64_emit.specs.ControlForms.{csdb_form, indirect_br_form}
 use Rattle.a64_emit.specs.FormCells.{IsFormCell}
 use Rattle.a64_emit.specs.IntegerForms.{csel_form, adr_form, alu_rrr_form}
 use Rattle.a64_emit.specs.MemoryForms.{step_forms, indexed_form}
 use Rattle.a64_emit.proofs.AccessForms.{shape_forms, indexed_is_form, unsigned_is_form, literal_is_form}
 use Rattle.a64_emit.proofs.BranchForms.{branch_forms}
+use Rattle.a64_emit.proofs.FloatForms.{move_vector_is_form}
 use Rattle.a64_emit.proofs.ImmediateForms.{immediate_forms}
 use Rattle.a64_emit.proofs.RegisterForms.{csel_is_form, register_forms}
 
@@ -116,5 +118,10 @@ probe_are_forms flags start end step good =
     let amount = (and_parts (flags.enable_probestack && is_register Refused start && is_register_or_zero Refused end) (is_imm12 step) good).1 in
     plain_forms (probe_forms start end step) (search (rules, lists, amount) depth 8)
 
+-- ---- selects of vectors
+
+pub vector_select_are_forms : (rd rn rm : Reg) (cond : Cond) → All IsFormCell (map plain (vector_select_forms rd rn rm cond))
+vector_select_are_forms rd rn rm cond = plain_forms (vector_select_forms rd rn rm cond) (search (rules, lists, move_vector_is_form) depth 8)
+
 -- those of the words of sequences
-pub ruleset sequences = (table_are_forms, got_are_forms, near_are_forms, far_are_forms, probe_are_forms)
+pub ruleset sequences = (table_are_forms, got_are_forms, near_are_forms, far_are_forms, probe_are_forms, vector_select_are_forms)

@@ -3,7 +3,8 @@ use Rattle.std.specs.Prelude.{ℕ, ℤ, pos, negsuc, ◌-ℤ◌, Bool, true, fal
 use Rattle.std.specs.Ordering.{int_eq}
 use Rattle.std.specs.Int.RustNames.{unsigned_abs}
 use Rattle.a64_base.specs.declared.cond.Cond.TheVariants.{Gt, Lo}
-use Rattle.a64_base.specs.declared.cond.CondBrKind.TheVariants.{Cond}
+use Rattle.a64_base.specs.declared.cond.Cond.{Cond}
+use Rattle.a64_base.specs.declared.cond.CondBrKind.TheVariants as tests
 use Rattle.a64_base.specs.declared.entity.ExternalName.{ExternalName}
 use Rattle.a64_base.specs.declared.entity.MachLabel.{MachLabel}
 use Rattle.a64_base.specs.declared.entity.Reloc.{Reloc}
@@ -53,9 +54,11 @@ use Rattle.a64_inst.specs.declared.item.Item.{Item}
 use Rattle.a64_inst.specs.declared.item.Item.TheVariants.{Bind, Emit}
 use Rattle.a64_rows.specs.Forms.{Form, form_word}
 use Rattle.a64_emit.specs.AtomicForms as atomic
+use Rattle.a64_emit.specs.FloatForms as float
 use Rattle.a64_emit.specs.IntegerForms as integer
 use Rattle.a64_emit.specs.ControlForms as control
 use Rattle.a64_emit.specs.MemoryForms as memory
+use Rattle.a64_emit.specs.VectorForms as vector
 use Rattle.a64_emit.specs.PlainForms.{plain_form}
 
 -- what a word is: a form of a row, or data
@@ -250,8 +253,17 @@ probe_forms start end step =
     integer.alu_rr_imm12_form alu.Sub Size64 start start step
     ∷ memory.indexed_form Store32 (integer_register 31) (integer_register 63) start 3 0
     ∷ integer.alu_rrr_form alu.AddS Size64 (integer_register 31) start end
-    ∷ control.cond_br_form (branch_targets.ResolvedOffset (negsuc 11)) (Cond Gt)
+    ∷ control.cond_br_form (branch_targets.ResolvedOffset (negsuc 11)) (tests.Cond Gt)
     ∷ control.jump_form (branch_targets.ResolvedOffset (pos 4)) ∷ []
+
+-- a branch over the next two words where the condition holds; the move of what the result is else, and a branch over the next word; and
+-- the move of what it is where the condition holds
+abbrev pub vector_select_forms : Reg → Reg → Reg → Cond → List Form
+vector_select_forms rd rn rm cond =
+    control.cond_br_form (branch_targets.ResolvedOffset (pos 12)) (tests.Cond cond)
+    ∷ float.move_vector_form rd rm
+    ∷ control.jump_form (branch_targets.ResolvedOffset (pos 8))
+    ∷ float.move_vector_form rd rn ∷ []
 
 -- an instruction that is no call, and no load or store of one register. Those have the shape of their access, calls their words, and
 -- neither has one here: what is left at the end has the form of its plain word, if it is one.
@@ -281,6 +293,7 @@ plain_shape frame flags (insts.LoadExtNameGot rd name) = Words (got_cells rd nam
 plain_shape frame flags (insts.LoadExtNameNear rd name offset) = Words (near_cells rd name offset)
 plain_shape frame flags (insts.LoadExtNameFar rd name offset) = Words (far_cells rd name offset)
 plain_shape frame flags (insts.StackProbeLoop start end step) = Words (map plain (probe_forms start end step))
+plain_shape frame flags (insts.VecCSel rd rn rm cond) = Words (map plain (vector_select_forms rd rn rm cond))
 plain_shape frame flags (insts.LoadP64 rt rt2 mem trap) = Several [] (FormOf (memory.pair_form 1 rt rt2 mem)) None trap
 plain_shape frame flags (insts.StoreP64 rt rt2 mem trap) = Several [] (FormOf (memory.pair_form 0 rt rt2 mem)) None trap
 plain_shape frame flags (insts.AtomicRMW ty op rs rt rn trap) = Several [] (FormOf (atomic.rmw_form ty op rs rt rn)) None trap
@@ -288,6 +301,7 @@ plain_shape frame flags (insts.AtomicCAS rd rs rt rn ty trap) = Several [] (Form
 plain_shape frame flags (insts.AtomicCAS128 args) = Several [] (FormOf (atomic.cas128_form args)) None args.flags
 plain_shape frame flags (insts.LoadAcquire access_ty rt rn trap) = Several [] (FormOf (atomic.load_acquire_form access_ty rt rn)) None trap
 plain_shape frame flags (insts.StoreRelease access_ty rt rn trap) = Several [] (FormOf (atomic.store_release_form access_ty rt rn)) None trap
+plain_shape frame flags (insts.VecLoadReplicate rd rn size trap) = Several [] (FormOf (vector.replicate_form size rd rn)) None trap
 plain_shape frame flags (insts.LoadAddr rd mem) = address_shape rd (memory.step_forms memory.offset_register (final_steps frame I8 mem)) (final_mode frame I8 mem)
 plain_shape frame flags inst = elim (plain_form inst) [ None ↦ Words [] | Some form ↦ OneWord form ]
 

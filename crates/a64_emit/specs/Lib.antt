@@ -1,5 +1,7 @@
 pub mod IntegerForms
 pub mod FloatForms
+pub mod VectorOperators
+pub mod VectorForms
 pub mod PlainForms
 pub mod ControlForms
 pub mod MemoryForms

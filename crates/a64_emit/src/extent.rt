@@ -165,7 +165,7 @@ fn sequence_count(inst: &Inst, _frame: &FrameLayout, info: &EmitInfo) -> u64
             table_start(targets, info) as u64 + targets as u64 + 1
         }
         Inst::LoadExtNameGot { .. } | Inst::LoadExtNameNear { .. } => 2,
-        Inst::LoadExtNameFar { .. } => 4,
+        Inst::LoadExtNameFar { .. } | Inst::VecCSel { .. } => 4,
         Inst::StackProbeLoop { .. } => 5,
         _ => 0,
     }

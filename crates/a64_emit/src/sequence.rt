@@ -1,4 +1,4 @@
-//! Emission of sequences around tables, symbols and the stack.
+//! Emission of sequences around tables, symbols and the stack, and of selects of vectors.
 
 ghost use Rattle.std.specs.Prelude.{◌≡◌, [], ◌∷◌, map, true, None, Some};
 ghost use Rattle.a64_base.specs.declared.entity.Reloc.TheVariants.{Abs8};
@@ -8,7 +8,8 @@ ghost use Rattle.a64_inst.specs.Faults.{has_operands};
 ghost use Rattle.a64_inst.specs.Groups.{group_of};
 ghost use Rattle.a64_inst.specs.Operands.{is_register};
 ghost use Rattle.a64_inst.specs.SequenceOperands.{are_table_operands, are_probe_operands};
-ghost use Rattle.a64_emit.specs.Cells.{Data, plain, data_cell, reloc_cell, entry_site, table_labels, table_cells, table_jump, got_cells, near_cells, far_cells, probe_forms};
+ghost use Rattle.a64_inst.specs.VectorOperands.{are_select_operands};
+ghost use Rattle.a64_emit.specs.Cells.{Data, plain, data_cell, reloc_cell, entry_site, table_labels, table_cells, table_jump, got_cells, near_cells, far_cells, probe_forms, vector_select_forms};
 ghost use Rattle.a64_emit.specs.Words.{put_cell, as_put, put_for};
 ghost use Rattle.a64_emit.specs.Emission.{CanPut, PutsCells};
 
@@ -16,8 +17,9 @@ use crate::emit::{emit_last, put_reloc, put_using, put_words};
 use crate::site::Site;
 use crate::word::sequence::{
     far_words, offset_entry_word, page_word, place_word, probe_words, table_words,
+    vector_select_words,
 };
-use a64_base::{ExternalName, MachLabel, Reg, Reloc, Writable};
+use a64_base::{Cond, ExternalName, MachLabel, Reg, Reloc, Writable};
 use a64_buffer::{MachBuffer, Target};
 use a64_imms::Imm12;
 use a64_inst::{EmitInfo, FrameLayout, Inst};
@@ -185,7 +187,23 @@ fn emit_probe(
     put_words(sink, probe_words(info, start, end, step).as_slice())
 }
 
-/// A sequence around a table, a symbol or the stack, or nothing for what has no word.
+/// A select of one of two vectors.
+fn emit_vector_select(
+    sink: &mut MachBuffer<'_, LabelUse>,
+    rd: Writable<Reg>,
+    rn: Reg,
+    rm: Reg,
+    cond: Cond,
+) -> Result<(), AllocError>
+    requires good { are_select_operands Refused rd rn rm ≡ true }
+    requires can { CanPut sink.old (map as_put (map plain (vector_select_forms rd rn rm cond))) }
+    ensures { PutsCells result sink.old sink.new
+        (map as_put (map plain (vector_select_forms rd rn rm cond))) }
+{
+    put_words(sink, vector_select_words(rd, rn, rm, cond).as_slice())
+}
+
+/// A sequence around a table, a symbol or the stack, a select of vectors, or nothing for what has no word.
 #[inline(never)]
 pub fn emit_sequence(
     inst: &Inst,
@@ -218,6 +236,7 @@ pub fn emit_sequence(
         Inst::LoadExtNameNear { rd, name, offset } => emit_near(sink, *rd, *name, *offset),
         Inst::LoadExtNameFar { rd, name, offset } => emit_far(sink, *rd, *name, *offset),
         Inst::StackProbeLoop { start, end, step } => emit_probe(sink, info, *start, *end, *step),
+        Inst::VecCSel { rd, rn, rm, cond } => emit_vector_select(sink, *rd, *rn, *rm, *cond),
         _ => Ok(()),
     }
 }

@@ -3,6 +3,7 @@
 pub mod access;
 pub mod address;
 pub mod atomic;
+pub mod replicate;
 pub mod step;
 
 ghost use Rattle.std.specs.Prelude.{◌≡◌, [], length, true, false, is_some, option_map, IfSome, MatchOption};
@@ -22,6 +23,7 @@ use crate::word::memory::address::{address_count, address_words};
 use crate::word::memory::atomic::{
     cas_word, cas128_word, load_acquire_word, rmw_word, store_release_word,
 };
+use crate::word::memory::replicate::replicate_word;
 use crate::word::memory::step::step_words;
 use a64_base::{TrapCode, writable_spilltmp_reg};
 use a64_buffer::Target;
@@ -171,6 +173,12 @@ pub fn memory_words(inst: &Inst, frame: &FrameLayout, info: &EmitInfo) -> Option
             rn,
             flags,
         } => (load_acquire_word(*access_ty, *rt, *rn), flags),
+        Inst::VecLoadReplicate {
+            rd,
+            rn,
+            size,
+            flags,
+        } => (replicate_word(*size, *rd, *rn), flags),
         Inst::StoreRelease {
             access_ty,
             rt,
