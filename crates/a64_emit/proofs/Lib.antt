@@ -13,6 +13,7 @@ pub mod Joined
 pub mod AsPut
 pub mod Lasts
 pub mod Several
+pub mod Loops
 pub mod Targets
 pub mod Accesses
 pub mod Operands
@@ -40,6 +41,7 @@ pub mod Repeated
 pub mod Results
 pub mod Names
 pub mod SequenceForms
+pub mod Restorable
 pub mod InstForms
 pub mod Shapes
 pub mod WrongAnswers
