@@ -68,7 +68,7 @@ use Rattle.a64_emit.proofs.Operands.{parts}
 use Rattle.a64_emit.proofs.PlainOperands.{rest_of}
 use Rattle.a64_emit.proofs.RegisterForms as register
 use Rattle.a64_emit.proofs.RegisterForms.{register_forms}
-use Rattle.a64_emit.proofs.SequenceForms.{plain_forms, sequences}
+use Rattle.a64_emit.proofs.SequenceForms.{one_cell, plain_forms, sequences}
 
 -- ---- shapes
 
@@ -77,9 +77,6 @@ abbrev pub AreForms : Shape → Type 0
 AreForms (OneWord form) = IsFormOf form
 AreForms (Several forms body site trap) = All IsFormOf forms × IsFormBody body
 AreForms (Words cells) = All IsFormCell cells
-
-one_cell : (cell : Cell) → IsFormCell cell → All IsFormCell (cell ∷ [])
-one_cell cell is = All-cons IsFormCell cell [] is (All-nil IsFormCell)
 
 two_cells : (first second : Cell) → IsFormCell first → IsFormCell second → All IsFormCell (first ∷ second ∷ [])
 two_cells first second is then_is = All-cons IsFormCell first (second ∷ []) is (one_cell second then_is)

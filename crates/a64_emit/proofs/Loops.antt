@@ -15,16 +15,16 @@ use Rattle.a64_emit.proofs.AsPut.{several_put}
 use Rattle.a64_emit.proofs.Several.{no_uses, plain_sites, several_sites}
 
 module _ (ty : IrType) (between : List Form) (stored : Reg) (trap : Option TrapCode) where
-  load_form : Form
+  abbrev load_form : Form
   load_form = load_exclusive_form ty old_register address_register
 
-  store_form : Form
+  abbrev store_form : Form
   store_form = store_exclusive_form ty failed_register stored address_register
 
-  to_store : List Cell
+  abbrev to_store : List Cell
   to_store = several between (FormOf store_form) None trap
 
-  back : Cell
+  abbrev back : Cell
   back = plain (back_form (length between))
 
   pub loop_sites : sites_of (loop_cells ty between stored trap) ≡ []

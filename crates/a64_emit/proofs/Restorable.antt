@@ -134,9 +134,13 @@ and_true true = refl
 and_true false = refl
 
 module _ (rd rn : Reg) (offset : ℤ) where
-  move near_sum far_sum : Shape
+  abbrev move : Shape
   move = quiet [] (mov_form Size64 rd rn)
+
+  abbrev near_sum : Shape
   near_sum = quiet [] (addend_form rd rn offset)
+
+  abbrev far_sum : Shape
   far_sum = quiet (step_forms addend_register (plan_of (unsigned_abs offset))) (sum_form rd rn offset)
 
   chosen_lone : (nothing same other near : Bool) → other ≡ not same → (if nothing then other else near) ≡ is_lone_cells (shape_cells (if nothing then (if same then Words [] else move) else if near then near_sum else far_sum))

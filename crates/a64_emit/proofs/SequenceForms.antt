@@ -150,7 +150,7 @@ compared_is_form : (size : OperandSize) (extendop : Option ExtendOp) → IsFormO
 compared_is_form size None = alu_rrr_is_form SubS size (integer_register 31) old_register operand_register
 compared_is_form size (Some extendop) = alu_rrr_extend_is_form SubS size (integer_register 31) old_register operand_register extendop
 
-one_form : (form : Form) → IsFormOf form → All IsFormOf (form ∷ [])
+pub one_form : (form : Form) → IsFormOf form → All IsFormOf (form ∷ [])
 one_form form is = All-cons IsFormOf form [] is (All-nil IsFormOf)
 
 operation_is_form : (op : ALUOp) (ty : IrType) → IsFormOf (operation_form op ty)
@@ -193,7 +193,7 @@ awaited_are_forms ty =
     All-cons IsFormOf (compared_form Size64 (zero_extend_of ty)) (branch ∷ []) (compared_is_form Size64 (zero_extend_of ty))
     (one_form branch (cond_br_is_form (ResolvedOffset (pos 12)) (branches.Cond Ne)))
 
-one_cell : (cell : Cell) → IsFormCell cell → All IsFormCell (cell ∷ [])
+pub one_cell : (cell : Cell) → IsFormCell cell → All IsFormCell (cell ∷ [])
 one_cell cell is = All-cons IsFormCell cell [] is (All-nil IsFormCell)
 
 loop_are_forms : (ty : IrType) (between : List Form) (stored : Reg) (trap : Option TrapCode) → All IsFormOf between → All IsFormCell (loop_cells ty between stored trap)

@@ -158,6 +158,7 @@ fn control_count(inst: &Inst, _frame: &FrameLayout, _info: &EmitInfo) -> u64
 }
 
 /// How many words a sequence has.
+#[tactic(auto, using(crate::proofs::Loops::loop_length))]
 fn sequence_count(inst: &Inst, _frame: &FrameLayout, info: &EmitInfo) -> u64
     requires { group_of inst.now ≡ Sequence }
     ensures { result ≡ length (inst_cells _frame.now info.now inst.now) }
