@@ -2,7 +2,7 @@
 
 ghost use Rattle.std.specs.Prelude.{ℕ, ◌≡◌, ◌^◌, ◌<◌, None, length, slice_index, IfOk, IfErr};
 ghost use Rattle.a64_buffer.specs.Buffer.{new_buffer};
-ghost use Rattle.a64_emit.specs.Faults.{own_fault, second_binding};
+ghost use Rattle.a64_emit.specs.Faults.{RestoresExactly, own_fault, second_binding};
 ghost use Rattle.a64_emit.specs.Reach.{out_of_reach};
 ghost use Rattle.a64_assemble.specs.Assembled.{IsAssembled, IsRefusal};
 ghost use Rattle.a64_assemble.specs.Found.{IsFound};
@@ -80,7 +80,9 @@ fn placed(
 
 /// The code of items: each stands at its place, in order, and each use leads to its target. Islands stand
 /// between them where branches, loads of constants or deferred traps would come out of reach, and at places
-/// for islands where that is needed, or forced and some use waits.
+/// for islands where that is needed, or forced and some use waits. A return that calls has the instructions that the
+/// frame restores: the frame can restore those that have no fault by themselves and are one word, which is no use and
+/// no call, and no others (`restores`).
 ///
 /// # Errors
 ///
@@ -97,6 +99,7 @@ pub fn assemble(
     requires few { length items.now < 2 ^ 32 }
     ensures ok { IfOk result (IsAssembled frame.now info.now constants.now force items.now) }
     ensures err { IfErr result (IsRefusal frame.now info.now constants.now force items.now) }
+    ensures restores { RestoresExactly frame.now info.now constants.now }
 {
     restores_halfwords(frame);
     // What is wrong with an item by itself is told first.

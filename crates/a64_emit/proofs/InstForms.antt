@@ -1,5 +1,5 @@
 -- The cells of instructions and items without a fault are forms of their rows, or data.
-use Rattle.std.proofs.Common.{ℕ, ℤ, pos, suc, ◌-ℤ◌, ◌≡◌, ◌+◌, ◌*◌, ◌<◌, ◌^◌, Bool, true, false, List, [], ◌∷◌, ◌++◌, length, get_or, map, Option, None, Some, refl, sym, subst, arith, rules}
+use Rattle.std.proofs.Common.{ℕ, ℤ, pos, suc, ◌-ℤ◌, ◌≡◌, ◌+◌, ◌*◌, ◌<◌, ◌^◌, Bool, true, false, List, [], ◌∷◌, ◌++◌, length, get_or, map, Option, None, Some, refl, sym, subst, lit<, arith, rules}
 use Rattle.std.specs.Prelude.{All, ◌&&◌, not, if◌then◌else◌}
 use Rattle.std.specs.List.{flat_map}
 use Rattle.std.specs.Ordering.{nat_cmp, int_eq}
@@ -52,7 +52,7 @@ use Rattle.a64_emit.specs.ControlForms.{jump_form, ret_form, brk_form}
 use Rattle.a64_emit.specs.IntegerForms.{mov_form, mov_to_nzcv_form, mov_from_nzcv_form}
 use Rattle.a64_emit.specs.MemoryForms.{step_forms, addend_register, offset_register, addend, addend_form, sum_form, sum_op}
 use Rattle.a64_emit.proofs.Accesses.{mode_good, byte_size, addend_good}
-use Rattle.a64_emit.proofs.AccessForms.{HoldsOffset, final_holds, plan_forms, final_steps_forms, parts_are_form, access_is_form, access_steps_forms, pair_is_form}
+use Rattle.a64_emit.proofs.AccessForms.{HoldsOffset, final_holds, plan_forms, final_steps_forms, parts_are_form, access_is_form, access_steps_forms, pair_is_form, float_pair_is_form}
 use Rattle.a64_emit.proofs.AtomicForms as atomic
 use Rattle.a64_emit.proofs.BranchForms as control
 use Rattle.a64_emit.proofs.BranchForms.{branch_forms}
@@ -68,7 +68,7 @@ use Rattle.a64_emit.proofs.Operands.{parts}
 use Rattle.a64_emit.proofs.PlainOperands.{rest_of}
 use Rattle.a64_emit.proofs.RegisterForms as register
 use Rattle.a64_emit.proofs.RegisterForms.{register_forms}
-use Rattle.a64_emit.proofs.SequenceForms.{plain_forms, sequences}
+use Rattle.a64_emit.proofs.SequenceForms.{plain_forms, sequences, one_cell}
 use Rattle.a64_emit.proofs.VectorForms as vector
 
 -- ---- shapes
@@ -78,9 +78,6 @@ abbrev pub AreForms : Shape → Type 0
 AreForms (OneWord form) = IsFormOf form
 AreForms (Several forms body site trap) = All IsFormOf forms × IsFormBody body
 AreForms (Words cells) = All IsFormCell cells
-
-one_cell : (cell : Cell) → IsFormCell cell → All IsFormCell (cell ∷ [])
-one_cell cell is = All-cons IsFormCell cell [] is (All-nil IsFormCell)
 
 two_cells : (first second : Cell) → IsFormCell first → IsFormCell second → All IsFormCell (first ∷ second ∷ [])
 two_cells first second is then_is = All-cons IsFormCell first (second ∷ []) is (one_cell second then_is)
@@ -167,6 +164,10 @@ module _ (frame : FrameLayout) (flags : EmitFlags) where
   plain_shape_forms (insts.AtomicCAS128 args) fits good = (All-nil IsFormOf, atomic.cas128_is_form args good)
   plain_shape_forms (insts.LoadAcquire access_ty rt rn trap) fits good = (All-nil IsFormOf, atomic.load_acquire_is_form access_ty rt rn)
   plain_shape_forms (insts.StoreRelease access_ty rt rn trap) fits good = (All-nil IsFormOf, atomic.store_release_is_form access_ty rt rn)
+  plain_shape_forms (insts.FpuLoadP64 rt rt2 mem trap) fits good = (All-nil IsFormOf, float_pair_is_form 1 true rt rt2 mem (lit< tt) refl)
+  plain_shape_forms (insts.FpuStoreP64 rt rt2 mem trap) fits good = (All-nil IsFormOf, float_pair_is_form 1 false rt rt2 mem (lit< tt) refl)
+  plain_shape_forms (insts.FpuLoadP128 rt rt2 mem trap) fits good = (All-nil IsFormOf, float_pair_is_form 2 true rt rt2 mem (lit< tt) refl)
+  plain_shape_forms (insts.FpuStoreP128 rt rt2 mem trap) fits good = (All-nil IsFormOf, float_pair_is_form 2 false rt rt2 mem (lit< tt) refl)
   plain_shape_forms (insts.FpuMoveFromVec rd rn idx lanes) fits good =
       float.lane_is_form lanes idx rd rn (rest_of (insts.FpuMoveFromVec rd rn idx lanes) good)
   plain_shape_forms (insts.FpuExtend rd rn scalar) fits good = float.move_is_form scalar rd rn

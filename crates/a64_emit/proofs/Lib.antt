@@ -14,6 +14,7 @@ pub mod AsPut
 pub mod Lasts
 pub mod Quiet
 pub mod Several
+pub mod Loops
 pub mod Targets
 pub mod Accesses
 pub mod Operands
@@ -42,6 +43,7 @@ pub mod Repeated
 pub mod Results
 pub mod Names
 pub mod SequenceForms
+pub mod Restorable
 pub mod InstForms
 pub mod Shapes
 pub mod WrongAnswers

@@ -1,5 +1,5 @@
 -- Why a list of items is refused.
-use Rattle.std.specs.Prelude.{ℕ, ◌≡◌, ◌+◌, ◌^◌, Bool, not, ◌==◌, nat_le, if◌then◌else◌, List, [], ◌∷◌, ◌++◌, find, map, Option, None, Some, option_map}
+use Rattle.std.specs.Prelude.{ℕ, ◌≡◌, ◌+◌, ◌^◌, Bool, not, ◌&&◌, ◌==◌, nat_le, if◌then◌else◌, List, [], ◌∷◌, ◌++◌, find, map, Option, None, Some, is_none, option_map}
 use Rattle.std.specs.List.{filter_map, list_any}
 use Rattle.std.specs.Ordering.{nat_cmp}
 use Rattle.std.specs.FinMap.{FinMap, contains_key}
@@ -9,7 +9,8 @@ use Rattle.a64_inst.specs.declared.frame.FrameLayout.{FrameLayout}
 use Rattle.a64_inst.specs.declared.fault.OwnFault.{OwnFault}
 use Rattle.a64_inst.specs.declared.fault.OwnFault.TheVariants as own
 use Rattle.a64_inst.specs.declared.virtuals.VirtualRegisters.TheVariants.{Refused}
-use Rattle.a64_inst.specs.Faults.{inst_fault}
+use Rattle.a64_inst.specs.declared.inst.Inst.{Inst}
+use Rattle.a64_inst.specs.Faults.{can_restore, inst_fault}
 use Rattle.a64_buffer.specs.declared.force.ForceVeneers.{ForceVeneers}
 use Rattle.a64_buffer.specs.declared.site.Target.TheVariants.{Label, Constant, Trap, IslandEnd}
 use Rattle.a64_inst.specs.declared.item.Item.{Item}
@@ -17,7 +18,7 @@ use Rattle.a64_inst.specs.declared.item.Item.TheVariants.{Bind, Emit}
 use Rattle.a64_emit.specs.declared.error.EmitError.{EmitError}
 use Rattle.a64_emit.specs.declared.error.EmitError.TheVariants.{BadOperand, BadMode, ScratchConflict, UnknownConstant, LabelBoundTwice, UnboundLabel, TooLarge}
 use Rattle.a64_emit.specs.declared.site.Site.{Site}
-use Rattle.a64_emit.specs.Cells.{sites_of, all_cells}
+use Rattle.a64_emit.specs.Cells.{sites_of, all_cells, inst_cells, is_lone_cells}
 use Rattle.a64_emit.specs.Bounds.{whole}
 use Rattle.a64_emit.specs.Reach.{out_of_reach}
 
@@ -46,6 +47,12 @@ module _ (frame : FrameLayout) (flags : EmitFlags) (constants : FinMap nat_cmp (
 
   abbrev pub own_fault : List Item → Option EmitError
   own_fault items = own_fault_from 0 items
+
+  -- the frame can restore an instruction exactly where it has no fault by itself, and is one word, which is no use and no call
+  abbrev pub RestoresExactly : Type 0
+  RestoresExactly =
+      (inst : Inst) → can_restore frame flags Refused inst
+      ≡ (is_none (inst_fault frame flags constants Refused inst) && is_lone_cells (inst_cells frame flags inst))
 
 -- the label that an item binds
 abbrev pub binding_of : Item → Option MachLabel

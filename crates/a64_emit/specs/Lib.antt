@@ -6,6 +6,7 @@ pub mod PlainForms
 pub mod ControlForms
 pub mod MemoryForms
 pub mod AtomicForms
+pub mod LoopForms
 pub mod Cells
 pub mod FormCells
 pub mod Words

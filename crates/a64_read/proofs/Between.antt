@@ -1,5 +1,5 @@
 -- No text of a field that may stand with commas between has a byte that stands between fields.
-use Rattle.std.specs.Prelude.{ℕ, List, [], ◌∷◌, ◌≡◌, refl}
+use Rattle.std.specs.Prelude.{ℕ, Bool, true, false, List, [], ◌∷◌, ◌≡◌, refl}
 use Rattle.std.proofs.Common.{arith, sym, subst, ap, ◌∙◌}
 use Rattle.std.specs.List.{AllByRecursion, join_with_byte}
 use Rattle.a64_base.specs.declared.cond.Cond.{Cond}
@@ -13,13 +13,13 @@ use Rattle.a64_read.specs.declared.mode_name.MemLabelName.TheVariants as label_n
 use Rattle.a64_read.specs.declared.value.Value.{Value}
 use Rattle.a64_read.specs.declared.value.Value.TheVariants as values
 use Rattle.a64_read.specs.Fields.{HasNo, size_text}
-use Rattle.a64_read.specs.Operators.{cond_text, extend_text, mem_label_name_text}
+use Rattle.a64_read.specs.Operators.{bool_text, cond_text, extend_text, mem_label_name_text}
 use Rattle.a64_read.specs.PartLaws.{part_is}
 use Rattle.a64_read.specs.Parts.{part_text, part_texts, IsPart}
 use Rattle.a64_read.specs.RegisterLaws.{append_apart, at_each, digits, reg_apart, signed_apart, type_apart, IsBetween}
 use Rattle.a64_read.specs.Rows.{texts}
 use Rattle.a64_read.specs.Values.{value_text}
-use Rattle.a64_read.proofs.Offsets.{offset9_fits, pair_offset_fits}
+use Rattle.a64_read.proofs.Offsets.{offset9_fits}
 
 module _ (c : ℕ) (is : IsBetween c) where
   extend_apart : (x : ExtendOp) → HasNo c (extend_text x)
@@ -38,6 +38,10 @@ module _ (c : ℕ) (is : IsBetween c) where
   cond_apart Eq = at_each (λ c. HasNo c (cond_text Eq)) refl refl refl c is
   cond_apart x = at_each (λ c. HasNo c (cond_text x)) refl refl refl c is
 
+  bool_apart : (x : Bool) → HasNo c (bool_text x)
+  bool_apart false = at_each (λ c. HasNo c (bool_text false)) refl refl refl c is
+  bool_apart true = at_each (λ c. HasNo c (bool_text true)) refl refl refl c is
+
   -- a line for each kind
   pub part_apart : (v : Value) → IsPart v → HasNo c (part_text v)
   part_apart (values.Reg x) fits = reg_apart c is x fits
@@ -45,11 +49,12 @@ module _ (c : ℕ) (is : IsBetween c) where
   part_apart (values.U32 x) fits = digits c is x (omega (arith, fits))
   part_apart (values.I64 x) fits = signed_apart c is x fits
   part_apart (values.Offset9 x) fits = signed_apart c is x.value (offset9_fits x fits)
-  part_apart (values.PairOffset x) fits = signed_apart c is x.value (pair_offset_fits x fits)
   part_apart (values.Type x) fits = type_apart c is x
   part_apart (values.MemLabelName x) fits = label_name_apart x
   part_apart (values.Size x) fits = size_apart x
   part_apart (values.Cond x) fits = cond_apart x
+  part_apart (values.Bool x) fits = bool_apart x
+  part_apart (values.U8 x) fits = digits c is x (omega (arith, fits))
   part_apart _ fits = absurd fits
 
   pub parts_apart : (vs : List Value) → AllByRecursion IsPart vs → AllByRecursion (HasNo c) (part_texts vs)

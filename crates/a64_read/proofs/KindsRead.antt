@@ -3,6 +3,8 @@ use Rattle.std.proofs.Common.{◌≡◌, ℕ, List, Option, Some, sym, subst}
 use Rattle.std.specs.Prelude.{IfSome}
 use Rattle.a64_read.specs.declared.value.Kind.{Kind}
 use Rattle.a64_read.specs.declared.value.Kind.TheVariants as kinds
+use Rattle.a64_read.specs.declared.vec_op.VecOp.TheVariants as vec_ops
+use Rattle.a64_read.specs.declared.vec_op.VecOpKind.TheVariants as vec_kinds
 use Rattle.a64_read.specs.declared.value.Value.{Value}
 use Rattle.a64_read.specs.declared.value.Value.TheVariants as values
 use Rattle.a64_read.specs.Reads.{Reads}
@@ -11,6 +13,8 @@ use Rattle.a64_read.specs.Values.{kind_of, value_text, IsValue, IsOf, ReadsKind}
 some_of : (kind : Kind) (token : List ℕ) (r : Option Value) → ReadsKind kind token r → IfSome r (λ v. IsOf kind v × (token ≡ value_text v))
 unfolding ReadsKind
 some_of kinds.AluOp token r h = h.some
+some_of (kinds.VecOp vec_kinds.Alu) token r h = h.some
+some_of (kinds.VecOp _) token r h = h.some
 some_of _ token r h = h.some
 
 -- a line for each kind
@@ -21,6 +25,7 @@ only_of (values.AluOp3 x) token r h = h.only x
 only_of (values.BitOp x) token r h = h.only x
 only_of (values.BfmOp x) token r h = h.only x
 only_of (values.AtomicRmwOp x) token r h = h.only x
+only_of (values.AtomicRmwLoopOp x) token r h = h.only x
 only_of (values.MoveWideOp x) token r h = h.only x
 only_of (values.FpuOp1 x) token r h = h.only x
 only_of (values.FpuOp2 x) token r h = h.only x
@@ -30,6 +35,19 @@ only_of (values.FpuOpRIMod x) token r h = h.only x
 only_of (values.FpuToIntOp x) token r h = h.only x
 only_of (values.IntToFpuOp x) token r h = h.only x
 only_of (values.FpuRoundMode x) token r h = h.only x
+only_of (values.VecOp (vec_ops.Alu x)) token r h = h.only x
+only_of (values.VecOp (vec_ops.AluMod x)) token r h = h.only x
+only_of (values.VecOp (vec_ops.Misc2 x)) token r h = h.only x
+only_of (values.VecOp (vec_ops.Lanes x)) token r h = h.only x
+only_of (values.VecOp (vec_ops.Extend x)) token r h = h.only x
+only_of (values.VecOp (vec_ops.RRLong x)) token r h = h.only x
+only_of (values.VecOp (vec_ops.RRNarrow x)) token r h = h.only x
+only_of (values.VecOp (vec_ops.Pair x)) token r h = h.only x
+only_of (values.VecOp (vec_ops.RRPairLong x)) token r h = h.only x
+only_of (values.VecOp (vec_ops.RRRLong x)) token r h = h.only x
+only_of (values.VecOp (vec_ops.RRRLongMod x)) token r h = h.only x
+only_of (values.VecOp (vec_ops.ShiftImm x)) token r h = h.only x
+only_of (values.VecOp (vec_ops.ShiftImmMod x)) token r h = h.only x
 only_of (values.Size x) token r h = h.only x
 only_of (values.ScalarSize x) token r h = h.only x
 only_of (values.VectorSize x) token r h = h.only x
@@ -37,6 +55,7 @@ only_of (values.Reg x) token r h = h.only x
 only_of (values.PReg x) token r h = h.only x
 only_of (values.Imm12 x) token r h = h.only x
 only_of (values.Wide x) token r h = h.only x
+only_of (values.MovImm x) token r h = h.only x
 only_of (values.ImmShift x) token r h = h.only x
 only_of (values.UImm5 x) token r h = h.only x
 only_of (values.UImm6 x) token r h = h.only x
@@ -55,7 +74,6 @@ only_of (values.FrameField x) token r h = h.only x
 only_of (values.EmitFlag x) token r h = h.only x
 only_of (values.I64 x) token r h = h.only x
 only_of (values.Offset9 x) token r h = h.only x
-only_of (values.PairOffset x) token r h = h.only x
 only_of (values.Type x) token r h = h.only x
 only_of (values.MemLabelName x) token r h = h.only x
 only_of (values.Mode x) token r h = h.only x

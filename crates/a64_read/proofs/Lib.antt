@@ -14,6 +14,7 @@ pub mod Fronts
 pub mod SameBytes
 pub mod Calls
 pub mod Between
+pub mod VecPlain
 pub mod Plain
 pub mod Shifts
 pub mod FloatShifts
@@ -28,4 +29,6 @@ pub mod CommaPairs
 pub mod RegisterSets
 pub mod Bytes
 pub mod Wides
+pub mod MovImmReads
+pub mod PairReads
 pub mod CallReads

@@ -4,15 +4,11 @@ use Rattle.std.proofs.Common.{arith}
 use Rattle.std.specs.Fmt.{signed_decimal}
 use Rattle.std.proofs.lemmas.Int.{ints}
 use Rattle.a64_imms.specs.declared.offset.SImm9.{SImm9}
-use Rattle.a64_imms.specs.declared.offset.SImm7Scaled.{SImm7Scaled}
-use Rattle.a64_read.specs.Fields.{IsSImm9, IsPairOffset64}
+use Rattle.a64_read.specs.Fields.{IsSImm9}
 use Rattle.a64_read.specs.Reads.{Reads, IsI64}
 
 pub offset9_fits : (imm : SImm9) → IsSImm9 imm → IsI64 imm.value
 offset9_fits imm fits = omega (arith, ints, fits.low, fits.high)
-
-pub pair_offset_fits : (imm : SImm7Scaled) → IsPairOffset64 imm → IsI64 imm.value
-pair_offset_fits imm fits = omega (arith, ints, fits.0.low, fits.0.high)
 
 -- what is read of the value that a token is
 module _ {X : Type 0} (fits : X → Type 0) (value : X → ℤ) (range : (x : X) → fits x → IsI64 (value x)) (token : List ℕ) where

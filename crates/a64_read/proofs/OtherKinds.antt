@@ -5,7 +5,7 @@ use Rattle.a64_imms.specs.Flags as flags
 use Rattle.a64_imms.specs.declared.flags.NZCV.{NZCV}
 use Rattle.a64_read.specs.declared.value.Value.{Value}
 use Rattle.a64_read.specs.declared.value.Value.TheVariants as values
-use Rattle.a64_read.specs.At.{alu_op3_of, alu_op_of, api_key_of, atomic_rmw_op_of, bfm_op_of, bit_op_of, branch_target_type_of, cond_br_kind_of, cond_of, convention_of, emit_flag_of, extend_of, flags_of, fpu_op1_of, fpu_op2_of, fpu_op3_of, fpu_op_ri_mod_of, fpu_op_ri_of, fpu_round_mode_of, fpu_to_int_op_of, frame_field_of, i32_of, i64_of, imm12_of, imm_shift_of, int_to_fpu_op_of, key_of, label_of, map_of, mem_label_name_of, mode_of, move_wide_op_of, nzcv_of, offset9_of, pair_mode_of, pair_offset_of, preg_of, reg_of, scalar_size_of, shift_of, size_of, target_of, test_bit_kind_of, truth_of, type_of, u32_of, u64_of, u8_of, uimm5_of, uimm6_of, vector_size_of, wide_of}
+use Rattle.a64_read.specs.At.{alu_op3_of, alu_op_of, api_key_of, atomic_rmw_loop_op_of, atomic_rmw_op_of, bfm_op_of, bit_op_of, branch_target_type_of, cond_br_kind_of, cond_of, convention_of, emit_flag_of, extend_of, flags_of, fpu_op1_of, fpu_op2_of, fpu_op3_of, fpu_op_ri_mod_of, fpu_op_ri_of, fpu_round_mode_of, fpu_to_int_op_of, frame_field_of, i32_of, i64_of, imm12_of, imm_shift_of, int_to_fpu_op_of, key_of, label_of, map_of, mem_label_name_of, mode_of, mov_imm_of, move_wide_op_of, nzcv_of, offset9_of, pair_mode_of, preg_of, reg_of, scalar_size_of, shift_of, size_of, target_of, test_bit_kind_of, truth_of, type_of, u32_of, u64_of, u8_of, uimm5_of, uimm6_of, vec_op_of, vector_size_of, wide_of}
 
 pub alu_op_else : (v : Value) → ((x : _) → v ≡ values.AluOp x → ⊥) → alu_op_of None ≡ alu_op_of (Some v)
 alu_op_else (values.AluOp x) other = absurd (other x refl)
@@ -22,6 +22,10 @@ bit_op_else _ other = refl
 pub atomic_rmw_op_else : (v : Value) → ((x : _) → v ≡ values.AtomicRmwOp x → ⊥) → atomic_rmw_op_of None ≡ atomic_rmw_op_of (Some v)
 atomic_rmw_op_else (values.AtomicRmwOp x) other = absurd (other x refl)
 atomic_rmw_op_else _ other = refl
+
+pub atomic_rmw_loop_op_else : (v : Value) → ((x : _) → v ≡ values.AtomicRmwLoopOp x → ⊥) → atomic_rmw_loop_op_of None ≡ atomic_rmw_loop_op_of (Some v)
+atomic_rmw_loop_op_else (values.AtomicRmwLoopOp x) other = absurd (other x refl)
+atomic_rmw_loop_op_else _ other = refl
 
 pub bfm_op_else : (v : Value) → ((x : _) → v ≡ values.BfmOp x → ⊥) → bfm_op_of None ≡ bfm_op_of (Some v)
 bfm_op_else (values.BfmOp x) other = absurd (other x refl)
@@ -50,6 +54,10 @@ imm12_else _ other = refl
 pub wide_else : (v : Value) → ((x : _) → v ≡ values.Wide x → ⊥) → wide_of None ≡ wide_of (Some v)
 wide_else (values.Wide x) other = absurd (other x refl)
 wide_else _ other = refl
+
+pub mov_imm_else : (v : Value) → ((x : _) → v ≡ values.MovImm x → ⊥) → mov_imm_of None ≡ mov_imm_of (Some v)
+mov_imm_else (values.MovImm x) other = absurd (other x refl)
+mov_imm_else _ other = refl
 
 pub imm_shift_else : (v : Value) → ((x : _) → v ≡ values.ImmShift x → ⊥) → imm_shift_of None ≡ imm_shift_of (Some v)
 imm_shift_else (values.ImmShift x) other = absurd (other x refl)
@@ -122,10 +130,6 @@ i64_else _ other = refl
 pub offset9_else : (v : Value) → ((x : _) → v ≡ values.Offset9 x → ⊥) → offset9_of None ≡ offset9_of (Some v)
 offset9_else (values.Offset9 x) other = absurd (other x refl)
 offset9_else _ other = refl
-
-pub pair_offset_else : (v : Value) → ((x : _) → v ≡ values.PairOffset x → ⊥) → pair_offset_of None ≡ pair_offset_of (Some v)
-pair_offset_else (values.PairOffset x) other = absurd (other x refl)
-pair_offset_else _ other = refl
 
 pub type_else : (v : Value) → ((x : _) → v ≡ values.Type x → ⊥) → type_of None ≡ type_of (Some v)
 type_else (values.Type x) other = absurd (other x refl)
@@ -218,3 +222,7 @@ api_key_else _ other = refl
 -- flags of which none is set
 pub no_flags : (imm : NZCV) → flags.flags_of imm ≡ record { n = false; z = false; c = false; v = false } → imm ≡ nzcv_of None
 no_flags imm e = ap (λ (f : flags.Flags). record { n = f.n; z = f.z; c = f.c; v = f.v }) e
+
+pub vec_op_else : (v : Value) → ((x : _) → v ≡ values.VecOp x → ⊥) → vec_op_of None ≡ vec_op_of (Some v)
+vec_op_else (values.VecOp x) other = absurd (other x refl)
+vec_op_else _ other = refl

@@ -25,6 +25,8 @@ use Rattle.a64_ops.specs.declared.operator.BitOp.{BitOp}
 use Rattle.a64_ops.specs.declared.operator.BitOp.TheVariants.{RBit}
 use Rattle.a64_ops.specs.declared.operator.AtomicRMWOp.{AtomicRMWOp}
 use Rattle.a64_ops.specs.declared.operator.AtomicRMWOp.TheVariants as atomic_rmw_ops
+use Rattle.a64_ops.specs.declared.operator.AtomicRMWLoopOp.{AtomicRMWLoopOp}
+use Rattle.a64_ops.specs.declared.operator.AtomicRMWLoopOp.TheVariants as atomic_rmw_loop_ops
 use Rattle.a64_ops.specs.declared.operator.BfmOp.{BfmOp}
 use Rattle.a64_ops.specs.declared.operator.BfmOp.TheVariants.{UBfm}
 use Rattle.a64_ops.specs.declared.operator.MoveWideOp.{MoveWideOp}
@@ -74,11 +76,14 @@ use Rattle.a64_read.specs.declared.value.Value.{Value}
 use Rattle.a64_read.specs.declared.value.Value.TheVariants as values
 use Rattle.a64_read.specs.Values.{value_text, IsValue}
 use Rattle.a64_read.specs.Reads.{IsU8, IsU32, IsU64, IsI32}
-use Rattle.a64_read.specs.Operators.{alu_op_text, alu_op3_text, atomic_rmw_op_text, bit_op_text, bfm_op_text, move_wide_op_text, shift_op_text, bool_text, branch_target_type_text, emit_flag_text, frame_field_text, test_bit_text}
+use Rattle.a64_read.specs.Operators.{alu_op_text, alu_op3_text, atomic_rmw_loop_op_text, atomic_rmw_op_text, bit_op_text, bfm_op_text, move_wide_op_text, shift_op_text, branch_target_type_text, emit_flag_text, frame_field_text, test_bit_text}
 use Rattle.a64_read.specs.Branches.{cond_br_name_text, cond_br_name_of, cond_br_fields}
 use Rattle.a64_read.specs.Conventions.{api_key_text, convention_text, key_text}
 use Rattle.a64_read.specs.FloatOperators.{fpu_op1_text, fpu_op2_text, fpu_op3_text, fpu_round_mode_text, fpu_to_int_op_text, int_to_fpu_op_text}
 use Rattle.a64_read.specs.FloatShifts.{fpu_op_ri_mod_text, fpu_op_ri_text, IsFpuOpRI, IsFpuOpRIMod}
+use Rattle.a64_read.specs.declared.mov_imm.WrittenMovImm.{WrittenMovImm}
+use Rattle.a64_read.specs.MovImms.{mov_imm_fields, mov_imm_text, IsWrittenMovImm}
+use Rattle.a64_read.proofs.VecPlain.{vec_op_plain}
 use Rattle.a64_read.specs.Modes.{mode_name_text, mode_name_of, mode_fields, pair_name_text, pair_name_of, pair_fields}
 use Rattle.a64_read.specs.Parts.{part_texts, IsPart}
 use Rattle.a64_read.proofs.Between.{join_plain, parts_apart, part_apart}
@@ -140,6 +145,10 @@ atomic_rmw_op_plain : (x : AtomicRMWOp) → HasNo 32 (atomic_rmw_op_text x)
 atomic_rmw_op_plain atomic_rmw_ops.Add = refl
 atomic_rmw_op_plain _ = refl
 
+atomic_rmw_loop_op_plain : (x : AtomicRMWLoopOp) → HasNo 32 (atomic_rmw_loop_op_text x)
+atomic_rmw_loop_op_plain atomic_rmw_loop_ops.Add = refl
+atomic_rmw_loop_op_plain _ = refl
+
 bfm_op_plain : (x : BfmOp) → HasNo 32 (bfm_op_text x)
 bfm_op_plain UBfm = refl
 bfm_op_plain _ = refl
@@ -196,10 +205,6 @@ test_bit_plain : (x : TestBitAndBranchKind) → HasNo 32 (test_bit_text x)
 test_bit_plain Z = refl
 test_bit_plain _ = refl
 
-bool_plain : (x : Bool) → HasNo 32 (bool_text x)
-bool_plain true = refl
-bool_plain false = refl
-
 frame_field_plain : (x : FrameField) → HasNo 32 (frame_field_text x)
 frame_field_plain SetupAreaSize = refl
 frame_field_plain _ = refl
@@ -234,6 +239,9 @@ shift_op_apart _ = refl
 
 nzcv_plain : (x : NZCV) → HasNo 32 (nzcv_text x)
 nzcv_plain x = decimal_plain (nzcv_bits (flags_of x)) (grind arith)
+
+mov_imm_plain : (x : WrittenMovImm) → IsWrittenMovImm x → HasNo 32 (mov_imm_text x)
+mov_imm_plain x fits = join_plain (part_texts (mov_imm_fields x)) (parts_apart 32 space (mov_imm_fields x) fits)
 
 uimm5_plain : (x : UImm5) → HasNo 32 (uimm5_text x)
 uimm5_plain x = decimal_plain x.value (omega (arith, x.below))
@@ -279,6 +287,7 @@ value_plain (values.AluOp3 x) fits = alu_op3_plain x
 value_plain (values.BitOp x) fits = bit_op_plain x
 value_plain (values.BfmOp x) fits = bfm_op_plain x
 value_plain (values.AtomicRmwOp x) fits = atomic_rmw_op_plain x
+value_plain (values.AtomicRmwLoopOp x) fits = atomic_rmw_loop_op_plain x
 value_plain (values.MoveWideOp x) fits = move_wide_op_plain x
 value_plain (values.FpuOp1 x) fits = fpu_op1_plain x
 value_plain (values.FpuOp2 x) fits = fpu_op2_plain x
@@ -288,18 +297,18 @@ value_plain (values.FpuOpRIMod x) fits = fpu_op_ri_mod_plain x fits
 value_plain (values.FpuToIntOp x) fits = fpu_to_int_op_plain x
 value_plain (values.IntToFpuOp x) fits = int_to_fpu_op_plain x
 value_plain (values.FpuRoundMode x) fits = fpu_round_mode_plain x
+value_plain (values.VecOp x) fits = vec_op_plain x
 value_plain (values.ScalarSize x) fits = scalar_size_plain x
 value_plain (values.VectorSize x) fits = vector_size_plain x
 value_plain (values.PReg x) fits = preg_plain x fits
 value_plain (values.Imm12 x) fits = imm12_plain x fits
 value_plain (values.Wide x) fits = wide_plain x fits
+value_plain (values.MovImm x) fits = mov_imm_plain x fits
 value_plain (values.ImmShift x) fits = decimal_plain x.imm (omega (arith, fits))
 value_plain (values.UImm5 x) fits = uimm5_plain x
 value_plain (values.UImm6 x) fits = decimal_plain x.imm (omega (arith, fits))
 value_plain (values.Shift x) fits = shift_plain x fits
 value_plain (values.Nzcv x) fits = nzcv_plain x
-value_plain (values.Bool x) fits = bool_plain x
-value_plain (values.U8 x) fits = u8_plain x fits
 value_plain (values.U64 x) fits = decimal_plain x fits
 value_plain (values.I32 x) fits = signed_plain x fits
 value_plain (values.Target x) fits = target_plain x fits

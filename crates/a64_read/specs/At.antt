@@ -4,6 +4,8 @@ use Rattle.std.proofs.Common.{lit<}
 use Rattle.a64_ops.specs.declared.operator.ALUOp.{ALUOp}
 use Rattle.a64_ops.specs.declared.operator.ALUOp3.{ALUOp3}
 use Rattle.a64_ops.specs.declared.operator.BitOp.{BitOp}
+use Rattle.a64_ops.specs.declared.operator.AtomicRMWLoopOp.{AtomicRMWLoopOp}
+use Rattle.a64_ops.specs.declared.operator.AtomicRMWLoopOp.TheVariants as atomic_rmw_loop_ops
 use Rattle.a64_ops.specs.declared.operator.AtomicRMWOp.{AtomicRMWOp}
 use Rattle.a64_ops.specs.declared.operator.AtomicRMWOp.TheVariants as atomic_rmw_ops
 use Rattle.a64_ops.specs.declared.operator.BfmOp.{BfmOp}
@@ -46,15 +48,18 @@ use Rattle.a64_base.specs.declared.key.APIKey.{APIKey}
 use Rattle.a64_base.specs.declared.ir_type.IrType.{IrType}
 use Rattle.a64_base.specs.declared.ir_type.IrType.TheVariants.{I64}
 use Rattle.a64_imms.specs.declared.offset.SImm9.{SImm9}
-use Rattle.a64_imms.specs.declared.offset.SImm7Scaled.{SImm7Scaled}
 use Rattle.a64_inst.specs.declared.fpu_op.FPUOpRI.{FPUOpRI}
 use Rattle.a64_inst.specs.declared.fpu_op.FPUOpRI.TheVariants as fpu_op_ris
 use Rattle.a64_inst.specs.declared.fpu_op.FPUOpRIMod.{FPUOpRIMod}
 use Rattle.a64_inst.specs.declared.fpu_op.FPUOpRIMod.TheVariants as fpu_op_ri_mods
 use Rattle.a64_inst.specs.declared.mode.AMode.{AMode}
 use Rattle.a64_inst.specs.declared.mode.AMode.TheVariants as modes
-use Rattle.a64_inst.specs.declared.mode.PairAMode.{PairAMode}
-use Rattle.a64_inst.specs.declared.mode.PairAMode.TheVariants as pair_modes
+use Rattle.a64_read.specs.declared.mov_imm.WrittenMovImm.{WrittenMovImm}
+use Rattle.a64_read.specs.declared.pair_mode.WrittenPairMode.{WrittenPairMode}
+use Rattle.a64_read.specs.declared.pair_mode.WrittenPairMode.TheVariants as pair_modes
+use Rattle.a64_read.specs.declared.vec_op.VecOp.{VecOp}
+use Rattle.a64_read.specs.declared.vec_op.VecOp.TheVariants as vec_ops
+use Rattle.a64_ops.specs.declared.vector.VecPairOp.TheVariants as vec_pair_ops
 use Rattle.a64_ops.specs.declared.float.FPUOp1.{FPUOp1}
 use Rattle.a64_ops.specs.declared.float.FPUOp1.TheVariants as fpu_op1s
 use Rattle.a64_ops.specs.declared.float.FPUOp2.{FPUOp2}
@@ -96,6 +101,13 @@ alu_op3_of _ = alu_op3s.MAdd
 
 abbrev pub alu_op3_at : List Value → ℕ → ALUOp3
 alu_op3_at values i = alu_op3_of (slice_get values i)
+
+abbrev pub atomic_rmw_loop_op_of : Option Value → AtomicRMWLoopOp
+atomic_rmw_loop_op_of (Some (values.AtomicRmwLoopOp x)) = x
+atomic_rmw_loop_op_of _ = atomic_rmw_loop_ops.Add
+
+abbrev pub atomic_rmw_loop_op_at : List Value → ℕ → AtomicRMWLoopOp
+atomic_rmw_loop_op_at values i = atomic_rmw_loop_op_of (slice_get values i)
 
 abbrev pub bit_op_of : Option Value → BitOp
 bit_op_of (Some (values.BitOp x)) = x
@@ -159,6 +171,13 @@ wide_of _ = record { bits = 0; shift = 0 }
 
 abbrev pub wide_at : List Value → ℕ → MoveWideConst
 wide_at values i = wide_of (slice_get values i)
+
+abbrev pub mov_imm_of : Option Value → WrittenMovImm
+mov_imm_of (Some (values.MovImm x)) = x
+mov_imm_of _ = record { imm = 0; shift = 0; ones = false }
+
+abbrev pub mov_imm_at : List Value → ℕ → WrittenMovImm
+mov_imm_at values i = mov_imm_of (slice_get values i)
 
 abbrev pub imm_shift_of : Option Value → ImmShift
 imm_shift_of (Some (values.ImmShift x)) = x
@@ -286,13 +305,6 @@ offset9_of _ = record { value = pos 0 }
 abbrev pub offset9_at : List Value → ℕ → SImm9
 offset9_at values i = offset9_of (slice_get values i)
 
-abbrev pub pair_offset_of : Option Value → SImm7Scaled
-pair_offset_of (Some (values.PairOffset x)) = x
-pair_offset_of _ = record { value = pos 0; scale_ty = I64 }
-
-abbrev pub pair_offset_at : List Value → ℕ → SImm7Scaled
-pair_offset_at values i = pair_offset_of (slice_get values i)
-
 abbrev pub type_of : Option Value → IrType
 type_of (Some (values.Type x)) = x
 type_of _ = I64
@@ -314,11 +326,11 @@ mode_of _ = modes.SPOffset (pos 0)
 abbrev pub mode_at : List Value → ℕ → AMode
 mode_at values i = mode_of (slice_get values i)
 
-abbrev pub pair_mode_of : Option Value → PairAMode
+abbrev pub pair_mode_of : Option Value → WrittenPairMode
 pair_mode_of (Some (values.PairMode x)) = x
-pair_mode_of _ = pair_modes.SPPreIndexed (record { value = pos 0; scale_ty = I64 })
+pair_mode_of _ = pair_modes.SPPreIndexed (pos 0)
 
-abbrev pub pair_mode_at : List Value → ℕ → PairAMode
+abbrev pub pair_mode_at : List Value → ℕ → WrittenPairMode
 pair_mode_at values i = pair_mode_of (slice_get values i)
 
 abbrev pub flags_of : Option Value → Option TrapCode
@@ -453,3 +465,10 @@ api_key_of _ = api_keys.AZ
 
 abbrev pub api_key_at : List Value → ℕ → APIKey
 api_key_at values i = api_key_of (slice_get values i)
+
+abbrev pub vec_op_of : Option Value → VecOp
+vec_op_of (Some (values.VecOp x)) = x
+vec_op_of _ = vec_ops.Pair vec_pair_ops.Addp
+
+abbrev pub vec_op_at : List Value → ℕ → VecOp
+vec_op_at values i = vec_op_of (slice_get values i)

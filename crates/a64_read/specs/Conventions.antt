@@ -10,7 +10,7 @@ convention_text conventions.SystemV = codes "SystemV"
 convention_text conventions.Tail = codes "Tail"
 convention_text conventions.AppleAarch64 = codes "AppleAarch64"
 
--- a key that authenticates an address
+-- a key of pointer authentication
 abbrev pub api_key_text : APIKey → List ℕ
 api_key_text keys.AZ = codes "AZ"
 api_key_text keys.BZ = codes "BZ"

@@ -6,10 +6,8 @@ use Rattle.a64_base.specs.RegisterNumbers.{RealRegister, IsRegisterNumber}
 use Rattle.a64_base.specs.declared.entity.MachLabel.{MachLabel}
 use Rattle.a64_base.specs.declared.entity.TrapCode.{TrapCode}
 use Rattle.a64_base.specs.declared.entity.UserStackMap.{UserStackMap}
-use Rattle.a64_base.specs.declared.ir_type.IrType.TheVariants.{I64}
 use Rattle.a64_imms.specs.declared.offset.SImm9.{SImm9}
-use Rattle.a64_imms.specs.declared.offset.SImm7Scaled.{SImm7Scaled}
-use Rattle.a64_imms.specs.Offsets.{IsOffset9, IsPairOffset}
+use Rattle.a64_imms.specs.Offsets.{IsOffset9}
 use Rattle.a64_base.specs.declared.reg.Reg.{Reg}
 use Rattle.a64_base.specs.declared.reg.Reg.TheVariants.{Real, Virtual}
 use Rattle.a64_base.specs.declared.reg.RegClass.{RegClass}
@@ -156,13 +154,6 @@ offset9_text imm = signed_decimal imm.value
 
 abbrev pub IsSImm9 : SImm9 → Type 0
 IsSImm9 imm = IsOffset9 imm.value
-
--- so is that of a pair of doublewords
-abbrev pub pair_offset_text : SImm7Scaled → List ℕ
-pair_offset_text imm = signed_decimal imm.value
-
-abbrev pub IsPairOffset64 : SImm7Scaled → Type 0
-IsPairOffset64 imm = IsPairOffset I64 imm.value × (imm.scale_ty ≡ I64)
 
 -- what is known of an access is a dash where it does not trap, else the code of its trap
 abbrev pub flags_text : Option TrapCode → List ℕ

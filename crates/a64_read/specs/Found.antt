@@ -4,6 +4,8 @@ use Rattle.a64_ops.specs.declared.operator.ALUOp.{ALUOp}
 use Rattle.a64_ops.specs.declared.operator.ALUOp.TheVariants as alu_ops
 use Rattle.a64_ops.specs.declared.operator.ALUOp3.{ALUOp3}
 use Rattle.a64_ops.specs.declared.operator.ALUOp3.TheVariants as alu_op3s
+use Rattle.a64_ops.specs.declared.operator.AtomicRMWLoopOp.{AtomicRMWLoopOp}
+use Rattle.a64_ops.specs.declared.operator.AtomicRMWLoopOp.TheVariants as atomic_rmw_loop_ops
 use Rattle.a64_ops.specs.declared.operator.BitOp.{BitOp}
 use Rattle.a64_ops.specs.declared.operator.BitOp.TheVariants as bit_ops
 use Rattle.a64_base.specs.declared.shift.ShiftOp.{ShiftOp}
@@ -29,10 +31,10 @@ use Rattle.a64_read.specs.declared.emit_flag.TheConstants.{EMIT_FLAG_HOMES, EMIT
 use Rattle.a64_read.specs.declared.frame_field.FrameField.{FrameField}
 use Rattle.a64_read.specs.declared.frame_field.FrameField.TheVariants as frame_fields
 use Rattle.a64_read.specs.declared.frame_field.TheConstants.{FRAME_FIELD_HOMES, FRAME_FIELDS}
-use Rattle.a64_read.specs.declared.operator.TheConstants.{ALU_OP_HOMES, ALU_OPS, ALU_OP3_HOMES, ALU_OP3S, BIT_OP_HOMES, BIT_OPS}
+use Rattle.a64_read.specs.declared.operator.TheConstants.{ALU_OP_HOMES, ALU_OPS, ALU_OP3_HOMES, ALU_OP3S, ATOMIC_RMW_LOOP_OP_HOMES, ATOMIC_RMW_LOOP_OPS, BIT_OP_HOMES, BIT_OPS}
 use Rattle.a64_read.specs.declared.modifier.TheConstants.{SHIFT_OP_HOMES, SHIFT_OPS, EXTEND_HOMES, EXTENDS, COND_HOMES, CONDS}
 use Rattle.a64_read.specs.Hash.{look_up}
-use Rattle.a64_read.specs.Operators.{alu_op_text, alu_op3_text, bit_op_text, shift_op_text, extend_text, cond_text, emit_flag_text, frame_field_text, mem_label_name_text}
+use Rattle.a64_read.specs.Operators.{alu_op_text, alu_op3_text, atomic_rmw_loop_op_text, bit_op_text, shift_op_text, extend_text, cond_text, emit_flag_text, frame_field_text, mem_label_name_text}
 use Rattle.a64_read.specs.Conventions.{convention_text, key_text}
 use Rattle.a64_read.specs.Types.{type_text}
 
@@ -43,6 +45,10 @@ alu_op_found _ = refl
 pub alu_op3_found : (x : ALUOp3) → look_up ALU_OP3_HOMES (λ _. map (λ row. row.2) ALU_OP3S) (alu_op3_text x) ≡ Some x
 alu_op3_found alu_op3s.MAdd = refl
 alu_op3_found _ = refl
+
+pub atomic_rmw_loop_op_found : (x : AtomicRMWLoopOp) → look_up ATOMIC_RMW_LOOP_OP_HOMES (λ _. map (λ row. row.2) ATOMIC_RMW_LOOP_OPS) (atomic_rmw_loop_op_text x) ≡ Some x
+atomic_rmw_loop_op_found atomic_rmw_loop_ops.Add = refl
+atomic_rmw_loop_op_found _ = refl
 
 pub bit_op_found : (x : BitOp) → look_up BIT_OP_HOMES (λ _. map (λ row. row.2) BIT_OPS) (bit_op_text x) ≡ Some x
 bit_op_found bit_ops.RBit = refl

@@ -1,9 +1,12 @@
 pub mod Reads
 pub mod Operators
 pub mod FloatOperators
+pub mod VectorOperators
 pub mod Hash
 pub mod Conventions
 pub mod Found
+pub mod VectorRows
+pub mod VectorFound
 pub mod Types
 pub mod Fields
 pub mod FloatShifts
@@ -13,10 +16,13 @@ pub mod Clobbers
 pub mod Hex
 pub mod Parts
 pub mod Heading
+pub mod MovImms
 pub mod Modes
+pub mod PairModes
 pub mod Branches
 pub mod Locations
 pub mod Calls
+pub mod VecOps
 pub mod Values
 pub mod PartLaws
 pub mod ReadsParts
@@ -30,6 +36,7 @@ pub mod RegisterLaws
 pub mod PairLaws
 pub mod Rows
 pub mod At
+pub mod VecAt
 pub mod Same
 pub mod BranchMakes
 pub mod LocationMakes

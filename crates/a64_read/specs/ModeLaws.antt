@@ -5,8 +5,8 @@ use Rattle.std.specs.List.{AllByRecursion}
 use Rattle.a64_base.specs.declared.ir_type.IrType.{IrType}
 use Rattle.a64_inst.specs.declared.mode.AMode.{AMode}
 use Rattle.a64_inst.specs.declared.mode.AMode.TheVariants as modes
-use Rattle.a64_inst.specs.declared.mode.PairAMode.{PairAMode}
-use Rattle.a64_inst.specs.declared.mode.PairAMode.TheVariants as pair_modes
+use Rattle.a64_read.specs.declared.pair_mode.WrittenPairMode.{WrittenPairMode}
+use Rattle.a64_read.specs.declared.pair_mode.WrittenPairMode.TheVariants as pair_modes
 use Rattle.a64_read.specs.declared.mode_name.TheConstants.{MODE_HOMES, MODES, PAIR_MODE_HOMES, PAIR_MODES}
 use Rattle.a64_read.specs.declared.mode_name.MemLabelName.{MemLabelName}
 use Rattle.a64_read.specs.declared.mode_name.ModeName.{ModeName}
@@ -54,8 +54,8 @@ pub pair_apart : (name : PairModeName) → HasNo 40 (pair_name_text name)
 pair_apart pair_names.SignedOffset = refl
 pair_apart _ = refl
 
-pub some_pair_field : (mode : PairAMode) → 0 < length (pair_fields mode)
-some_pair_field (pair_modes.SignedOffset reg simm7) = lit< tt
+pub some_pair_field : (mode : WrittenPairMode) → 0 < length (pair_fields mode)
+some_pair_field (pair_modes.SignedOffset reg offset) = lit< tt
 some_pair_field _ = lit< tt
 
 -- ---- what is made
@@ -97,19 +97,19 @@ pub mode_fields_kinds : (mode : AMode) → map kind_of (mode_fields mode) ≡ mo
 mode_fields_kinds (modes.RegReg rn rm) = refl
 mode_fields_kinds mode = refl
 
-abbrev pub IsMadePair : PairModeName → List Value → PairAMode → Type 0
+abbrev pub IsMadePair : PairModeName → List Value → WrittenPairMode → Type 0
 IsMadePair name values mode = (pair_name_of mode ≡ name) × (pair_fields mode ≡ values) × IsOwnPair mode
 
-pub pair_made_some : (name : PairModeName) (vs : List Value) (r : Option PairAMode) → MakesPair name vs r → map kind_of vs ≡ pair_kinds name → IfSome r (IsMadePair name vs)
+pub pair_made_some : (name : PairModeName) (vs : List Value) (r : Option WrittenPairMode) → MakesPair name vs r → map kind_of vs ≡ pair_kinds name → IfSome r (IsMadePair name vs)
 unfolding MakesPair
 pair_made_some pair_names.SignedOffset vs r h are = made (IsMadePair pair_names.SignedOffset vs) r (pair_of pair_names.SignedOffset vs) h (refl, at_their_places (pair_kinds pair_names.SignedOffset) vs are, tt)
 pair_made_some name vs r h are = made (IsMadePair name vs) r (pair_of name vs) h (refl, at_their_places (pair_kinds name) vs are, tt)
 
-pub pair_made_only : (mode : PairAMode) (vs : List Value) (r : Option PairAMode) → MakesPair (pair_name_of mode) vs r → AllByRecursion IsValue (pair_fields mode) → IsOwnPair mode → pair_fields mode ≡ vs → r ≡ Some mode
+pub pair_made_only : (mode : WrittenPairMode) (vs : List Value) (r : Option WrittenPairMode) → MakesPair (pair_name_of mode) vs r → AllByRecursion IsValue (pair_fields mode) → IsOwnPair mode → pair_fields mode ≡ vs → r ≡ Some mode
 unfolding MakesPair
-pair_made_only (pair_modes.SignedOffset reg simm7) vs r h fits own e = h ∙ ap (λ (t : List Value). Some (pair_of pair_names.SignedOffset t)) (sym e)
+pair_made_only (pair_modes.SignedOffset reg offset) vs r h fits own e = h ∙ ap (λ (t : List Value). Some (pair_of pair_names.SignedOffset t)) (sym e)
 pair_made_only mode vs r h fits own e = h ∙ ap (λ (t : List Value). Some (pair_of (pair_name_of mode) t)) (sym e)
 
-pub pair_fields_kinds : (mode : PairAMode) → map kind_of (pair_fields mode) ≡ pair_kinds (pair_name_of mode)
-pair_fields_kinds (pair_modes.SignedOffset reg simm7) = refl
+pub pair_fields_kinds : (mode : WrittenPairMode) → map kind_of (pair_fields mode) ≡ pair_kinds (pair_name_of mode)
+pair_fields_kinds (pair_modes.SignedOffset reg offset) = refl
 pair_fields_kinds mode = refl

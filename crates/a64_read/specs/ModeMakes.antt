@@ -2,14 +2,14 @@
 use Rattle.std.specs.Prelude.{List, Option, Some, ◌≡◌, option_map}
 use Rattle.a64_inst.specs.declared.mode.AMode.{AMode}
 use Rattle.a64_inst.specs.declared.mode.AMode.TheVariants as modes
-use Rattle.a64_inst.specs.declared.mode.PairAMode.{PairAMode}
-use Rattle.a64_inst.specs.declared.mode.PairAMode.TheVariants as pair_modes
+use Rattle.a64_read.specs.declared.pair_mode.WrittenPairMode.{WrittenPairMode}
+use Rattle.a64_read.specs.declared.pair_mode.WrittenPairMode.TheVariants as pair_modes
 use Rattle.a64_read.specs.declared.mode_name.ModeName.{ModeName}
 use Rattle.a64_read.specs.declared.mode_name.ModeName.TheVariants as mode_names
 use Rattle.a64_read.specs.declared.mode_name.PairModeName.{PairModeName}
 use Rattle.a64_read.specs.declared.mode_name.PairModeName.TheVariants as pair_names
 use Rattle.a64_read.specs.declared.value.Value.{Value}
-use Rattle.a64_read.specs.At.{extend_at, i64_at, mem_label_name_at, offset9_at, pair_offset_at, reg_at, type_at, u32_at}
+use Rattle.a64_read.specs.At.{extend_at, i64_at, mem_label_name_at, offset9_at, reg_at, type_at, u32_at}
 use Rattle.a64_read.specs.Modes.{IsScaled, scaled_parts, IsMemLabel, mem_label_parts}
 use Rattle.a64_read.specs.Reads.{Reads}
 
@@ -38,10 +38,10 @@ MakesMode mode_names.UnsignedOffset values result = MakesOf IsScaled scaled_part
 MakesMode mode_names.Label values result = MakesOf IsMemLabel mem_label_parts (mem_label_name_at values 0, i64_at values 1) (λ label. modes.Label label) result
 MakesMode name values result = result ≡ Some (mode_of name values)
 
-abbrev pub pair_of : PairModeName → List Value → PairAMode
-pair_of pair_names.SignedOffset values = pair_modes.SignedOffset (reg_at values 0) (pair_offset_at values 1)
-pair_of pair_names.SPPreIndexed values = pair_modes.SPPreIndexed (pair_offset_at values 0)
-pair_of pair_names.SPPostIndexed values = pair_modes.SPPostIndexed (pair_offset_at values 0)
+abbrev pub pair_of : PairModeName → List Value → WrittenPairMode
+pair_of pair_names.SignedOffset values = pair_modes.SignedOffset (reg_at values 0) (i64_at values 1)
+pair_of pair_names.SPPreIndexed values = pair_modes.SPPreIndexed (i64_at values 0)
+pair_of pair_names.SPPostIndexed values = pair_modes.SPPostIndexed (i64_at values 0)
 
-unfoldable pub MakesPair : PairModeName → List Value → Option PairAMode → Type 0
+unfoldable pub MakesPair : PairModeName → List Value → Option WrittenPairMode → Type 0
 MakesPair name values result = result ≡ Some (pair_of name values)

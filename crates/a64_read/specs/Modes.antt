@@ -8,8 +8,8 @@ use Rattle.a64_inst.specs.declared.mode.AMode.{AMode}
 use Rattle.a64_inst.specs.declared.mode.AMode.TheVariants as modes
 use Rattle.a64_inst.specs.declared.mode.MemLabel.{MemLabel}
 use Rattle.a64_inst.specs.declared.mode.MemLabel.TheVariants as mem_labels
-use Rattle.a64_inst.specs.declared.mode.PairAMode.{PairAMode}
-use Rattle.a64_inst.specs.declared.mode.PairAMode.TheVariants as pair_modes
+use Rattle.a64_read.specs.declared.pair_mode.WrittenPairMode.{WrittenPairMode}
+use Rattle.a64_read.specs.declared.pair_mode.WrittenPairMode.TheVariants as pair_modes
 use Rattle.a64_read.specs.declared.mode_name.MemLabelName.{MemLabelName}
 use Rattle.a64_read.specs.declared.mode_name.MemLabelName.TheVariants as label_names
 use Rattle.a64_read.specs.declared.mode_name.ModeName.{ModeName}
@@ -109,12 +109,12 @@ mode_text mode = call_text (mode_name_text (mode_name_of mode), join_with_byte 4
 abbrev pub IsMode : AMode → Type 0
 IsMode mode = AllByRecursion IsPart (mode_fields mode) × IsOwnMode mode
 
--- ---- modes of a pair of doublewords
+-- ---- modes of a pair, as a line has them
 
 abbrev pub pair_heading : PairModeName → Heading
-pair_heading pair_names.SignedOffset = record { text = codes "SignedOffset"; kinds = kinds.Reg ∷ kinds.PairOffset ∷ [] }
-pair_heading pair_names.SPPreIndexed = record { text = codes "SPPreIndexed"; kinds = kinds.PairOffset ∷ [] }
-pair_heading pair_names.SPPostIndexed = record { text = codes "SPPostIndexed"; kinds = kinds.PairOffset ∷ [] }
+pair_heading pair_names.SignedOffset = record { text = codes "SignedOffset"; kinds = kinds.Reg ∷ kinds.I64 ∷ [] }
+pair_heading pair_names.SPPreIndexed = record { text = codes "SPPreIndexed"; kinds = kinds.I64 ∷ [] }
+pair_heading pair_names.SPPostIndexed = record { text = codes "SPPostIndexed"; kinds = kinds.I64 ∷ [] }
 
 abbrev pub pair_name_text : PairModeName → List ℕ
 pair_name_text name = (pair_heading name).text
@@ -127,22 +127,22 @@ pub record PairParts : Type 0 where
   pub name : PairModeName
   pub fields : List Value
 
-abbrev pub pair_parts : PairAMode → PairParts
-pair_parts (pair_modes.SignedOffset reg simm7) = record { name = pair_names.SignedOffset; fields = values.Reg reg ∷ values.PairOffset simm7 ∷ [] }
-pair_parts (pair_modes.SPPreIndexed simm7) = record { name = pair_names.SPPreIndexed; fields = values.PairOffset simm7 ∷ [] }
-pair_parts (pair_modes.SPPostIndexed simm7) = record { name = pair_names.SPPostIndexed; fields = values.PairOffset simm7 ∷ [] }
+abbrev pub pair_parts : WrittenPairMode → PairParts
+pair_parts (pair_modes.SignedOffset reg offset) = record { name = pair_names.SignedOffset; fields = values.Reg reg ∷ values.I64 offset ∷ [] }
+pair_parts (pair_modes.SPPreIndexed offset) = record { name = pair_names.SPPreIndexed; fields = values.I64 offset ∷ [] }
+pair_parts (pair_modes.SPPostIndexed offset) = record { name = pair_names.SPPostIndexed; fields = values.I64 offset ∷ [] }
 
-abbrev pub pair_name_of : PairAMode → PairModeName
+abbrev pub pair_name_of : WrittenPairMode → PairModeName
 pair_name_of mode = (pair_parts mode).name
 
-abbrev pub pair_fields : PairAMode → List Value
+abbrev pub pair_fields : WrittenPairMode → List Value
 pair_fields mode = (pair_parts mode).fields
 
-abbrev pub IsOwnPair : PairAMode → Type 0
+abbrev pub IsOwnPair : WrittenPairMode → Type 0
 IsOwnPair mode = Unit {0}
 
-abbrev pub pair_text : PairAMode → List ℕ
+abbrev pub pair_text : WrittenPairMode → List ℕ
 pair_text mode = call_text (pair_name_text (pair_name_of mode), join_with_byte 44 (part_texts (pair_fields mode)))
 
-abbrev pub IsPairMode : PairAMode → Type 0
+abbrev pub IsPairMode : WrittenPairMode → Type 0
 IsPairMode mode = AllByRecursion IsPart (pair_fields mode) × IsOwnPair mode

@@ -6,6 +6,8 @@ use Rattle.a64_ops.specs.declared.operator.ALUOp3.{ALUOp3}
 use Rattle.a64_ops.specs.declared.operator.ALUOp3.TheVariants as alu_op3s
 use Rattle.a64_ops.specs.declared.operator.AtomicRMWOp.{AtomicRMWOp}
 use Rattle.a64_ops.specs.declared.operator.AtomicRMWOp.TheVariants as atomic_rmw_ops
+use Rattle.a64_ops.specs.declared.operator.AtomicRMWLoopOp.{AtomicRMWLoopOp}
+use Rattle.a64_ops.specs.declared.operator.AtomicRMWLoopOp.TheVariants as atomic_rmw_loop_ops
 use Rattle.a64_ops.specs.declared.operator.BitOp.{BitOp}
 use Rattle.a64_ops.specs.declared.operator.BitOp.TheVariants as bit_ops
 use Rattle.a64_ops.specs.declared.operator.BfmOp.{BfmOp}
@@ -70,6 +72,19 @@ atomic_rmw_op_text atomic_rmw_ops.Smin = codes "Smin"
 atomic_rmw_op_text atomic_rmw_ops.Umax = codes "Umax"
 atomic_rmw_op_text atomic_rmw_ops.Umin = codes "Umin"
 atomic_rmw_op_text atomic_rmw_ops.Swp = codes "Swp"
+
+abbrev pub atomic_rmw_loop_op_text : AtomicRMWLoopOp → List ℕ
+atomic_rmw_loop_op_text atomic_rmw_loop_ops.Add = codes "Add"
+atomic_rmw_loop_op_text atomic_rmw_loop_ops.Sub = codes "Sub"
+atomic_rmw_loop_op_text atomic_rmw_loop_ops.And = codes "And"
+atomic_rmw_loop_op_text atomic_rmw_loop_ops.Nand = codes "Nand"
+atomic_rmw_loop_op_text atomic_rmw_loop_ops.Eor = codes "Eor"
+atomic_rmw_loop_op_text atomic_rmw_loop_ops.Orr = codes "Orr"
+atomic_rmw_loop_op_text atomic_rmw_loop_ops.Smax = codes "Smax"
+atomic_rmw_loop_op_text atomic_rmw_loop_ops.Smin = codes "Smin"
+atomic_rmw_loop_op_text atomic_rmw_loop_ops.Umax = codes "Umax"
+atomic_rmw_loop_op_text atomic_rmw_loop_ops.Umin = codes "Umin"
+atomic_rmw_loop_op_text atomic_rmw_loop_ops.Xchg = codes "Xchg"
 
 abbrev pub bit_op_text : BitOp → List ℕ
 bit_op_text bit_ops.RBit = codes "RBit"

@@ -13,11 +13,12 @@ part_is (values.Extend x) fits = (fits, refl, refl)
 part_is (values.U32 x) fits = (fits, refl, refl)
 part_is (values.I64 x) fits = (fits, refl, refl)
 part_is (values.Offset9 x) fits = (fits, refl, refl)
-part_is (values.PairOffset x) fits = (fits, refl, refl)
 part_is (values.Type x) fits = (fits, refl, refl)
 part_is (values.MemLabelName x) fits = (fits, refl, refl)
 part_is (values.Size x) fits = (fits, refl, refl)
 part_is (values.Cond x) fits = (fits, refl, refl)
+part_is (values.Bool x) fits = (fits, refl, refl)
+part_is (values.U8 x) fits = (fits, refl, refl)
 part_is _ fits = absurd fits
 
 -- nothing else of these kinds has a text
@@ -27,11 +28,12 @@ part_of (values.Extend x) is fits = fits
 part_of (values.U32 x) is fits = fits
 part_of (values.I64 x) is fits = fits
 part_of (values.Offset9 x) is fits = fits
-part_of (values.PairOffset x) is fits = fits
 part_of (values.Type x) is fits = fits
 part_of (values.MemLabelName x) is fits = fits
 part_of (values.Size x) is fits = fits
 part_of (values.Cond x) is fits = fits
+part_of (values.Bool x) is fits = fits
+part_of (values.U8 x) is fits = fits
 part_of _ is fits = absurd (false≢true is)
 
 pub part_field : (v : Value) → IsPart v → IsValue v

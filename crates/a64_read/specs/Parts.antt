@@ -5,9 +5,9 @@ use Rattle.a64_read.specs.declared.value.Kind.{Kind}
 use Rattle.a64_read.specs.declared.value.Kind.TheVariants as kinds
 use Rattle.a64_read.specs.declared.value.Value.{Value}
 use Rattle.a64_read.specs.declared.value.Value.TheVariants as values
-use Rattle.a64_read.specs.Fields.{reg_text, IsReg, size_text, offset9_text, IsSImm9, pair_offset_text, IsPairOffset64}
-use Rattle.a64_read.specs.Operators.{cond_text, extend_text, mem_label_name_text}
-use Rattle.a64_read.specs.Reads.{Always, IsU32, IsI64}
+use Rattle.a64_read.specs.Fields.{reg_text, IsReg, size_text, offset9_text, IsSImm9}
+use Rattle.a64_read.specs.Operators.{bool_text, cond_text, extend_text, mem_label_name_text}
+use Rattle.a64_read.specs.Reads.{Always, IsU8, IsU32, IsI64}
 use Rattle.a64_read.specs.Types.{type_text}
 
 -- the kinds of such fields
@@ -17,11 +17,12 @@ is_part kinds.Extend = true
 is_part kinds.U32 = true
 is_part kinds.I64 = true
 is_part kinds.Offset9 = true
-is_part kinds.PairOffset = true
 is_part kinds.Type = true
 is_part kinds.MemLabelName = true
 is_part kinds.Size = true
 is_part kinds.Cond = true
+is_part kinds.Bool = true
+is_part kinds.U8 = true
 is_part _ = false
 
 -- the text of such a field
@@ -31,11 +32,12 @@ part_text (values.Extend x) = extend_text x
 part_text (values.U32 x) = decimal x
 part_text (values.I64 x) = signed_decimal x
 part_text (values.Offset9 x) = offset9_text x
-part_text (values.PairOffset x) = pair_offset_text x
 part_text (values.Type x) = type_text x
 part_text (values.MemLabelName x) = mem_label_name_text x
 part_text (values.Size x) = size_text x
 part_text (values.Cond x) = cond_text x
+part_text (values.Bool x) = bool_text x
+part_text (values.U8 x) = decimal x
 part_text _ = []
 
 -- such a field that has a text
@@ -45,11 +47,12 @@ IsPart (values.Extend x) = Always x
 IsPart (values.U32 x) = IsU32 x
 IsPart (values.I64 x) = IsI64 x
 IsPart (values.Offset9 x) = IsSImm9 x
-IsPart (values.PairOffset x) = IsPairOffset64 x
 IsPart (values.Type x) = Always x
 IsPart (values.MemLabelName x) = Always x
 IsPart (values.Size x) = Always x
 IsPart (values.Cond x) = Always x
+IsPart (values.Bool x) = Always x
+IsPart (values.U8 x) = IsU8 x
 IsPart _ = ⊥
 
 abbrev pub part_texts : List Value → List (List ℕ)

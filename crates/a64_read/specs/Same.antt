@@ -5,8 +5,10 @@ use Rattle.a64_read.specs.declared.value.Kind.{Kind}
 use Rattle.a64_read.specs.declared.value.Kind.TheVariants as kinds
 use Rattle.a64_read.specs.declared.value.Value.{Value}
 use Rattle.a64_read.specs.declared.value.Value.TheVariants as values
+use Rattle.a64_read.specs.declared.vec_op.VecOp.{VecOp}
 use Rattle.a64_read.specs.Values.{kind_of}
-use Rattle.a64_read.specs.At.{alu_op_of, alu_op3_of, atomic_rmw_op_of, bit_op_of, bfm_op_of, move_wide_op_of, size_of, reg_of, preg_of, imm12_of, wide_of, imm_shift_of, uimm5_of, uimm6_of, shift_of, extend_of, cond_of, nzcv_of, truth_of, u8_of, u32_of, u64_of, i32_of, target_of, label_of, frame_field_of, emit_flag_of, i64_of, offset9_of, pair_offset_of, type_of, mem_label_name_of, mode_of, pair_mode_of, flags_of, cond_br_kind_of, test_bit_kind_of, list_of, convention_of, key_of, map_of, fpu_op1_of, fpu_op2_of, fpu_op3_of, fpu_op_ri_of, fpu_op_ri_mod_of, fpu_to_int_op_of, int_to_fpu_op_of, fpu_round_mode_of, scalar_size_of, vector_size_of, branch_target_type_of, api_key_of}
+use Rattle.a64_read.specs.At.{alu_op_of, alu_op3_of, atomic_rmw_loop_op_of, atomic_rmw_op_of, bit_op_of, bfm_op_of, move_wide_op_of, size_of, reg_of, preg_of, imm12_of, wide_of, imm_shift_of, mov_imm_of, uimm5_of, uimm6_of, shift_of, extend_of, cond_of, nzcv_of, truth_of, u8_of, u32_of, u64_of, i32_of, target_of, label_of, frame_field_of, emit_flag_of, i64_of, offset9_of, type_of, mem_label_name_of, mode_of, pair_mode_of, flags_of, cond_br_kind_of, test_bit_kind_of, list_of, convention_of, key_of, map_of, fpu_op1_of, fpu_op2_of, fpu_op3_of, fpu_op_ri_of, fpu_op_ri_mod_of, fpu_to_int_op_of, int_to_fpu_op_of, fpu_round_mode_of, scalar_size_of, vector_size_of, branch_target_type_of, api_key_of, vec_op_of}
+use Rattle.a64_read.specs.VecOps.{as_own_vec_op, as_vec_op}
 
 -- a field of the kind, which is the given one where that is of the kind
 abbrev pub as_kind : Kind → Option Value → Value
@@ -15,6 +17,7 @@ as_kind kinds.AluOp3 v = values.AluOp3 (alu_op3_of v)
 as_kind kinds.BitOp v = values.BitOp (bit_op_of v)
 as_kind kinds.BfmOp v = values.BfmOp (bfm_op_of v)
 as_kind kinds.AtomicRmwOp v = values.AtomicRmwOp (atomic_rmw_op_of v)
+as_kind kinds.AtomicRmwLoopOp v = values.AtomicRmwLoopOp (atomic_rmw_loop_op_of v)
 as_kind kinds.MoveWideOp v = values.MoveWideOp (move_wide_op_of v)
 as_kind kinds.FpuOp1 v = values.FpuOp1 (fpu_op1_of v)
 as_kind kinds.FpuOp2 v = values.FpuOp2 (fpu_op2_of v)
@@ -24,6 +27,7 @@ as_kind kinds.FpuOpRIMod v = values.FpuOpRIMod (fpu_op_ri_mod_of v)
 as_kind kinds.FpuToIntOp v = values.FpuToIntOp (fpu_to_int_op_of v)
 as_kind kinds.IntToFpuOp v = values.IntToFpuOp (int_to_fpu_op_of v)
 as_kind kinds.FpuRoundMode v = values.FpuRoundMode (fpu_round_mode_of v)
+as_kind (kinds.VecOp kind) v = values.VecOp (as_vec_op kind (vec_op_of v))
 as_kind kinds.Size v = values.Size (size_of v)
 as_kind kinds.ScalarSize v = values.ScalarSize (scalar_size_of v)
 as_kind kinds.VectorSize v = values.VectorSize (vector_size_of v)
@@ -31,6 +35,7 @@ as_kind kinds.Reg v = values.Reg (reg_of v)
 as_kind kinds.PReg v = values.PReg (preg_of v)
 as_kind kinds.Imm12 v = values.Imm12 (imm12_of v)
 as_kind kinds.Wide v = values.Wide (wide_of v)
+as_kind kinds.MovImm v = values.MovImm (mov_imm_of v)
 as_kind kinds.ImmShift v = values.ImmShift (imm_shift_of v)
 as_kind kinds.UImm5 v = values.UImm5 (uimm5_of v)
 as_kind kinds.UImm6 v = values.UImm6 (uimm6_of v)
@@ -49,7 +54,6 @@ as_kind kinds.FrameField v = values.FrameField (frame_field_of v)
 as_kind kinds.EmitFlag v = values.EmitFlag (emit_flag_of v)
 as_kind kinds.I64 v = values.I64 (i64_of v)
 as_kind kinds.Offset9 v = values.Offset9 (offset9_of v)
-as_kind kinds.PairOffset v = values.PairOffset (pair_offset_of v)
 as_kind kinds.Type v = values.Type (type_of v)
 as_kind kinds.MemLabelName v = values.MemLabelName (mem_label_name_of v)
 as_kind kinds.Mode v = values.Mode (mode_of v)
@@ -66,6 +70,7 @@ as_kind kinds.Map v = values.Map (map_of v)
 
 pub as_own_kind : (v : Value) → as_kind (kind_of v) (Some v) ≡ v
 as_own_kind (values.AluOp x) = refl
+as_own_kind (values.VecOp x) = ap (λ (y : VecOp). values.VecOp y) (as_own_vec_op x)
 as_own_kind _ = refl
 
 -- fields of these kinds, the first from place i of the values

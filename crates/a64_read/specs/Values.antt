@@ -5,6 +5,7 @@ use Rattle.a64_ops.specs.declared.operator.ALUOp.{ALUOp}
 use Rattle.a64_ops.specs.declared.operator.ALUOp3.{ALUOp3}
 use Rattle.a64_ops.specs.declared.operator.BitOp.{BitOp}
 use Rattle.a64_ops.specs.declared.operator.AtomicRMWOp.{AtomicRMWOp}
+use Rattle.a64_ops.specs.declared.operator.AtomicRMWLoopOp.{AtomicRMWLoopOp}
 use Rattle.a64_ops.specs.declared.operator.BfmOp.{BfmOp}
 use Rattle.a64_ops.specs.declared.operator.MoveWideOp.{MoveWideOp}
 use Rattle.a64_ops.specs.declared.float.FPUOp1.{FPUOp1}
@@ -14,6 +15,19 @@ use Rattle.a64_ops.specs.declared.float.FpuToIntOp.{FpuToIntOp}
 use Rattle.a64_ops.specs.declared.float.IntToFpuOp.{IntToFpuOp}
 use Rattle.a64_ops.specs.declared.float.FpuRoundMode.{FpuRoundMode}
 use Rattle.a64_ops.specs.declared.system.BranchTargetType.{BranchTargetType}
+use Rattle.a64_ops.specs.declared.vector.VecALUOp.{VecALUOp}
+use Rattle.a64_ops.specs.declared.vector.VecALUModOp.{VecALUModOp}
+use Rattle.a64_ops.specs.declared.vector.VecMisc2.{VecMisc2}
+use Rattle.a64_ops.specs.declared.vector.VecLanesOp.{VecLanesOp}
+use Rattle.a64_ops.specs.declared.vector.VecExtendOp.{VecExtendOp}
+use Rattle.a64_ops.specs.declared.vector.VecRRLongOp.{VecRRLongOp}
+use Rattle.a64_ops.specs.declared.vector.VecRRNarrowOp.{VecRRNarrowOp}
+use Rattle.a64_ops.specs.declared.vector.VecPairOp.{VecPairOp}
+use Rattle.a64_ops.specs.declared.vector.VecRRPairLongOp.{VecRRPairLongOp}
+use Rattle.a64_ops.specs.declared.vector.VecRRRLongOp.{VecRRRLongOp}
+use Rattle.a64_ops.specs.declared.vector.VecRRRLongModOp.{VecRRRLongModOp}
+use Rattle.a64_ops.specs.declared.vector.VecShiftImmOp.{VecShiftImmOp}
+use Rattle.a64_ops.specs.declared.vector.VecShiftImmModOp.{VecShiftImmModOp}
 use Rattle.a64_base.specs.declared.size.OperandSize.{OperandSize}
 use Rattle.a64_base.specs.declared.size.ScalarSize.{ScalarSize}
 use Rattle.a64_base.specs.declared.size.VectorSize.{VectorSize}
@@ -40,25 +54,29 @@ use Rattle.a64_base.specs.declared.entity.UserStackMap.{UserStackMap}
 use Rattle.a64_base.specs.declared.key.APIKey.{APIKey}
 use Rattle.a64_base.specs.declared.ir_type.IrType.{IrType}
 use Rattle.a64_imms.specs.declared.offset.SImm9.{SImm9}
-use Rattle.a64_imms.specs.declared.offset.SImm7Scaled.{SImm7Scaled}
 use Rattle.a64_inst.specs.declared.fpu_op.FPUOpRI.{FPUOpRI}
 use Rattle.a64_inst.specs.declared.fpu_op.FPUOpRIMod.{FPUOpRIMod}
 use Rattle.a64_inst.specs.declared.mode.AMode.{AMode}
-use Rattle.a64_inst.specs.declared.mode.PairAMode.{PairAMode}
 use Rattle.a64_read.specs.declared.mode_name.MemLabelName.{MemLabelName}
+use Rattle.a64_read.specs.declared.mov_imm.WrittenMovImm.{WrittenMovImm}
+use Rattle.a64_read.specs.declared.pair_mode.WrittenPairMode.{WrittenPairMode}
+use Rattle.a64_read.specs.declared.vec_op.VecOp.TheVariants as vec_ops
+use Rattle.a64_read.specs.declared.vec_op.VecOpKind.TheVariants as vec_kinds
 use Rattle.a64_read.specs.declared.value.Kind.{Kind}
 use Rattle.a64_read.specs.declared.value.Kind.TheVariants as kinds
 use Rattle.a64_read.specs.declared.value.Value.{Value}
 use Rattle.a64_read.specs.declared.value.Value.TheVariants as values
-use Rattle.a64_read.specs.Reads.{Always, IsU8, IsU64, IsI32}
-use Rattle.a64_read.specs.Operators.{alu_op3_text, alu_op_text, atomic_rmw_op_text, bfm_op_text, bit_op_text, bool_text, branch_target_type_text, emit_flag_text, frame_field_text, move_wide_op_text, test_bit_text}
+use Rattle.a64_read.specs.Reads.{Always, IsU64, IsI32}
+use Rattle.a64_read.specs.Operators.{alu_op3_text, alu_op_text, atomic_rmw_loop_op_text, atomic_rmw_op_text, bfm_op_text, bit_op_text, branch_target_type_text, emit_flag_text, frame_field_text, move_wide_op_text, test_bit_text}
 use Rattle.a64_read.specs.Branches.{cond_br_text, IsCondBr}
 use Rattle.a64_read.specs.Conventions.{api_key_text, convention_text, key_text}
 use Rattle.a64_read.specs.FloatOperators.{fpu_op1_text, fpu_op2_text, fpu_op3_text, fpu_round_mode_text, fpu_to_int_op_text, int_to_fpu_op_text}
 use Rattle.a64_read.specs.FloatShifts.{fpu_op_ri_mod_text, fpu_op_ri_text, IsFpuOpRI, IsFpuOpRIMod}
 use Rattle.a64_read.specs.Lists.{same_text}
 use Rattle.a64_read.specs.Modes.{mode_text, IsMode, pair_text, IsPairMode}
+use Rattle.a64_read.specs.MovImms.{mov_imm_text, IsWrittenMovImm}
 use Rattle.a64_read.specs.Parts.{part_text, IsPart}
+use Rattle.a64_read.specs.VecOps.{vec_op_kind, vec_op_text}
 use Rattle.a64_read.specs.Fields.{flags_text, imm12_text, imm_shift_text, label_text, map_text, nzcv_text, preg_text, scalar_size_text, shift_text, target_text, uimm5_text, uimm6_text, vector_size_text, wide_text, HasNo, IsFlags, IsImm12, IsImmShift, IsLabel, IsMapNumber, IsPReg, IsShift, IsTarget, IsUImm6, IsWide}
 
 abbrev pub kind_of : Value → Kind
@@ -67,6 +85,7 @@ kind_of (values.AluOp3 x) = kinds.AluOp3
 kind_of (values.BitOp x) = kinds.BitOp
 kind_of (values.BfmOp x) = kinds.BfmOp
 kind_of (values.AtomicRmwOp x) = kinds.AtomicRmwOp
+kind_of (values.AtomicRmwLoopOp x) = kinds.AtomicRmwLoopOp
 kind_of (values.MoveWideOp x) = kinds.MoveWideOp
 kind_of (values.FpuOp1 x) = kinds.FpuOp1
 kind_of (values.FpuOp2 x) = kinds.FpuOp2
@@ -76,6 +95,7 @@ kind_of (values.FpuOpRIMod x) = kinds.FpuOpRIMod
 kind_of (values.FpuToIntOp x) = kinds.FpuToIntOp
 kind_of (values.IntToFpuOp x) = kinds.IntToFpuOp
 kind_of (values.FpuRoundMode x) = kinds.FpuRoundMode
+kind_of (values.VecOp x) = kinds.VecOp (vec_op_kind x)
 kind_of (values.Size x) = kinds.Size
 kind_of (values.ScalarSize x) = kinds.ScalarSize
 kind_of (values.VectorSize x) = kinds.VectorSize
@@ -83,6 +103,7 @@ kind_of (values.Reg x) = kinds.Reg
 kind_of (values.PReg x) = kinds.PReg
 kind_of (values.Imm12 x) = kinds.Imm12
 kind_of (values.Wide x) = kinds.Wide
+kind_of (values.MovImm x) = kinds.MovImm
 kind_of (values.ImmShift x) = kinds.ImmShift
 kind_of (values.UImm5 x) = kinds.UImm5
 kind_of (values.UImm6 x) = kinds.UImm6
@@ -101,7 +122,6 @@ kind_of (values.FrameField x) = kinds.FrameField
 kind_of (values.EmitFlag x) = kinds.EmitFlag
 kind_of (values.I64 x) = kinds.I64
 kind_of (values.Offset9 x) = kinds.Offset9
-kind_of (values.PairOffset x) = kinds.PairOffset
 kind_of (values.Type x) = kinds.Type
 kind_of (values.MemLabelName x) = kinds.MemLabelName
 kind_of (values.Mode x) = kinds.Mode
@@ -123,6 +143,7 @@ value_text (values.AluOp3 x) = alu_op3_text x
 value_text (values.BitOp x) = bit_op_text x
 value_text (values.BfmOp x) = bfm_op_text x
 value_text (values.AtomicRmwOp x) = atomic_rmw_op_text x
+value_text (values.AtomicRmwLoopOp x) = atomic_rmw_loop_op_text x
 value_text (values.MoveWideOp x) = move_wide_op_text x
 value_text (values.FpuOp1 x) = fpu_op1_text x
 value_text (values.FpuOp2 x) = fpu_op2_text x
@@ -132,18 +153,18 @@ value_text (values.FpuOpRIMod x) = fpu_op_ri_mod_text x
 value_text (values.FpuToIntOp x) = fpu_to_int_op_text x
 value_text (values.IntToFpuOp x) = int_to_fpu_op_text x
 value_text (values.FpuRoundMode x) = fpu_round_mode_text x
+value_text (values.VecOp x) = vec_op_text x
 value_text (values.ScalarSize x) = scalar_size_text x
 value_text (values.VectorSize x) = vector_size_text x
 value_text (values.PReg x) = preg_text x
 value_text (values.Imm12 x) = imm12_text x
 value_text (values.Wide x) = wide_text x
+value_text (values.MovImm x) = mov_imm_text x
 value_text (values.ImmShift x) = imm_shift_text x
 value_text (values.UImm5 x) = uimm5_text x
 value_text (values.UImm6 x) = uimm6_text x
 value_text (values.Shift x) = shift_text x
 value_text (values.Nzcv x) = nzcv_text x
-value_text (values.Bool x) = bool_text x
-value_text (values.U8 x) = decimal x
 value_text (values.U64 x) = decimal x
 value_text (values.I32 x) = signed_decimal x
 value_text (values.Target x) = target_text x
@@ -170,6 +191,7 @@ IsValue (values.AluOp3 x) = Always x
 IsValue (values.BitOp x) = Always x
 IsValue (values.BfmOp x) = Always x
 IsValue (values.AtomicRmwOp x) = Always x
+IsValue (values.AtomicRmwLoopOp x) = Always x
 IsValue (values.MoveWideOp x) = Always x
 IsValue (values.FpuOp1 x) = Always x
 IsValue (values.FpuOp2 x) = Always x
@@ -179,18 +201,18 @@ IsValue (values.FpuOpRIMod x) = IsFpuOpRIMod x
 IsValue (values.FpuToIntOp x) = Always x
 IsValue (values.IntToFpuOp x) = Always x
 IsValue (values.FpuRoundMode x) = Always x
+IsValue (values.VecOp x) = Always x
 IsValue (values.ScalarSize x) = Always x
 IsValue (values.VectorSize x) = Always x
 IsValue (values.PReg x) = IsPReg x
 IsValue (values.Imm12 x) = IsImm12 x
 IsValue (values.Wide x) = IsWide x
+IsValue (values.MovImm x) = IsWrittenMovImm x
 IsValue (values.ImmShift x) = IsImmShift x
 IsValue (values.UImm5 x) = Always x
 IsValue (values.UImm6 x) = IsUImm6 x
 IsValue (values.Shift x) = IsShift x
 IsValue (values.Nzcv x) = Always x
-IsValue (values.Bool x) = Always x
-IsValue (values.U8 x) = IsU8 x
 IsValue (values.U64 x) = IsU64 x
 IsValue (values.I32 x) = IsI32 x
 IsValue (values.Target x) = IsTarget x
@@ -225,6 +247,7 @@ ReadsKind kinds.AluOp3 = ReadsAs kinds.AluOp3 (λ (x : ALUOp3). values.AluOp3 x)
 ReadsKind kinds.BitOp = ReadsAs kinds.BitOp (λ (x : BitOp). values.BitOp x)
 ReadsKind kinds.BfmOp = ReadsAs kinds.BfmOp (λ (x : BfmOp). values.BfmOp x)
 ReadsKind kinds.AtomicRmwOp = ReadsAs kinds.AtomicRmwOp (λ (x : AtomicRMWOp). values.AtomicRmwOp x)
+ReadsKind kinds.AtomicRmwLoopOp = ReadsAs kinds.AtomicRmwLoopOp (λ (x : AtomicRMWLoopOp). values.AtomicRmwLoopOp x)
 ReadsKind kinds.MoveWideOp = ReadsAs kinds.MoveWideOp (λ (x : MoveWideOp). values.MoveWideOp x)
 ReadsKind kinds.FpuOp1 = ReadsAs kinds.FpuOp1 (λ (x : FPUOp1). values.FpuOp1 x)
 ReadsKind kinds.FpuOp2 = ReadsAs kinds.FpuOp2 (λ (x : FPUOp2). values.FpuOp2 x)
@@ -234,6 +257,19 @@ ReadsKind kinds.FpuOpRIMod = ReadsAs kinds.FpuOpRIMod (λ (x : FPUOpRIMod). valu
 ReadsKind kinds.FpuToIntOp = ReadsAs kinds.FpuToIntOp (λ (x : FpuToIntOp). values.FpuToIntOp x)
 ReadsKind kinds.IntToFpuOp = ReadsAs kinds.IntToFpuOp (λ (x : IntToFpuOp). values.IntToFpuOp x)
 ReadsKind kinds.FpuRoundMode = ReadsAs kinds.FpuRoundMode (λ (x : FpuRoundMode). values.FpuRoundMode x)
+ReadsKind (kinds.VecOp vec_kinds.Alu) = ReadsAs (kinds.VecOp vec_kinds.Alu) (λ (x : VecALUOp). values.VecOp (vec_ops.Alu x))
+ReadsKind (kinds.VecOp vec_kinds.AluMod) = ReadsAs (kinds.VecOp vec_kinds.AluMod) (λ (x : VecALUModOp). values.VecOp (vec_ops.AluMod x))
+ReadsKind (kinds.VecOp vec_kinds.Misc2) = ReadsAs (kinds.VecOp vec_kinds.Misc2) (λ (x : VecMisc2). values.VecOp (vec_ops.Misc2 x))
+ReadsKind (kinds.VecOp vec_kinds.Lanes) = ReadsAs (kinds.VecOp vec_kinds.Lanes) (λ (x : VecLanesOp). values.VecOp (vec_ops.Lanes x))
+ReadsKind (kinds.VecOp vec_kinds.Extend) = ReadsAs (kinds.VecOp vec_kinds.Extend) (λ (x : VecExtendOp). values.VecOp (vec_ops.Extend x))
+ReadsKind (kinds.VecOp vec_kinds.RRLong) = ReadsAs (kinds.VecOp vec_kinds.RRLong) (λ (x : VecRRLongOp). values.VecOp (vec_ops.RRLong x))
+ReadsKind (kinds.VecOp vec_kinds.RRNarrow) = ReadsAs (kinds.VecOp vec_kinds.RRNarrow) (λ (x : VecRRNarrowOp). values.VecOp (vec_ops.RRNarrow x))
+ReadsKind (kinds.VecOp vec_kinds.Pair) = ReadsAs (kinds.VecOp vec_kinds.Pair) (λ (x : VecPairOp). values.VecOp (vec_ops.Pair x))
+ReadsKind (kinds.VecOp vec_kinds.RRPairLong) = ReadsAs (kinds.VecOp vec_kinds.RRPairLong) (λ (x : VecRRPairLongOp). values.VecOp (vec_ops.RRPairLong x))
+ReadsKind (kinds.VecOp vec_kinds.RRRLong) = ReadsAs (kinds.VecOp vec_kinds.RRRLong) (λ (x : VecRRRLongOp). values.VecOp (vec_ops.RRRLong x))
+ReadsKind (kinds.VecOp vec_kinds.RRRLongMod) = ReadsAs (kinds.VecOp vec_kinds.RRRLongMod) (λ (x : VecRRRLongModOp). values.VecOp (vec_ops.RRRLongMod x))
+ReadsKind (kinds.VecOp vec_kinds.ShiftImm) = ReadsAs (kinds.VecOp vec_kinds.ShiftImm) (λ (x : VecShiftImmOp). values.VecOp (vec_ops.ShiftImm x))
+ReadsKind (kinds.VecOp vec_kinds.ShiftImmMod) = ReadsAs (kinds.VecOp vec_kinds.ShiftImmMod) (λ (x : VecShiftImmModOp). values.VecOp (vec_ops.ShiftImmMod x))
 ReadsKind kinds.Size = ReadsAs kinds.Size (λ (x : OperandSize). values.Size x)
 ReadsKind kinds.ScalarSize = ReadsAs kinds.ScalarSize (λ (x : ScalarSize). values.ScalarSize x)
 ReadsKind kinds.VectorSize = ReadsAs kinds.VectorSize (λ (x : VectorSize). values.VectorSize x)
@@ -241,6 +277,7 @@ ReadsKind kinds.Reg = ReadsAs kinds.Reg (λ (x : Reg). values.Reg x)
 ReadsKind kinds.PReg = ReadsAs kinds.PReg (λ (x : RealRegister). values.PReg x)
 ReadsKind kinds.Imm12 = ReadsAs kinds.Imm12 (λ (x : Imm12). values.Imm12 x)
 ReadsKind kinds.Wide = ReadsAs kinds.Wide (λ (x : MoveWideConst). values.Wide x)
+ReadsKind kinds.MovImm = ReadsAs kinds.MovImm (λ (x : WrittenMovImm). values.MovImm x)
 ReadsKind kinds.ImmShift = ReadsAs kinds.ImmShift (λ (x : ImmShift). values.ImmShift x)
 ReadsKind kinds.UImm5 = ReadsAs kinds.UImm5 (λ (x : UImm5). values.UImm5 x)
 ReadsKind kinds.UImm6 = ReadsAs kinds.UImm6 (λ (x : UImm6). values.UImm6 x)
@@ -259,11 +296,10 @@ ReadsKind kinds.FrameField = ReadsAs kinds.FrameField (λ (x : FrameField). valu
 ReadsKind kinds.EmitFlag = ReadsAs kinds.EmitFlag (λ (x : EmitFlag). values.EmitFlag x)
 ReadsKind kinds.I64 = ReadsAs kinds.I64 (λ (x : ℤ). values.I64 x)
 ReadsKind kinds.Offset9 = ReadsAs kinds.Offset9 (λ (x : SImm9). values.Offset9 x)
-ReadsKind kinds.PairOffset = ReadsAs kinds.PairOffset (λ (x : SImm7Scaled). values.PairOffset x)
 ReadsKind kinds.Type = ReadsAs kinds.Type (λ (x : IrType). values.Type x)
 ReadsKind kinds.MemLabelName = ReadsAs kinds.MemLabelName (λ (x : MemLabelName). values.MemLabelName x)
 ReadsKind kinds.Mode = ReadsAs kinds.Mode (λ (x : AMode). values.Mode x)
-ReadsKind kinds.PairMode = ReadsAs kinds.PairMode (λ (x : PairAMode). values.PairMode x)
+ReadsKind kinds.PairMode = ReadsAs kinds.PairMode (λ (x : WrittenPairMode). values.PairMode x)
 ReadsKind kinds.Flags = ReadsAs kinds.Flags (λ (x : Option TrapCode). values.Flags x)
 ReadsKind kinds.CondBrKind = ReadsAs kinds.CondBrKind (λ (x : CondBrKind). values.CondBrKind x)
 ReadsKind kinds.TestBitAndBranchKind = ReadsAs kinds.TestBitAndBranchKind (λ (x : TestBitAndBranchKind). values.TestBitAndBranchKind x)

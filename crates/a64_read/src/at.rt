@@ -4,22 +4,27 @@
 ghost use Rattle.std.specs.Prelude.{◌≡◌, Option, Some, None, slice_get, refl};
 ghost use Rattle.a64_read.specs.declared.value.Value.{Value};
 ghost use Rattle.a64_read.specs.declared.value.Value.TheVariants as values;
-ghost use Rattle.a64_read.specs.At.{alu_op3_of, alu_op_of, atomic_rmw_op_of, api_key_of, bfm_op_of, bit_op_of, branch_target_type_of, cond_br_kind_of, cond_of, convention_of, emit_flag_of, extend_of, flags_of, frame_field_of, i32_of, i64_of, imm12_of, imm_shift_of, key_of, label_of, map_of, mem_label_name_of, mode_of, move_wide_op_of, nzcv_of, offset9_of, pair_mode_of, pair_offset_of, preg_of, reg_of, shift_of, size_of, target_of, test_bit_kind_of, truth_of, type_of, u32_of, u64_of, u8_of, uimm5_of, uimm6_of, wide_of, list_at};
+ghost use Rattle.a64_read.specs.At.{alu_op3_of, alu_op_of, atomic_rmw_loop_op_of, atomic_rmw_op_of, api_key_of, bfm_op_of, bit_op_of, branch_target_type_of, cond_br_kind_of, cond_of, convention_of, emit_flag_of, extend_of, flags_of, frame_field_of, i32_of, i64_of, imm12_of, imm_shift_of, key_of, label_of, map_of, mem_label_name_of, mode_of, mov_imm_of, move_wide_op_of, nzcv_of, offset9_of, pair_mode_of, preg_of, reg_of, shift_of, size_of, target_of, test_bit_kind_of, truth_of, type_of, u32_of, u64_of, u8_of, uimm5_of, uimm6_of, wide_of, list_at};
 
 mod float;
+mod vector;
 
 use crate::emit_flag::EmitFlag;
 use crate::frame_field::FrameField;
 use crate::mode_name::MemLabelName;
+use crate::mov_imm::WrittenMovImm;
+use crate::pair_mode::WrittenPairMode;
 use crate::value::Value;
 use a64_base::{
     APIKey, BranchTarget, CallConv, Cond, CondBrKind, ExtendOp, IrType, MachLabel, MemFlagsData,
     OperandSize, PReg, Reg, RegClass, ShiftOp, ShiftOpAndAmt, ShiftOpShiftImm,
     TestBitAndBranchKind, UserStackMap,
 };
-use a64_imms::{Imm12, ImmShift, MoveWideConst, NZCV, SImm7Scaled, SImm9, UImm5, UImm6};
-use a64_inst::{AMode, PairAMode};
-use a64_ops::{ALUOp, ALUOp3, AtomicRMWOp, BfmOp, BitOp, BranchTargetType, MoveWideOp};
+use a64_imms::{Imm12, ImmShift, MoveWideConst, NZCV, SImm9, UImm5, UImm6};
+use a64_inst::AMode;
+use a64_ops::{
+    ALUOp, ALUOp3, AtomicRMWLoopOp, AtomicRMWOp, BfmOp, BitOp, BranchTargetType, MoveWideOp,
+};
 
 /// What a field can hold.
 pub trait Field: Copy {
@@ -99,6 +104,19 @@ impl Field for AtomicRMWOp {
         match value {
             Value::AtomicRmwOp(x) => *x,
             _ => AtomicRMWOp::Add,
+        }
+    }
+
+    ghost missing = { refl };
+}
+
+impl Field for AtomicRMWLoopOp {
+    ghost of = { atomic_rmw_loop_op_of };
+
+    fn of(value: &Value) -> AtomicRMWLoopOp {
+        match value {
+            Value::AtomicRmwLoopOp(x) => *x,
+            _ => AtomicRMWLoopOp::Add,
         }
     }
 
@@ -198,6 +216,23 @@ impl Field for MoveWideConst {
         match value {
             Value::Wide(x) => *x,
             _ => MoveWideConst { bits: 0, shift: 0 },
+        }
+    }
+
+    ghost missing = { refl };
+}
+
+impl Field for WrittenMovImm {
+    ghost of = { mov_imm_of };
+
+    fn of(value: &Value) -> WrittenMovImm {
+        match value {
+            Value::MovImm(x) => *x,
+            _ => WrittenMovImm {
+                imm: 0,
+                shift: 0,
+                ones: false,
+            },
         }
     }
 
@@ -460,22 +495,6 @@ impl Field for SImm9 {
     ghost missing = { refl };
 }
 
-impl Field for SImm7Scaled {
-    ghost of = { pair_offset_of };
-
-    fn of(value: &Value) -> SImm7Scaled {
-        match value {
-            Value::PairOffset(x) => *x,
-            _ => SImm7Scaled {
-                value: 0,
-                scale_ty: IrType::I64,
-            },
-        }
-    }
-
-    ghost missing = { refl };
-}
-
 impl Field for IrType {
     ghost of = { type_of };
 
@@ -515,18 +534,13 @@ impl Field for AMode {
     ghost missing = { refl };
 }
 
-impl Field for PairAMode {
+impl Field for WrittenPairMode {
     ghost of = { pair_mode_of };
 
-    fn of(value: &Value) -> PairAMode {
+    fn of(value: &Value) -> WrittenPairMode {
         match value {
             Value::PairMode(x) => *x,
-            _ => PairAMode::SPPreIndexed {
-                simm7: SImm7Scaled {
-                    value: 0,
-                    scale_ty: IrType::I64,
-                },
-            },
+            _ => WrittenPairMode::SPPreIndexed { offset: 0 },
         }
     }
 

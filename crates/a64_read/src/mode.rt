@@ -8,10 +8,11 @@ ghost use Rattle.a64_read.specs.Types as types;
 
 use crate::at;
 use crate::mode_name::{MemLabelName, ModeName, PairModeName};
+use crate::pair_mode::WrittenPairMode;
 use crate::value::Value;
 use a64_base::{IrType, MachLabel, VCodeConstant};
 use a64_imms::UImm12Scaled;
-use a64_inst::{AMode, MemLabel, PairAMode};
+use a64_inst::{AMode, MemLabel};
 
 /// Whether the size of the type scales an unsigned offset.
 fn is_scale(ty: IrType) -> bool
@@ -140,19 +141,19 @@ pub fn make_mode(name: ModeName, values: &[Value]) -> Option<AMode>
 
 /// The mode of a pair of this name with these fields.
 #[tactic(auto, unfolding(crate::specs::ModeMakes::MakesPair))]
-pub fn make_pair_mode(name: PairModeName, values: &[Value]) -> Option<PairAMode>
+pub fn make_pair_mode(name: PairModeName, values: &[Value]) -> Option<WrittenPairMode>
     ensures { MakesPair name values.now result }
 {
     match name {
-        PairModeName::SignedOffset => Some(PairAMode::SignedOffset {
+        PairModeName::SignedOffset => Some(WrittenPairMode::SignedOffset {
             reg: at::get(values, 0),
-            simm7: at::get(values, 1),
+            offset: at::get(values, 1),
         }),
-        PairModeName::SPPreIndexed => Some(PairAMode::SPPreIndexed {
-            simm7: at::get(values, 0),
+        PairModeName::SPPreIndexed => Some(WrittenPairMode::SPPreIndexed {
+            offset: at::get(values, 0),
         }),
-        PairModeName::SPPostIndexed => Some(PairAMode::SPPostIndexed {
-            simm7: at::get(values, 0),
+        PairModeName::SPPostIndexed => Some(WrittenPairMode::SPPostIndexed {
+            offset: at::get(values, 0),
         }),
     }
 }

@@ -11,8 +11,9 @@ ghost use Rattle.a64_read.specs.Found.{mem_label_found};
 use crate::call::Call;
 use crate::mode::{make_mode, make_pair_mode};
 use crate::named::{Named, Row};
+use crate::pair_mode::WrittenPairMode;
 use crate::value::{Kind, Value};
-use a64_inst::{AMode, PairAMode};
+use a64_inst::AMode;
 
 /// The name of an addressing mode.
 #[derive(Clone, Copy)]
@@ -155,19 +156,11 @@ pub static PAIR_MODE_HOMES: [u8; 32] = [
 pub static PAIR_MODES: [Row<PairModeName>; 3] = [
     (
         b"SignedOffset",
-        &[Kind::Reg, Kind::PairOffset],
+        &[Kind::Reg, Kind::I64],
         PairModeName::SignedOffset,
     ),
-    (
-        b"SPPreIndexed",
-        &[Kind::PairOffset],
-        PairModeName::SPPreIndexed,
-    ),
-    (
-        b"SPPostIndexed",
-        &[Kind::PairOffset],
-        PairModeName::SPPostIndexed,
-    ),
+    (b"SPPreIndexed", &[Kind::I64], PairModeName::SPPreIndexed),
+    (b"SPPostIndexed", &[Kind::I64], PairModeName::SPPostIndexed),
 ];
 
 impl Named for PairModeName {
@@ -191,7 +184,7 @@ impl Named for PairModeName {
 }
 
 impl Call for PairModeName {
-    type Made = PairAMode;
+    type Made = WrittenPairMode;
 
     ghost name_of = { pair_name_of };
 
@@ -201,7 +194,7 @@ impl Call for PairModeName {
 
     ghost makes = { MakesPair };
 
-    fn make(self, values: &[Value]) -> Option<PairAMode> {
+    fn make(self, values: &[Value]) -> Option<WrittenPairMode> {
         make_pair_mode(self, values)
     }
 

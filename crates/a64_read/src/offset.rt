@@ -3,11 +3,10 @@
 ghost use Rattle.std.specs.Prelude.{◌≡◌, ◌≢◌, ℕ, List, ◌∷◌, MatchOption};
 ghost use Rattle.std.specs.Fmt.{signed_decimal};
 ghost use Rattle.a64_read.specs.Reads.{Reads, IsI32, IsI64, IsBelowZero, IsFromZero};
-ghost use Rattle.a64_read.specs.Fields.{offset9_text, IsSImm9, pair_offset_text, IsPairOffset64};
+ghost use Rattle.a64_read.specs.Fields.{offset9_text, IsSImm9};
 
 use crate::decimal::read_u64;
-use a64_base::IrType;
-use a64_imms::{SImm7Scaled, SImm9};
+use a64_imms::SImm9;
 
 /// What comes after the byte at the front, where it stands there.
 pub fn after(front: u8, token: &[u8]) -> Option<&[u8]>
@@ -73,18 +72,4 @@ pub fn read_offset9(token: &[u8]) -> Option<SImm9>
     ensures { Reads IsSImm9 offset9_text token.now result }
 {
     offset9_of(read_i64(token)?)
-}
-
-/// The offset of a pair of doublewords that the constructor gives for the value.
-fn pair_offset_of(value: i64) -> Option<SImm7Scaled>
-    ensures { Reads IsPairOffset64 (λ imm. imm.value) value result }
-{
-    SImm7Scaled::maybe_from_i64(value, IrType::I64)
-}
-
-/// The signed offset of a pair of doublewords whose value in bytes the token is.
-pub fn read_pair_offset(token: &[u8]) -> Option<SImm7Scaled>
-    ensures { Reads IsPairOffset64 pair_offset_text token.now result }
-{
-    pair_offset_of(read_i64(token)?)
 }

@@ -1,13 +1,15 @@
 //! The names of operators.
 
 ghost use Rattle.std.specs.Prelude.{List, [], map};
-ghost use Rattle.a64_read.specs.declared.operator.TheConstants.{ALU_OP_HOMES, ALU_OPS, ALU_OP3_HOMES, ALU_OP3S, BIT_OP_HOMES, BIT_OPS};
-ghost use Rattle.a64_read.specs.Operators.{alu_op_text, alu_op3_text, atomic_rmw_op_text, bit_op_text, bfm_op_text, branch_target_type_text, move_wide_op_text};
+ghost use Rattle.a64_read.specs.declared.operator.TheConstants.{ALU_OP_HOMES, ALU_OPS, ALU_OP3_HOMES, ALU_OP3S, ATOMIC_RMW_LOOP_OP_HOMES, ATOMIC_RMW_LOOP_OPS, BIT_OP_HOMES, BIT_OPS};
+ghost use Rattle.a64_read.specs.Operators.{alu_op_text, alu_op3_text, atomic_rmw_loop_op_text, atomic_rmw_op_text, bit_op_text, bfm_op_text, branch_target_type_text, move_wide_op_text};
 ghost use Rattle.a64_read.specs.Reads.{Reads, Always};
-ghost use Rattle.a64_read.specs.Found.{alu_op_found, alu_op3_found, bit_op_found};
+ghost use Rattle.a64_read.specs.Found.{alu_op_found, alu_op3_found, atomic_rmw_loop_op_found, bit_op_found};
 
 use crate::named::{Named, Row};
-use a64_ops::{ALUOp, ALUOp3, AtomicRMWOp, BfmOp, BitOp, BranchTargetType, MoveWideOp};
+use a64_ops::{
+    ALUOp, ALUOp3, AtomicRMWLoopOp, AtomicRMWOp, BfmOp, BitOp, BranchTargetType, MoveWideOp,
+};
 
 /// For each remainder of a hash, the row of the name that has it.
 pub static ALU_OP_HOMES: [u8; 128] = [
@@ -94,6 +96,54 @@ impl Named for ALUOp3 {
     }
 
     ghost found = { alu_op3_found };
+}
+
+/// For each remainder of a hash, the row of the name that has it.
+pub static ATOMIC_RMW_LOOP_OP_HOMES: [u8; 256] = [
+    0, 0, 0, 0, 5, 0, 0, 0, 0, 10, 0, 0, 0, 0, 0, 0, 0, 0, 0, 0, 0, 0, 0, 0, 0, 0, 0, 0, 0, 0, 0,
+    0, 0, 0, 0, 0, 7, 0, 0, 0, 0, 0, 0, 0, 0, 0, 0, 0, 0, 0, 0, 0, 0, 0, 0, 0, 0, 0, 0, 0, 0, 0, 0,
+    0, 0, 0, 0, 0, 0, 0, 0, 0, 0, 0, 0, 0, 6, 0, 0, 0, 0, 0, 0, 0, 0, 0, 0, 0, 0, 2, 0, 0, 0, 0, 0,
+    0, 0, 0, 0, 0, 0, 0, 0, 0, 0, 0, 0, 0, 0, 0, 0, 0, 0, 4, 0, 0, 0, 0, 0, 0, 0, 0, 0, 0, 0, 0, 0,
+    0, 0, 0, 0, 0, 0, 0, 0, 0, 0, 0, 0, 0, 0, 0, 0, 0, 0, 0, 0, 0, 0, 0, 0, 0, 0, 0, 0, 0, 0, 0, 0,
+    0, 0, 0, 0, 0, 0, 0, 0, 0, 0, 0, 0, 0, 0, 0, 0, 0, 0, 0, 0, 0, 0, 0, 0, 0, 0, 0, 0, 0, 0, 0, 0,
+    0, 0, 0, 0, 0, 0, 9, 0, 0, 0, 0, 0, 0, 0, 0, 0, 0, 0, 0, 0, 0, 0, 0, 0, 0, 0, 3, 0, 0, 0, 0, 0,
+    0, 0, 0, 0, 0, 0, 0, 0, 0, 0, 0, 0, 0, 8, 0, 0, 0, 0, 0, 0, 0, 0, 0, 0, 0, 0, 0, 0, 0, 0, 1, 0,
+    0,
+];
+
+/// The atomic operations that are loops.
+pub static ATOMIC_RMW_LOOP_OPS: [Row<AtomicRMWLoopOp>; 11] = [
+    (b"Add", &[], AtomicRMWLoopOp::Add),
+    (b"Sub", &[], AtomicRMWLoopOp::Sub),
+    (b"And", &[], AtomicRMWLoopOp::And),
+    (b"Nand", &[], AtomicRMWLoopOp::Nand),
+    (b"Eor", &[], AtomicRMWLoopOp::Eor),
+    (b"Orr", &[], AtomicRMWLoopOp::Orr),
+    (b"Smax", &[], AtomicRMWLoopOp::Smax),
+    (b"Smin", &[], AtomicRMWLoopOp::Smin),
+    (b"Umax", &[], AtomicRMWLoopOp::Umax),
+    (b"Umin", &[], AtomicRMWLoopOp::Umin),
+    (b"Xchg", &[], AtomicRMWLoopOp::Xchg),
+];
+
+impl Named for AtomicRMWLoopOp {
+    ghost text = { atomic_rmw_loop_op_text };
+
+    ghost kinds_of = { λ _. [] };
+
+    ghost homes = { ATOMIC_RMW_LOOP_OP_HOMES };
+
+    ghost rows = { λ _. map (λ row. row.2) ATOMIC_RMW_LOOP_OPS };
+
+    fn home_table() -> &'static [u8] {
+        &ATOMIC_RMW_LOOP_OP_HOMES
+    }
+
+    fn row_table(_class: u8) -> &'static [Row<AtomicRMWLoopOp>] {
+        &ATOMIC_RMW_LOOP_OPS
+    }
+
+    ghost found = { atomic_rmw_loop_op_found };
 }
 
 /// For each remainder of a hash, the row of the name that has it.

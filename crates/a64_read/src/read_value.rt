@@ -21,18 +21,20 @@ use crate::list_text::read_list_text;
 use crate::map::read_map;
 use crate::mode_name::{MemLabelName, ModeName, PairModeName};
 use crate::modifier::read_bool;
+use crate::mov_imm::read_mov_imm;
 use crate::named::read_named;
-use crate::offset::{read_i32, read_i64, read_offset9, read_pair_offset};
+use crate::offset::{read_i32, read_i64, read_offset9};
 use crate::operator::{
     read_atomic_rmw_op, read_bfm_op, read_branch_target_type, read_move_wide_op,
 };
+use crate::read_vec_op::read_vec_op;
 use crate::register::{read_preg, read_reg};
 use crate::shift::read_shift;
 use crate::size::{read_scalar_size, read_size, read_vector_size};
 use crate::value::{Kind, Value};
 use crate::wide::read_wide;
 use a64_base::{APIKey, CallConv, Cond, ExtendOp, IrType};
-use a64_ops::{ALUOp, ALUOp3, BitOp};
+use a64_ops::{ALUOp, ALUOp3, AtomicRMWLoopOp, BitOp};
 
 /// Reads an integer operator.
 #[tactic(auto, unfolding(crate::specs::Values::ReadsKind))]
@@ -83,6 +85,14 @@ fn atomic_rmw_op(token: &[u8]) -> Option<Value<'_>>
     Some(Value::AtomicRmwOp(read_atomic_rmw_op(token)?))
 }
 
+/// Reads an atomic operation that is a loop.
+#[tactic(auto, unfolding(crate::specs::Values::ReadsKind))]
+fn atomic_rmw_loop_op(token: &[u8]) -> Option<Value<'_>>
+    ensures { ReadsKind Kind.AtomicRmwLoopOp token.now result }
+{
+    Some(Value::AtomicRmwLoopOp(read_named::<AtomicRMWLoopOp>(token)?))
+}
+
 /// Reads an operator with one float.
 #[tactic(auto, unfolding(crate::specs::Values::ReadsKind))]
 fn fpu_op1(token: &[u8]) -> Option<Value<'_>>
@@ -107,7 +117,7 @@ fn fpu_op3(token: &[u8]) -> Option<Value<'_>>
     Some(Value::FpuOp3(read_fpu_op3(token)?))
 }
 
-/// Reads a shift of a scalar float to the right.
+/// Reads a shift to the right of the lanes in the low 64 bits of a vector register.
 #[tactic(auto, unfolding(crate::specs::Values::ReadsKind))]
 fn fpu_op_ri(token: &[u8]) -> Option<Value<'_>>
     ensures { ReadsKind Kind.FpuOpRI token.now result }
@@ -115,7 +125,7 @@ fn fpu_op_ri(token: &[u8]) -> Option<Value<'_>>
     Some(Value::FpuOpRI(read_fpu_op_ri(token)?))
 }
 
-/// Reads a shift of a scalar float to the left, which keeps the other bits.
+/// Reads a shift of these lanes to the left, which keeps what stood below.
 #[tactic(auto, unfolding(crate::specs::Values::ReadsKind))]
 fn fpu_op_ri_mod(token: &[u8]) -> Option<Value<'_>>
     ensures { ReadsKind Kind.FpuOpRIMod token.now result }
@@ -203,6 +213,14 @@ fn wide(token: &[u8]) -> Option<Value<'_>>
     ensures { ReadsKind Kind.Wide token.now result }
 {
     Some(Value::Wide(read_wide(token)?))
+}
+
+/// Reads the bits of an immediate of a vector move, their shift, and whether ones are shifted in.
+#[tactic(auto, unfolding(crate::specs::Values::ReadsKind))]
+fn mov_imm(token: &[u8]) -> Option<Value<'_>>
+    ensures { ReadsKind Kind.MovImm token.now result }
+{
+    Some(Value::MovImm(read_mov_imm(token)?))
 }
 
 /// Reads the amount of a shift.
@@ -351,14 +369,6 @@ fn offset9(token: &[u8]) -> Option<Value<'_>>
     Some(Value::Offset9(read_offset9(token)?))
 }
 
-/// Reads a signed offset of 7 bits in doublewords.
-#[tactic(auto, unfolding(crate::specs::Values::ReadsKind))]
-fn pair_offset(token: &[u8]) -> Option<Value<'_>>
-    ensures { ReadsKind Kind.PairOffset token.now result }
-{
-    Some(Value::PairOffset(read_pair_offset(token)?))
-}
-
 /// Reads a type.
 #[tactic(auto, unfolding(crate::specs::Values::ReadsKind))]
 fn ir_type(token: &[u8]) -> Option<Value<'_>>
@@ -383,7 +393,7 @@ fn mode(token: &[u8]) -> Option<Value<'_>>
     Some(Value::Mode(read_made::<ModeName>(token)?))
 }
 
-/// Reads an addressing mode of a pair of doublewords.
+/// Reads an addressing mode of a pair.
 #[tactic(auto, unfolding(crate::specs::Values::ReadsKind))]
 fn pair_mode(token: &[u8]) -> Option<Value<'_>>
     ensures { ReadsKind Kind.PairMode token.now result }
@@ -447,7 +457,7 @@ fn key(token: &[u8]) -> Option<Value<'_>>
     Some(Value::Key(read_named::<Option<APIKey>>(token)?))
 }
 
-/// Reads a key that authenticates an address.
+/// Reads a key of pointer authentication.
 #[tactic(auto, unfolding(crate::specs::Values::ReadsKind))]
 fn api_key(token: &[u8]) -> Option<Value<'_>>
     ensures { ReadsKind Kind.ApiKey token.now result }
@@ -473,11 +483,12 @@ pub fn read_part(kind: Kind, token: &[u8]) -> Option<Value<'_>>
         Kind::U32 => u32(token),
         Kind::I64 => i64(token),
         Kind::Offset9 => offset9(token),
-        Kind::PairOffset => pair_offset(token),
         Kind::Type => ir_type(token),
         Kind::MemLabelName => mem_label_name(token),
         Kind::Size => size(token),
         Kind::Cond => cond(token),
+        Kind::Bool => truth(token),
+        Kind::U8 => u8(token),
         _ => None,
     }
 }
@@ -493,6 +504,7 @@ pub fn read_value(kind: Kind, token: &[u8]) -> Option<Value<'_>>
         Kind::BfmOp => bfm_op(token),
         Kind::MoveWideOp => move_wide_op(token),
         Kind::AtomicRmwOp => atomic_rmw_op(token),
+        Kind::AtomicRmwLoopOp => atomic_rmw_loop_op(token),
         Kind::FpuOp1 => fpu_op1(token),
         Kind::FpuOp2 => fpu_op2(token),
         Kind::FpuOp3 => fpu_op3(token),
@@ -501,6 +513,7 @@ pub fn read_value(kind: Kind, token: &[u8]) -> Option<Value<'_>>
         Kind::FpuToIntOp => fpu_to_int_op(token),
         Kind::IntToFpuOp => int_to_fpu_op(token),
         Kind::FpuRoundMode => fpu_round_mode(token),
+        Kind::VecOp(kind) => read_vec_op(kind, token),
         Kind::Size => size(token),
         Kind::ScalarSize => scalar_size(token),
         Kind::VectorSize => vector_size(token),
@@ -508,6 +521,7 @@ pub fn read_value(kind: Kind, token: &[u8]) -> Option<Value<'_>>
         Kind::PReg => preg(token),
         Kind::Imm12 => imm12(token),
         Kind::Wide => wide(token),
+        Kind::MovImm => mov_imm(token),
         Kind::ImmShift => imm_shift(token),
         Kind::UImm5 => uimm5(token),
         Kind::UImm6 => uimm6(token),
@@ -526,7 +540,6 @@ pub fn read_value(kind: Kind, token: &[u8]) -> Option<Value<'_>>
         Kind::EmitFlag => emit_flag(token),
         Kind::I64 => i64(token),
         Kind::Offset9 => offset9(token),
-        Kind::PairOffset => pair_offset(token),
         Kind::Type => ir_type(token),
         Kind::MemLabelName => mem_label_name(token),
         Kind::Mode => mode(token),

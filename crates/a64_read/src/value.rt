@@ -4,16 +4,19 @@ use crate::emit_flag::EmitFlag;
 use crate::frame_field::FrameField;
 use crate::list_text::ListText;
 use crate::mode_name::MemLabelName;
+use crate::mov_imm::WrittenMovImm;
+use crate::pair_mode::WrittenPairMode;
+use crate::vec_op::{VecOp, VecOpKind};
 use a64_base::{
     APIKey, BranchTarget, CallConv, Cond, CondBrKind, ExtendOp, IrType, MachLabel, MemFlagsData,
     OperandSize, PReg, Reg, ScalarSize, ShiftOpAndAmt, TestBitAndBranchKind, UserStackMap,
     VectorSize,
 };
-use a64_imms::{Imm12, ImmShift, MoveWideConst, NZCV, SImm7Scaled, SImm9, UImm5, UImm6};
-use a64_inst::{AMode, FPUOpRI, FPUOpRIMod, PairAMode};
+use a64_imms::{Imm12, ImmShift, MoveWideConst, NZCV, SImm9, UImm5, UImm6};
+use a64_inst::{AMode, FPUOpRI, FPUOpRIMod};
 use a64_ops::{
-    ALUOp, ALUOp3, AtomicRMWOp, BfmOp, BitOp, BranchTargetType, FPUOp1, FPUOp2, FPUOp3,
-    FpuRoundMode, FpuToIntOp, IntToFpuOp, MoveWideOp,
+    ALUOp, ALUOp3, AtomicRMWLoopOp, AtomicRMWOp, BfmOp, BitOp, BranchTargetType, FPUOp1, FPUOp2,
+    FPUOp3, FpuRoundMode, FpuToIntOp, IntToFpuOp, MoveWideOp,
 };
 
 /// What a field is.
@@ -31,15 +34,17 @@ pub enum Kind {
     MoveWideOp,
     /// An atomic operation.
     AtomicRmwOp,
+    /// An atomic operation that is a loop.
+    AtomicRmwLoopOp,
     /// An operator with one float.
     FpuOp1,
     /// An operator with two floats.
     FpuOp2,
     /// An operator with three floats.
     FpuOp3,
-    /// A shift of a scalar float to the right.
+    /// A shift to the right of the lanes of 32 or 64 bits in the low 64 bits of a vector register.
     FpuOpRI,
-    /// A shift of a scalar float to the left, which keeps the other bits.
+    /// A shift of these lanes to the left, which keeps what stood below.
     FpuOpRIMod,
     /// A conversion of a float to an integer.
     FpuToIntOp,
@@ -47,6 +52,8 @@ pub enum Kind {
     IntToFpuOp,
     /// A rounding of a float to an integral value.
     FpuRoundMode,
+    /// An operator of a vector instruction.
+    VecOp(VecOpKind),
     /// The size of operands.
     Size,
     /// The size of a scalar in a vector register.
@@ -61,6 +68,8 @@ pub enum Kind {
     Imm12,
     /// A halfword and its place.
     Wide,
+    /// The bits of an immediate of a vector move, their shift, and whether ones are shifted in.
+    MovImm,
     /// The amount of a shift.
     ImmShift,
     /// An immediate of 5 bits.
@@ -97,15 +106,13 @@ pub enum Kind {
     I64,
     /// A signed offset of 9 bits.
     Offset9,
-    /// A signed offset of 7 bits in doublewords.
-    PairOffset,
     /// A type.
     Type,
     /// The name of an address in the code.
     MemLabelName,
     /// An addressing mode.
     Mode,
-    /// An addressing mode of a pair of doublewords.
+    /// An addressing mode of a pair.
     PairMode,
     /// What is known of a memory access.
     Flags,
@@ -121,7 +128,7 @@ pub enum Kind {
     Convention,
     /// The key that authenticates a return address, where one does.
     Key,
-    /// A key that authenticates an address.
+    /// A key of pointer authentication.
     ApiKey,
     /// The map of the stack at a call, where there is one.
     Map,
@@ -142,15 +149,17 @@ pub enum Value<'t> {
     MoveWideOp(MoveWideOp),
     /// An atomic operation.
     AtomicRmwOp(AtomicRMWOp),
+    /// An atomic operation that is a loop.
+    AtomicRmwLoopOp(AtomicRMWLoopOp),
     /// An operator with one float.
     FpuOp1(FPUOp1),
     /// An operator with two floats.
     FpuOp2(FPUOp2),
     /// An operator with three floats.
     FpuOp3(FPUOp3),
-    /// A shift of a scalar float to the right.
+    /// A shift to the right of the lanes of 32 or 64 bits in the low 64 bits of a vector register.
     FpuOpRI(FPUOpRI),
-    /// A shift of a scalar float to the left, which keeps the other bits.
+    /// A shift of these lanes to the left, which keeps what stood below.
     FpuOpRIMod(FPUOpRIMod),
     /// A conversion of a float to an integer.
     FpuToIntOp(FpuToIntOp),
@@ -158,6 +167,8 @@ pub enum Value<'t> {
     IntToFpuOp(IntToFpuOp),
     /// A rounding of a float to an integral value.
     FpuRoundMode(FpuRoundMode),
+    /// An operator of a vector instruction.
+    VecOp(VecOp),
     /// The size of operands.
     Size(OperandSize),
     /// The size of a scalar in a vector register.
@@ -172,6 +183,8 @@ pub enum Value<'t> {
     Imm12(Imm12),
     /// A halfword and its place.
     Wide(MoveWideConst),
+    /// The bits of an immediate of a vector move, their shift, and whether ones are shifted in.
+    MovImm(WrittenMovImm),
     /// The amount of a shift.
     ImmShift(ImmShift),
     /// An immediate of 5 bits.
@@ -208,16 +221,14 @@ pub enum Value<'t> {
     I64(i64),
     /// A signed offset of 9 bits.
     Offset9(SImm9),
-    /// A signed offset of 7 bits in doublewords.
-    PairOffset(SImm7Scaled),
     /// A type.
     Type(IrType),
     /// The name of an address in the code.
     MemLabelName(MemLabelName),
     /// An addressing mode.
     Mode(AMode),
-    /// An addressing mode of a pair of doublewords.
-    PairMode(PairAMode),
+    /// An addressing mode of a pair.
+    PairMode(WrittenPairMode),
     /// What is known of a memory access.
     Flags(MemFlagsData),
     /// What a conditional branch tests.
@@ -232,7 +243,7 @@ pub enum Value<'t> {
     Convention(CallConv),
     /// The key that authenticates a return address, where one does.
     Key(Option<APIKey>),
-    /// A key that authenticates an address.
+    /// A key of pointer authentication.
     ApiKey(APIKey),
     /// The map of the stack at a call, where there is one.
     Map(Option<UserStackMap>),

@@ -5,6 +5,7 @@ use Rattle.a64_emit.specs.Faults.{or_else, second_binding, too_large, unbound_us
 use Rattle.a64_assemble.specs.Found.{IsFound}
 use Rattle.a64_assemble.proofs.Checked.{fault_at_reach}
 use Rattle.a64_assemble.proofs.Made.{assembled}
+use Rattle.a64_emit.proofs.Restorable.{restored_exactly}
 use Rattle.a64_assemble.proofs.assembly.assemble.Goals as goal
 
 -- what holds where there is something, where there is
@@ -23,3 +24,6 @@ returns-clause-ok c =
     let found : IsFound frame flags items c.in_ok-found-2.found = rw c.in_ok-found-2.was at told in
     assembled frame flags c.args.force items once found.all_bound found.short c.in_ok-check_reach.ensures.ok c.args.constants.now c.in_ok-code.code c.in_ok-code.ensures c.restores_halfwords.ensures c.in_ok-found.ensures.halfwords
     (fault_at_reach frame flags c.args.constants.now c.args.force items c.in_ok-found.ensures.fault once found.all_bound found.addressed ∙ c.in_ok-check_reach.ensures.ok)
+
+pub returns-clause-restores : goal.returns-clause-restores
+returns-clause-restores c inst = restored_exactly c.args.frame.now c.args.info.now c.args.constants.now inst
