@@ -35,7 +35,7 @@ use Rattle.a64_rows.specs.Vectors.{vec_across, vec_copy, vec_dot, vec_elem, vec_
 
 -- ---- operations on two vectors
 
--- Advanced SIMD three same, where only the operator gives the fields U, size and opcode
+-- Advanced SIMD three same, with these fields U, size and opcode, and the vector's Q
 abbrev pub same_form : ℕ → ℕ → ℕ → VectorSize → Reg → Reg → Reg → Form
 same_form u field op size rd rn rm =
     vec_three (record {

@@ -62,8 +62,8 @@ pub fn enc_vec_rrr(top11: u32, rm: Reg, bit15_10: u32, rn: Reg, rd: Writable<Reg
     pack_vec_rrr(top11, bit15_10, rm, rn, rd)
 }
 
-/// Encodes an operation on two vectors whose result has lanes twice as long: `q` is 1 for the upper halves, and `bit14` for
-/// a product that is not added (row `VecLong3`).
+/// Encodes an operation on two vectors whose result has lanes twice as long: `q` is 1 for the upper halves, and `bit14`
+/// is 1 for a product that is not added (row `VecLong3`).
 pub fn enc_vec_rrr_long(
     q: u32,
     u: u32,
@@ -113,7 +113,7 @@ pub fn enc_vec_rr_misc(qu: u32, size: u32, bits_12_16: u32, rd: Writable<Reg>, r
     pack(Row::VecTwo, &[qu / 2, qu % 2, size, bits_12_16, rn, rd])
 }
 
-/// Encodes the sum of the two lanes of a vector: `bits_12_16` says that it is one (row `VecScalarPair`).
+/// Encodes the sum of the two lanes of a vector: `bits_12_16` is 0b11011, the opcode of `addp` (row `VecScalarPair`).
 pub fn enc_vec_rr_pair(bits_12_16: u32, rd: Writable<Reg>, rn: Reg) -> u32
     requires bits_12_16 { bits_12_16 ≡ 0b11011 }
     requires rd { IsVector rd }
@@ -155,8 +155,8 @@ pub fn enc_vec_lanes(q: u32, u: u32, size: u32, opcode: u32, rd: Writable<Reg>, 
     pack(Row::VecAcross, &[q, u, size, opcode, rn, rd])
 }
 
-/// Encodes a lookup in a table of one vector (`len` 0) or two (`len` 1), of which an extension keeps the lanes that it does
-/// not find (row `VecTable`).
+/// Encodes a lookup in a table of one vector (`len` 0) or two (`len` 1), of which an extension keeps the result's
+/// bytes where an index is out of range (row `VecTable`).
 pub fn enc_tbl(is_extension: bool, len: u32, rd: Writable<Reg>, rn: Reg, rm: Reg) -> u32
     requires len { len < 2 }
     requires rd { IsVector rd }

@@ -60,7 +60,7 @@ are_loop_operands virtuals ty addr operand oldval failed =
     && (is_fixed_register virtuals 25 addr && is_fixed_register virtuals 26 operand)
     && (is_fixed_register virtuals 27 oldval && is_fixed_register virtuals 24 failed)
 
--- the register of what a loop stores; an exchange stores its operand, and may have any
+-- the register of what a loop stores; an exchange stores its operand, and has x0 to x30 or the zero register here
 abbrev pub is_loop_result : VirtualRegisters → AtomicRMWLoopOp → Reg → Bool
 is_loop_result virtuals Xchg reg = is_register_or_zero virtuals reg
 is_loop_result virtuals _ reg = is_fixed_register virtuals 28 reg

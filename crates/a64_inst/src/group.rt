@@ -13,14 +13,14 @@ use crate::inst::Inst;
 pub enum Group {
     /// Instructions that are one word each, which is no use.
     Plain(PlainGroup),
-    /// Branches, `nop`, accesses to the flags, data, and addresses of labels.
+    /// Branches, `nop`, `brk`, accesses to the flags, data, places for islands, and addresses of labels.
     Control,
     /// Sequences around tables, symbols and the stack, loops of atomic accesses, selects of vectors, and what has no
     /// word.
     Sequence,
     /// Calls, and returns that call another function.
     Call,
-    /// Loads and stores.
+    /// Loads and stores, and addresses of their modes.
     Memory,
 }
 
@@ -35,7 +35,7 @@ pub enum PlainGroup {
     Float,
     /// Operations on vectors.
     Vector,
-    /// Moves to, from and between lanes of vectors, and tables of bytes.
+    /// Moves to, from and between lanes of vectors, extracts, and tables of bytes.
     VectorMove,
     /// Hints and barriers.
     System,

@@ -578,7 +578,7 @@ pub enum Inst {
         rd: Writable<Reg>,
         /// The immediate, which is of 64 bits exactly where lanes are. Its shift is 0 for lanes of 8 and 64
         /// bits, 0 or 8 for those of 16, and 0, 8, 16 or 24 for those of 32, or 8 or 16 where ones are shifted
-        /// in.
+        /// in, as they are for lanes of 32 bits alone.
         imm: ASIMDMovModImm,
         /// Whether the complement is copied: for lanes of 16 and 32 bits alone.
         invert: bool,
@@ -728,7 +728,7 @@ pub enum Inst {
         alu_op: VecALUModOp,
         /// The result.
         rd: Writable<Reg>,
-        /// The addends, which is the result's register.
+        /// The register with the addends, which is the result's.
         ri: Reg,
         /// The first operand.
         rn: Reg,
@@ -873,7 +873,7 @@ pub enum Inst {
     AuthenticatedRet {
         /// The key and the modifier.
         key: APIKey,
-        /// Whether the address is authenticated by a hint, which older processors pass over.
+        /// Whether a hint is asked for, which older processors pass over. With the modifier zero it is a hint in any case.
         is_hint: bool,
     },
     /// `paciaz`, `paciasp`, `pacibz` or `pacibsp`: signs the return address in x30.
@@ -1159,7 +1159,8 @@ pub enum Inst {
         oldval: Writable<Reg>,
         /// Whether the store failed: x24.
         scratch1: Writable<Reg>,
-        /// What is stored: x28. `Xchg` stores its operand and leaves this register, which may be any, alone.
+        /// What is stored: x28. `Xchg` stores its operand and leaves this register alone, which is x0 to x30 or the zero
+        /// register.
         scratch2: Writable<Reg>,
     },
     /// `casal`: a compare and swap with acquire and release.

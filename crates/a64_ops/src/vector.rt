@@ -1,6 +1,7 @@
-//! The operators of vector instructions (Arm Architecture Reference Manual, C4.1.97).
+//! The operators of vector instructions (Arm Architecture Reference Manual, C4.1, "Data Processing --
+//! Scalar Floating-Point and Advanced SIMD").
 
-/// An operator on two vectors, lane by lane (Cranelift's `VecALUOp`).
+/// An operator on two vectors (Cranelift's `VecALUOp`).
 #[derive(Clone, Copy, Debug, PartialEq, Eq)]
 pub enum VecALUOp {
     /// Addition of signed lanes, which saturates.
@@ -107,7 +108,7 @@ pub enum VecALUModOp {
     Usdot,
 }
 
-/// An operator on one vector, lane by lane (Cranelift's `VecMisc2`).
+/// An operator on one vector (Cranelift's `VecMisc2`).
 #[derive(Clone, Copy, Debug, PartialEq, Eq)]
 pub enum VecMisc2 {
     /// The complement, bit by bit.

@@ -24,7 +24,7 @@ pub enum VecOpKind {
     RRNarrow,
     /// An operator on the two lanes of one vector.
     Pair,
-    /// An operator on each two lanes of one vector.
+    /// An operator on each two neighbouring lanes of one vector.
     RRPairLong,
     /// An operator on two vectors whose lanes become twice as long.
     RRRLong,
@@ -55,7 +55,7 @@ pub enum VecOp {
     RRNarrow(VecRRNarrowOp),
     /// An operator on the two lanes of one vector.
     Pair(VecPairOp),
-    /// An operator on each two lanes of one vector.
+    /// An operator on each two neighbouring lanes of one vector.
     RRPairLong(VecRRPairLongOp),
     /// An operator on two vectors whose lanes become twice as long.
     RRRLong(VecRRRLongOp),

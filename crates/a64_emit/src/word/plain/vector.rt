@@ -50,7 +50,7 @@ pub fn three_word(op: ThreeOp, size: VectorSize, rd: Writable<Reg>, rn: Reg, rm:
     }
 }
 
-/// The field H of the number of an element: its upper bit.
+/// The field H of the number of an element: its upper bit, or its only one.
 fn element_h(size: VectorSize, idx: u8) -> u32
     ensures { result ≡ forms.element_h size idx }
 {

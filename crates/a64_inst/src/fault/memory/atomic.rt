@@ -105,8 +105,8 @@ pub fn are_loop_operands(
         && (is_fixed_register(virtuals, 27, oldval) && is_fixed_register(virtuals, 24, failed))
 }
 
-/// Whether the register of what a loop stores is the one for that; an exchange stores its operand, and may have
-/// any.
+/// Whether the register of what a loop stores is the one for that; an exchange stores its operand, and has x0 to x30
+/// or the zero register here.
 pub fn is_loop_result(virtuals: VirtualRegisters, op: AtomicRMWLoopOp, reg: &Reg) -> bool
     ensures { result ≡ sets.is_loop_result virtuals op reg.now }
 {

@@ -143,7 +143,8 @@ pub fn lane_count(size: VectorSize) -> u8
     }
 }
 
-/// Whether the addends are in the result's register, and the operator takes a lane of so many with this number.
+/// Whether the addends are in the result's register, the operator takes an element, and the lanes are four of 32 bits or
+/// two of 64, of which this is the number of one.
 pub fn is_elem_at(rd: &Reg, ri: &Reg, op: VecALUModOp, size: VectorSize, idx: u8) -> bool
     ensures { result ≡ sets.is_elem_at rd.now ri.now op size idx }
 {
