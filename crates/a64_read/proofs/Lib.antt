@@ -29,4 +29,6 @@ pub mod CommaPairs
 pub mod RegisterSets
 pub mod Bytes
 pub mod Wides
+pub mod MovImmReads
+pub mod PairReads
 pub mod CallReads

@@ -24,12 +24,12 @@ pub struct WrittenMovImm {
 pub fn read_mov_imm(token: &[u8]) -> Option<WrittenMovImm>
     ensures { Reads IsWrittenMovImm mov_imm_text token.now result }
 {
-    let mut values: ArrayVec<Value, 3> = ArrayVec::new();
+    let mut fields: ArrayVec<Value, 3> = ArrayVec::new();
     let kinds = [Kind::U8, Kind::U8, Kind::Bool];
-    let _ = read_fields::<Parts, 3>(&kinds, Some(token), None, &mut values)?;
-    Some(WrittenMovImm {
-        imm: at::get(values.as_slice(), 0),
-        shift: at::get(values.as_slice(), 1),
-        ones: at::get(values.as_slice(), 2),
-    })
+    let _ = read_fields::<Parts, 3>(&kinds, Some(token), None, &mut fields)?;
+    let values = fields.as_slice();
+    let imm = at::get(values, 0);
+    let shift = at::get(values, 1);
+    let ones = at::get(values, 2);
+    Some(WrittenMovImm { imm, shift, ones })
 }

@@ -1,7 +1,8 @@
 //! Addressing modes of pairs, and their scales.
 
 ghost use Rattle.a64_imms.specs.Offsets.{IsPairScale};
-ghost use Rattle.a64_read.specs.PairModes.{written_pair, IsOffsetAt, IsPairAt};
+ghost use Rattle.std.specs.Prelude.{◌≡◌};
+ghost use Rattle.a64_read.specs.PairModes as pairs;
 ghost use Rattle.a64_read.specs.Reads.{Reads};
 
 use a64_base::{IrType, Reg};
@@ -34,28 +35,40 @@ pub enum WrittenPairMode {
 /// The offset that the constructor gives for the value at the scale.
 fn offset_at(value: i64, scale: IrType) -> Option<SImm7Scaled>
     requires { IsPairScale scale }
-    ensures { Reads (IsOffsetAt scale) (λ imm. imm.value) value result }
+    ensures { Reads (pairs.IsOffsetAt scale) (λ imm. imm.value) value result }
 {
     SImm7Scaled::maybe_from_i64(value, scale)
 }
 
 impl WrittenPairMode {
+    /// The offset in bytes.
+    fn offset(self) -> i64
+        ensures { result ≡ pairs.written_offset self }
+    {
+        match self {
+            WrittenPairMode::SignedOffset { offset, .. }
+            | WrittenPairMode::SPPreIndexed { offset }
+            | WrittenPairMode::SPPostIndexed { offset } => offset,
+        }
+    }
+
+    /// The mode with this offset in place of its own.
+    fn with_offset(self, simm7: SImm7Scaled) -> PairAMode
+        ensures { result ≡ pairs.with_offset self simm7 }
+    {
+        match self {
+            WrittenPairMode::SignedOffset { reg, .. } => PairAMode::SignedOffset { reg, simm7 },
+            WrittenPairMode::SPPreIndexed { .. } => PairAMode::SPPreIndexed { simm7 },
+            WrittenPairMode::SPPostIndexed { .. } => PairAMode::SPPostIndexed { simm7 },
+        }
+    }
+
     /// The mode with its offset at the scale of the type, where the constructor gives one.
     pub fn at_scale(self, scale: IrType) -> Option<PairAMode>
         requires { IsPairScale scale }
-        ensures { Reads (IsPairAt scale) written_pair self result }
+        ensures { Reads (pairs.IsPairAt scale) pairs.written_pair self result }
     {
-        match self {
-            WrittenPairMode::SignedOffset { reg, offset } => Some(PairAMode::SignedOffset {
-                reg,
-                simm7: offset_at(offset, scale)?,
-            }),
-            WrittenPairMode::SPPreIndexed { offset } => Some(PairAMode::SPPreIndexed {
-                simm7: offset_at(offset, scale)?,
-            }),
-            WrittenPairMode::SPPostIndexed { offset } => Some(PairAMode::SPPostIndexed {
-                simm7: offset_at(offset, scale)?,
-            }),
-        }
+        let simm7 = offset_at(self.offset(), scale)?;
+        Some(self.with_offset(simm7))
     }
 }
