@@ -1,34 +1,39 @@
 //! Makes immediates of moves to lanes of what lines have.
 
+ghost use Rattle.std.specs.Prelude.{◌≡◌};
+ghost use Rattle.a64_imms.specs.MovImms as imms;
 ghost use Rattle.a64_read.specs.Reads.{Reads};
-ghost use Rattle.a64_text.specs.MovImms.{written_mov, IsMovAt};
+ghost use Rattle.a64_text.specs.MovImms as movs;
 
 use a64_base::ScalarSize;
 use a64_imms::ASIMDMovModImm;
 use a64_read::mov_imm::WrittenMovImm;
 
-/// Whether some value of less than 64 bits has the immediate. A value has one, the first of its forms: so zeros stand
-/// for themselves but for a shift, and ones with ones behind them for those that are shifted further.
-fn is_narrow(written: WrittenMovImm) -> bool {
-    match (written.shift, written.ones) {
-        (0, false) | (16, true) => true,
-        (8 | 16 | 24, false) => written.imm != 0,
-        (8, true) => written.imm != 255,
-        _ => false,
+/// Whether the constructor gives the immediate for some value of 64 bits, or for one of fewer.
+fn is_given(is_64bit: bool, written: WrittenMovImm) -> bool
+    ensures { result ≡ movs.is_given is_64bit written }
+{
+    let (imm, shift, ones) = (written.imm, written.shift, written.ones);
+    match (is_64bit, ones) {
+        (true, _) => shift == 0 && !ones,
+        (false, true) => shift == 16 || shift == 8 && imm != 255,
+        (false, false) => shift == 0 || imm != 0 && matches!(shift, 8 | 16 | 24),
     }
 }
 
-/// The immediate for lanes of this size.
-pub fn mov_imm_of(lane: ScalarSize, written: WrittenMovImm) -> Option<ASIMDMovModImm>
-    ensures { Reads (IsMovAt lane) written_mov written result }
+/// Whether lanes of this size have 64 bits.
+fn is_64(lane: ScalarSize) -> bool
+    ensures { result ≡ imms.is_64 lane }
 {
-    let is_64bit = lane == ScalarSize::Size64;
-    let is_given = if is_64bit {
-        written.shift == 0 && !written.ones
-    } else {
-        is_narrow(written)
-    };
-    if !is_given {
+    matches!(lane, ScalarSize::Size64)
+}
+
+/// The immediate for lanes of this size, where the constructor gives it for some value.
+pub fn mov_imm_of(lane: ScalarSize, written: WrittenMovImm) -> Option<ASIMDMovModImm>
+    ensures { Reads (movs.IsMovAt lane) movs.written_mov written result }
+{
+    let is_64bit = is_64(lane);
+    if !is_given(is_64bit, written) {
         return None;
     }
     Some(ASIMDMovModImm {
