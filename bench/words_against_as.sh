@@ -1,6 +1,6 @@
 #!/usr/bin/env bash
-# Holds the words of the program against those of GNU as: random instructions on integers and scalar floats, loads and stores, atomic
-# accesses, branches, hints, data and labels.
+# Holds the words of the program against those of GNU as: random instructions on integers, scalar floats and vectors, loads and stores,
+# atomic accesses, branches, hints, data and labels.
 # `Adrp` is left out: of it GNU as leaves the offset to the linker. Branches on conditions go to labels in files of at most 100,000
 # items, branches on bits in files of at most 2,000, and addresses are those of labels in files of at most 150,000: in longer
 # ones a label could be out of reach.
@@ -394,10 +394,181 @@ def atomic(labels):
         (f"StoreRelease {ty} x{rs} {base} {trap}", f"stlr{suffix} {letter}{rs}, [{address}]"),
     ])
 
+# The suffixes of vectors in assembly, and of their lanes alone: each with the bits of a lane and how many there are.
+LANES = {"8x8": ("8b", "b", 8, 8), "8x16": ("16b", "b", 8, 16), "16x4": ("4h", "h", 16, 4), "16x8": ("8h", "h", 16, 8),
+         "32x2": ("2s", "s", 32, 2), "32x4": ("4s", "s", 32, 4), "64x2": ("2d", "d", 64, 2)}
+FLOAT_LANES = ["32x2", "32x4", "64x2"]
+SHORT_LANES = [lanes for lanes in LANES if lanes != "64x2"]
+FULL_LANES = ["8x16", "16x8", "32x4", "64x2"]
+WHOLE = {8: "16b", 16: "8h", 32: "4s", 64: "2d"}
+HALF = {8: "8b", 16: "4h", 32: "2s"}
+
+def full(lanes):
+    """The lanes of 8 bits that a vector of the same width has."""
+    return "16b" if lanes in FULL_LANES else "8b"
+
+def vector_operation(labels):
+    rd, rn, rm, ra = vector(), vector(), vector(), vector()
+    lanes, floats, short = random.choice(list(LANES)), random.choice(FLOAT_LANES), random.choice(SHORT_LANES)
+    whole, saturated = random.choice(FULL_LANES), random.choice(["16x4", "16x8", "32x2", "32x4"])
+    element, (index, number) = random.choice([("32x4", ("s", 4)), ("64x2", ("d", 2))])
+    idx = random.randrange(number)
+    dot, (wide, _, _, _) = random.choice(["Sdot", "Usdot"]), LANES["32x4" if full(lanes) == "16b" else "32x2"]
+    def three(ops, size):
+        op, (t, _, _, _) = random.choice(ops.split()), LANES[size]
+        return f"VecRRR {op} v{rd} v{rn} v{rm} {size}", f"{op.lower()} v{rd}.{t}, v{rn}.{t}, v{rm}.{t}"
+    bits, added, product = full(lanes), random.choice(["Fmla", "Fmls"]), random.choice(["And", "Bic", "Orr", "Orn", "Eor"])
+    (t, _, _, _), (e, _, _, _) = LANES[floats], LANES[element]
+    return random.choice([
+        three("Sqadd Uqadd Sqsub Uqsub Cmeq Cmge Cmgt Cmhs Cmhi Add Sub Sshl Ushl Addp", lanes),
+        three("Umaxp Mul Umin Smin Umax Smax Urhadd", short), three("Sqrdmulh", saturated),
+        three("Fcmeq Fcmgt Fcmge Fadd Fsub Fdiv Fmax Fmin Fmul", floats), three("Zip1 Zip2 Uzp1 Uzp2 Trn1 Trn2", whole),
+        (f"VecRRR {product} v{rd} v{rn} v{rm} {lanes}", f"{product.lower()} v{rd}.{bits}, v{rn}.{bits}, v{rm}.{bits}"),
+        (f"VecRRRMod Bsl v{rd} v{rd} v{rn} v{rm} {lanes}", f"bsl v{rd}.{bits}, v{rn}.{bits}, v{rm}.{bits}"),
+        (f"VecRRRMod {added} v{rd} v{rd} v{rn} v{rm} {floats}", f"{added.lower()} v{rd}.{t}, v{rn}.{t}, v{rm}.{t}"),
+        (f"VecRRRMod {dot} v{rd} v{rd} v{rn} v{rm} {lanes}", f"{dot.lower()} v{rd}.{wide}, v{rn}.{bits}, v{rm}.{bits}"),
+        (f"VecFmlaElem {added} v{rd} v{rd} v{rn} v{rm} {element} {idx}",
+         f"{added.lower()} v{rd}.{e}, v{rn}.{e}, v{rm}.{index}[{idx}]"),
+    ])
+
+def vector_misc(labels):
+    rd, rn = vector(), vector()
+    lanes, floats, across = random.choice(list(LANES)), random.choice(FLOAT_LANES), random.choice(["8x8", "8x16", "16x4", "16x8", "32x4"])
+    def two(ops, size, tail=""):
+        op, (t, _, _, _) = random.choice(ops.split()), LANES[size]
+        return f"VecMisc {op} v{rd} v{rn} {size}", f"{op.lower().removesuffix('0')} v{rd}.{t}, v{rn}.{t}{tail}"
+    bits, over, (a, letter, _, _) = full(lanes), random.choice(["Uminv", "Addv"]), LANES[across]
+    return random.choice([
+        (f"VecMisc Not v{rd} v{rn} {lanes}", f"mvn v{rd}.{bits}, v{rn}.{bits}"), two("Neg Abs", lanes),
+        two("Cmeq0 Cmge0 Cmgt0 Cmle0 Cmlt0", lanes, ", #0"), two("Fcmeq0 Fcmge0 Fcmgt0 Fcmle0 Fcmlt0", floats, ", #0.0"),
+        two("Rev16", "8x16"), two("Rev32", random.choice(["8x16", "16x8"])), two("Rev64", random.choice(["8x16", "16x8", "32x4"])),
+        two("Cnt", random.choice(["8x8", "8x16"])), two("Scvtf Ucvtf", random.choice(["32x4", "64x2"])),
+        two("Fabs Fneg Fsqrt Fcvtzs Fcvtzu Frintn Frintz Frintm Frintp", floats),
+        (f"VecLanes {over} v{rd} v{rn} {across}", f"{over.lower()} {letter}{rd}, v{rn}.{a}"),
+    ])
+
+def vector_length(labels):
+    rd, rn, rm, high = vector(), vector(), vector(), random.randrange(2)
+    bits, wide = random.choice([(8, 16), (16, 32), (32, 64)])
+    read, two, yes = (WHOLE if high else HALF)[bits], "2" if high else "", "true" if high else "false"
+    sign, narrow = random.choice("su"), random.choice(["Xtn", "Sqxtn", "Sqxtun", "Uqxtn"] + ["Fcvtn"] * (bits > 8))
+    long = random.choice(["Shll"] + ["Fcvtl"] * (bits > 8)) if bits < 64 else "Shll"
+    long = "Shll" if long == "Fcvtl" and bits == 8 else long
+    tail, pair = f", #{bits}" if long == "Shll" else "", random.choice([8, 16])
+    product = "Smull" if sign == "s" else "Umull"
+    return random.choice([
+        (f"VecExtend {sign.upper()}xtl v{rd} v{rn} {yes} {wide}", f"{sign}xtl{two} v{rd}.{WHOLE[wide]}, v{rn}.{read}"),
+        (f"VecRRLong {long}{bits} v{rd} v{rn} {yes}", f"{long.lower()}{two} v{rd}.{WHOLE[wide]}, v{rn}.{read}{tail}"),
+        (f"VecRRNarrowLow {narrow} v{rd} v{rn} {bits}", f"{narrow.lower()} v{rd}.{HALF[bits]}, v{rn}.{WHOLE[wide]}"),
+        (f"VecRRNarrowHigh {narrow} v{rd} v{rd} v{rn} {bits}", f"{narrow.lower()}2 v{rd}.{WHOLE[bits]}, v{rn}.{WHOLE[wide]}"),
+        (f"VecRRPair Addp v{rd} v{rn}", f"addp d{rd}, v{rn}.2d"),
+        (f"VecRRRLong {product}{bits} v{rd} v{rn} v{rm} {yes}", f"{product.lower()}{two} v{rd}.{WHOLE[wide]}, v{rn}.{read}, v{rm}.{read}"),
+        (f"VecRRRLongMod Umlal{bits} v{rd} v{rd} v{rn} v{rm} {yes}", f"umlal{two} v{rd}.{WHOLE[wide]}, v{rn}.{read}, v{rm}.{read}"),
+        (f"VecRRPairLong {sign.upper()}addlp{pair} v{rd} v{rn}", f"{sign}addlp v{rd}.{WHOLE[2 * pair]}, v{rn}.{WHOLE[pair]}"),
+    ])
+
+def vector_shift(labels):
+    rd, rn, lanes = vector(), vector(), random.choice(list(LANES))
+    t, _, bits, _ = LANES[lanes]
+    left, right, op = random.randrange(bits), random.randrange(1, bits + 1), random.choice(["Ushr", "Sshr"])
+    return random.choice([
+        (f"VecShiftImm Shl v{rd} v{rn} {lanes} {left}", f"shl v{rd}.{t}, v{rn}.{t}, #{left}"),
+        (f"VecShiftImm {op} v{rd} v{rn} {lanes} {right}", f"{op.lower()} v{rd}.{t}, v{rn}.{t}, #{right}"),
+        (f"VecShiftImmMod Sli v{rd} v{rd} v{rn} {lanes} {left}", f"sli v{rd}.{t}, v{rn}.{t}, #{left}"),
+    ])
+
+def lane(labels):
+    rd, rn, number, lanes = vector(), vector(), register(), random.choice(list(LANES))
+    t, letter, bits, count = LANES[lanes]
+    general, idx, other = "x" if bits == 64 else "w", random.randrange(128 // bits), random.randrange(128 // bits)
+    signed = random.choice([(s, to) for s in SHORT_LANES for to in (32, 64) if not (LANES[s][2] == 32 and to == 32)])
+    low = random.randrange(LANES[signed[0]][3])
+    return random.choice([
+        (f"MovToVec v{rd} v{rd} x{number} {idx} {lanes}", f"mov v{rd}.{letter}[{idx}], {general}{number}"),
+        (f"MovFromVec x{number} v{rn} {idx} {bits}", f"umov {general}{number}, v{rn}.{letter}[{idx}]"),
+        (f"MovFromVecSigned x{number} v{rn} {low} {signed[0]} {signed[1]}",
+         f"smov {'x' if signed[1] == 64 else 'w'}{number}, v{rn}.{LANES[signed[0]][1]}[{low}]"),
+        (f"VecDup v{rd} x{number} {lanes}", f"dup v{rd}.{t}, {general}{number}"),
+        (f"VecDupFromFpu v{rd} v{rn} {lanes} {idx}", f"dup v{rd}.{t}, v{rn}.{letter}[{idx}]"),
+        (f"VecMovElement v{rd} v{rd} v{rn} {idx} {other} {lanes}", f"mov v{rd}.{letter}[{idx}], v{rn}.{letter}[{other}]"),
+    ])
+
+def vector_immediate(labels):
+    rd, imm, floats = vector(), random.randrange(256), random.choice(FLOAT_LANES)
+    exponent = (imm >> 4 & 7 ^ 4) - 3
+    value = (-1) ** (imm >> 7) * 2.0 ** exponent * (16 + imm % 16) / 16
+    lanes, invert = random.choice(list(LANES)), random.randrange(2)
+    t, _, bits, _ = LANES[lanes]
+    if random.randrange(3) == 0:
+        return f"VecDupFPImm v{rd} {imm} {floats}", f"fmov v{rd}.{LANES[floats][0]}, #{value}"
+    if bits == 64:
+        spread = sum(0xff << 8 * i for i in range(8) if imm >> i & 1)
+        return f"VecDupImm v{rd} {imm},0,false false 64x2", f"movi v{rd}.2d, #{spread:#x}"
+    if bits == 8:
+        return f"VecDupImm v{rd} {imm},0,false false {lanes}", f"movi v{rd}.{t}, #{imm}"
+    ones = bits == 32 and random.randrange(3) == 0
+    shift = random.choice([8, 16]) if ones else random.randrange(0, bits, 8)
+    tail = f", {'msl' if ones else 'lsl'} #{shift}"
+    return (f"VecDupImm v{rd} {imm},{shift},{'true' if ones else 'false'} {'true' if invert else 'false'} {lanes}",
+            f"{'mvni' if invert else 'movi'} v{rd}.{t}, #{imm}{tail}")
+
+def byte_table(labels):
+    rd, rn, rm, low, cond, lanes = vector(), vector(), vector(), random.randrange(16), random.choice(CONDITIONS), random.choice(list(LANES))
+    next_one, (base, address), trap = (rn + 1) % 32, named("x", False), random.choice(["-", random.randrange(256)])
+    d, n, m, t = f"v{rd}.16b", f"v{rn}.16b", f"v{rm}.16b", LANES[lanes][0]
+    return random.choice([
+        (f"VecExtract v{rd} v{rn} v{rm} {low}", f"ext {d}, {n}, {m}, #{low}"),
+        (f"VecTbl v{rd} v{rn} v{rm}", f"tbl {d}, {{{n}}}, {m}"), (f"VecTblExt v{rd} v{rd} v{rn} v{rm}", f"tbx {d}, {{{n}}}, {m}"),
+        (f"VecTbl2 v{rd} v{rn} v{next_one} v{rm}", f"tbl {d}, {{{n}, v{next_one}.16b}}, {m}"),
+        (f"VecTbl2Ext v{rd} v{rd} v{rn} v{next_one} v{rm}", f"tbx {d}, {{{n}, v{next_one}.16b}}, {m}"),
+        (f"VecLoadReplicate v{rd} {base} {lanes} {trap}", f"ld1r {{v{rd}.{t}}}, [{address}]"),
+        (f"VecCSel v{rd} v{rn} v{rm} {cond}", f"b.{cond.lower()} .+12\nmov {d}, {m}\nb .+8\nmov {d}, {n}"),
+    ])
+
+def vector_pair(labels):
+    store, (bits, letter) = random.randrange(2), random.choice([(64, "d"), (128, "q")])
+    rt, rt2, (base, address), offset = vector(), vector(), named("x", False), bits // 8 * random.randrange(-64, 64)
+    if not store and rt == rt2:
+        rt2 = (rt + 1) % 32
+    mode, text = random.choice([(f"SignedOffset({base},{offset})", f"[{address}, #{offset}]"),
+                                (f"SPPreIndexed({offset})", f"[sp, #{offset}]!"), (f"SPPostIndexed({offset})", f"[sp], #{offset}")])
+    return f"Fpu{'Store' if store else 'Load'}P{bits} v{rt} v{rt2} {mode} -", f"{'stp' if store else 'ldp'} {letter}{rt}, {letter}{rt2}, {text}"
+
+def authenticated(labels):
+    key, hint = random.choice(["AZ", "ASP", "BZ", "BSP"]), random.randrange(2)
+    text = f"reta{key[0].lower()}" if key.endswith("SP") and not hint else f"auti{key.lower()}\nret"
+    return f"AuthenticatedRet {key} {'true' if hint else 'false'}", text
+
+def atomic_loop(labels):
+    (ty, suffix, letter), trap = random.choice([("i8", "b", "w"), ("i16", "h", "w"), ("i32", "", "w"), ("i64", "", "x")]), random.choice(["-", random.randrange(256)])
+    old, operand, result = f"{letter}27", f"{letter}26", f"{letter}28"
+    def loop(body, stored):
+        return "\n".join([f"1: ldaxr{suffix} {old}, [x25]", *body, f"stlxr{suffix} w24, {stored}, [x25]", "cbnz x24, 1b"])
+    if random.randrange(4) == 0:
+        extend = {"i8": ", uxtb", "i16": ", uxth"}.get(ty, "")
+        # The comparison is of 64 bits, whatever the type.
+        compare = f"cmp x27, {'w26' if extend else 'x26'}{extend}"
+        return (f"AtomicCASLoop {ty} {trap} x25 x26 x28 x27 x24",
+                "\n".join([f"1: ldaxr{suffix} {old}, [x25]", compare, "b.ne 2f", f"stlxr{suffix} w24, {result}, [x25]", "cbnz x24, 1b", "2:"]))
+    op = random.choice("Add Sub And Nand Eor Orr Smax Smin Umax Umin Xchg".split())
+    line = f"AtomicRMWLoop {ty} {op} {trap} x25 x26 x27 x24 x28"
+    if op == "Xchg":
+        return line, loop([], operand)
+    if op == "Nand":
+        return line, loop([f"and {result}, {old}, {operand}", f"mvn {result}, {result}"], result)
+    if op not in ("Smax", "Smin", "Umax", "Umin"):
+        return line, loop([f"{op.lower()} {result}, {old}, {operand}"], result)
+    sign, short = "s" if op[0] == "S" else "u", ty in ("i8", "i16")
+    body = [f"sxt{suffix} w27, w27"] if sign == "s" and short else []
+    body.append(f"cmp {old}, {operand}" + (f", {sign}xt{suffix}" if short else ""))
+    body.append(f"csel {result}, {old}, {operand}, {dict(Smin='lt', Smax='gt', Umin='lo', Umax='hi')[op]}")
+    return line, loop(body, result)
+
 KINDS = [
     jump, alone, move_wide, alu_rr_imm12, alu_rr_imm_logic, alu_rrr, alu_rrrr, alu_rr_imm_shift, alu_rrr_shift, alu_rrr_extend,
     bit_rr, move, select, compare, extend, bitfield, address, access, access, literal, pair, load_address, branch,
     branch_on_bit, near_label, data, float_move, float_operation, conversion, float_immediate, system, atomic,
+    vector_operation, vector_misc, vector_length, vector_shift, lane, vector_immediate, byte_table, vector_pair, authenticated, atomic_loop,
 ]
 
 def item(labels):
@@ -415,7 +586,7 @@ with open(f"{work}/items.txt", "w") as ours, open(f"{work}/items.s", "w") as the
 P
 
 crates/a64_cli/out/a64_cli < "$work/items.txt" | awk '$1 == "word" { print $3 }' > "$work/ours"
-aarch64-linux-gnu-as -march=armv8.5-a+fp16 --no-warn "$work/items.s" -o "$work/items.o"
+aarch64-linux-gnu-as -march=armv8.6-a+fp16 --no-warn "$work/items.s" -o "$work/items.o"
 aarch64-linux-gnu-objcopy -O binary --only-section=.text "$work/items.o" "$work/items.bin"
 python3 - "$work" <<'P'
 import struct, sys

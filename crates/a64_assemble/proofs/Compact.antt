@@ -29,13 +29,15 @@ use Rattle.a64_label_use.specs.declared.label_use.LabelUse.TheVariants as uses
 use Rattle.a64_emit.specs.declared.site.Site.{Site}
 use Rattle.a64_label_use.specs.LabelUses.{label_kinds}
 use Rattle.a64_emit.specs.ControlForms as control
+use Rattle.a64_emit.specs.LoopForms.{awaited_forms, new_register, operator_forms, stored_register}
 use Rattle.a64_emit.specs.MemoryForms.{step_forms, offset_register, access_form}
-use Rattle.a64_emit.specs.Cells.{Cell, FormOf, branch, branches, entry_site, table_labels, table_jump, mode_site, shape_cells, access_shape, other_shape, several, inst_cells, kept_by, keep, kept_cells, sites_of}
+use Rattle.a64_emit.specs.Cells.{Cell, FormOf, branch, branches, entry_site, table_labels, table_jump, mode_site, shape_cells, access_shape, other_shape, several, inst_cells, kept_by, keep, kept_cells, rmw_loop_cells, cas_loop_cells, sites_of}
 use Rattle.a64_emit.specs.Bounds.{ranges_in, size_of, asked_of}
 use Rattle.a64_emit.specs.Contents.{site_class}
 use Rattle.a64_assemble.specs.Elements.{Words, Asking, element_of, elements_of, AreCompact, IsCompact}
 use Rattle.a64_emit.proofs.CallSites.{calls_sites}
-use Rattle.a64_emit.proofs.Several.{several_sites, address_sites}
+use Rattle.a64_emit.proofs.Loops.{loop_sites}
+use Rattle.a64_emit.proofs.Several.{several_sites, plain_sites, address_sites}
 use Rattle.a64_emit.proofs.TableUses.{table_jump_sites}
 use Rattle.a64_emit.specs.Falls.{inst_falls}
 use Rattle.a64_rows.specs.Forms.{Form}
@@ -105,6 +107,12 @@ module _ (frame : FrameLayout) (flags : EmitFlags) where
   other_compact (insts.TrapIf kind code) = one_site (shape_cells (other_shape frame flags (insts.TrapIf kind code))) _ (λ w. omega arith)
   other_compact (insts.JTSequence default targets ridx rtmp1 rtmp2) = table_compact flags default targets ridx rtmp1 rtmp2
   other_compact (insts.LoadAddr rd mem) = unused_compact (shape_cells (other_shape frame flags (insts.LoadAddr rd mem))) (address_sites rd (step_forms offset_register (final_steps frame I8 mem)) (final_mode frame I8 mem))
+  other_compact (insts.AuthenticatedRet key is_hint) =
+      unused_compact (shape_cells (other_shape frame flags (insts.AuthenticatedRet key is_hint))) (plain_sites (control.authenticated_ret_forms key is_hint))
+  other_compact (insts.AtomicRMWLoop ty op trap addr operand oldval scratch1 scratch2) =
+      unused_compact (rmw_loop_cells ty op trap) (loop_sites ty (operator_forms ty op) (stored_register op) trap)
+  other_compact (insts.AtomicCASLoop ty trap addr expected replacement oldval scratch) =
+      unused_compact (cas_loop_cells ty trap) (loop_sites ty (awaited_forms ty) new_register trap)
   other_compact (insts.Call info) = unused_compact (shape_cells (other_shape frame flags (insts.Call info))) (calls_sites frame flags (insts.Call info) refl)
   other_compact (insts.CallInd info) = unused_compact (shape_cells (other_shape frame flags (insts.CallInd info))) (calls_sites frame flags (insts.CallInd info) refl)
   other_compact (insts.ReturnCall info) = unused_compact (shape_cells (other_shape frame flags (insts.ReturnCall info))) (calls_sites frame flags (insts.ReturnCall info) refl)

@@ -72,7 +72,6 @@ fn placed(
         quiet,
         found.widest,
     )?;
-    constants.are_sized();
     let finished = buffer.finish()?;
     let code = code_of(places, finished);
     are_bytes(&code.bytes);

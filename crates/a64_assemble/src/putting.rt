@@ -7,6 +7,7 @@ ghost use Rattle.a64_inst.specs.declared.virtuals.VirtualRegisters.TheVariants.{
 ghost use Rattle.a64_inst.specs.Faults.{inst_fault};
 ghost use Rattle.a64_buffer.specs.Buffer.{end_of, no_records};
 ghost use Rattle.a64_buffer.specs.Classes.{owed};
+ghost use Rattle.a64_buffer.specs.Constants.{AreConstants};
 ghost use Rattle.a64_emit.specs.Bounds as bounds;
 ghost use Rattle.a64_emit.specs.Bounds.{whole};
 ghost use Rattle.a64_emit.specs.Falls.{inst_falls};
@@ -166,6 +167,7 @@ pub fn put_items(
     requires quiet { quiet ≡ true → AreQuiet force (elements_of state.old.frame info.now items.now) }
     ensures put { IfOk result (λ places. HasPutAll force (elements_of state.old.frame info.now items.now) places.items buffer.new) }
     ensures constants { OnOk result (buffer.new.constants ≡ buffer.old.constants) }
+    ensures sized { AreConstants buffer.old.constants }
 {
     let mut places = Vec::with_capacity(alloc, items.len())?;
     let mut place = buffer.cur_offset();

@@ -74,7 +74,7 @@ impl Constants {
 
     /// That each constant has 4, 8 or 16 bytes. The call does nothing else.
     #[inline(always)]
-    pub fn are_sized(&self)
+    pub(crate) fn are_sized(&self)
         ensures { constants.AreConstants self.now }
     {
         let _ = &self.contents;

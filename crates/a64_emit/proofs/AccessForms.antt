@@ -37,22 +37,23 @@ use Rattle.a64_inst.specs.declared.mode.PairAMode.TheVariants as pairs
 use Rattle.a64_inst.specs.declared.virtuals.VirtualRegisters.TheVariants.{Refused}
 use Rattle.a64_inst.specs.Accesses.{access_type}
 use Rattle.a64_inst.specs.FinalModes.{FinalMode, SignedOffset, ScaledOffset, Other, held_mode, parts_of, placed_mode, final_mode, final_steps}
-use Rattle.a64_inst.specs.MemoryOperands.{are_mode_parts, are_mode_operands, has_units, has_access_mode, is_index_extend, is_data_register, are_access_operands}
+use Rattle.a64_inst.specs.MemoryOperands.{are_mode_parts, are_mode_operands, has_units, has_access_mode, is_index_extend, is_data_register, are_access_operands, are_pair_parts, is_simm7_of}
 use Rattle.a64_inst.specs.Modes.{BaseOffset, base_offset_of, IsAccessSize, is_offset9, is_scaled_offset, is_far, steps_to}
 use Rattle.a64_inst.specs.Operands.{is_register_or_zero, is_register_or_stack, is_vector_register}
 use Rattle.a64_rows.specs.Forms.{IsFormOf}
 use Rattle.a64_rows.specs.Limits as limits
-use Rattle.a64_enc_int.specs.Registers.{IsReal}
+use Rattle.a64_enc_int.specs.Registers.{IsGeneral, IsReal}
 use Rattle.a64_enc_int.proofs.Immediates.{residue_below, simm9_below, simm7_below, uimm12_below}
 use Rattle.a64_enc_int.proofs.Registers.{field_below}
-use Rattle.a64_emit.specs.MemoryForms.{step_form, step_forms, imm9_form, unsigned_form, indexed_form, option_or_zero, literal_form, literal_words, held_form, access_steps, access_form, offset_register, pair_word_form, pair_form}
+use Rattle.a64_emit.specs.MemoryForms.{step_form, step_forms, imm9_form, unsigned_form, indexed_form, option_or_zero, literal_form, literal_words, held_form, access_steps, access_form, offset_register, pair_index, pair_base, pair_offset, pair_word_form, pair_form, float_pair_form}
 use Rattle.a64_emit.specs.Words.{are_held_parts}
 use Rattle.a64_emit.proofs.Accesses.{access_size, parts_good}
 use Rattle.a64_emit.proofs.BranchForms.{nop4_is_form}
 use Rattle.a64_emit.proofs.ImmediateForms.{mov_wide_within, mov_k_within}
 use Rattle.a64_emit.proofs.LogicForms.{orr_is_form}
 use Rattle.a64_emit.proofs.MemoryWords.{fields_below, literal_below}
-use Rattle.a64_emit.proofs.OneWord.{extend_below}
+use Rattle.a64_emit.proofs.OneWord.{bit_of_below, extend_below}
+use Rattle.a64_emit.proofs.Operands.{stack_general}
 
 -- ---- the steps of a plan
 
@@ -229,7 +230,29 @@ pub pair_word_is_form : (load idx : ℕ) (rn : Reg) (simm7 : SImm7Scaled) (rt rt
 unfolding pair_word_form
 pair_word_is_form load idx rn simm7 rt rt2 l i some = ((lit< tt, (lit< tt, (i, (l, (simm7_below simm7, (field_below rt2, (field_below rn, (field_below rt, tt)))))))), rw some refl)
 
+-- the index of a mode has two bits, and is not 0
+pub index_fits : (mem : PairAMode) → (pair_index mem < 4) × (not (pair_index mem == 0) ≡ true)
+index_fits (pairs.SignedOffset reg simm7) = (lit< tt, refl)
+index_fits (pairs.SPPreIndexed simm7) = (lit< tt, refl)
+index_fits (pairs.SPPostIndexed simm7) = (lit< tt, refl)
+
 pub pair_is_form : (load : ℕ) (rt rt2 : Reg) (mem : PairAMode) → load < 2 → IsFormOf (pair_form load rt rt2 mem)
-pair_is_form load rt rt2 (pairs.SignedOffset reg simm7) l = pair_word_is_form load 2 reg simm7 rt rt2 l (lit< tt) refl
-pair_is_form load rt rt2 (pairs.SPPreIndexed simm7) l = pair_word_is_form load 3 (integer_register 63) simm7 rt rt2 l (lit< tt) refl
-pair_is_form load rt rt2 (pairs.SPPostIndexed simm7) l = pair_word_is_form load 1 (integer_register 63) simm7 rt rt2 l (lit< tt) refl
+pair_is_form load rt rt2 mem l = pair_word_is_form load (pair_index mem) (pair_base mem) (pair_offset mem) rt rt2 l (index_fits mem).0 (index_fits mem).1
+
+-- of vector registers
+pub float_pair_is_form : (opc : ℕ) (load : Bool) (rt rt2 : Reg) (mem : PairAMode) → opc < 4 → limits.is_pair opc 1 ≡ true → IsFormOf (float_pair_form opc load rt rt2 mem)
+unfolding float_pair_form
+float_pair_is_form opc load rt rt2 mem o is =
+    let (index, some) = index_fits mem in
+    ((o, (lit< tt, (index, (bit_of_below load, (simm7_below (pair_offset mem), (field_below rt2, (field_below (pair_base mem), (field_below rt, tt)))))))), rw (some, is) refl)
+
+-- what the operands of a pair say of its mode
+pub base_general : (scale : IrType) (mem : PairAMode) → are_pair_parts Refused scale mem ≡ true → IsGeneral (pair_base mem)
+base_general scale (pairs.SignedOffset reg simm7) e = stack_general reg (and_parts (is_register_or_stack Refused reg) (is_simm7_of scale simm7) e).0
+base_general scale (pairs.SPPreIndexed simm7) e = refl
+base_general scale (pairs.SPPostIndexed simm7) e = refl
+
+pub offset_good : (scale : IrType) (mem : PairAMode) → are_pair_parts Refused scale mem ≡ true → is_simm7_of scale (pair_offset mem) ≡ true
+offset_good scale (pairs.SignedOffset reg simm7) e = (and_parts (is_register_or_stack Refused reg) (is_simm7_of scale simm7) e).1
+offset_good scale (pairs.SPPreIndexed simm7) e = e
+offset_good scale (pairs.SPPostIndexed simm7) e = e

@@ -51,6 +51,14 @@ mode_good frame flags constants inst e =
     first_passed (has_mode inst) own.BadMode ((has_scratch frame inst, own.ScratchConflict) ∷ (has_constant size inst, own.UnknownConstant) ∷ [])
     (rest_passed (has_operands frame flags Refused inst && is_within_constant size inst) own.BadOperand ((has_mode inst, own.BadMode) ∷ (has_scratch frame inst, own.ScratchConflict) ∷ (has_constant size inst, own.UnknownConstant) ∷ []) e)
 
+-- and it leaves its own registers alone
+pub scratch_good : (frame : FrameLayout) (flags : EmitFlags) (constants : FinMap nat_cmp (List ℕ)) (inst : Inst) → inst_fault frame flags constants Refused inst ≡ None → has_scratch frame inst ≡ true
+scratch_good frame flags constants inst e =
+    let size : Option ℕ = constant_size constants inst in
+    first_passed (has_scratch frame inst) own.ScratchConflict ((has_constant size inst, own.UnknownConstant) ∷ [])
+    (rest_passed (has_mode inst) own.BadMode ((has_scratch frame inst, own.ScratchConflict) ∷ (has_constant size inst, own.UnknownConstant) ∷ [])
+    (rest_passed (has_operands frame flags Refused inst && is_within_constant size inst) own.BadOperand ((has_mode inst, own.BadMode) ∷ (has_scratch frame inst, own.ScratchConflict) ∷ (has_constant size inst, own.UnknownConstant) ∷ []) e))
+
 -- the constant that such an instruction loads is there
 pub constant_there : (frame : FrameLayout) (flags : EmitFlags) (constants : FinMap nat_cmp (List ℕ)) (inst : Inst) → inst_fault frame flags constants Refused inst ≡ None → IsThere constants inst
 constant_there frame flags constants inst e =

@@ -19,7 +19,7 @@ use Rattle.a64_rows.specs.Forms.{IsFormOf}
 use Rattle.a64_enc_int.specs.Branches.{conditional_form, nonzero_of}
 use Rattle.a64_enc_int.proofs.Registers.{field_below}
 use Rattle.a64_emit.specs.IntegerForms.{nop4_form}
-use Rattle.a64_emit.specs.ControlForms.{jump_form, cond_br_form, trap_if_form, test_bit_and_branch_form, indirect_br_form, label_address_form, branch_link_form, branch_link_register_form, auti_number, auti_form, paci_number, paci_form, xpaclri_form, bti_number, bti_form, csdb_form}
+use Rattle.a64_emit.specs.ControlForms.{jump_form, cond_br_form, trap_if_form, test_bit_and_branch_form, indirect_br_form, label_address_form, branch_link_form, branch_link_register_form, auti_number, auti_form, paci_number, paci_form, xpaclri_form, bti_number, bti_form, csdb_form, ret_form, ret_auth_form}
 use Rattle.a64_emit.proofs.ImmediateForms.{adr_is_form}
 use Rattle.a64_emit.proofs.OneWord.{field_widths}
 
@@ -72,6 +72,14 @@ offset_below bits (ResolvedOffset offset) some = remainder_below (2 ^ bits) (wor
 pub indirect_br_is_form : (rn : Reg) → IsFormOf (indirect_br_form rn)
 unfolding indirect_br_form
 indirect_br_is_form rn = search (rules, field_below)
+
+pub ret_is_form : IsFormOf ret_form
+unfolding ret_form
+ret_is_form = search rules
+
+pub ret_auth_is_form : (b : ℕ) → b < 2 → IsFormOf (ret_auth_form b)
+unfolding ret_auth_form
+ret_auth_is_form b small = search rules
 
 pub branch_link_is_form : IsFormOf branch_link_form
 unfolding branch_link_form

@@ -27,10 +27,7 @@ use Rattle.a64_emit.proofs.AccessForms.{shape_forms, pair_word_is_form}
 use Rattle.a64_emit.proofs.BranchForms.{auti_is_form, branch_link_is_form, branch_link_register_is_form, indirect_br_is_form, jump_is_form}
 use Rattle.a64_emit.proofs.ImmediateForms.{alu_rr_imm12_is_form}
 use Rattle.a64_emit.proofs.RegisterForms.{alu_rrr_extend_is_form}
-use Rattle.a64_emit.proofs.SequenceForms.{plan_shape}
-
-one_form : (form : Form) → IsFormOf form → All IsFormOf (form ∷ [])
-one_form form is = All-cons IsFormOf form [] is (All-nil IsFormOf)
+use Rattle.a64_emit.proofs.SequenceForms.{one_form, plan_shape}
 
 abbrev stack : Reg
 stack = integer_register 63

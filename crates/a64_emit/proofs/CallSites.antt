@@ -23,7 +23,7 @@ use Rattle.a64_emit.specs.declared.site.Site.{Site}
 use Rattle.a64_emit.specs.Cells.{Cell, FormOf, call_cells, inst_cells, leave_forms, lone_cell, other_shape, patchable_cells, plain, pop_forms, restored_cell, result_cells, return_cell, return_cells, shape_cells, sites_of}
 use Rattle.a64_emit.specs.MemoryForms.{access_form, access_steps}
 use Rattle.a64_emit.proofs.CallLoads.{loading, loaded_cells, no_load, no_load_at}
-use Rattle.a64_emit.proofs.Several.{several_sites}
+use Rattle.a64_emit.proofs.Several.{plain_sites, several_sites}
 use Rattle.a64_emit.proofs.TableUses.{behind_none}
 
 -- ---- results
@@ -69,10 +69,6 @@ module _ (frame : FrameLayout) (flags : EmitFlags) where
 
   call_sites : (callee : Callee) (defs : List CallRetPair) (pop : ℕ) → sites_of (call_cells frame callee defs pop) ≡ []
   call_sites callee defs pop = behind_none (pop_forms pop) (flat_map (result_cells frame) defs) ∙ results_sites frame defs
-
-  plain_sites : (forms : List Form) → sites_of (map plain forms) ≡ []
-  plain_sites [] = refl
-  plain_sites (f ∷ forms) = plain_sites forms
 
   symbol_sites : (callee : Callee) (patchable : Bool) (defs : List CallRetPair) (pop : ℕ) → sites_of (if patchable then patchable_cells callee pop else call_cells frame callee defs pop) ≡ []
   symbol_sites callee true defs pop = plain_sites (pop_forms pop)

@@ -1,13 +1,13 @@
 -- The form of an operation on scalar floats that has no fault of its own is a form of its row.
-use Rattle.std.proofs.Common.{ℕ, ◌≡◌, ◌<◌, ◌≤◌, ◌^◌, true, inl, inr, refl, arith, rules}
+use Rattle.std.proofs.Common.{ℕ, ◌≡◌, ◌<◌, ◌≤◌, ◌^◌, true, inl, inr, refl, lit<, arith, rules}
 use Rattle.std.specs.Prelude.{◌&&◌, nat_lt, nat_le, nat_eq}
 use Rattle.std.proofs.lemmas.Bool.{and_parts, eqb-true, leb-true, ltb-true, le-leb}
 use Rattle.a64_base.specs.declared.reg.Reg.{Reg}
 use Rattle.a64_base.specs.declared.size.ScalarSize.{ScalarSize}
-use Rattle.a64_base.specs.declared.size.ScalarSize.TheVariants.{Size8, Size32, Size64}
+use Rattle.a64_base.specs.declared.size.ScalarSize.TheVariants.{Size8, Size16, Size32, Size64, Size128}
 use Rattle.a64_base.specs.declared.size.VectorSize.{VectorSize}
-use Rattle.a64_base.specs.declared.size.VectorSize.TheVariants.{Size32x2, Size32x4, Size64x2}
 use Rattle.a64_base.specs.ScalarSizes.{ftype_of, has_ftype}
+use Rattle.a64_base.specs.VectorSizes.{has_float_lanes, lane_of}
 use Rattle.a64_imms.specs.declared.asimd_fp.ASIMDFPModImm.{ASIMDFPModImm}
 use Rattle.a64_imms.specs.declared.fpu_shift.FPULeftShiftImm.{FPULeftShiftImm}
 use Rattle.a64_imms.specs.declared.fpu_shift.FPURightShiftImm.{FPURightShiftImm}
@@ -28,11 +28,11 @@ use Rattle.a64_inst.specs.declared.fpu_op.FPUOpRI.TheVariants.{UShr32, UShr64}
 use Rattle.a64_inst.specs.declared.fpu_op.FPUOpRIMod.{FPUOpRIMod}
 use Rattle.a64_inst.specs.declared.fpu_op.FPUOpRIMod.TheVariants.{Sli32, Sli64}
 use Rattle.a64_inst.specs.FloatOperands.{is_float_imm_of, is_float_lane, is_fpu_op1_at, is_kept_shift, is_left_shift, is_left_shift_of, is_right_shift, is_right_shift_of, is_same_scalar}
-use Rattle.a64_inst.specs.Operands.{is_same_register}
+use Rattle.a64_inst.specs.Operands.{is_lane, is_same_register, lanes_of}
 use Rattle.a64_rows.specs.Forms.{IsFormOf}
 use Rattle.a64_rows.specs.Limits.{is_float_one, is_float_type}
 use Rattle.a64_enc_int.proofs.Registers.{field_below}
-use Rattle.a64_emit.specs.FloatForms.{bits_to_float, compare_form, conversion_form, from_int, immediate_form, kept_shift_form, lane_number, left_field, move_form, move_lane_form, o0_of, o1_of, one_float_form, one_opcode, right_field, right_shift_form, round_form, three_floats_form, to_int, two_floats_form, two_opcode}
+use Rattle.a64_emit.specs.FloatForms.{bits_to_float, compare_form, conversion_form, from_int, immediate_form, kept_shift_form, lane_number, left_field, move_form, move_lane_form, move_vector_form, o0_of, o1_of, one_float_form, one_opcode, right_field, right_shift_form, round_form, three_floats_form, to_int, two_floats_form, two_opcode}
 
 -- ---- sizes
 
@@ -47,6 +47,9 @@ float_type _ = refl
 
 pub move_is_form : (size : ScalarSize) (rd rn : Reg) → IsFormOf (move_form size rd rn)
 move_is_form size rd rn = (search (rules, field_below, ftype_below), rw (float_type size) refl)
+
+pub move_vector_is_form : (rd rn : Reg) → IsFormOf (move_vector_form rd rn)
+move_vector_is_form rd rn = search (rules, field_below)
 
 -- the size of an operation on one float is one of floats
 pub one_float_size : (op : FPUOp1) (size : ScalarSize) → is_fpu_op1_at op size ≡ true → has_ftype size ≡ true
@@ -110,14 +113,22 @@ bits_are_form _ rd rn = search (rules, field_below)
 
 -- ---- lanes
 
-pub lane_below : (size : VectorSize) (idx : ℕ) → is_float_lane size idx ≡ true → lane_number size idx < 2 ^ 5
-lane_below Size32x2 idx e = let small : idx < 4 = ltb-true idx 4 e in omega (arith, small)
-lane_below Size32x4 idx e = let small : idx < 4 = ltb-true idx 4 e in omega (arith, small)
-lane_below Size64x2 idx e = let small : idx < 2 = ltb-true idx 2 e in omega (arith, small)
-lane_below _ idx e = absurd cc
+-- the number of a lane of a register has five bits with the lane's size
+pub lane_number_below : (size : ScalarSize) (idx : ℕ) → nat_lt idx (lanes_of size) ≡ true → lane_number size idx < 2 ^ 5
+lane_number_below Size8 idx e = let small : idx < 16 = ltb-true idx 16 e in omega (arith, small)
+lane_number_below Size16 idx e = let small : idx < 8 = ltb-true idx 8 e in omega (arith, small)
+lane_number_below Size32 idx e = let small : idx < 4 = ltb-true idx 4 e in omega (arith, small)
+lane_number_below Size64 idx e = let small : idx < 2 = ltb-true idx 2 e in omega (arith, small)
+lane_number_below Size128 idx e = lit< tt
+
+pub lane_below : (size : VectorSize) (idx : ℕ) → is_lane size idx ≡ true → lane_number (lane_of size) idx < 2 ^ 5
+lane_below size idx e = lane_number_below (lane_of size) idx e
+
+pub float_lane_below : (size : VectorSize) (idx : ℕ) → is_float_lane size idx ≡ true → lane_number (lane_of size) idx < 2 ^ 5
+float_lane_below size idx e = lane_below size idx (and_parts (has_float_lanes size) (is_lane size idx) e).1
 
 pub lane_is_form : (size : VectorSize) (idx : ℕ) (rd rn : Reg) → is_float_lane size idx ≡ true → IsFormOf (move_lane_form size idx rd rn)
-lane_is_form size idx rd rn good = let below = lane_below size idx good in search (rules, field_below, below)
+lane_is_form size idx rd rn good = let below = float_lane_below size idx good in search (rules, field_below, below)
 
 -- ---- shifts
 

@@ -1,5 +1,5 @@
 -- The cells of instructions and items without a fault are forms of their rows, or data.
-use Rattle.std.proofs.Common.{ℕ, ℤ, pos, suc, ◌-ℤ◌, ◌≡◌, ◌+◌, ◌*◌, ◌<◌, ◌^◌, Bool, true, false, List, [], ◌∷◌, ◌++◌, length, get_or, map, Option, None, Some, refl, sym, subst, arith, rules}
+use Rattle.std.proofs.Common.{ℕ, ℤ, pos, suc, ◌-ℤ◌, ◌≡◌, ◌+◌, ◌*◌, ◌<◌, ◌^◌, Bool, true, false, List, [], ◌∷◌, ◌++◌, length, get_or, map, Option, None, Some, refl, sym, subst, lit<, arith, rules}
 use Rattle.std.specs.Prelude.{All, ◌&&◌, not, if◌then◌else◌}
 use Rattle.std.specs.List.{flat_map}
 use Rattle.std.specs.Ordering.{nat_cmp, int_eq}
@@ -52,7 +52,7 @@ use Rattle.a64_emit.specs.ControlForms.{jump_form, ret_form, brk_form}
 use Rattle.a64_emit.specs.IntegerForms.{mov_form, mov_to_nzcv_form, mov_from_nzcv_form}
 use Rattle.a64_emit.specs.MemoryForms.{step_forms, addend_register, offset_register, addend, addend_form, sum_form, sum_op}
 use Rattle.a64_emit.proofs.Accesses.{mode_good, byte_size, addend_good}
-use Rattle.a64_emit.proofs.AccessForms.{HoldsOffset, final_holds, plan_forms, final_steps_forms, parts_are_form, access_is_form, access_steps_forms, pair_is_form}
+use Rattle.a64_emit.proofs.AccessForms.{HoldsOffset, final_holds, plan_forms, final_steps_forms, parts_are_form, access_is_form, access_steps_forms, pair_is_form, float_pair_is_form}
 use Rattle.a64_emit.proofs.AtomicForms as atomic
 use Rattle.a64_emit.proofs.BranchForms as control
 use Rattle.a64_emit.proofs.BranchForms.{branch_forms}
@@ -68,7 +68,8 @@ use Rattle.a64_emit.proofs.Operands.{parts}
 use Rattle.a64_emit.proofs.PlainOperands.{rest_of}
 use Rattle.a64_emit.proofs.RegisterForms as register
 use Rattle.a64_emit.proofs.RegisterForms.{register_forms}
-use Rattle.a64_emit.proofs.SequenceForms.{plain_forms, sequences}
+use Rattle.a64_emit.proofs.SequenceForms.{plain_forms, sequences, one_cell}
+use Rattle.a64_emit.proofs.VectorForms as vector
 
 -- ---- shapes
 
@@ -77,9 +78,6 @@ abbrev pub AreForms : Shape → Type 0
 AreForms (OneWord form) = IsFormOf form
 AreForms (Several forms body site trap) = All IsFormOf forms × IsFormBody body
 AreForms (Words cells) = All IsFormCell cells
-
-one_cell : (cell : Cell) → IsFormCell cell → All IsFormCell (cell ∷ [])
-one_cell cell is = All-cons IsFormCell cell [] is (All-nil IsFormCell)
 
 two_cells : (first second : Cell) → IsFormCell first → IsFormCell second → All IsFormCell (first ∷ second ∷ [])
 two_cells first second is then_is = All-cons IsFormCell first (second ∷ []) is (one_cell second then_is)
@@ -166,6 +164,10 @@ module _ (frame : FrameLayout) (flags : EmitFlags) where
   plain_shape_forms (insts.AtomicCAS128 args) fits good = (All-nil IsFormOf, atomic.cas128_is_form args good)
   plain_shape_forms (insts.LoadAcquire access_ty rt rn trap) fits good = (All-nil IsFormOf, atomic.load_acquire_is_form access_ty rt rn)
   plain_shape_forms (insts.StoreRelease access_ty rt rn trap) fits good = (All-nil IsFormOf, atomic.store_release_is_form access_ty rt rn)
+  plain_shape_forms (insts.FpuLoadP64 rt rt2 mem trap) fits good = (All-nil IsFormOf, float_pair_is_form 1 true rt rt2 mem (lit< tt) refl)
+  plain_shape_forms (insts.FpuStoreP64 rt rt2 mem trap) fits good = (All-nil IsFormOf, float_pair_is_form 1 false rt rt2 mem (lit< tt) refl)
+  plain_shape_forms (insts.FpuLoadP128 rt rt2 mem trap) fits good = (All-nil IsFormOf, float_pair_is_form 2 true rt rt2 mem (lit< tt) refl)
+  plain_shape_forms (insts.FpuStoreP128 rt rt2 mem trap) fits good = (All-nil IsFormOf, float_pair_is_form 2 false rt rt2 mem (lit< tt) refl)
   plain_shape_forms (insts.FpuMoveFromVec rd rn idx lanes) fits good =
       float.lane_is_form lanes idx rd rn (rest_of (insts.FpuMoveFromVec rd rn idx lanes) good)
   plain_shape_forms (insts.FpuExtend rd rn scalar) fits good = float.move_is_form scalar rd rn
@@ -183,6 +185,50 @@ module _ (frame : FrameLayout) (flags : EmitFlags) where
   plain_shape_forms (insts.MovToFpu rd rn scalar) fits good = float.bits_are_form scalar rd rn
   plain_shape_forms (insts.FpuMoveFPImm rd imm scalar) fits good =
       float.immediate_is_form scalar imm rd (rest_of (insts.FpuMoveFPImm rd imm scalar) good)
+  plain_shape_forms (insts.VecExtend t rd rn high_half lane_size) fits good =
+      vector.extend_is_form t high_half lane_size rd rn (rest_of (insts.VecExtend t rd rn high_half lane_size) good)
+  plain_shape_forms (insts.VecRRLong op rd rn high_half) fits good = vector.long_is_form op high_half rd rn
+  plain_shape_forms (insts.VecRRNarrowLow op rd rn lane_size) fits good = vector.narrow_low_is_form op lane_size rd rn
+  plain_shape_forms (insts.VecRRNarrowHigh op rd ri rn lane_size) fits good = vector.narrow_high_is_form op lane_size rd rn
+  plain_shape_forms (insts.VecRRRLong alu_op rd rn rm high_half) fits good = vector.product_is_form alu_op high_half rd rn rm
+  plain_shape_forms (insts.VecRRRLongMod alu_op rd ri rn rm high_half) fits good = vector.added_product_is_form alu_op high_half rd rn rm
+  plain_shape_forms (insts.VecRRPairLong op rd rn) fits good = vector.pair_long_is_form op rd rn
+  plain_shape_forms (insts.VecRRR alu_op rd rn rm size) fits good = vector.three_is_form alu_op size rd rn rm
+  plain_shape_forms (insts.VecRRRMod alu_op rd ri rn rm size) fits good = vector.kept_three_is_form alu_op size rd rn rm
+  plain_shape_forms (insts.VecFmlaElem alu_op rd ri rn rm size idx) fits good =
+      vector.element_is_form alu_op size idx rd rn rm
+      (vector.kept_element rd ri alu_op size idx (rest_of (insts.VecFmlaElem alu_op rd ri rn rm size idx) good))
+  plain_shape_forms (insts.VecMisc op rd rn size) fits good = vector.two_is_form op size rd rn
+  plain_shape_forms (insts.VecLanes op rd rn size) fits good = vector.across_is_form op size rd rn
+  plain_shape_forms (insts.VecShiftImm op rd rn size imm) fits good =
+      vector.shift_is_form op size imm rd rn (rest_of (insts.VecShiftImm op rd rn size imm) good)
+  plain_shape_forms (insts.VecShiftImmMod op rd ri rn size imm) fits good =
+      vector.kept_shift_is_form size imm rd rn
+      (vector.kept_amount rd ri size imm (rest_of (insts.VecShiftImmMod op rd ri rn size imm) good))
+  plain_shape_forms (insts.MovToVec rd ri rn idx size) fits good =
+      vector.insert_is_form size idx rd rn (vector.kept_lane rd ri size idx (rest_of (insts.MovToVec rd ri rn idx size) good))
+  plain_shape_forms (insts.MovFromVec rd rn idx scalar) fits good =
+      vector.unsigned_move_is_form scalar idx rd rn (rest_of (insts.MovFromVec rd rn idx scalar) good)
+  plain_shape_forms (insts.MovFromVecSigned rd rn idx size scalar_size) fits good =
+      vector.signed_move_is_form size idx scalar_size rd rn (rest_of (insts.MovFromVecSigned rd rn idx size scalar_size) good)
+  plain_shape_forms (insts.VecDup rd rn size) fits good = vector.dup_is_form size rd rn
+  plain_shape_forms (insts.VecDupFromFpu rd rn size lane) fits good =
+      vector.dup_lane_is_form size lane rd rn (rest_of (insts.VecDupFromFpu rd rn size lane) good)
+  plain_shape_forms (insts.VecDupFPImm rd imm size) fits good =
+      vector.dup_float_is_form size imm rd (rest_of (insts.VecDupFPImm rd imm size) good)
+  plain_shape_forms (insts.VecDupImm rd imm invert size) fits good =
+      vector.dup_immediate_is_form size imm invert rd (rest_of (insts.VecDupImm rd imm invert size) good)
+  plain_shape_forms (insts.VecMovElement rd ri rn dest_idx src_idx size) fits good =
+      let rest = rest_of (insts.VecMovElement rd ri rn dest_idx src_idx size) good in
+      vector.move_element_is_form size dest_idx src_idx rd rn
+      (vector.kept_dest rd ri size dest_idx src_idx rest) (vector.kept_src rd ri size dest_idx src_idx rest)
+  plain_shape_forms (insts.VecExtract rd rn rm imm4) fits good =
+      vector.extract_is_form imm4 rd rn rm (rest_of (insts.VecExtract rd rn rm imm4) good)
+  plain_shape_forms (insts.VecTbl rd rn rm) fits good = vector.table_is_form false false rd rn rm
+  plain_shape_forms (insts.VecTblExt rd ri rn rm) fits good = vector.table_is_form false true rd rn rm
+  plain_shape_forms (insts.VecTbl2 rd rn rn2 rm) fits good = vector.table_is_form true false rd rn rm
+  plain_shape_forms (insts.VecTbl2Ext rd ri rn rn2 rm) fits good = vector.table_is_form true true rd rn rm
+  plain_shape_forms (insts.VecLoadReplicate rd rn size trap) fits good = (All-nil IsFormOf, vector.replicate_is_form size rd rn)
   plain_shape_forms _ fits good = search inst_rules
 
 module _ (frame : FrameLayout) where

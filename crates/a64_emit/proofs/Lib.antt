@@ -12,13 +12,16 @@ pub mod Emitted
 pub mod Joined
 pub mod AsPut
 pub mod Lasts
+pub mod Quiet
 pub mod Several
+pub mod Loops
 pub mod Targets
 pub mod Accesses
 pub mod Operands
 pub mod PlainOperands
 pub mod OneWord
 pub mod FloatForms
+pub mod VectorForms
 pub mod ImmediateForms
 pub mod RegisterForms
 pub mod BranchForms
@@ -40,6 +43,7 @@ pub mod Repeated
 pub mod Results
 pub mod Names
 pub mod SequenceForms
+pub mod Restorable
 pub mod InstForms
 pub mod Shapes
 pub mod WrongAnswers

@@ -1,5 +1,5 @@
 -- Instructions that a frame restores: each is one word, which is no use.
-use Rattle.std.proofs.Common.{ℕ, ℤ, pos, ◌≡◌, ◌≢◌, ◌<◌, Bool, true, false, List, [], ◌∷◌, length, get_or, Option, None, Some, refl, ap, sym, subst, ◌∙◌, nat_cmp}
+use Rattle.std.proofs.Common.{ℕ, ℤ, pos, ◌≡◌, ◌≢◌, ◌<◌, Bool, true, false, List, [], ◌∷◌, length, get_or, map, Option, None, Some, refl, ap, sym, subst, ◌∙◌, nat_cmp}
 use Rattle.std.specs.Ordering.{int_eq}
 use Rattle.std.specs.Int.RustNames.{unsigned_abs}
 use Rattle.std.specs.Prelude.{not, ◌&&◌, nat_eq, if◌then◌else◌, IfSome, IsSome}
@@ -11,6 +11,8 @@ use Rattle.a64_base.specs.declared.entity.TrapCode.{TrapCode}
 use Rattle.a64_base.specs.declared.entity.VCodeConstant.{VCodeConstant}
 use Rattle.a64_base.specs.declared.ir_type.IrType.{IrType}
 use Rattle.a64_base.specs.declared.ir_type.IrType.TheVariants.{I8}
+use Rattle.a64_base.specs.declared.key.APIKey.{APIKey}
+use Rattle.a64_base.specs.declared.key.APIKey.TheVariants.{AZ, ASP, BZ, BSP}
 use Rattle.a64_base.specs.declared.reg.Reg.{Reg}
 use Rattle.a64_base.specs.declared.reg.Reg.TheVariants.{Real, Virtual}
 use Rattle.a64_base.specs.declared.size.OperandSize.TheVariants.{Size64}
@@ -29,7 +31,7 @@ use Rattle.a64_inst.specs.Accesses.{access_of, access_type}
 use Rattle.a64_inst.specs.Faults.{named_constant, has_mode, has_plain_operands, has_other_operands, has_operands, can_restore}
 use Rattle.a64_inst.specs.FinalModes.{FinalMode, SignedOffset, ScaledOffset, Other, final_mode, final_steps, needs_x16}
 use Rattle.a64_inst.specs.Groups.{group_of}
-use Rattle.a64_inst.specs.Lone.{is_no_use, is_lone_access, is_lone_sum, is_lone_address, is_lone_other, is_lone}
+use Rattle.a64_inst.specs.Lone.{is_no_use, is_lone_access, is_lone_sum, is_lone_address, is_lone_other, is_lone_return, is_lone}
 use Rattle.a64_inst.specs.MemoryOperands.{is_addend, are_access_operands, are_mode_operands, are_address_operands}
 use Rattle.a64_inst.specs.Modes.{BaseOffset, base_offset_of, is_far, steps_to, constant_in}
 use Rattle.a64_inst.specs.Operands.{is_register, is_register_or_stack, is_same_class, is_same_register, is_other_register}
@@ -39,7 +41,8 @@ use Rattle.a64_plan.specs.declared.step.ConstStep.{ConstStep}
 use Rattle.a64_rows.specs.Forms.{Form}
 use Rattle.a64_emit.specs.declared.site.Site.{Site}
 use Rattle.a64_emit.specs.Bounds.{asked_of}
-use Rattle.a64_emit.specs.Cells.{Body, FormOf, Shape, Words, quiet, mode_site, several, sum_shape, address_shape, access_shape, plain_shape, other_shape, shape_cells, inst_cells, lone_cell, restored_cell}
+use Rattle.a64_emit.specs.Cells.{Body, FormOf, Shape, Words, plain, quiet, mode_site, several, sum_shape, address_shape, access_shape, plain_shape, other_shape, shape_cells, inst_cells, lone_cell, restored_cell}
+use Rattle.a64_emit.specs.ControlForms.{authenticated_ret_forms}
 use Rattle.a64_emit.specs.IntegerForms.{mov_form, alu_rrr_extend_form}
 use Rattle.a64_emit.specs.MemoryForms.{step_forms, offset_register, addend_register, addend_form, sum_form, access_steps, access_form}
 use Rattle.a64_emit.specs.Words.{IsThere}
@@ -128,6 +131,16 @@ module _ (rd : Reg) (numbered : is_register Refused rd ≡ true) where
   lone_address before steps (Other (modes.RegExtended rn rm extendop)) none parts e = lone_several before (FormOf (alu_rrr_extend_form Add Size64 rd rn rm extendop)) None None (none e) refl
   lone_address before steps (Other _) none parts e = absurd cc
 
+-- ---- returns that authenticate their address
+
+return_lone : (key : APIKey) (is_hint : Bool) → is_lone_return key is_hint ≡ true → IsLoneShape (Words (map plain (authenticated_ret_forms key is_hint)))
+return_lone ASP false e = refl
+return_lone BSP false e = refl
+return_lone AZ is_hint e = absurd cc
+return_lone ASP true e = absurd cc
+return_lone BZ is_hint e = absurd cc
+return_lone BSP true e = absurd cc
+
 -- ---- instructions
 
 -- what is known of an instruction that a frame restores
@@ -153,6 +166,7 @@ module _ (frame : FrameLayout) (flags : EmitFlags) where
   plain_lone (insts.LoadAddr rd mem) good e = address_lone rd mem good e
   plain_lone (insts.Jump (branch_targets.Label label)) good e = absurd cc
   plain_lone (insts.Jump (branch_targets.ResolvedOffset offset)) good e = refl
+  plain_lone (insts.AuthenticatedRet key is_hint) good e = return_lone key is_hint e
   plain_lone _ good e = cc
 
   -- what is said of an instruction that is no call is said of any

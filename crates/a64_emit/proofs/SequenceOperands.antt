@@ -2,15 +2,25 @@
 use Rattle.std.proofs.Common.{◌≡◌, true, false, refl}
 use Rattle.std.specs.Prelude.{◌&&◌}
 use Rattle.std.proofs.lemmas.Bool.{and_parts}
+use Rattle.a64_base.specs.declared.ir_type.IrType.{IrType}
 use Rattle.a64_base.specs.declared.reg.Reg.{Reg}
 use Rattle.a64_ops.specs.declared.access.AccessOp.{AccessOp}
 use Rattle.a64_ops.specs.Accesses.{moves_vector}
 use Rattle.a64_inst.specs.declared.virtuals.VirtualRegisters.TheVariants.{Refused}
+use Rattle.a64_inst.specs.AtomicOperands.{are_loop_operands, is_atomic_type}
 use Rattle.a64_inst.specs.MemoryOperands.{is_data_register}
-use Rattle.a64_inst.specs.Operands.{is_register, is_register_or_zero, is_other_register}
+use Rattle.a64_inst.specs.Operands.{is_fixed_register, is_register, is_register_or_zero, is_other_register}
 use Rattle.a64_inst.specs.SequenceOperands.{are_table_operands}
 use Rattle.a64_enc_int.specs.Registers.{IsGeneral}
 use Rattle.a64_emit.proofs.Operands.{general, register_zero}
+
+-- ---- loops of atomic accesses
+
+pub loop_type : (ty : IrType) (addr operand oldval failed : Reg) → are_loop_operands Refused ty addr operand oldval failed ≡ true → is_atomic_type ty ≡ true
+unfolding are_loop_operands
+loop_type ty addr operand oldval failed good =
+    let (first, _) = and_parts (is_atomic_type ty && (is_fixed_register Refused 25 addr && is_fixed_register Refused 26 operand)) (is_fixed_register Refused 27 oldval && is_fixed_register Refused 24 failed) good in
+    (and_parts (is_atomic_type ty) (is_fixed_register Refused 25 addr && is_fixed_register Refused 26 operand) first).0
 
 -- ---- tables
 

@@ -1,5 +1,5 @@
 -- The uses of the words of loads, stores and addresses.
-use Rattle.std.proofs.Common.{ℕ, ℤ, pos, ◌≡◌, ◌+◌, Bool, true, false, List, [], ◌∷◌, ◌++◌, length, Option, None, Some, refl, sym, ap, ◌∙◌, subst, arith, if◌then◌else◌}
+use Rattle.std.proofs.Common.{ℕ, ℤ, pos, ◌≡◌, ◌+◌, Bool, true, false, List, [], ◌∷◌, ◌++◌, length, map, Option, None, Some, refl, sym, ap, ◌∙◌, subst, arith, if◌then◌else◌}
 use Rattle.std.specs.Prelude.{IfSome, IsSome}
 use Rattle.std.specs.Ordering.{nat_cmp, int_eq}
 use Rattle.std.specs.FinMap.{FinMap, get}
@@ -31,10 +31,14 @@ use Rattle.a64_rows.specs.Forms.{Form}
 use Rattle.a64_emit.specs.IntegerForms.{mov_form, alu_rrr_extend_form}
 use Rattle.a64_emit.specs.MemoryForms.{step_forms, addend_form, addend_register, sum_form, offset_register, access_steps, access_form}
 use Rattle.a64_emit.specs.declared.site.Site.{Site}
-use Rattle.a64_emit.specs.Cells.{Body, FormOf, Cell, Shape, OneWord, Several, Words, quiet, several, literal_site, mode_site, memory_site, sum_shape, address_shape, access_shape, other_shape, shape_of, shape_cells, inst_cells, sites_of, use_of, uses_of}
+use Rattle.a64_emit.specs.Cells.{Body, FormOf, Cell, Shape, OneWord, Several, Words, plain, quiet, several, literal_site, mode_site, memory_site, sum_shape, address_shape, access_shape, other_shape, shape_of, shape_cells, inst_cells, sites_of, use_of, uses_of}
 use Rattle.a64_emit.specs.Words.{AreSeveral, MayBePut, IsThere}
 
 -- ---- the uses of several words
+
+pub plain_sites : (forms : List Form) → sites_of (map plain forms) ≡ []
+plain_sites [] = refl
+plain_sites (f ∷ forms) = plain_sites forms
 
 pub several_sites : (forms : List Form) (body : Body) (site : Option Site) (trap : Option TrapCode) → sites_of (several forms body site trap) ≡ cons_option site []
 several_sites [] body site trap = refl
@@ -100,6 +104,9 @@ module _ (frame : FrameLayout) (flags : EmitFlags) where
   other_sites (insts.TrapIf kind trap_code) e = absurd cc
   other_sites (insts.LabelAddress dst label) e = absurd cc
   other_sites (insts.JTSequence default targets ridx rtmp1 rtmp2) e = absurd cc
+  other_sites (insts.AuthenticatedRet key is_hint) e = absurd cc
+  other_sites (insts.AtomicRMWLoop ty op trap addr operand oldval scratch1 scratch2) e = absurd cc
+  other_sites (insts.AtomicCASLoop ty trap addr expected replacement oldval scratch) e = absurd cc
   other_sites (insts.Call info) e = absurd cc
   other_sites (insts.CallInd info) e = absurd cc
   other_sites (insts.ReturnCall info) e = absurd cc

@@ -27,8 +27,11 @@ use Rattle.a64_label_use.specs.declared.label_use.LabelUse.TheVariants as uses
 use Rattle.a64_emit.specs.declared.site.Site.{Site}
 use Rattle.a64_emit.specs.MemoryForms.{step_forms, offset_register, access_steps, access_form}
 use Rattle.a64_emit.specs.Cells.{FormOf, table_labels, entry_site, table_jump, branch_site, trap_site, mode_site, shape_cells, access_shape, other_shape, inst_cells, sites_of}
+use Rattle.a64_emit.specs.ControlForms.{authenticated_ret_forms}
+use Rattle.a64_emit.specs.LoopForms.{operator_forms, stored_register, awaited_forms, new_register}
 use Rattle.a64_emit.proofs.CallSites.{calls_sites}
-use Rattle.a64_emit.proofs.Several.{several_sites, address_sites}
+use Rattle.a64_emit.proofs.Loops.{loop_sites}
+use Rattle.a64_emit.proofs.Several.{several_sites, plain_sites, address_sites}
 use Rattle.a64_emit.proofs.TableUses.{table_jump_sites}
 
 -- a use of a label of any kind, the load of a constant, or a deferred trap
@@ -87,6 +90,11 @@ module _ (frame : FrameLayout) (flags : EmitFlags) where
   other_targets (insts.TrapIf kind trap_code) = one_more (Some (trap_site trap_code)) [] refl no_sites
   other_targets (insts.LabelAddress dst label) = branch_targets_of uses.Adr21 (branch_targets.Label label)
   other_targets (insts.JTSequence default targets ridx rtmp1 rtmp2) = table_targets flags default targets ridx rtmp1 rtmp2
+  other_targets (insts.AuthenticatedRet key is_hint) = subst (All IsCodeSite) (sym (plain_sites (authenticated_ret_forms key is_hint))) no_sites
+  other_targets (insts.AtomicRMWLoop ty op trap addr operand oldval scratch1 scratch2) =
+      subst (All IsCodeSite) (sym (loop_sites ty (operator_forms ty op) (stored_register op) trap)) no_sites
+  other_targets (insts.AtomicCASLoop ty trap addr expected replacement oldval scratch) =
+      subst (All IsCodeSite) (sym (loop_sites ty (awaited_forms ty) new_register trap)) no_sites
   other_targets (insts.Call info) = call_targets (insts.Call info) refl
   other_targets (insts.CallInd info) = call_targets (insts.CallInd info) refl
   other_targets (insts.ReturnCall info) = call_targets (insts.ReturnCall info) refl

@@ -1,9 +1,10 @@
 -- The words that items are made of.
-use Rattle.std.specs.Prelude.{ℕ, ℤ, pos, negsuc, ◌-ℤ◌, Bool, true, false, ◌+◌, ◌*◌, ◌/◌, ◌%◌, ◌^◌, ◌&&◌, ◌||◌, nat_eq, nat_lt, List, [], ◌∷◌, ◌++◌, length, map, if◌then◌else◌, Option, None, Some}
+use Rattle.std.specs.Prelude.{ℕ, ℤ, pos, negsuc, ◌-ℤ◌, Bool, true, false, ◌+◌, ◌*◌, ◌/◌, ◌%◌, ◌^◌, ◌&&◌, ◌||◌, nat_eq, nat_lt, List, [], ◌∷◌, ◌++◌, length, map, if◌then◌else◌, not, is_none, Option, None, Some}
 use Rattle.std.specs.Ordering.{int_eq}
 use Rattle.std.specs.Int.RustNames.{unsigned_abs}
 use Rattle.a64_base.specs.declared.cond.Cond.TheVariants.{Gt, Lo}
-use Rattle.a64_base.specs.declared.cond.CondBrKind.TheVariants.{Cond}
+use Rattle.a64_base.specs.declared.cond.Cond.{Cond}
+use Rattle.a64_base.specs.declared.cond.CondBrKind.TheVariants as tests
 use Rattle.a64_base.specs.declared.entity.ExternalName.{ExternalName}
 use Rattle.a64_base.specs.declared.entity.MachLabel.{MachLabel}
 use Rattle.a64_base.specs.declared.entity.Reloc.{Reloc}
@@ -13,11 +14,13 @@ use Rattle.a64_base.specs.declared.entity.UserStackMap.{UserStackMap}
 use Rattle.a64_base.specs.declared.key.APIKey.{APIKey}
 use Rattle.a64_base.specs.declared.shift.ExtendOp.TheVariants.{UXTX}
 use Rattle.a64_base.specs.declared.reg.Reg.{Reg}
+use Rattle.a64_base.specs.declared.ir_type.IrType.{IrType}
 use Rattle.a64_base.specs.declared.ir_type.IrType.TheVariants.{I8, I64}
 use Rattle.a64_base.specs.Registers.{integer_register}
 use Rattle.a64_imms.specs.declared.imm12.Imm12.{Imm12}
 use Rattle.a64_ops.specs.declared.access.AccessOp.TheVariants.{SLoad32, Store32, ULoad64}
 use Rattle.a64_ops.specs.declared.operator.ALUOp.TheVariants as alu
+use Rattle.a64_ops.specs.declared.operator.AtomicRMWLoopOp.{AtomicRMWLoopOp}
 use Rattle.a64_plan.specs.Plans.{plan_of}
 use Rattle.a64_inst.specs.declared.access.Access.{Access}
 use Rattle.a64_inst.specs.declared.call.CallRetPair.{CallRetPair}
@@ -53,9 +56,12 @@ use Rattle.a64_inst.specs.declared.item.Item.{Item}
 use Rattle.a64_inst.specs.declared.item.Item.TheVariants.{Bind, Emit}
 use Rattle.a64_rows.specs.Forms.{Form, form_word}
 use Rattle.a64_emit.specs.AtomicForms as atomic
+use Rattle.a64_emit.specs.FloatForms as float
 use Rattle.a64_emit.specs.IntegerForms as integer
+use Rattle.a64_emit.specs.LoopForms as loops
 use Rattle.a64_emit.specs.ControlForms as control
 use Rattle.a64_emit.specs.MemoryForms as memory
+use Rattle.a64_emit.specs.VectorForms as vector
 use Rattle.a64_emit.specs.PlainForms.{plain_form}
 
 -- what a word is: a form of a row, or data
@@ -250,8 +256,33 @@ probe_forms start end step =
     integer.alu_rr_imm12_form alu.Sub Size64 start start step
     ∷ memory.indexed_form Store32 (integer_register 31) (integer_register 63) start 3 0
     ∷ integer.alu_rrr_form alu.AddS Size64 (integer_register 31) start end
-    ∷ control.cond_br_form (branch_targets.ResolvedOffset (negsuc 11)) (Cond Gt)
+    ∷ control.cond_br_form (branch_targets.ResolvedOffset (negsuc 11)) (tests.Cond Gt)
     ∷ control.jump_form (branch_targets.ResolvedOffset (pos 4)) ∷ []
+
+-- a branch over the next two words where the condition holds; the move of what the result is else, and a branch over the next word; and
+-- the move of what it is where the condition holds
+abbrev pub vector_select_forms : Reg → Reg → Reg → Cond → List Form
+vector_select_forms rd rn rm cond =
+    control.cond_br_form (branch_targets.ResolvedOffset (pos 12)) (tests.Cond cond)
+    ∷ float.move_vector_form rd rm
+    ∷ control.jump_form (branch_targets.ResolvedOffset (pos 8))
+    ∷ float.move_vector_form rd rn ∷ []
+
+-- ---- loops of atomic accesses
+
+-- an exclusive load and an exclusive store, each of which may trap, words between them, and a branch back to the load
+abbrev pub loop_cells : IrType → List Form → Reg → Option TrapCode → List Cell
+loop_cells ty between stored trap =
+    last_cell (FormOf (loops.load_exclusive_form ty loops.old_register loops.address_register)) None trap
+    ∷ several between (FormOf (loops.store_exclusive_form ty loops.failed_register stored loops.address_register)) None trap
+    ++ plain (loops.back_form (length between)) ∷ []
+
+-- of an operation, and of a compare and swap
+abbrev pub rmw_loop_cells : IrType → AtomicRMWLoopOp → Option TrapCode → List Cell
+rmw_loop_cells ty op trap = loop_cells ty (loops.operator_forms ty op) (loops.stored_register op) trap
+
+abbrev pub cas_loop_cells : IrType → Option TrapCode → List Cell
+cas_loop_cells ty trap = loop_cells ty (loops.awaited_forms ty) loops.new_register trap
 
 -- an instruction that is no call, and no load or store of one register. Those have the shape of their access, calls their words, and
 -- neither has one here: what is left at the end has the form of its plain word, if it is one.
@@ -261,6 +292,7 @@ plain_shape frame flags insts.Nop4 = OneWord integer.nop4_form
 plain_shape frame flags (insts.MovToNZCV rn) = OneWord (integer.mov_to_nzcv_form rn)
 plain_shape frame flags (insts.MovFromNZCV rd) = OneWord (integer.mov_from_nzcv_form rd)
 plain_shape frame flags insts.Ret = OneWord control.ret_form
+plain_shape frame flags (insts.AuthenticatedRet key is_hint) = Words (map plain (control.authenticated_ret_forms key is_hint))
 plain_shape frame flags (insts.Jump dest) = Words (branch (control.jump_form dest) uses.Branch26 dest ∷ [])
 plain_shape frame flags (insts.CondBr taken not_taken kind) = Words (branches (control.cond_br_form taken kind) uses.Branch19 taken not_taken)
 plain_shape frame flags (insts.TestBitAndBranch kind taken not_taken rn bit) = Words (branches (control.test_bit_and_branch_form kind taken rn bit) uses.Branch14 taken not_taken)
@@ -281,13 +313,21 @@ plain_shape frame flags (insts.LoadExtNameGot rd name) = Words (got_cells rd nam
 plain_shape frame flags (insts.LoadExtNameNear rd name offset) = Words (near_cells rd name offset)
 plain_shape frame flags (insts.LoadExtNameFar rd name offset) = Words (far_cells rd name offset)
 plain_shape frame flags (insts.StackProbeLoop start end step) = Words (map plain (probe_forms start end step))
+plain_shape frame flags (insts.VecCSel rd rn rm cond) = Words (map plain (vector_select_forms rd rn rm cond))
+plain_shape frame flags (insts.AtomicRMWLoop ty op trap addr operand oldval scratch1 scratch2) = Words (rmw_loop_cells ty op trap)
+plain_shape frame flags (insts.AtomicCASLoop ty trap addr expected replacement oldval scratch) = Words (cas_loop_cells ty trap)
 plain_shape frame flags (insts.LoadP64 rt rt2 mem trap) = Several [] (FormOf (memory.pair_form 1 rt rt2 mem)) None trap
 plain_shape frame flags (insts.StoreP64 rt rt2 mem trap) = Several [] (FormOf (memory.pair_form 0 rt rt2 mem)) None trap
+plain_shape frame flags (insts.FpuLoadP64 rt rt2 mem trap) = Several [] (FormOf (memory.float_pair_form 1 true rt rt2 mem)) None trap
+plain_shape frame flags (insts.FpuStoreP64 rt rt2 mem trap) = Several [] (FormOf (memory.float_pair_form 1 false rt rt2 mem)) None trap
+plain_shape frame flags (insts.FpuLoadP128 rt rt2 mem trap) = Several [] (FormOf (memory.float_pair_form 2 true rt rt2 mem)) None trap
+plain_shape frame flags (insts.FpuStoreP128 rt rt2 mem trap) = Several [] (FormOf (memory.float_pair_form 2 false rt rt2 mem)) None trap
 plain_shape frame flags (insts.AtomicRMW ty op rs rt rn trap) = Several [] (FormOf (atomic.rmw_form ty op rs rt rn)) None trap
 plain_shape frame flags (insts.AtomicCAS rd rs rt rn ty trap) = Several [] (FormOf (atomic.cas_form ty rd rt rn)) None trap
 plain_shape frame flags (insts.AtomicCAS128 args) = Several [] (FormOf (atomic.cas128_form args)) None args.flags
 plain_shape frame flags (insts.LoadAcquire access_ty rt rn trap) = Several [] (FormOf (atomic.load_acquire_form access_ty rt rn)) None trap
 plain_shape frame flags (insts.StoreRelease access_ty rt rn trap) = Several [] (FormOf (atomic.store_release_form access_ty rt rn)) None trap
+plain_shape frame flags (insts.VecLoadReplicate rd rn size trap) = Several [] (FormOf (vector.replicate_form size rd rn)) None trap
 plain_shape frame flags (insts.LoadAddr rd mem) = address_shape rd (memory.step_forms memory.offset_register (final_steps frame I8 mem)) (final_mode frame I8 mem)
 plain_shape frame flags inst = elim (plain_form inst) [ None ↦ Words [] | Some form ↦ OneWord form ]
 
@@ -351,6 +391,12 @@ patchable_cells callee pop = call_cell callee (Some (4 * (length (pop_forms pop)
 abbrev pub lone_cell : List Cell → Cell
 lone_cell [] = plain integer.nop4_form
 lone_cell (c ∷ cs) = record c { site = None }
+
+-- some words are one, which is no use, and at which no call is recorded
+abbrev pub is_lone_cells : List Cell → Bool
+is_lone_cells [] = false
+is_lone_cells (c ∷ []) = is_none c.site && not c.marks.call
+is_lone_cells (c ∷ d ∷ cs) = false
 
 -- an instruction of a list that a frame restores is its only word, which is no use; no instruction with other words may stand there
 abbrev pub restored_cell : FrameLayout → EmitFlags → Inst → Cell

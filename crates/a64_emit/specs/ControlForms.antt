@@ -1,6 +1,6 @@
 -- The forms of control instructions, and their data (Arm Architecture Reference Manual, DDI 0487, C4.1, "Branches,
 -- Exception Generating and System instructions").
-use Rattle.std.specs.Prelude.{ℕ, pos, ◌/◌, ◌%◌}
+use Rattle.std.specs.Prelude.{ℕ, pos, ◌/◌, ◌%◌, Bool, false, List, [], ◌∷◌}
 use Rattle.a64_base.specs.declared.cond.CondBrKind.{CondBrKind}
 use Rattle.a64_base.specs.declared.key.APIKey.{APIKey}
 use Rattle.a64_base.specs.declared.key.APIKey.TheVariants.{AZ, ASP, BZ, BSP}
@@ -14,12 +14,17 @@ use Rattle.a64_ops.specs.declared.system.BranchTargetType.TheVariants.{None, C, 
 use Rattle.a64_enc_int.specs.Branches.{conditional_form, nonzero_of}
 use Rattle.a64_enc_int.specs.Registers.{register_field}
 use Rattle.a64_rows.specs.Forms.{Form}
-use Rattle.a64_rows.specs.Control.{branch26, branch_reg, brk, hint, test_branch}
+use Rattle.a64_rows.specs.Control.{branch26, branch_reg, brk, hint, ret_auth, test_branch}
 use Rattle.a64_emit.specs.IntegerForms.{adr_form}
 
 -- a branch by the return class to x30 (Unconditional branch (register), RET)
 unfoldable pub ret_form : Form
 ret_form = branch_reg (record { opc = 2; rn = 30 })
+
+-- a return that authenticates its address by a key and the stack pointer: key A or B (Unconditional branch (register), RETAA and
+-- RETAB)
+unfoldable pub ret_auth_form : ℕ → Form
+ret_auth_form b = ret_auth (record { b = b })
 
 -- a branch without link, over the offset in words, or over none as long as it has a label (Unconditional branch (immediate), B)
 unfoldable pub jump_form : BranchTarget → Form
@@ -61,6 +66,13 @@ auti_number BSP = 7
 -- the return address in x30 is authenticated (Hints, AUTIAZ, AUTIASP, AUTIBZ, AUTIBSP)
 unfoldable pub auti_form : APIKey → Form
 auti_form key = hint (record { crm = 3; op2 = auti_number key })
+
+-- a return that authenticates the return address: in the same word where the modifier is the stack pointer and no hint is asked for,
+-- else by a hint before it
+abbrev pub authenticated_ret_forms : APIKey → Bool → List Form
+authenticated_ret_forms ASP false = ret_auth_form 0 ∷ []
+authenticated_ret_forms BSP false = ret_auth_form 1 ∷ []
+authenticated_ret_forms key is_hint = auti_form key ∷ ret_form ∷ []
 
 -- the number of the hint that signs the return address in x30 by a key
 abbrev pub paci_number : APIKey → ℕ

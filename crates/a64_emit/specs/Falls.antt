@@ -20,6 +20,7 @@ inst_falls (insts.CondBr taken not_taken kind) = is_distance taken || is_distanc
 inst_falls (insts.TestBitAndBranch kind taken not_taken rn bit) =
     is_distance taken || is_distance not_taken
 inst_falls insts.Ret = false
+inst_falls (insts.AuthenticatedRet key is_hint) = false
 inst_falls (insts.IndirectBr rn targets) = false
 inst_falls (insts.JTSequence default targets ridx rtmp1 rtmp2) = false
 inst_falls (insts.ReturnCall info) = false

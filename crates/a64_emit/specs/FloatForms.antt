@@ -7,9 +7,9 @@ use Rattle.a64_base.specs.declared.reg.Reg.{Reg}
 use Rattle.a64_base.specs.declared.size.ScalarSize.{ScalarSize}
 use Rattle.a64_base.specs.declared.size.ScalarSize.TheVariants.{Size8, Size16, Size32, Size64, Size128}
 use Rattle.a64_base.specs.declared.size.VectorSize.{VectorSize}
-use Rattle.a64_base.specs.declared.size.VectorSize.TheVariants.{Size8x8, Size8x16, Size16x4, Size16x8, Size32x2, Size32x4, Size64x2}
 use Rattle.a64_base.specs.Conditions.{condition_bits}
 use Rattle.a64_base.specs.ScalarSizes.{ftype_of}
+use Rattle.a64_base.specs.VectorSizes.{lane_of}
 use Rattle.a64_imms.specs.declared.asimd_fp.ASIMDFPModImm.{ASIMDFPModImm}
 use Rattle.a64_imms.specs.declared.fpu_shift.FPULeftShiftImm.{FPULeftShiftImm}
 use Rattle.a64_imms.specs.declared.fpu_shift.FPURightShiftImm.{FPURightShiftImm}
@@ -121,15 +121,14 @@ bits_to_float Size32 = record { sf = 0; ftype = 0; op = 7 }
 bits_to_float Size64 = record { sf = 1; ftype = 1; op = 7 }
 bits_to_float Size128 = record { sf = 0; ftype = 0; op = 7 }
 
--- the field imm5 of a lane: its lowest one says the lanes' size, and above it stands the lane's number
-abbrev pub lane_number : VectorSize → ℕ → ℕ
-lane_number Size8x8 idx = 1 + 2 * idx
-lane_number Size8x16 idx = 1 + 2 * idx
-lane_number Size16x4 idx = 2 + 4 * idx
-lane_number Size16x8 idx = 2 + 4 * idx
-lane_number Size32x2 idx = 4 + 8 * idx
-lane_number Size32x4 idx = 4 + 8 * idx
-lane_number Size64x2 idx = 8 + 16 * idx
+-- the field imm5 of a lane: its lowest one says the lane's size, and above it stands the lane's number. No lane has 128 bits, and its
+-- row is not read
+abbrev pub lane_number : ScalarSize → ℕ → ℕ
+lane_number Size8 idx = 1 + 2 * idx
+lane_number Size16 idx = 2 + 4 * idx
+lane_number Size32 idx = 4 + 8 * idx
+lane_number Size64 idx = 8 + 16 * idx
+lane_number Size128 idx = 0
 
 -- the fields immh and immb of a shift to the right: twice the lane's size less the amount
 abbrev pub right_field : FPURightShiftImm → ℕ
@@ -161,7 +160,7 @@ move_vector_form rd rn =
 -- Advanced SIMD scalar copy, DUP (element)
 abbrev pub move_lane_form : VectorSize → ℕ → Reg → Reg → Form
 move_lane_form size idx rd rn =
-    scalar_copy (record { imm5 = lane_number size idx; rn = register_field rn; rd = register_field rd })
+    scalar_copy (record { imm5 = lane_number (lane_of size) idx; rn = register_field rn; rd = register_field rd })
 
 -- Floating-point data-processing (1 source)
 abbrev pub one_float_form : FPUOp1 → ScalarSize → Reg → Reg → Form

@@ -1,9 +1,12 @@
 pub mod IntegerForms
 pub mod FloatForms
+pub mod VectorOperators
+pub mod VectorForms
 pub mod PlainForms
 pub mod ControlForms
 pub mod MemoryForms
 pub mod AtomicForms
+pub mod LoopForms
 pub mod Cells
 pub mod FormCells
 pub mod Words

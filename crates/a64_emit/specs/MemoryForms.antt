@@ -29,6 +29,7 @@ use Rattle.a64_rows.specs.Forms.{Form}
 use Rattle.a64_rows.specs.Memory.{ld_st_imm9, ld_st_unsigned, ld_st_reg, ld_literal, ld_st_pair}
 use Rattle.a64_enc_int.specs.Operators.{simm7_field}
 use Rattle.a64_enc_int.specs.Registers.{register_field}
+use Rattle.a64_enc_vec.specs.Operands.{vector_pair_form}
 use Rattle.a64_emit.specs.IntegerForms as integer
 
 -- ---- the steps before an access
@@ -127,9 +128,26 @@ access_steps frame access = step_forms offset_register (final_steps frame (acces
 abbrev pub access_form : FrameLayout → Access → Form
 access_form frame access = held_form access.op access.reg (final_mode frame (access_type access.op) access.mem)
 
--- ---- loads and stores of two registers of 64 bits
+-- ---- loads and stores of two registers
 
--- the index: 2 where the base stays, 3 where the offset is added to it before the access, 1 after it
+-- the index of a mode: 2 where the base stays, 3 where the offset is added to it before the access, 1 after it
+abbrev pub pair_index : PairAMode → ℕ
+pair_index (pairs.SignedOffset reg simm7) = 2
+pair_index (pairs.SPPreIndexed simm7) = 3
+pair_index (pairs.SPPostIndexed simm7) = 1
+
+-- its base, which is the stack pointer where that changes
+abbrev pub pair_base : PairAMode → Reg
+pair_base (pairs.SignedOffset reg simm7) = reg
+pair_base (pairs.SPPreIndexed simm7) = integer_register 63
+pair_base (pairs.SPPostIndexed simm7) = integer_register 63
+
+abbrev pub pair_offset : PairAMode → SImm7Scaled
+pair_offset (pairs.SignedOffset reg simm7) = simm7
+pair_offset (pairs.SPPreIndexed simm7) = simm7
+pair_offset (pairs.SPPostIndexed simm7) = simm7
+
+-- of 64 bits of general registers
 unfoldable pub pair_word_form : ℕ → ℕ → Reg → SImm7Scaled → Reg → Reg → Form
 pair_word_form load idx rn simm7 rt rt2 =
     ld_st_pair (record {
@@ -144,9 +162,11 @@ pair_word_form load idx rn simm7 rt rt2 =
     })
 
 abbrev pub pair_form : ℕ → Reg → Reg → PairAMode → Form
-pair_form load rt rt2 (pairs.SignedOffset reg simm7) = pair_word_form load 2 reg simm7 rt rt2
-pair_form load rt rt2 (pairs.SPPreIndexed simm7) = pair_word_form load 3 (integer_register 63) simm7 rt rt2
-pair_form load rt rt2 (pairs.SPPostIndexed simm7) = pair_word_form load 1 (integer_register 63) simm7 rt rt2
+pair_form load rt rt2 mem = pair_word_form load (pair_index mem) (pair_base mem) (pair_offset mem) rt rt2
+
+-- of vector registers, by the field opc: 1 for 64 bits of each, 2 for 128
+unfoldable pub float_pair_form : ℕ → Bool → Reg → Reg → PairAMode → Form
+float_pair_form opc load rt rt2 mem = vector_pair_form opc (pair_index mem) load (pair_offset mem) (pair_base mem) rt rt2
 
 -- ---- addresses
 

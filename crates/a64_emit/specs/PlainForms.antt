@@ -1,7 +1,7 @@
 -- The form of each instruction that is one plain word (Arm Architecture Reference Manual, DDI 0487, C4.1, "Data Processing --
 -- Immediate", "Data Processing -- Register", "Data Processing -- Scalar Floating-Point and Advanced SIMD", and hints and barriers of
 -- "Branches, Exception Generating and System instructions").
-use Rattle.std.specs.Prelude.{Option, None, Some}
+use Rattle.std.specs.Prelude.{true, false, Option, None, Some}
 use Rattle.a64_base.specs.declared.reg.Reg.TheVariants.{Real}
 use Rattle.a64_base.specs.declared.size.OperandSize.TheVariants.{Size64}
 use Rattle.a64_base.specs.declared.size.ScalarSize.TheVariants as scalars
@@ -14,11 +14,14 @@ use Rattle.a64_inst.specs.declared.inst.Inst.TheVariants as insts
 use Rattle.a64_rows.specs.Forms.{Form}
 use Rattle.a64_rows.specs.Control.{barrier}
 use Rattle.a64_rows.specs.DataProcessing.{bitfield, cond_compare, cond_select, data_proc1}
+use Rattle.a64_enc_int.specs.Operators.{bit_of}
 use Rattle.a64_enc_int.specs.Registers.{register_field}
 use Rattle.a64_emit.specs.ControlForms as control
 use Rattle.a64_emit.specs.FloatForms as float
 use Rattle.a64_emit.specs.IntegerForms as integer
 use Rattle.a64_emit.specs.IntegerForms.{bfm_opc, bit_opcode, product_form, shifted_form, two_registers}
+use Rattle.a64_emit.specs.VectorForms as vector
+use Rattle.a64_emit.specs.VectorOperators as operators
 
 abbrev pub plain_form : Inst → Option Form
 -- ---- integer operations with immediates
@@ -134,6 +137,38 @@ plain_form (insts.FpuCSel64 rd rn rm cond) = Some (float.select_form scalars.Siz
 plain_form (insts.FpuRound op rd rn) = Some (float.round_form op rd rn)
 plain_form (insts.MovToFpu rd rn scalar) = Some (float.conversion_form (float.bits_to_float scalar) rd rn)
 plain_form (insts.FpuMoveFPImm rd imm scalar) = Some (float.immediate_form scalar imm rd)
+-- ---- operations on vectors
+plain_form (insts.VecExtend t rd rn high_half lane_size) = Some (vector.extend_form t high_half lane_size rd rn)
+plain_form (insts.VecRRLong op rd rn high_half) = Some (vector.misc_form (bit_of high_half) (operators.long_fields op) rd rn)
+plain_form (insts.VecRRNarrowLow op rd rn lane_size) = Some (vector.misc_form 0 (operators.narrow_fields op lane_size) rd rn)
+plain_form (insts.VecRRNarrowHigh op rd ri rn lane_size) = Some (vector.misc_form 1 (operators.narrow_fields op lane_size) rd rn)
+plain_form (insts.VecRRPair op rd rn) = Some (vector.pair_form rd rn)
+plain_form (insts.VecRRRLong alu_op rd rn rm high_half) =
+    Some (vector.long_product_form (operators.product_fields alu_op) high_half rd rn rm)
+plain_form (insts.VecRRRLongMod alu_op rd ri rn rm high_half) =
+    Some (vector.long_product_form (operators.added_product_fields alu_op) high_half rd rn rm)
+plain_form (insts.VecRRPairLong op rd rn) = Some (vector.misc_form 1 (operators.pair_long_fields op) rd rn)
+plain_form (insts.VecRRR alu_op rd rn rm size) = Some (vector.three_form (operators.three_op alu_op) size rd rn rm)
+plain_form (insts.VecRRRMod alu_op rd ri rn rm size) = Some (vector.three_form (operators.kept_three_op alu_op) size rd rn rm)
+plain_form (insts.VecFmlaElem alu_op rd ri rn rm size idx) = Some (vector.element_form alu_op size idx rd rn rm)
+plain_form (insts.VecMisc op rd rn size) = Some (vector.two_form (operators.two_op op) size rd rn)
+plain_form (insts.VecLanes op rd rn size) = Some (vector.across_form (operators.across_fields op) size rd rn)
+plain_form (insts.VecShiftImm op rd rn size imm) = Some (vector.lane_shift_form op size imm rd rn)
+plain_form (insts.VecShiftImmMod op rd ri rn size imm) = Some (vector.kept_shift_form size imm rd rn)
+-- ---- moves of lanes, and tables of bytes
+plain_form (insts.MovToVec rd ri rn idx size) = Some (vector.insert_form size idx rd rn)
+plain_form (insts.MovFromVec rd rn idx scalar) = Some (vector.unsigned_move_form scalar idx rd rn)
+plain_form (insts.MovFromVecSigned rd rn idx size scalar_size) = Some (vector.signed_move_form size idx scalar_size rd rn)
+plain_form (insts.VecDup rd rn size) = Some (vector.dup_form size rd rn)
+plain_form (insts.VecDupFromFpu rd rn size lane) = Some (vector.dup_lane_form size lane rd rn)
+plain_form (insts.VecDupFPImm rd imm size) = Some (vector.dup_float_form size imm rd)
+plain_form (insts.VecDupImm rd imm invert size) = Some (vector.dup_immediate_form size imm invert rd)
+plain_form (insts.VecMovElement rd ri rn dest_idx src_idx size) = Some (vector.move_element_form size dest_idx src_idx rd rn)
+plain_form (insts.VecExtract rd rn rm imm4) = Some (vector.extract_form imm4 rd rn rm)
+plain_form (insts.VecTbl rd rn rm) = Some (vector.table_form false false rd rn rm)
+plain_form (insts.VecTblExt rd ri rn rm) = Some (vector.table_form false true rd rn rm)
+plain_form (insts.VecTbl2 rd rn rn2 rm) = Some (vector.table_form true false rd rn rm)
+plain_form (insts.VecTbl2Ext rd ri rn rn2 rm) = Some (vector.table_form true true rd rn rm)
 -- ---- hints and barriers
 plain_form insts.Csdb = Some control.csdb_form
 -- Barriers, DMB ISH

@@ -31,6 +31,7 @@ use Rattle.a64_label_use.specs.declared.label_use.LabelUse.TheVariants.{Adr21, B
 use Rattle.a64_emit.specs.declared.site.Site.{Site}
 use Rattle.a64_label_use.specs.LabelUses.{urgency_of}
 use Rattle.a64_emit.specs.ControlForms.{cond_br_form, jump_form, label_address_form, test_bit_and_branch_form, trap_if_form}
+use Rattle.a64_emit.specs.declared.word.exclusive.LoopWords.{LoopWords}
 use Rattle.a64_emit.specs.declared.call.Callee.{Callee}
 use Rattle.a64_emit.specs.declared.call.Callee.TheVariants.{Symbol, Address}
 use Rattle.a64_emit.specs.Cells.{Data, Cell, Shape, OneWord, Several, Words, body_word, call_marks, cell_word, last_cell, branch_site, trap_site, shape_of, other_cells}
@@ -107,6 +108,19 @@ put_label_address dst label =
 -- a cell as its word is put
 abbrev pub as_put : Cell → Cell
 as_put cell = record { body = Data (cell_word cell); site = cell.site; marks = cell.marks }
+
+-- the words of a loop as they are put: its store and the words between, and behind it the branch back
+abbrev pub put_rest : LoopWords → List Cell
+put_rest words = put_cells words.store.first.items words.store.last None words.store.trap ++ put_cell words.back None None ∷ []
+
+-- and before them the load, which may trap where the store may
+abbrev pub put_loop : LoopWords → List Cell
+put_loop words = put_cell words.load None words.store.trap ∷ put_rest words
+
+-- words are those of a loop, none of which is a use
+pub record AreLoop (words : LoopWords) (cells : List Cell) : Type 0 where
+  pub site : words.store.site ≡ None
+  pub put : put_loop words ≡ map as_put cells
 
 -- what is put for an instruction that is not one word without a use
 abbrev pub put_for : FrameLayout → EmitFlags → Inst → List Cell

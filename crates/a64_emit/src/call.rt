@@ -285,32 +285,28 @@ pub fn emit_calling(
 {
     match inst {
         Inst::Call { info } => {
-            let call = info.get();
-            let callee = Callee::Symbol(call.dest);
-            if call.patchable {
-                emit_patchable(sink, &callee, call.callee_pop_size, kept)
+            let callee = Callee::Symbol(info.dest);
+            if info.patchable {
+                emit_patchable(sink, &callee, info.callee_pop_size, kept)
             } else {
-                emit_call(sink, settings, frame, &callee, call, kept)
+                emit_call(sink, settings, frame, &callee, info, kept)
             }
         }
         Inst::CallInd { info } => {
-            let call = info.get();
             emit_call(
                 sink,
                 settings,
                 frame,
-                &Callee::Address(call.dest),
-                call,
+                &Callee::Address(info.dest),
+                info,
                 kept,
             )
         }
         Inst::ReturnCall { info } => {
-            let call = info.get();
-            emit_return(sink, settings, frame, &Callee::Symbol(call.dest), call)
+            emit_return(sink, settings, frame, &Callee::Symbol(info.dest), info)
         }
         Inst::ReturnCallInd { info } => {
-            let call = info.get();
-            emit_return(sink, settings, frame, &Callee::Address(call.dest), call)
+            emit_return(sink, settings, frame, &Callee::Address(info.dest), info)
         }
         _ => unreachable!(),
     }

@@ -105,16 +105,15 @@ pub fn call_count(inst: &Inst, frame: &FrameLayout, info: &EmitInfo) -> u64
 {
     match inst {
         Inst::Call { info: call } => {
-            let call = call.get();
             if call.patchable {
                 1 + adjust_count(call.callee_pop_size)
             } else {
                 calling_count(frame, info, call)
             }
         }
-        Inst::CallInd { info: call } => calling_count(frame, info, call.get()),
-        Inst::ReturnCall { info: call } => return_count(frame, info, call.get()),
-        Inst::ReturnCallInd { info: call } => return_count(frame, info, call.get()),
+        Inst::CallInd { info: call } => calling_count(frame, info, call),
+        Inst::ReturnCall { info: call } => return_count(frame, info, call),
+        Inst::ReturnCallInd { info: call } => return_count(frame, info, call),
         _ => unreachable!(),
     }
 }

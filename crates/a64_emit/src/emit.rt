@@ -14,7 +14,8 @@ ghost use Rattle.a64_buffer.specs.Classes.{Fits};
 ghost use Rattle.a64_label_use.specs.declared.label_use.LabelUse.{LabelUse};
 ghost use Rattle.a64_emit.specs.Bounds.{asked_of};
 ghost use Rattle.a64_emit.specs.Cells as cells;
-ghost use Rattle.a64_emit.specs.Cells.{Data, data_cell, reloc_cell, inst_cells, kept_cells};
+ghost use Rattle.a64_emit.specs.Cells.{Data, data_cell, plain, reloc_cell, inst_cells, kept_cells};
+ghost use Rattle.a64_emit.specs.ControlForms.{authenticated_ret_forms};
 ghost use Rattle.a64_emit.specs.Words.{MayBePut, IsThere, as_put, put_branches, put_cell, put_cells, put_cond_br, put_for, put_jump, put_label_address, put_test_bit, put_trap_if};
 ghost use Rattle.a64_label_use.specs.LabelUses.{label_kinds};
 ghost use Rattle.a64_emit.specs.Emission.{trapped, CanPut, PutsCells, PutsInPart, IslandsIfNeeded, Puts, Emits, EmitsInPart, IsAppendedInPart, HasIslandRoom, IsReady};
@@ -25,14 +26,14 @@ use crate::sequence::emit_sequence;
 use crate::site::Site;
 use crate::uses::{branch_site, trap_site};
 use crate::word::control::{
-    UDF_WORD, cond_br_word, jump_word, label_address_word, only_control_word,
-    test_bit_and_branch_word, trap_if_word,
+    UDF_WORD, authenticated_ret_words, cond_br_word, jump_word, label_address_word,
+    only_control_word, test_bit_and_branch_word, trap_if_word,
 };
 use crate::word::memory::{SeveralWords, held_memory_word, memory_words};
 use crate::word::plain::plain_word;
 use a64_base::{
-    BranchTarget, CondBrKind, ExternalName, MachLabel, Reg, Reloc, TestBitAndBranchKind, TrapCode,
-    UserStackMap, Writable,
+    APIKey, BranchTarget, CondBrKind, ExternalName, MachLabel, Reg, Reloc, TestBitAndBranchKind,
+    TrapCode, UserStackMap, Writable,
 };
 use a64_buffer::{ForceVeneers, MachBuffer, Target};
 use a64_inst::{EmitInfo, EmitState, FrameLayout, Group, Inst};
@@ -164,7 +165,10 @@ pub fn emit_last(
 }
 
 /// Words of which only the last may be a use, and may trap.
-fn emit_several(sink: &mut MachBuffer<'_, LabelUse>, words: &SeveralWords) -> Result<(), AllocError>
+pub fn emit_several(
+    sink: &mut MachBuffer<'_, LabelUse>,
+    words: &SeveralWords,
+) -> Result<(), AllocError>
     requires lawful { IfSome words.now.site (MayBePut sink.old.constants) }
     requires can { CanPut sink.old
         (put_cells words.now.first.items words.now.last words.now.site words.now.trap) }
@@ -324,6 +328,20 @@ fn emit_label_address(
     emit_branch(sink, word, LabelUse::Adr21, BranchTarget::Label(label))
 }
 
+/// A return that authenticates its address.
+#[inline(never)]
+fn emit_authenticated_ret(
+    sink: &mut MachBuffer<'_, LabelUse>,
+    key: APIKey,
+    is_hint: bool,
+) -> Result<(), AllocError>
+    requires { CanPut sink.old (map as_put (map plain (authenticated_ret_forms key is_hint))) }
+    ensures { PutsCells result sink.old sink.new
+        (map as_put (map plain (authenticated_ret_forms key is_hint))) }
+{
+    put_words(sink, authenticated_ret_words(key, is_hint).as_slice())
+}
+
 /// A data word, which is no use, at which a trap is recorded where it may trap.
 #[inline(never)]
 fn emit_data(
@@ -375,6 +393,7 @@ fn emit_control(
         } => emit_test_bit_and_branch(sink, *kind, taken, not_taken, rn, *bit),
         Inst::TrapIf { kind, trap_code } => emit_trap_if(sink, kind, *trap_code),
         Inst::LabelAddress { dst, label } => emit_label_address(sink, dst, *label),
+        Inst::AuthenticatedRet { key, is_hint } => { emit_authenticated_ret(sink, *key, *is_hint) }
         Inst::Udf { trap_code } => emit_data(sink, UDF_WORD, Some(*trap_code)),
         Inst::Word4 { value } => emit_data(sink, *value, None),
         Inst::Word8 { value } => emit_word8(sink, *value),

@@ -17,6 +17,8 @@ ghost use Rattle.a64_emit.specs.Lights.{IsLight, IsModeLight};
 use crate::call_extent::call_count;
 use crate::site::{Site, Uses};
 use crate::uses::{call_uses, control_uses, memory_uses, only_use, sequence_uses, table_start};
+use crate::word::control::authenticated_ret_count;
+use crate::word::exclusive::operator_count;
 use crate::word::memory::memory_count;
 use a64_base::BranchTarget;
 use a64_buffer::{MachInstLabelUse, Target};
@@ -150,11 +152,13 @@ fn control_count(inst: &Inst, _frame: &FrameLayout, _info: &EmitInfo) -> u64
     match inst {
         Inst::Nop0 | Inst::EmitIsland { .. } => 0,
         Inst::CondBr { .. } | Inst::TestBitAndBranch { .. } | Inst::Word8 { .. } => 2,
+        Inst::AuthenticatedRet { key, is_hint } => authenticated_ret_count(*key, *is_hint),
         _ => 1,
     }
 }
 
 /// How many words a sequence has.
+#[tactic(auto, using(crate::proofs::Loops::loop_length))]
 fn sequence_count(inst: &Inst, _frame: &FrameLayout, info: &EmitInfo) -> u64
     requires { group_of inst.now ≡ Sequence }
     ensures { result ≡ length (inst_cells _frame.now info.now inst.now) }
@@ -165,8 +169,10 @@ fn sequence_count(inst: &Inst, _frame: &FrameLayout, info: &EmitInfo) -> u64
             table_start(targets, info) as u64 + targets as u64 + 1
         }
         Inst::LoadExtNameGot { .. } | Inst::LoadExtNameNear { .. } => 2,
-        Inst::LoadExtNameFar { .. } => 4,
+        Inst::LoadExtNameFar { .. } | Inst::VecCSel { .. } => 4,
         Inst::StackProbeLoop { .. } => 5,
+        Inst::AtomicRMWLoop { ty, op, .. } => operator_count(*ty, *op) as u64 + 3,
+        Inst::AtomicCASLoop { .. } => 5,
         _ => 0,
     }
 }

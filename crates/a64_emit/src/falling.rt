@@ -23,6 +23,7 @@ pub fn falls(inst: &Inst) -> bool
             ..
         } => taken.as_label().is_none() || not_taken.as_label().is_none(),
         Inst::Ret
+        | Inst::AuthenticatedRet { .. }
         | Inst::IndirectBr { .. }
         | Inst::JTSequence { .. }
         | Inst::ReturnCall { .. }

@@ -25,7 +25,7 @@ pub use error::EmitError;
 pub use extent::{Burden, Extent, Light, asked_space, burden_of, inst_light, lesser, light_of};
 pub use falling::falls;
 pub use halfword::{has_halfword, restores_halfwords};
-pub use one_word::is_one_word;
+pub use one_word::{is_one_word, is_restored_exactly};
 pub use site::{Site, Table, Uses, near_label};
 pub use state::MachInstEmitState;
 pub use uses::uses_in;

@@ -1,26 +1,30 @@
-//! Emission of sequences around tables, symbols and the stack.
+//! Emission of sequences around tables, symbols and the stack, of loops of atomic accesses, and of selects of vectors.
 
 ghost use Rattle.std.specs.Prelude.{◌≡◌, [], ◌∷◌, map, true, None, Some};
 ghost use Rattle.a64_base.specs.declared.entity.Reloc.TheVariants.{Abs8};
 ghost use Rattle.a64_inst.specs.declared.group.Group.TheVariants.{Sequence};
 ghost use Rattle.a64_inst.specs.declared.virtuals.VirtualRegisters.TheVariants.{Refused};
+ghost use Rattle.a64_inst.specs.AtomicOperands.{is_atomic_type};
 ghost use Rattle.a64_inst.specs.Faults.{has_operands};
 ghost use Rattle.a64_inst.specs.Groups.{group_of};
 ghost use Rattle.a64_inst.specs.Operands.{is_register};
 ghost use Rattle.a64_inst.specs.SequenceOperands.{are_table_operands, are_probe_operands};
-ghost use Rattle.a64_emit.specs.Cells.{Data, plain, data_cell, reloc_cell, entry_site, table_labels, table_cells, table_jump, got_cells, near_cells, far_cells, probe_forms};
-ghost use Rattle.a64_emit.specs.Words.{put_cell, as_put, put_for};
+ghost use Rattle.a64_inst.specs.VectorOperands.{are_select_operands};
+ghost use Rattle.a64_emit.specs.Cells.{Data, plain, data_cell, reloc_cell, entry_site, table_labels, table_cells, table_jump, got_cells, near_cells, far_cells, probe_forms, vector_select_forms, cas_loop_cells, rmw_loop_cells};
+ghost use Rattle.a64_emit.specs.Words.{put_cell, as_put, put_for, put_loop, put_rest};
 ghost use Rattle.a64_emit.specs.Emission.{CanPut, PutsCells};
 
-use crate::emit::{emit_last, put_reloc, put_using, put_words};
+use crate::emit::{emit_last, emit_several, put_reloc, put_using, put_words};
 use crate::site::Site;
+use crate::word::exclusive::{LoopWords, cas_loop_words, rmw_loop_words};
 use crate::word::sequence::{
     far_words, offset_entry_word, page_word, place_word, probe_words, table_words,
+    vector_select_words,
 };
-use a64_base::{ExternalName, MachLabel, Reg, Reloc, Writable};
+use a64_base::{Cond, ExternalName, IrType, MachLabel, Reg, Reloc, TrapCode, Writable};
 use a64_buffer::{MachBuffer, Target};
 use a64_imms::Imm12;
-use a64_inst::{EmitInfo, FrameLayout, Inst};
+use a64_inst::{AtomicRMWLoopOp, EmitInfo, FrameLayout, Inst};
 use a64_label_use::LabelUse;
 use std::alloc::AllocError;
 
@@ -185,7 +189,72 @@ fn emit_probe(
     put_words(sink, probe_words(info, start, end, step).as_slice())
 }
 
-/// A sequence around a table, a symbol or the stack, or nothing for what has no word.
+/// A select of one of two vectors.
+fn emit_vector_select(
+    sink: &mut MachBuffer<'_, LabelUse>,
+    rd: Writable<Reg>,
+    rn: Reg,
+    rm: Reg,
+    cond: Cond,
+) -> Result<(), AllocError>
+    requires good { are_select_operands Refused rd rn rm ≡ true }
+    requires can { CanPut sink.old (map as_put (map plain (vector_select_forms rd rn rm cond))) }
+    ensures { PutsCells result sink.old sink.new
+        (map as_put (map plain (vector_select_forms rd rn rm cond))) }
+{
+    put_words(sink, vector_select_words(rd, rn, rm, cond).as_slice())
+}
+
+/// The store of a loop, with the words before it, and the branch back.
+fn put_rest(sink: &mut MachBuffer<'_, LabelUse>, words: &LoopWords) -> Result<(), AllocError>
+    requires site { words.now.store.site ≡ None }
+    requires can { CanPut sink.old (put_rest words.now) }
+    ensures { PutsCells result sink.old sink.new (put_rest words.now) }
+{
+    emit_several(sink, &words.store)?;
+    emit_last(sink, words.back, None, None)
+}
+
+/// A loop of an exclusive load and an exclusive store.
+#[inline(never)]
+fn emit_loop(sink: &mut MachBuffer<'_, LabelUse>, words: &LoopWords) -> Result<(), AllocError>
+    requires site { words.now.store.site ≡ None }
+    requires can { CanPut sink.old (put_loop words.now) }
+    ensures { PutsCells result sink.old sink.new (put_loop words.now) }
+{
+    emit_last(sink, words.load, None, words.store.trap)?;
+    put_rest(sink, words)
+}
+
+/// An atomic operation as a loop.
+fn emit_rmw_loop(
+    sink: &mut MachBuffer<'_, LabelUse>,
+    ty: IrType,
+    op: AtomicRMWLoopOp,
+    trap: Option<TrapCode>,
+) -> Result<(), AllocError>
+    requires ty { is_atomic_type ty ≡ true }
+    requires can { CanPut sink.old (map as_put (rmw_loop_cells ty op trap)) }
+    ensures { PutsCells result sink.old sink.new (map as_put (rmw_loop_cells ty op trap)) }
+{
+    emit_loop(sink, &rmw_loop_words(ty, op, trap))
+}
+
+/// A compare and swap as a loop.
+fn emit_cas_loop(
+    sink: &mut MachBuffer<'_, LabelUse>,
+    ty: IrType,
+    trap: Option<TrapCode>,
+) -> Result<(), AllocError>
+    requires ty { is_atomic_type ty ≡ true }
+    requires can { CanPut sink.old (map as_put (cas_loop_cells ty trap)) }
+    ensures { PutsCells result sink.old sink.new (map as_put (cas_loop_cells ty trap)) }
+{
+    emit_loop(sink, &cas_loop_words(ty, trap))
+}
+
+/// A sequence around a table, a symbol or the stack, a loop of atomic accesses, a select of vectors, or nothing for what has no word.
+#[tactic(auto, using(crate::proofs::SequenceOperands::loop_type))]
 #[inline(never)]
 pub fn emit_sequence(
     inst: &Inst,
@@ -218,6 +287,11 @@ pub fn emit_sequence(
         Inst::LoadExtNameNear { rd, name, offset } => emit_near(sink, *rd, *name, *offset),
         Inst::LoadExtNameFar { rd, name, offset } => emit_far(sink, *rd, *name, *offset),
         Inst::StackProbeLoop { start, end, step } => emit_probe(sink, info, *start, *end, *step),
+        Inst::VecCSel { rd, rn, rm, cond } => emit_vector_select(sink, *rd, *rn, *rm, *cond),
+        Inst::AtomicRMWLoop { ty, op, flags, .. } => {
+            emit_rmw_loop(sink, *ty, *op, flags.trap_code())
+        }
+        Inst::AtomicCASLoop { ty, flags, .. } => emit_cas_loop(sink, *ty, flags.trap_code()),
         _ => Ok(()),
     }
 }

@@ -65,6 +65,7 @@ fn branches_uses<'a>(kind: LabelUse, taken: BranchTarget, not_taken: BranchTarge
 }
 
 /// The uses of the words of a branch, an address or data.
+#[tactic(auto, using(crate::proofs::Loops::return_uses))]
 #[inline(always)]
 pub fn control_uses<'a>(inst: &'a Inst, _frame: &FrameLayout, _info: &EmitInfo) -> Uses<'a>
     requires { group_of inst.now ≡ Control }
@@ -184,6 +185,7 @@ pub fn table_start(targets: usize, info: &EmitInfo) -> usize
 }
 
 /// The uses of the words of a sequence: the entries of the table behind a jump through one.
+#[tactic(auto, using(crate::proofs::Loops::loop_uses))]
 pub fn sequence_uses<'a>(inst: &'a Inst, _frame: &FrameLayout, info: &EmitInfo) -> Uses<'a>
     requires { group_of inst.now ≡ Sequence }
     ensures { inst_uses _frame.now info.now inst.now ≡ listed_uses result }

@@ -2,6 +2,7 @@
 
 pub mod call;
 pub mod control;
+pub mod exclusive;
 pub mod memory;
 pub mod plain;
 pub mod sequence;

@@ -12,5 +12,8 @@ mod vector;
 pub use float::{
     enc_fcmp, enc_fcsel, enc_fpurr, enc_fpurrr, enc_fpurrrr, enc_fputoint, enc_fround, enc_inttofpu,
 };
-pub use memory::enc_ldst_vec_pair;
-pub use vector::{enc_asimd_mod_imm, enc_vec_rrr};
+pub use memory::{enc_ldst_vec, enc_ldst_vec_pair};
+pub use vector::{
+    enc_asimd_mod_imm, enc_tbl, enc_vec_lanes, enc_vec_rr_misc, enc_vec_rr_pair,
+    enc_vec_rr_pair_long, enc_vec_rrr, enc_vec_rrr_long, enc_vecmov,
+};

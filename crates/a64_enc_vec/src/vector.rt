@@ -4,7 +4,17 @@ ghost use Rattle.std.specs.Prelude.{◌≡◌, ◌<◌, ◌^◌};
 ghost use Rattle.a64_rows.specs.Forms.{form_word, IsFormOf};
 ghost use Rattle.a64_enc_int.specs.Named.{rrr_number, AreParts, NamedForm};
 ghost use Rattle.a64_enc_vec.specs.Named.{rows_of_vec_rrr};
-ghost use Rattle.a64_enc_vec.specs.Operands.{mod_imm_form, vector_number};
+ghost use Rattle.a64_enc_vec.specs.Operands.{
+  long_form,
+  mod_imm_form,
+  table_form,
+  vector_lanes_form,
+  vector_misc_form,
+  vector_mov_form,
+  vector_number,
+  vector_pair_long_form,
+  vector_pair_sum_form,
+};
 ghost use Rattle.a64_enc_vec.specs.Registers.{IsVector};
 
 use crate::register::vector_field;
@@ -19,19 +29,21 @@ fn pack_vec_rrr(top: u32, low: u32, rm: u32, rn: u32, rd: u32) -> u32
     ensures { result ≡ rrr_number top low rd rn rm }
 {
     let (q, u, size) = ((top >> 9) % 2, (top >> 8) % 2, (top >> 1) % 4);
-    if top % 2 == 1 {
+    if (top >> 3) % 2 == 1 {
+        let (sz, l) = ((top >> 1) % 2, top % 2);
+        let (o2, h) = ((low >> 4) % 2, (low >> 1) % 2);
+        pack(Row::VecElem, &[q, sz, l, rm, o2, h, rn, rd])
+    } else if top % 2 == 1 {
         pack(Row::VecThree, &[q, u, size, rm, low >> 1, rn, rd])
+    } else if low % 2 == 1 {
+        pack(Row::VecDot, &[q, (low >> 1) % 2, rm, rn, rd])
     } else {
-        if low % 2 == 1 {
-            pack(Row::VecDot, &[q, (low >> 1) % 2, rm, rn, rd])
-        } else {
-            pack(Row::VecPermute, &[size, rm, (low >> 2) % 8, rn, rd])
-        }
+        pack(Row::VecPermute, &[size, rm, (low >> 2) % 8, rn, rd])
     }
 }
 
-/// Encodes an operation on two vectors: `top11` and `bit15_10` are the word's bits 31 to 21 and 15 to 10 (rows `VecThree`,
-/// `VecPermute` and `VecDot`).
+/// Encodes an operation on two vectors, or on a vector and an element: `top11` and `bit15_10` are the word's bits 31 to 21
+/// and 15 to 10 (rows `VecThree`, `VecPermute`, `VecDot` and `VecElem`).
 pub fn enc_vec_rrr(top11: u32, rm: Reg, bit15_10: u32, rn: Reg, rd: Writable<Reg>) -> u32
     requires top11 { top11 < 2 ^ 11 }
     requires rm { IsVector rm }
@@ -48,6 +60,114 @@ pub fn enc_vec_rrr(top11: u32, rm: Reg, bit15_10: u32, rn: Reg, rd: Writable<Reg
         vector_field(rd.to_reg()),
     );
     pack_vec_rrr(top11, bit15_10, rm, rn, rd)
+}
+
+/// Encodes an operation on two vectors whose result has lanes twice as long: `q` is 1 for the upper halves, and `bit14` for
+/// a product that is not added (row `VecLong3`).
+pub fn enc_vec_rrr_long(
+    q: u32,
+    u: u32,
+    size: u32,
+    bit14: u32,
+    rm: Reg,
+    rn: Reg,
+    rd: Writable<Reg>,
+) -> u32
+    requires q { q < 2 }
+    requires u { u < 2 }
+    requires size { size < 4 }
+    requires bit14 { bit14 < 2 }
+    requires rm { IsVector rm }
+    requires rn { IsVector rn }
+    requires rd { IsVector rd }
+    ensures form { IsFormOf (long_form q u size bit14 rm rn rd) }
+    ensures word { result ≡ form_word (long_form q u size bit14 rm rn rd) }
+{
+    let (rm, rn) = (vector_field(rm), vector_field(rn));
+    let rd = vector_field(rd.to_reg());
+    pack(Row::VecLong3, &[q, u, size, bit14, rm, rn, rd])
+}
+
+/// Encodes a move of 16 bytes, or of the lower 8: the or of a vector with itself (row `VecThree`).
+pub fn enc_vecmov(is_16b: bool, rd: Writable<Reg>, rn: Reg) -> u32
+    requires rd { IsVector rd }
+    requires rn { IsVector rn }
+    ensures form { IsFormOf (vector_mov_form is_16b rd rn) }
+    ensures word { result ≡ form_word (vector_mov_form is_16b rd rn) }
+{
+    let (rn, rd) = (vector_field(rn), vector_field(rd.to_reg()));
+    pack(Row::VecThree, &[u32::from(is_16b), 0, 2, rn, 3, rn, rd])
+}
+
+/// Encodes an operation on one vector: `qu` is the bits Q and U (row `VecTwo`).
+pub fn enc_vec_rr_misc(qu: u32, size: u32, bits_12_16: u32, rd: Writable<Reg>, rn: Reg) -> u32
+    requires qu { qu < 4 }
+    requires size { size < 4 }
+    requires bits_12_16 { bits_12_16 < 32 }
+    requires rd { IsVector rd }
+    requires rn { IsVector rn }
+    ensures form { IsFormOf (vector_misc_form qu size bits_12_16 rd rn) }
+    ensures word { result ≡ form_word (vector_misc_form qu size bits_12_16 rd rn) }
+{
+    let (rn, rd) = (vector_field(rn), vector_field(rd.to_reg()));
+    pack(Row::VecTwo, &[qu / 2, qu % 2, size, bits_12_16, rn, rd])
+}
+
+/// Encodes the sum of the two lanes of a vector: `bits_12_16` says that it is one (row `VecScalarPair`).
+pub fn enc_vec_rr_pair(bits_12_16: u32, rd: Writable<Reg>, rn: Reg) -> u32
+    requires bits_12_16 { bits_12_16 ≡ 0b11011 }
+    requires rd { IsVector rd }
+    requires rn { IsVector rn }
+    ensures form { IsFormOf (vector_pair_sum_form rd rn) }
+    ensures word { result ≡ form_word (vector_pair_sum_form rd rn) }
+{
+    prove!(bits_12_16 == 0b11011);
+    let (rn, rd) = (vector_field(rn), vector_field(rd.to_reg()));
+    pack(Row::VecScalarPair, &[rn, rd])
+}
+
+/// Encodes the sums of neighbouring lanes, each twice as long: `u` is 1 for unsigned lanes, and `enc_size` for those of
+/// 16 bits (row `VecTwo`).
+pub fn enc_vec_rr_pair_long(u: u32, enc_size: u32, rd: Writable<Reg>, rn: Reg) -> u32
+    requires u { u < 2 }
+    requires enc_size { enc_size < 2 }
+    requires rd { IsVector rd }
+    requires rn { IsVector rn }
+    ensures form { IsFormOf (vector_pair_long_form u enc_size rd rn) }
+    ensures word { result ≡ form_word (vector_pair_long_form u enc_size rd rn) }
+{
+    let (rn, rd) = (vector_field(rn), vector_field(rd.to_reg()));
+    pack(Row::VecTwo, &[1, u, enc_size, 2, rn, rd])
+}
+
+/// Encodes an operation over the lanes of a vector (row `VecAcross`).
+pub fn enc_vec_lanes(q: u32, u: u32, size: u32, opcode: u32, rd: Writable<Reg>, rn: Reg) -> u32
+    requires q { q < 2 }
+    requires u { u < 2 }
+    requires size { size < 4 }
+    requires opcode { opcode < 32 }
+    requires rd { IsVector rd }
+    requires rn { IsVector rn }
+    ensures form { IsFormOf (vector_lanes_form q u size opcode rd rn) }
+    ensures word { result ≡ form_word (vector_lanes_form q u size opcode rd rn) }
+{
+    let (rn, rd) = (vector_field(rn), vector_field(rd.to_reg()));
+    pack(Row::VecAcross, &[q, u, size, opcode, rn, rd])
+}
+
+/// Encodes a lookup in a table of one vector (`len` 0) or two (`len` 1), of which an extension keeps the lanes that it does
+/// not find (row `VecTable`).
+pub fn enc_tbl(is_extension: bool, len: u32, rd: Writable<Reg>, rn: Reg, rm: Reg) -> u32
+    requires len { len < 2 }
+    requires rd { IsVector rd }
+    requires rn { IsVector rn }
+    requires rm { IsVector rm }
+    ensures form { IsFormOf (table_form is_extension len rd rn rm) }
+    ensures word { result ≡ form_word (table_form is_extension len rd rn rm) }
+{
+    let (rm, rn) = (vector_field(rm), vector_field(rn));
+    let rd = vector_field(rd.to_reg());
+    pack(Row::VecTable, &[rm, len, u32::from(is_extension), rn, rd])
 }
 
 /// Encodes a modified immediate: `q_op` is the bits Q and op, and `imm` the fields abc and defgh in one (row `VecImm`).

@@ -63,24 +63,24 @@ sheet (insts.FpuMove64 rd rn) = Def Vector rd ∷ Use Vector rn ∷ []
 sheet (insts.FpuMove128 rd rn) = Def Vector rd ∷ Use Vector rn ∷ []
 sheet (insts.FpuMoveFromVec rd rn idx size) =
     Def Vector rd ∷ Use Vector rn ∷ Is (fields.U8 idx) ∷ Is (fields.VectorSize size) ∷ []
-sheet (insts.FpuExtend rd rn size) = Def Vector rd ∷ Use Vector rn ∷ Is (fields.ScalarSize size) ∷ []
-sheet (insts.FpuRR fpu_op size rd rn) =
-    Is (fields.FpuOp1 fpu_op) ∷ Is (fields.ScalarSize size) ∷ Def Vector rd ∷ Use Vector rn ∷ []
-sheet (insts.FpuRRR fpu_op size rd rn rm) =
-    Is (fields.FpuOp2 fpu_op) ∷ Is (fields.ScalarSize size) ∷ Def Vector rd ∷ Use Vector rn ∷ Use Vector rm ∷ []
+sheet (insts.FpuExtend rd rn scalar) = Def Vector rd ∷ Use Vector rn ∷ Is (fields.ScalarSize scalar) ∷ []
+sheet (insts.FpuRR fpu_op scalar rd rn) =
+    Is (fields.FpuOp1 fpu_op) ∷ Is (fields.ScalarSize scalar) ∷ Def Vector rd ∷ Use Vector rn ∷ []
+sheet (insts.FpuRRR fpu_op scalar rd rn rm) =
+    Is (fields.FpuOp2 fpu_op) ∷ Is (fields.ScalarSize scalar) ∷ Def Vector rd ∷ Use Vector rn ∷ Use Vector rm ∷ []
 sheet (insts.FpuRRI fpu_op rd rn) = Is (fields.FpuOpRI fpu_op) ∷ Def Vector rd ∷ Use Vector rn ∷ []
 sheet (insts.FpuRRIMod fpu_op rd ri rn) = Is (fields.FpuOpRIMod fpu_op) ∷ Def Vector rd ∷ Use Vector ri ∷ Use Vector rn ∷ []
-sheet (insts.FpuRRRR fpu_op size rd rn rm ra) =
-    Is (fields.FpuOp3 fpu_op) ∷ Is (fields.ScalarSize size) ∷ Def Vector rd ∷ Use Vector rn ∷ Use Vector rm ∷ Use Vector ra ∷ []
-sheet (insts.FpuCmp size rn rm) = Is (fields.ScalarSize size) ∷ Use Vector rn ∷ Use Vector rm ∷ []
+sheet (insts.FpuRRRR fpu_op scalar rd rn rm ra) =
+    Is (fields.FpuOp3 fpu_op) ∷ Is (fields.ScalarSize scalar) ∷ Def Vector rd ∷ Use Vector rn ∷ Use Vector rm ∷ Use Vector ra ∷ []
+sheet (insts.FpuCmp scalar rn rm) = Is (fields.ScalarSize scalar) ∷ Use Vector rn ∷ Use Vector rm ∷ []
 sheet (insts.FpuToInt op rd rn) = Is (fields.FpuToIntOp op) ∷ Def Zero rd ∷ Use Vector rn ∷ []
 sheet (insts.IntToFpu op rd rn) = Is (fields.IntToFpuOp op) ∷ Def Vector rd ∷ Use Zero rn ∷ []
 sheet (insts.FpuCSel16 rd rn rm cond) = Def Vector rd ∷ Use Vector rn ∷ Use Vector rm ∷ Is (fields.Cond cond) ∷ []
 sheet (insts.FpuCSel32 rd rn rm cond) = Def Vector rd ∷ Use Vector rn ∷ Use Vector rm ∷ Is (fields.Cond cond) ∷ []
 sheet (insts.FpuCSel64 rd rn rm cond) = Def Vector rd ∷ Use Vector rn ∷ Use Vector rm ∷ Is (fields.Cond cond) ∷ []
 sheet (insts.FpuRound op rd rn) = Is (fields.FpuRoundMode op) ∷ Def Vector rd ∷ Use Vector rn ∷ []
-sheet (insts.MovToFpu rd rn size) = Def Vector rd ∷ Use Zero rn ∷ Is (fields.ScalarSize size) ∷ []
-sheet (insts.FpuMoveFPImm rd imm size) = Def Vector rd ∷ Is (fields.FloatImm imm) ∷ Is (fields.ScalarSize size) ∷ []
+sheet (insts.MovToFpu rd rn scalar) = Def Vector rd ∷ Use Zero rn ∷ Is (fields.ScalarSize scalar) ∷ []
+sheet (insts.FpuMoveFPImm rd imm scalar) = Def Vector rd ∷ Is (fields.FloatImm imm) ∷ Is (fields.ScalarSize scalar) ∷ []
 -- operations on vectors
 sheet (insts.VecExtend t rd rn high_half lane_size) =
     Is (fields.VecExtendOp t) ∷ Def Vector rd ∷ Use Vector rn
@@ -117,7 +117,7 @@ sheet (insts.VecShiftImmMod op rd ri rn size imm) =
 -- moves of lanes, and tables of bytes
 sheet (insts.MovToVec rd ri rn idx size) =
     Def Vector rd ∷ Use Vector ri ∷ Use Zero rn ∷ Is (fields.U8 idx) ∷ Is (fields.VectorSize size) ∷ []
-sheet (insts.MovFromVec rd rn idx size) = Def Zero rd ∷ Use Vector rn ∷ Is (fields.U8 idx) ∷ Is (fields.ScalarSize size) ∷ []
+sheet (insts.MovFromVec rd rn idx scalar) = Def Zero rd ∷ Use Vector rn ∷ Is (fields.U8 idx) ∷ Is (fields.ScalarSize scalar) ∷ []
 sheet (insts.MovFromVecSigned rd rn idx size scalar_size) =
     Def Zero rd ∷ Use Vector rn ∷ Is (fields.U8 idx) ∷ Is (fields.VectorSize size) ∷ Is (fields.Size scalar_size) ∷ []
 sheet (insts.VecDup rd rn size) = Def Vector rd ∷ Use Zero rn ∷ Is (fields.VectorSize size) ∷ []
@@ -164,15 +164,15 @@ has_rest virtuals (insts.Mov size rd rm) = integer.is_move virtuals size rd rm
 has_rest virtuals (insts.MovFromPReg rd rm) = integer.is_move_from virtuals rd rm
 has_rest virtuals (insts.MovToPReg rd rm) = integer.is_move_to virtuals rd rm
 has_rest virtuals (insts.FpuMoveFromVec rd rn idx size) = float.is_float_lane size idx
-has_rest virtuals (insts.FpuExtend rd rn size) = has_ftype size
-has_rest virtuals (insts.FpuRR fpu_op size rd rn) = float.is_fpu_op1_at fpu_op size
-has_rest virtuals (insts.FpuRRR fpu_op size rd rn rm) = has_ftype size
+has_rest virtuals (insts.FpuExtend rd rn scalar) = has_ftype scalar
+has_rest virtuals (insts.FpuRR fpu_op scalar rd rn) = float.is_fpu_op1_at fpu_op scalar
+has_rest virtuals (insts.FpuRRR fpu_op scalar rd rn rm) = has_ftype scalar
 has_rest virtuals (insts.FpuRRI fpu_op rd rn) = float.is_right_shift fpu_op
 has_rest virtuals (insts.FpuRRIMod fpu_op rd ri rn) = float.is_kept_shift rd ri fpu_op
-has_rest virtuals (insts.FpuRRRR fpu_op size rd rn rm ra) = has_ftype size
-has_rest virtuals (insts.FpuCmp size rn rm) = has_ftype size
-has_rest virtuals (insts.MovToFpu rd rn size) = has_ftype size
-has_rest virtuals (insts.FpuMoveFPImm rd imm size) = float.is_float_imm_of size imm
+has_rest virtuals (insts.FpuRRRR fpu_op scalar rd rn rm ra) = has_ftype scalar
+has_rest virtuals (insts.FpuCmp scalar rn rm) = has_ftype scalar
+has_rest virtuals (insts.MovToFpu rd rn scalar) = has_ftype scalar
+has_rest virtuals (insts.FpuMoveFPImm rd imm scalar) = float.is_float_imm_of scalar imm
 has_rest virtuals (insts.VecExtend t rd rn high_half lane_size) = has_ftype lane_size
 has_rest virtuals (insts.VecRRNarrowLow op rd rn lane_size) = vector.is_narrow_at op lane_size
 has_rest virtuals (insts.VecRRNarrowHigh op rd ri rn lane_size) = vector.is_kept_narrow rd ri op lane_size
@@ -185,7 +185,7 @@ has_rest virtuals (insts.VecLanes op rd rn size) = vector.is_across size
 has_rest virtuals (insts.VecShiftImm op rd rn size imm) = vector.is_amount op size imm
 has_rest virtuals (insts.VecShiftImmMod op rd ri rn size imm) = vector.is_kept_amount rd ri size imm
 has_rest virtuals (insts.MovToVec rd ri rn idx size) = vector.is_kept_lane rd ri size idx
-has_rest virtuals (insts.MovFromVec rd rn idx size) = vector.is_scalar_lane size idx
+has_rest virtuals (insts.MovFromVec rd rn idx scalar) = vector.is_scalar_lane scalar idx
 has_rest virtuals (insts.MovFromVecSigned rd rn idx size scalar_size) = vector.is_signed_lane size idx scalar_size
 has_rest virtuals (insts.VecDupFromFpu rd rn size lane) = is_lane size lane
 has_rest virtuals (insts.VecDupFPImm rd imm size) = vector.is_float_imm_in size imm

@@ -170,7 +170,7 @@ lane_count Size64x2 = 2
 
 -- a lane of a whole register, of at most 64 bits
 abbrev pub is_scalar_lane : ScalarSize → ℕ → Bool
-is_scalar_lane size idx = has_operand_size size && nat_lt idx (lanes_of size)
+is_scalar_lane scalar idx = has_operand_size scalar && nat_lt idx (lanes_of scalar)
 
 -- a lane goes with its sign to a register of a size: one of 32 bits to 64 bits alone
 abbrev pub is_signed_size : VectorSize → OperandSize → Bool
@@ -230,7 +230,7 @@ is_narrow_at op _ = false
 
 -- the register of which the lower half stays is the result's
 abbrev pub is_kept_narrow : Reg → Reg → VecRRNarrowOp → ScalarSize → Bool
-is_kept_narrow rd ri op size = is_same_register rd ri && is_narrow_at op size
+is_kept_narrow rd ri op scalar = is_same_register rd ri && is_narrow_at op scalar
 
 -- ---- shifts
 

@@ -5,7 +5,6 @@ ghost use Rattle.a64_inst.specs.declared.group.Group.TheVariants as groups;
 ghost use Rattle.a64_inst.specs.declared.group.PlainGroup.TheVariants as plain;
 ghost use Rattle.a64_inst.specs.Groups.{group_of};
 
-use crate::boxed::Boxed;
 use crate::group::{Group, PlainGroup};
 use crate::inst::Inst;
 use crate::{
@@ -177,16 +176,16 @@ fn copied_call(alloc: Global, inst: &Inst) -> Result<Inst, AllocError>
 {
     match inst {
         Inst::Call { info } => Ok(Inst::Call {
-            info: Boxed::new(alloc, info.get().try_clone(alloc)?)?,
+            info: info.try_clone(alloc)?,
         }),
         Inst::CallInd { info } => Ok(Inst::CallInd {
-            info: Boxed::new(alloc, info.get().try_clone(alloc)?)?,
+            info: info.try_clone(alloc)?,
         }),
         Inst::ReturnCall { info } => Ok(Inst::ReturnCall {
-            info: Boxed::new(alloc, info.get().try_clone(alloc)?)?,
+            info: info.try_clone(alloc)?,
         }),
         Inst::ReturnCallInd { info } => Ok(Inst::ReturnCallInd {
-            info: Boxed::new(alloc, info.get().try_clone(alloc)?)?,
+            info: info.try_clone(alloc)?,
         }),
         _ => unreachable!(),
     }

@@ -3,7 +3,6 @@
 ghost use Rattle.std.specs.Prelude.{◌≡◌};
 
 use crate::atomic::AtomicCAS128Args;
-use crate::boxed::Boxed;
 use crate::call::{CallInfo, ReturnCallInfo};
 use crate::fpu_op::{FPUOpRI, FPUOpRIMod};
 use crate::mode::{AMode, PairAMode};
@@ -1034,23 +1033,23 @@ pub enum Inst {
     /// the stack are loaded, which may change x16.
     Call {
         /// What is known of the call.
-        info: Boxed<CallInfo<ExternalName>>,
+        info: CallInfo<ExternalName>,
     },
     /// `blr`: a call of the address in a register, as `Call`.
     CallInd {
         /// What is known of the call.
-        info: Boxed<CallInfo<Reg>>,
+        info: CallInfo<Reg>,
     },
     /// A return that calls a symbol: what the frame has saved is restored, the stack pointer is moved to
     /// the new arguments, the return address is authenticated where a key says so, and `b` goes there.
     ReturnCall {
         /// What is known of the call.
-        info: Boxed<ReturnCallInfo<ExternalName>>,
+        info: ReturnCallInfo<ExternalName>,
     },
     /// A return that calls the address in a register by `br`, as `ReturnCall`.
     ReturnCallInd {
         /// What is known of the call.
-        info: Boxed<ReturnCallInfo<Reg>>,
+        info: ReturnCallInfo<Reg>,
     },
     /// `ldp` of two 64-bit registers.
     LoadP64 {

@@ -3,7 +3,6 @@
 
 mod access;
 mod atomic;
-mod boxed;
 mod call;
 mod class;
 mod constant;
@@ -35,7 +34,6 @@ pub use a64_ops::{
 pub use a64_plan::{ConstStep, const_plan};
 pub use access::{Access, AccessRef};
 pub use atomic::AtomicCAS128Args;
-pub use boxed::Boxed;
 pub use call::{CallArgPair, CallInfo, CallRetPair, RetLocation, ReturnCallInfo};
 pub use class::Class;
 pub use emission::{EmitFlags, EmitInfo, EmitState};

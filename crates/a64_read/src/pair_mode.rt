@@ -42,31 +42,33 @@ fn offset_at(value: i64, scale: IrType) -> Option<SImm7Scaled>
 
 impl WrittenPairMode {
     /// The offset in bytes.
-    fn offset(self) -> i64
-        ensures { result ≡ pairs.written_offset self }
+    fn offset(&self) -> i64
+        ensures { result ≡ pairs.written_offset self.now }
     {
         match self {
             WrittenPairMode::SignedOffset { offset, .. }
             | WrittenPairMode::SPPreIndexed { offset }
-            | WrittenPairMode::SPPostIndexed { offset } => offset,
+            | WrittenPairMode::SPPostIndexed { offset } => *offset,
         }
     }
 
     /// The mode with this offset in place of its own.
-    fn with_offset(self, simm7: SImm7Scaled) -> PairAMode
-        ensures { result ≡ pairs.with_offset self simm7 }
+    fn with_offset(&self, simm7: SImm7Scaled) -> PairAMode
+        ensures { result ≡ pairs.with_offset self.now simm7 }
     {
         match self {
-            WrittenPairMode::SignedOffset { reg, .. } => PairAMode::SignedOffset { reg, simm7 },
+            WrittenPairMode::SignedOffset { reg, .. } => {
+                PairAMode::SignedOffset { reg: *reg, simm7 }
+            }
             WrittenPairMode::SPPreIndexed { .. } => PairAMode::SPPreIndexed { simm7 },
             WrittenPairMode::SPPostIndexed { .. } => PairAMode::SPPostIndexed { simm7 },
         }
     }
 
     /// The mode with its offset at the scale of the type, where the constructor gives one.
-    pub fn at_scale(self, scale: IrType) -> Option<PairAMode>
+    pub fn at_scale(&self, scale: IrType) -> Option<PairAMode>
         requires { IsPairScale scale }
-        ensures { Reads (pairs.IsPairAt scale) pairs.written_pair self result }
+        ensures { Reads (pairs.IsPairAt scale) pairs.written_pair self.now result }
     {
         let simm7 = offset_at(self.offset(), scale)?;
         Some(self.with_offset(simm7))

@@ -26,6 +26,7 @@ use crate::word::memory::address::addend;
 use crate::word::memory::step::step_words;
 use crate::word::plain::immediate::alu_rr_imm12_word;
 use crate::word::plain::register::alu_rrr_extend_word;
+use crate::word::system::auti_word;
 use a64_base::{
     APIKey, BranchTarget, ExtendOp, IrType, OperandSize, Reg, fp_reg, link_reg, spilltmp_reg,
     stack_reg, writable_spilltmp_reg, writable_stack_reg,
@@ -170,14 +171,6 @@ fn frame_word(setup: u32) -> u32
         scale_ty: IrType::I64,
     };
     pair_word(1, fp_reg(), link_reg(), &PairAMode::SPPostIndexed { simm7 })
-}
-
-/// The word that authenticates the return address by a key.
-#[tactic(auto, unfolding(crate::specs::ControlForms::auti_form))]
-fn auti_word(key: APIKey) -> u32
-    ensures { result ≡ form_word (forms.auti_form key) }
-{
-    key.enc_auti_hint()
 }
 
 /// Adds the word that authenticates the return address, where a key says so, and where it was saved or all

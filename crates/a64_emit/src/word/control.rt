@@ -1,6 +1,6 @@
 //! The words of branches, returns and addresses of labels.
 
-ghost use Rattle.std.specs.Prelude.{◌≡◌, ◌<◌, ◌^◌, true};
+ghost use Rattle.std.specs.Prelude.{◌≡◌, ◌<◌, ◌^◌, length, map, true};
 ghost use Rattle.a64_inst.specs.declared.group.Group.TheVariants.{Control};
 ghost use Rattle.a64_inst.specs.declared.virtuals.VirtualRegisters.TheVariants.{Refused};
 ghost use Rattle.a64_inst.specs.Groups.{group_of};
@@ -8,15 +8,17 @@ ghost use Rattle.a64_inst.specs.Faults.{has_operands};
 ghost use Rattle.a64_inst.specs.ControlOperands.{are_jump_operands, is_target, is_test};
 ghost use Rattle.a64_inst.specs.Operands.{is_register_or_zero};
 ghost use Rattle.a64_rows.specs.Forms.{form_word};
-ghost use Rattle.a64_emit.specs.Cells.{shape_of, only_word};
+ghost use Rattle.a64_emit.specs.Cells.{plain, shape_of, only_word};
 ghost use Rattle.a64_emit.specs.ControlForms as forms;
 ghost use Rattle.a64_emit.specs.ControlForms.{ret_form, jump_form};
 
 use crate::word::plain::immediate::adr_word;
-use crate::word::system::{mov_from_nzcv_word, mov_to_nzcv_word, nop4_word};
-use a64_base::{BranchTarget, CondBrKind, Reg, TestBitAndBranchKind, Writable};
+use crate::word::system::{auti_word, mov_from_nzcv_word, mov_to_nzcv_word, nop4_word};
+use a64_base::{APIKey, BranchTarget, CondBrKind, Reg, TestBitAndBranchKind, Writable};
 use a64_enc_int::{enc_br, enc_conditional_br, enc_jump26, enc_test_bit_and_branch};
 use a64_inst::{EmitInfo, FrameLayout, Inst};
+use a64_rows::{Row, pack};
+use arrayvec::ArrayVec;
 
 /// The data word that is no instruction, and traps.
 pub const UDF_WORD: u32 = 0xc11f;
@@ -41,6 +43,7 @@ pub fn only_control_word(inst: &Inst, frame: &FrameLayout, info: &EmitInfo) -> O
         | Inst::TestBitAndBranch { .. }
         | Inst::TrapIf { .. }
         | Inst::EmitIsland { .. }
+        | Inst::AuthenticatedRet { .. }
         | Inst::Udf { .. }
         | Inst::Word4 { .. }
         | Inst::Word8 { .. }
@@ -55,6 +58,41 @@ pub fn ret_word() -> u32
     ensures { result ≡ form_word ret_form }
 {
     0xd65f_03c0
+}
+
+/// The word of a return that authenticates its address by key A (0) or B (1), and the stack pointer.
+#[tactic(auto, unfolding(crate::specs::ControlForms::ret_auth_form))]
+fn ret_auth_word(b: u32) -> u32
+    requires { b < 2 }
+    ensures { result ≡ form_word (forms.ret_auth_form b) }
+{
+    pack(Row::RetAuth, &[b])
+}
+
+/// The words of an `AuthenticatedRet`.
+pub fn authenticated_ret_words(key: APIKey, is_hint: bool) -> ArrayVec<u32, 2>
+    ensures { result.items ≡ map form_word (forms.authenticated_ret_forms key is_hint) }
+{
+    let mut words = ArrayVec::new();
+    match (key, is_hint) {
+        (APIKey::ASP, false) => words.push(ret_auth_word(0)),
+        (APIKey::BSP, false) => words.push(ret_auth_word(1)),
+        _ => {
+            words.push(auti_word(key));
+            words.push(ret_word());
+        }
+    }
+    words
+}
+
+/// How many words an `AuthenticatedRet` has.
+pub fn authenticated_ret_count(key: APIKey, is_hint: bool) -> u64
+    ensures { result ≡ length (map plain (forms.authenticated_ret_forms key is_hint)) }
+{
+    match (key, is_hint) {
+        (APIKey::ASP | APIKey::BSP, false) => 1,
+        _ => 2,
+    }
 }
 
 /// The word of a `Jump`, whose offset is zero as long as it has a label.

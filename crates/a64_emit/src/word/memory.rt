@@ -3,6 +3,7 @@
 pub mod access;
 pub mod address;
 pub mod atomic;
+pub mod replicate;
 pub mod step;
 
 ghost use Rattle.std.specs.Prelude.{◌≡◌, [], length, true, false, is_some, option_map, IfSome, MatchOption};
@@ -17,11 +18,12 @@ ghost use Rattle.a64_emit.specs.Words.{AreSeveral};
 
 use crate::site::Site;
 use crate::uses::{mode_site, mode_target};
-use crate::word::memory::access::{held_word, in_code_word, pair_word};
+use crate::word::memory::access::{held_word, in_code_word, pair_word, pair64_word, pair128_word};
 use crate::word::memory::address::{address_count, address_words};
 use crate::word::memory::atomic::{
     cas_word, cas128_word, load_acquire_word, rmw_word, store_release_word,
 };
+use crate::word::memory::replicate::replicate_word;
 use crate::word::memory::step::step_words;
 use a64_base::{TrapCode, writable_spilltmp_reg};
 use a64_buffer::Target;
@@ -147,6 +149,30 @@ pub fn memory_words(inst: &Inst, frame: &FrameLayout, info: &EmitInfo) -> Option
             mem,
             flags,
         } => (pair_word(0, *rt, *rt2, mem), flags),
+        Inst::FpuLoadP64 {
+            rt,
+            rt2,
+            mem,
+            flags,
+        } => (pair64_word(true, rt.to_reg(), rt2.to_reg(), mem), flags),
+        Inst::FpuStoreP64 {
+            rt,
+            rt2,
+            mem,
+            flags,
+        } => (pair64_word(false, *rt, *rt2, mem), flags),
+        Inst::FpuLoadP128 {
+            rt,
+            rt2,
+            mem,
+            flags,
+        } => (pair128_word(true, rt.to_reg(), rt2.to_reg(), mem), flags),
+        Inst::FpuStoreP128 {
+            rt,
+            rt2,
+            mem,
+            flags,
+        } => (pair128_word(false, *rt, *rt2, mem), flags),
         Inst::LoadAddr { rd, mem } => return address_words(*rd, frame, mem),
         Inst::AtomicRMW {
             ty,
@@ -171,6 +197,12 @@ pub fn memory_words(inst: &Inst, frame: &FrameLayout, info: &EmitInfo) -> Option
             rn,
             flags,
         } => (load_acquire_word(*access_ty, *rt, *rn), flags),
+        Inst::VecLoadReplicate {
+            rd,
+            rn,
+            size,
+            flags,
+        } => (replicate_word(*size, *rd, *rn), flags),
         Inst::StoreRelease {
             access_ty,
             rt,

@@ -2,12 +2,15 @@
 
 pub mod float;
 pub mod immediate;
+pub mod lane;
 mod operator;
 pub mod register;
+pub mod vector;
+mod vector_op;
 
 ghost use Rattle.std.specs.Prelude.{◌≡◌, Some, true};
 ghost use Rattle.a64_inst.specs.declared.group.Group.TheVariants.{Plain};
-ghost use Rattle.a64_inst.specs.declared.group.PlainGroup.TheVariants.{Float, Immediate, Register, System};
+ghost use Rattle.a64_inst.specs.declared.group.PlainGroup.TheVariants.{Float, Immediate, Register, System, Vector, VectorMove};
 ghost use Rattle.a64_inst.specs.declared.virtuals.VirtualRegisters.TheVariants.{Refused};
 ghost use Rattle.a64_inst.specs.Groups.{group_of};
 ghost use Rattle.a64_inst.specs.Faults.{has_operands};
@@ -22,9 +25,21 @@ use crate::word::plain::immediate::{
     adr_word, adrp_word, alu_rr_imm_logic_word, alu_rr_imm_shift_word, alu_rr_imm12_word,
     extend_word, mov_k_word, mov_wide_word,
 };
+use crate::word::plain::lane::{
+    dup_float_word, dup_immediate_word, dup_lane_word, dup_word, extract_word, insert_word,
+    move_element_word, signed_move_word, table_word, unsigned_move_word,
+};
 use crate::word::plain::operator::{bfm_opc_bits, bit_opcode_bits, product_word, shifted_word};
 use crate::word::plain::register::{
     alu_rrr_extend_word, alu_rrr_word, csel_word, mov_word, two_registers,
+};
+use crate::word::plain::vector::{
+    across_word, element_word, extend_lanes_word, kept_lane_shift_word, lane_shift_word,
+    long_product_word, misc_word, pair_word, three_word, two_word,
+};
+use crate::word::plain::vector_op::{
+    across_fields, added_product_fields, kept_three_op, long_fields, narrow_fields,
+    pair_long_fields, product_fields, three_op, two_op,
 };
 use crate::word::system::{bti_word, csdb_word, paci_word, xpaclri_word};
 use a64_base::{OperandSize, Reg, ScalarSize, Writable, zero_reg};
@@ -120,6 +135,56 @@ pub fn float_word(inst: &Inst, frame: &FrameLayout, info: &EmitInfo) -> u32
     )
 }
 
+/// The word of an operation on vectors.
+#[tactic(auto, using(crate::proofs::Operands::vector_real, crate::proofs::VectorForms::three_is_form, crate::proofs::VectorForms::kept_three_is_form, crate::proofs::VectorForms::product_is_form, crate::proofs::VectorForms::added_product_is_form, crate::proofs::VectorForms::long_is_form, crate::proofs::VectorForms::pair_long_is_form, crate::proofs::VectorForms::narrow_low_is_form, crate::proofs::VectorForms::narrow_high_is_form, crate::proofs::VectorForms::two_is_form, crate::proofs::VectorForms::across_is_form, crate::proofs::VectorForms::kept_element, crate::proofs::VectorForms::kept_amount))]
+pub fn vector_word(inst: &Inst, frame: &FrameLayout, info: &EmitInfo) -> u32
+    requires group { group_of inst.now ≡ Plain Vector }
+    requires good { has_operands frame.now info.now Refused inst.now ≡ true }
+    ensures { Some result ≡ only_word (shape_of frame.now info.now inst.now) }
+{
+    word_arms!(inst;
+        VecExtend { t, rd, rn, high_half, lane_size } => extend_lanes_word(*t, *high_half, *lane_size, *rd, *rn);
+        VecRRLong { op, rd, rn, high_half } => misc_word(u32::from(*high_half), long_fields(*op), *rd, *rn);
+        VecRRNarrowLow { op, rd, rn, lane_size } => misc_word(0, narrow_fields(*op, *lane_size), *rd, *rn);
+        VecRRNarrowHigh { op, rd, ri, rn, lane_size } => misc_word(1, narrow_fields(*op, *lane_size), *rd, *rn);
+        VecRRPair { op, rd, rn } => pair_word(*rd, *rn);
+        VecRRRLong { alu_op, rd, rn, rm, high_half } => long_product_word(product_fields(*alu_op), *high_half, *rd, *rn, *rm);
+        VecRRRLongMod { alu_op, rd, ri, rn, rm, high_half } => long_product_word(added_product_fields(*alu_op), *high_half, *rd, *rn, *rm);
+        VecRRPairLong { op, rd, rn } => misc_word(1, pair_long_fields(*op), *rd, *rn);
+        VecRRR { alu_op, rd, rn, rm, size } => three_word(three_op(*alu_op), *size, *rd, *rn, *rm);
+        VecRRRMod { alu_op, rd, ri, rn, rm, size } => three_word(kept_three_op(*alu_op), *size, *rd, *rn, *rm);
+        VecFmlaElem { alu_op, rd, ri, rn, rm, size, idx } => element_word(*alu_op, *size, *idx, *rd, *rn, *rm);
+        VecMisc { op, rd, rn, size } => two_word(two_op(*op), *size, *rd, *rn);
+        VecLanes { op, rd, rn, size } => across_word(across_fields(*op), *size, *rd, *rn);
+        VecShiftImm { op, rd, rn, size, imm } => lane_shift_word(*op, *size, *imm, *rd, *rn);
+        VecShiftImmMod { op, rd, ri, rn, size, imm } => kept_lane_shift_word(*size, *imm, *rd, *rn);
+    )
+}
+
+/// The word of a move of lanes, or of a lookup in a table of bytes.
+#[tactic(auto, using(crate::proofs::Operands::real, crate::proofs::Operands::vector_real, crate::proofs::VectorForms::kept_lane, crate::proofs::VectorForms::kept_dest, crate::proofs::VectorForms::kept_src))]
+pub fn vector_move_word(inst: &Inst, frame: &FrameLayout, info: &EmitInfo) -> u32
+    requires group { group_of inst.now ≡ Plain VectorMove }
+    requires good { has_operands frame.now info.now Refused inst.now ≡ true }
+    ensures { Some result ≡ only_word (shape_of frame.now info.now inst.now) }
+{
+    word_arms!(inst;
+        MovToVec { rd, ri, rn, idx, size } => insert_word(*size, *idx, *rd, *rn);
+        MovFromVec { rd, rn, idx, size } => unsigned_move_word(*size, *idx, *rd, *rn);
+        MovFromVecSigned { rd, rn, idx, size, scalar_size } => signed_move_word(*size, *idx, *scalar_size, *rd, *rn);
+        VecDup { rd, rn, size } => dup_word(*size, *rd, *rn);
+        VecDupFromFpu { rd, rn, size, lane } => dup_lane_word(*size, *lane, *rd, *rn);
+        VecDupFPImm { rd, imm, size } => dup_float_word(*size, *imm, *rd);
+        VecDupImm { rd, imm, invert, size } => dup_immediate_word(*size, *imm, *invert, *rd);
+        VecMovElement { rd, ri, rn, dest_idx, src_idx, size } => move_element_word(*size, *dest_idx, *src_idx, *rd, *rn);
+        VecExtract { rd, rn, rm, imm4 } => extract_word(*imm4, *rd, *rn, *rm);
+        VecTbl { rd, rn, rm } => table_word(false, false, *rd, *rn, *rm);
+        VecTblExt { rd, ri, rn, rm } => table_word(false, true, *rd, *rn, *rm);
+        VecTbl2 { rd, rn, rn2, rm } => table_word(true, false, *rd, *rn, *rm);
+        VecTbl2Ext { rd, ri, rn, rn2, rm } => table_word(true, true, *rd, *rn, *rm);
+    )
+}
+
 /// The word of a hint or a barrier.
 pub fn system_word(inst: &Inst, frame: &FrameLayout, info: &EmitInfo) -> u32
     requires group { group_of inst.now ≡ Plain System }
@@ -146,6 +211,8 @@ pub fn plain_word(inst: &Inst, group: PlainGroup, frame: &FrameLayout, info: &Em
         PlainGroup::Immediate => immediate_word(inst, frame, info),
         PlainGroup::Register => register_word(inst, frame, info),
         PlainGroup::Float => float_word(inst, frame, info),
+        PlainGroup::Vector => vector_word(inst, frame, info),
+        PlainGroup::VectorMove => vector_move_word(inst, frame, info),
         PlainGroup::System => system_word(inst, frame, info),
     }
 }

@@ -1,4 +1,4 @@
-//! The words of sequences around tables, symbols and the stack.
+//! The words of sequences around tables, symbols and the stack, and of selects of vectors.
 
 ghost use Rattle.std.specs.Prelude.{◌≡◌, ◌≤◌, ◌&&◌, [], ◌∷◌, ◌++◌, length, map, pos, true, false};
 ghost use Rattle.a64_base.specs.declared.cond.Cond.TheVariants.{Lo};
@@ -9,8 +9,9 @@ ghost use Rattle.a64_ops.specs.declared.operator.ALUOp.TheVariants.{Add};
 ghost use Rattle.a64_inst.specs.declared.virtuals.VirtualRegisters.TheVariants.{Refused};
 ghost use Rattle.a64_inst.specs.Operands.{is_register, is_register_or_zero};
 ghost use Rattle.a64_inst.specs.SequenceOperands.{are_table_operands, are_probe_operands};
+ghost use Rattle.a64_inst.specs.VectorOperands.{are_select_operands};
 ghost use Rattle.a64_rows.specs.Forms.{form_word};
-ghost use Rattle.a64_emit.specs.Cells.{barrier_forms, table_forms, probe_forms};
+ghost use Rattle.a64_emit.specs.Cells.{barrier_forms, table_forms, probe_forms, vector_select_forms};
 ghost use Rattle.a64_emit.specs.ControlForms.{jump_form, indirect_br_form};
 ghost use Rattle.a64_emit.specs.IntegerForms.{csel_form, alu_rrr_form, alu_rr_imm12_form, adr_form, adrp_form};
 ghost use Rattle.a64_emit.specs.MemoryForms.{indexed_form, unsigned_form, literal_form};
@@ -18,6 +19,7 @@ ghost use Rattle.a64_emit.specs.MemoryForms.{indexed_form, unsigned_form, litera
 use crate::word::control::{cond_br_word, indirect_br_word, jump_word};
 use crate::word::memory::access::{indexed_word, literal_word, unsigned_word};
 use crate::word::memory::step::step_words;
+use crate::word::plain::float::move_vector_word;
 use crate::word::plain::immediate::{adr_word, adrp_word, alu_rr_imm12_word};
 use crate::word::plain::register::{alu_rrr_word, csel_word};
 use crate::word::system::csdb_word;
@@ -216,5 +218,19 @@ pub fn probe_words(info: &EmitInfo, start: Writable<Reg>, end: Reg, step: Imm12)
         ),
         cond_br_word(BranchTarget::ResolvedOffset(-12), loops),
         jump_word(BranchTarget::ResolvedOffset(4)),
+    ]
+}
+
+/// The words of a select of one of two vectors.
+#[tactic(auto, using(crate::proofs::Operands::vector_real), unfolding(a64_inst::specs::ControlOperands::are_jump_operands, a64_inst::specs::VectorOperands::are_select_operands))]
+pub fn vector_select_words(rd: Writable<Reg>, rn: Reg, rm: Reg, cond: Cond) -> [u32; 4]
+    requires { are_select_operands Refused rd rn rm ≡ true }
+    ensures { result ≡ map form_word (vector_select_forms rd rn rm cond) }
+{
+    [
+        cond_br_word(BranchTarget::ResolvedOffset(12), CondBrKind::Cond(cond)),
+        move_vector_word(rd, rm),
+        jump_word(BranchTarget::ResolvedOffset(8)),
+        move_vector_word(rd, rn),
     ]
 }

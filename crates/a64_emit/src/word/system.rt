@@ -30,6 +30,14 @@ pub fn csdb_word() -> u32
     0xd503_229f
 }
 
+/// The word of the hint that authenticates the return address by a key.
+#[tactic(auto, unfolding(crate::specs::ControlForms::auti_form))]
+pub fn auti_word(key: APIKey) -> u32
+    ensures { result ≡ form_word (forms.auti_form key) }
+{
+    key.enc_auti_hint()
+}
+
 /// The number of the hint that signs the return address by a key.
 fn paci_number(key: APIKey) -> u32
     ensures value { result ≡ forms.paci_number key }

@@ -99,14 +99,14 @@ fn has_call_operands(
     ensures { result ≡ has_operands frame.now _info.now virtuals inst.now }
 {
     match inst {
-        Inst::Call { info } => call(virtuals, info.get()),
+        Inst::Call { info } => call(virtuals, info),
         Inst::CallInd { info } => {
-            is_register_or_zero(virtuals, info.get().dest) && call(virtuals, info.get())
+            is_register_or_zero(virtuals, info.dest) && call(virtuals, info)
         }
-        Inst::ReturnCall { info } => return_call(frame, virtuals, restorable, info.get()),
+        Inst::ReturnCall { info } => return_call(frame, virtuals, restorable, info),
         Inst::ReturnCallInd { info } => {
-            is_register_or_zero(virtuals, info.get().dest)
-                && return_call(frame, virtuals, restorable, info.get())
+            is_register_or_zero(virtuals, info.dest)
+                && return_call(frame, virtuals, restorable, info)
         }
         _ => unreachable!(),
     }
@@ -127,7 +127,7 @@ fn has_call_scratch(inst: &Inst, frame: &FrameLayout, _info: &EmitInfo) -> bool
 {
     match inst {
         Inst::ReturnCallInd { info } => {
-            has_return_scratch(frame, &info.get().dest, info.get().new_stack_arg_size)
+            has_return_scratch(frame, &info.dest, info.new_stack_arg_size)
         }
         _ => true,
     }

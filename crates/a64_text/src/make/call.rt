@@ -14,7 +14,7 @@ ghost use Rattle.a64_read.specs.Reads.{Reads};
 use crate::make::{emit_called, emit_some};
 use crate::name::CallName;
 use a64_base::{ExternalName, PRegSet, Reg};
-use a64_inst::{Boxed, CallArgPair, CallInfo, CallRetPair, Inst, Item, ReturnCallInfo};
+use a64_inst::{CallArgPair, CallInfo, CallRetPair, Inst, Item, ReturnCallInfo};
 use a64_list::ListVec;
 use a64_read::at;
 use a64_read::clobbers::read_clobbers;
@@ -68,7 +68,7 @@ fn call(alloc: Global, values: &[Value]) -> Result<Option<Inst>, AllocError>
     };
     let dest = ExternalName(at::get(values, 0));
     Ok(Some(Inst::Call {
-        info: Boxed::new(alloc, call_info(dest, values, lists))?,
+        info: call_info(dest, values, lists),
     }))
 }
 
@@ -82,7 +82,7 @@ fn call_ind(alloc: Global, values: &[Value]) -> Result<Option<Inst>, AllocError>
     };
     let dest = at::get::<Reg>(values, 0);
     Ok(Some(Inst::CallInd {
-        info: Boxed::new(alloc, call_info(dest, values, lists))?,
+        info: call_info(dest, values, lists),
     }))
 }
 
@@ -113,7 +113,7 @@ fn return_call(alloc: Global, values: &[Value]) -> Result<Option<Inst>, AllocErr
     };
     let dest = ExternalName(at::get(values, 0));
     Ok(Some(Inst::ReturnCall {
-        info: Boxed::new(alloc, return_call_info(dest, values, uses))?,
+        info: return_call_info(dest, values, uses),
     }))
 }
 
@@ -127,7 +127,7 @@ fn return_call_ind(alloc: Global, values: &[Value]) -> Result<Option<Inst>, Allo
     };
     let dest = at::get::<Reg>(values, 0);
     Ok(Some(Inst::ReturnCallInd {
-        info: Boxed::new(alloc, return_call_info(dest, values, uses))?,
+        info: return_call_info(dest, values, uses),
     }))
 }
 

@@ -4,11 +4,11 @@ ghost use Rattle.std.specs.Prelude.{◌≡◌, ◌≢◌, ◌<◌, ◌+◌, ◌*
 ghost use Rattle.a64_imms.specs.Offsets.{residue, IsOffset9};
 ghost use Rattle.a64_imms.specs.ScaledOffsets.{uimm12_value, uimm12_scale};
 ghost use Rattle.a64_imms.specs.Scales.{type_bytes};
-ghost use Rattle.a64_base.specs.declared.ir_type.IrType.TheVariants.{I64};
+ghost use Rattle.a64_base.specs.declared.ir_type.IrType.TheVariants.{F64, I8X16, I64};
 ghost use Rattle.a64_base.specs.Shifts.{extend_bits};
 ghost use Rattle.a64_inst.specs.declared.virtuals.VirtualRegisters.TheVariants.{Refused};
 ghost use Rattle.a64_inst.specs.FinalModes.{held_mode, parts_of};
-ghost use Rattle.a64_inst.specs.MemoryOperands.{is_data_register, are_pair_operands, is_simm7_of};
+ghost use Rattle.a64_inst.specs.MemoryOperands.{is_data_register, are_float_pair_operands, are_pair_operands, is_simm7_of};
 ghost use Rattle.a64_inst.specs.Operands.{is_offset, is_register_or_zero};
 ghost use Rattle.a64_ops.specs.Accesses.{size_of, vector_of, opc_of, literal_of};
 ghost use Rattle.a64_rows.specs.Forms.{form_word};
@@ -21,6 +21,7 @@ ghost use Rattle.a64_emit.specs.Words.{are_held_parts};
 use crate::word::system::nop4_word;
 use a64_base::{ExtendOp, Reg, stack_reg};
 use a64_enc_int::{enc_ldst_pair, register_field};
+use a64_enc_vec::enc_ldst_vec_pair;
 use a64_imms::{SImm7Scaled, SImm9, UImm12Scaled};
 use a64_inst::{AMode, AccessOp, MemLabel, PairAMode};
 use a64_rows::{Row, pack};
@@ -144,6 +145,32 @@ pub fn in_code_word(op: AccessOp, rt: Reg, mem: &AMode) -> u32
     }
 }
 
+/// The parts of the mode of a pair.
+#[derive(Clone, Copy)]
+struct PairParts {
+    /// The index: 2 where the base stays, 3 where the offset is added to it before the access, 1 after it.
+    index: u32,
+    /// The base.
+    rn: Reg,
+    /// The offset.
+    simm7: SImm7Scaled,
+}
+
+/// The parts of a pair's mode.
+#[inline(always)]
+fn pair_parts(mem: &PairAMode) -> PairParts
+    ensures index { result.index ≡ forms.pair_index mem.now }
+    ensures rn { result.rn ≡ forms.pair_base mem.now }
+    ensures simm7 { result.simm7 ≡ forms.pair_offset mem.now }
+{
+    let (index, rn, simm7) = match *mem {
+        PairAMode::SignedOffset { reg, simm7 } => (2, reg, simm7),
+        PairAMode::SPPreIndexed { simm7 } => (3, stack_reg(), simm7),
+        PairAMode::SPPostIndexed { simm7 } => (1, stack_reg(), simm7),
+    };
+    PairParts { index, rn, simm7 }
+}
+
 /// The word of a load (1) or a store (0) of two registers, by the index of its mode.
 fn indexed_pair_word(load: u32, index: u32, rn: Reg, simm7: SImm7Scaled, rt: Reg, rt2: Reg) -> u32
     requires load { load < 2 }
@@ -159,19 +186,32 @@ fn indexed_pair_word(load: u32, index: u32, rn: Reg, simm7: SImm7Scaled, rt: Reg
 }
 
 /// The word of a load (1) or a store (0) of two registers.
-#[tactic(auto, using(crate::proofs::Operands::stack_general), unfolding(a64_inst::specs::MemoryOperands::are_pair_operands))]
+#[tactic(auto, using(crate::proofs::AccessForms::base_general, crate::proofs::AccessForms::offset_good, crate::proofs::AccessForms::index_fits), unfolding(a64_inst::specs::MemoryOperands::are_pair_operands))]
 pub fn pair_word(load: u32, rt: Reg, rt2: Reg, mem: &PairAMode) -> u32
     requires load { load < 2 }
     requires good { are_pair_operands Refused rt rt2 mem.now ≡ true }
     ensures { result ≡ form_word (forms.pair_form load rt rt2 mem.now) }
 {
-    match *mem {
-        PairAMode::SignedOffset { reg, simm7 } => indexed_pair_word(load, 2, reg, simm7, rt, rt2),
-        PairAMode::SPPreIndexed { simm7 } => {
-            indexed_pair_word(load, 3, stack_reg(), simm7, rt, rt2)
-        }
-        PairAMode::SPPostIndexed { simm7 } => {
-            indexed_pair_word(load, 1, stack_reg(), simm7, rt, rt2)
-        }
-    }
+    let PairParts { index, rn, simm7 } = pair_parts(mem);
+    indexed_pair_word(load, index, rn, simm7, rt, rt2)
+}
+
+/// The word of a load or a store of the lower 64 bits of two vector registers.
+#[tactic(auto, using(crate::proofs::AccessForms::base_general, crate::proofs::AccessForms::offset_good, crate::proofs::AccessForms::float_pair_is_form, crate::proofs::Operands::vector), unfolding(crate::specs::MemoryForms::float_pair_form, a64_inst::specs::MemoryOperands::are_float_pair_operands))]
+pub fn pair64_word(is_load: bool, rt: Reg, rt2: Reg, mem: &PairAMode) -> u32
+    requires { are_float_pair_operands Refused F64 rt rt2 mem.now ≡ true }
+    ensures { result ≡ form_word (forms.float_pair_form 1 is_load rt rt2 mem.now) }
+{
+    let PairParts { index, rn, simm7 } = pair_parts(mem);
+    enc_ldst_vec_pair(1, index, is_load, simm7, rn, rt, rt2)
+}
+
+/// The word of a load or a store of two whole vector registers.
+#[tactic(auto, using(crate::proofs::AccessForms::base_general, crate::proofs::AccessForms::offset_good, crate::proofs::AccessForms::float_pair_is_form, crate::proofs::Operands::vector), unfolding(crate::specs::MemoryForms::float_pair_form, a64_inst::specs::MemoryOperands::are_float_pair_operands))]
+pub fn pair128_word(is_load: bool, rt: Reg, rt2: Reg, mem: &PairAMode) -> u32
+    requires { are_float_pair_operands Refused I8X16 rt rt2 mem.now ≡ true }
+    ensures { result ≡ form_word (forms.float_pair_form 2 is_load rt rt2 mem.now) }
+{
+    let PairParts { index, rn, simm7 } = pair_parts(mem);
+    enc_ldst_vec_pair(2, index, is_load, simm7, rn, rt, rt2)
 }

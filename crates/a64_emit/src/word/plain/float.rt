@@ -154,15 +154,16 @@ pub fn bits_to_float(size: ScalarSize) -> Conversion
 }
 
 /// The field imm5 of a lane of a vector register.
-fn lane_number(size: VectorSize, idx: u8) -> u32
+pub fn lane_number(size: ScalarSize, idx: u8) -> u32
     ensures { result ≡ forms.lane_number size idx }
 {
     let idx = u32::from(idx);
     match size {
-        VectorSize::Size8x8 | VectorSize::Size8x16 => 1 + 2 * idx,
-        VectorSize::Size16x4 | VectorSize::Size16x8 => 2 + 4 * idx,
-        VectorSize::Size32x2 | VectorSize::Size32x4 => 4 + 8 * idx,
-        VectorSize::Size64x2 => 8 + 16 * idx,
+        ScalarSize::Size8 => 1 + 2 * idx,
+        ScalarSize::Size16 => 2 + 4 * idx,
+        ScalarSize::Size32 => 4 + 8 * idx,
+        ScalarSize::Size64 => 8 + 16 * idx,
+        ScalarSize::Size128 => 0,
     }
 }
 
@@ -188,7 +189,7 @@ pub fn move_vector_word(rd: Writable<Reg>, rn: Reg) -> u32
 }
 
 /// The word of a move of one lane.
-#[tactic(auto, using(crate::proofs::FloatForms::lane_below))]
+#[tactic(auto, using(crate::proofs::FloatForms::float_lane_below))]
 pub fn move_lane_word(size: VectorSize, idx: u8, rd: Writable<Reg>, rn: Reg) -> u32
     requires lane { sets.is_float_lane size idx ≡ true }
     requires rd { IsReal rd }
@@ -196,7 +197,10 @@ pub fn move_lane_word(size: VectorSize, idx: u8, rd: Writable<Reg>, rn: Reg) -> 
     ensures { result ≡ form_word (forms.move_lane_form size idx rd rn) }
 {
     let (rn, rd) = (register_field(rn), register_field(rd.to_reg()));
-    pack(Row::ScalarCopy, &[lane_number(size, idx), rn, rd])
+    pack(
+        Row::ScalarCopy,
+        &[lane_number(size.lane_size(), idx), rn, rd],
+    )
 }
 
 /// The word of an operation on one float.
