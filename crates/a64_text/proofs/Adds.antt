@@ -9,6 +9,7 @@ use Rattle.a64_text.specs.declared.entry.Entry.TheVariants as entries
 use Rattle.a64_text.specs.declared.name.ControlName.TheVariants as control
 use Rattle.a64_text.specs.declared.name.FloatName.TheVariants as float
 use Rattle.a64_text.specs.declared.name.ImmediateName.TheVariants as immediate
+use Rattle.a64_text.specs.declared.name.VectorMoveName.TheVariants as vector_move
 use Rattle.a64_text.specs.declared.name.SequenceName.TheVariants as sequence
 use Rattle.a64_text.specs.declared.name.Name.{Name}
 use Rattle.a64_text.specs.declared.name.Name.TheVariants as names
@@ -32,6 +33,9 @@ puts_made : (name : Name) (values : List Value) (old new : List Item) (made : Bo
 unfolding Makes Puts
 puts_made (names.Immediate immediate.AluRRImmLogic) values old new made h = h
 puts_made (names.Float float.FpuMoveFPImm) values old new made h = h
+puts_made (names.VectorMove vector_move.VecDupFPImm) values old new made h = h
+puts_made (names.VectorMove vector_move.VecDupImm) values old new made h = h
+puts_made (names.Pair name) values old new made h = h
 puts_made (names.Control control.IndirectBr) values old new made h = h
 puts_made (names.Sequence sequence.Args) values old new made h = h
 puts_made (names.Sequence sequence.Rets) values old new made h = h

@@ -1,4 +1,6 @@
 pub mod Constants
+pub mod MovImms
+pub mod Pairs
 pub mod PlainFields
 pub mod FloatImms
 pub mod Names

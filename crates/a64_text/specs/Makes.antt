@@ -5,6 +5,7 @@ use Rattle.a64_base.specs.declared.entity.ExternalName.{ExternalName}
 use Rattle.a64_base.specs.declared.entity.MachLabel.{MachLabel}
 use Rattle.a64_base.specs.declared.entity.UserStackMap.{UserStackMap}
 use Rattle.a64_base.specs.declared.reg.Reg.{Reg}
+use Rattle.a64_base.specs.VectorSizes.{lane_of}
 use Rattle.a64_base.specs.declared.size.OperandSize.{OperandSize}
 use Rattle.a64_base.specs.declared.size.ScalarSize.{ScalarSize}
 use Rattle.a64_imms.specs.declared.asimd_fp.ASIMDFPModImm.{ASIMDFPModImm}
@@ -26,20 +27,25 @@ use Rattle.a64_text.specs.declared.name.FloatName.TheVariants as float
 use Rattle.a64_text.specs.declared.name.ImmediateName.TheVariants as immediate
 use Rattle.a64_text.specs.declared.name.MemoryName.{MemoryName}
 use Rattle.a64_text.specs.declared.name.MemoryName.TheVariants as memory
+use Rattle.a64_text.specs.declared.name.VectorMoveName.TheVariants as vector_move
 use Rattle.a64_text.specs.declared.name.SequenceName.{SequenceName}
 use Rattle.a64_text.specs.declared.name.SequenceName.TheVariants as sequence
 use Rattle.a64_text.specs.declared.name.Name.{Name}
 use Rattle.a64_text.specs.declared.name.Name.TheVariants as names
 use Rattle.a64_read.specs.declared.value.Value.{Value}
-use Rattle.a64_read.specs.At.{atomic_rmw_op_at, cond_br_kind_at, convention_at, emit_flag_at, flags_at, frame_field_at, i64_at, imm12_at, key_at, label_at, list_at, map_at, mode_at, pair_mode_at, reg_at, target_at, test_bit_kind_at, truth_at, type_at, u32_at, u64_at, u8_at}
+use Rattle.a64_read.specs.At.{api_key_at, atomic_rmw_loop_op_at, atomic_rmw_op_at, cond_at, cond_br_kind_at, convention_at, emit_flag_at, flags_at, frame_field_at, i64_at, imm12_at, key_at, label_at, list_at, map_at, mode_at, mov_imm_at, pair_mode_at, reg_at, target_at, test_bit_kind_at, truth_at, type_at, u32_at, u64_at, u8_at, vector_size_at}
 use Rattle.a64_read.specs.Calls.{call_arg_text, call_lists_text, AreCallLists, CallLists, IsCallArg}
 use Rattle.a64_read.specs.Fields.{label_text, IsLabel}
 use Rattle.a64_read.specs.Hex.{hex_text}
 use Rattle.a64_text.specs.Constants.{HasHex}
 use Rattle.a64_read.specs.Lists.{list_text}
 use Rattle.a64_read.specs.ModeMakes.{MakesOf}
+use Rattle.a64_read.specs.PairModes.{written_pair, IsPairAt}
 use Rattle.a64_text.specs.Names.{float_imm_name, kinds_of, logic_name}
-use Rattle.a64_text.specs.PlainFields.{float_of, immediate_of, register_of, system_of}
+use Rattle.a64_text.specs.FloatImms.{IsFloatAt}
+use Rattle.a64_text.specs.MovImms.{written_mov, IsMovAt}
+use Rattle.a64_text.specs.Pairs.{pair_of, pair_scale}
+use Rattle.a64_text.specs.PlainFields.{float_of, immediate_of, register_of, system_of, vector_move_of, vector_of}
 use Rattle.a64_read.specs.RegisterPairs.{arg_pair_text, IsArgPair, ret_pair_text, IsRetPair}
 use Rattle.a64_text.specs.Tokens.{name_of, fields_of, IsOwn, IsPlain}
 use Rattle.a64_read.specs.Values.{kind_of}
@@ -59,6 +65,7 @@ control_of control.Word4 values = insts.Word4 (u32_at values 0)
 control_of control.Word8 values = insts.Word8 (u64_at values 0)
 control_of control.EmitIsland values = insts.EmitIsland (u32_at values 0)
 control_of control.LabelAddress values = insts.LabelAddress (reg_at values 0) (label_at values 1)
+control_of control.AuthenticatedRet values = insts.AuthenticatedRet (api_key_at values 0) (truth_at values 1)
 control_of _ values = insts.Brk
 
 abbrev pub sequence_of : SequenceName → List Value → Inst
@@ -67,14 +74,16 @@ sequence_of sequence.LoadExtNameGot values = insts.LoadExtNameGot (reg_at values
 sequence_of sequence.LoadExtNameNear values = insts.LoadExtNameNear (reg_at values 0) (record { 0 = u32_at values 1 }) (i64_at values 2)
 sequence_of sequence.LoadExtNameFar values = insts.LoadExtNameFar (reg_at values 0) (record { 0 = u32_at values 1 }) (i64_at values 2)
 sequence_of sequence.StackProbeLoop values = insts.StackProbeLoop (reg_at values 0) (reg_at values 1) (imm12_at values 2)
+sequence_of sequence.VecCSel values = insts.VecCSel (reg_at values 0) (reg_at values 1) (reg_at values 2) (cond_at values 3)
 sequence_of _ values = insts.SequencePoint
 
 abbrev pub memory_of : MemoryName → List Value → Inst
-memory_of memory.LoadP64 values = insts.LoadP64 (reg_at values 0) (reg_at values 1) (pair_mode_at values 2) (flags_at values 3)
-memory_of memory.StoreP64 values = insts.StoreP64 (reg_at values 0) (reg_at values 1) (pair_mode_at values 2) (flags_at values 3)
 memory_of memory.LoadAddr values = insts.LoadAddr (reg_at values 0) (mode_at values 1)
 memory_of memory.AtomicRMW values =
     insts.AtomicRMW (type_at values 0) (atomic_rmw_op_at values 1) (reg_at values 2) (reg_at values 3) (reg_at values 4) (flags_at values 5)
+memory_of memory.AtomicRMWLoop values =
+    insts.AtomicRMWLoop (type_at values 0) (atomic_rmw_loop_op_at values 1) (flags_at values 2)
+    (reg_at values 3) (reg_at values 4) (reg_at values 5) (reg_at values 6) (reg_at values 7)
 memory_of memory.AtomicCAS values =
     insts.AtomicCAS (reg_at values 0) (reg_at values 1) (reg_at values 2) (reg_at values 3) (type_at values 4) (flags_at values 5)
 memory_of memory.AtomicCAS128 values = insts.AtomicCAS128 (record {
@@ -87,8 +96,12 @@ memory_of memory.AtomicCAS128 values = insts.AtomicCAS128 (record {
   rn = reg_at values 6;
   flags = flags_at values 7;
 })
+memory_of memory.AtomicCASLoop values =
+    insts.AtomicCASLoop (type_at values 0) (flags_at values 1)
+    (reg_at values 2) (reg_at values 3) (reg_at values 4) (reg_at values 5) (reg_at values 6)
 memory_of memory.LoadAcquire values = insts.LoadAcquire (type_at values 0) (reg_at values 1) (reg_at values 2) (flags_at values 3)
 memory_of memory.StoreRelease values = insts.StoreRelease (type_at values 0) (reg_at values 1) (reg_at values 2) (flags_at values 3)
+memory_of memory.VecLoadReplicate values = insts.VecLoadReplicate (reg_at values 0) (reg_at values 1) (vector_size_at values 2) (flags_at values 3)
 
 -- the jump through a table of these fields, with these targets
 abbrev pub jump_of : List Value → List MachLabel → Inst
@@ -137,10 +150,13 @@ abbrev pub entry_of : Name → List Value → Entry
 entry_of (names.Immediate name) values = emitted (immediate_of name values)
 entry_of (names.Register name) values = emitted (register_of name values)
 entry_of (names.Float name) values = emitted (float_of name values)
+entry_of (names.Vector name) values = emitted (vector_of name values)
+entry_of (names.VectorMove name) values = emitted (vector_move_of name values)
 entry_of (names.System name) values = emitted (system_of name values)
 entry_of (names.Control name) values = emitted (control_of name values)
 entry_of (names.Sequence name) values = emitted (sequence_of name values)
 entry_of (names.Call name) values = emitted insts.Nop0
+entry_of (names.Pair name) values = emitted insts.Nop0
 entry_of (names.Memory name) values = emitted (memory_of name values)
 entry_of (names.Access op) values = emitted (inst_with op (reg_at values 0) (mode_at values 1) (flags_at values 2))
 entry_of names.Bind values = entries.Item (Bind (label_at values 0))
@@ -156,6 +172,15 @@ pub record MakesOwn {X : Type 0} (name : Name) (make : X → Entry) (values : Li
 unfoldable pub Makes : Name → List Value → Option Entry → Type 0
 Makes (names.Immediate immediate.AluRRImmLogic) values result = MakesOwn logic_name (λ (x : ALUOp × OperandSize × Reg × Reg × ImmLogic). emitted (insts.AluRRImmLogic x.0 x.1 x.2 x.3 x.4)) values result
 Makes (names.Float float.FpuMoveFPImm) values result = MakesOwn float_imm_name (λ (x : Reg × ASIMDFPModImm × ScalarSize). emitted (insts.FpuMoveFPImm x.0 x.1 x.2)) values result
+Makes (names.VectorMove vector_move.VecDupFPImm) values result =
+    MakesOf (IsFloatAt (lane_of (vector_size_at values 2))) (λ (imm : ASIMDFPModImm). imm.imm) (u8_at values 1)
+    (λ imm. emitted (insts.VecDupFPImm (reg_at values 0) imm (vector_size_at values 2))) result
+Makes (names.VectorMove vector_move.VecDupImm) values result =
+    MakesOf (IsMovAt (lane_of (vector_size_at values 3))) written_mov (mov_imm_at values 1)
+    (λ imm. emitted (insts.VecDupImm (reg_at values 0) imm (truth_at values 2) (vector_size_at values 3))) result
+Makes (names.Pair name) values result =
+    MakesOf (IsPairAt (pair_scale name)) written_pair (pair_mode_at values 2)
+    (λ mem. emitted (pair_of name (reg_at values 0) (reg_at values 1) mem (flags_at values 3))) result
 Makes (names.Control control.IndirectBr) values result = MakesOf (AllByRecursion IsLabel) (list_text label_text) (list_at values 1) (λ targets. emitted (insts.IndirectBr (reg_at values 0) targets)) result
 Makes (names.Sequence sequence.Args) values result = MakesOf (AllByRecursion IsArgPair) (list_text arg_pair_text) (list_at values 0) (λ args. emitted (insts.Args args)) result
 Makes (names.Sequence sequence.Rets) values result = MakesOf (AllByRecursion IsRetPair) (list_text ret_pair_text) (list_at values 0) (λ rets. emitted (insts.Rets rets)) result

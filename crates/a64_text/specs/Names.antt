@@ -7,6 +7,12 @@ use Rattle.a64_text.specs.declared.name.RegisterName.{RegisterName}
 use Rattle.a64_text.specs.declared.name.RegisterName.TheVariants as register
 use Rattle.a64_text.specs.declared.name.FloatName.{FloatName}
 use Rattle.a64_text.specs.declared.name.FloatName.TheVariants as float
+use Rattle.a64_text.specs.declared.name.VectorName.{VectorName}
+use Rattle.a64_text.specs.declared.name.VectorName.TheVariants as vector
+use Rattle.a64_text.specs.declared.name.VectorMoveName.{VectorMoveName}
+use Rattle.a64_text.specs.declared.name.VectorMoveName.TheVariants as vector_move
+use Rattle.a64_text.specs.declared.name.PairName.{PairName}
+use Rattle.a64_text.specs.declared.name.PairName.TheVariants as pair
 use Rattle.a64_text.specs.declared.name.SystemName.{SystemName}
 use Rattle.a64_text.specs.declared.name.SystemName.TheVariants as system
 use Rattle.a64_text.specs.declared.name.ControlName.{ControlName}
@@ -20,8 +26,8 @@ use Rattle.a64_ops.specs.declared.access.AccessOp.TheVariants as ops
 use Rattle.a64_text.specs.declared.name.Name.{Name}
 use Rattle.a64_text.specs.declared.name.SequenceName.{SequenceName}
 use Rattle.a64_text.specs.declared.name.SequenceName.TheVariants as sequence
-use Rattle.a64_text.specs.declared.name.Name.TheVariants.{Immediate, Register, Float, System, Control, Sequence, Call, Memory, Access, Bind, Const, Frame, Flag}
-use Rattle.a64_text.specs.PlainFields.{inst_fields, float_of, immediate_of, register_of, system_of}
+use Rattle.a64_text.specs.declared.name.Name.TheVariants.{Immediate, Register, Float, Vector, VectorMove, System, Control, Sequence, Call, Pair, Memory, Access, Bind, Const, Frame, Flag}
+use Rattle.a64_text.specs.PlainFields.{inst_fields, float_of, immediate_of, register_of, system_of, vector_move_of, vector_of}
 use Rattle.a64_read.specs.Heading.{Heading}
 use Rattle.a64_read.specs.Values.{kind_of}
 use Rattle.a64_read.specs.declared.value.Kind.{Kind}
@@ -76,6 +82,38 @@ float_text float.FpuRound = codes "FpuRound"
 float_text float.MovToFpu = codes "MovToFpu"
 float_text float.FpuMoveFPImm = codes "FpuMoveFPImm"
 
+abbrev pub vector_text : VectorName → List ℕ
+vector_text vector.VecExtend = codes "VecExtend"
+vector_text vector.VecRRLong = codes "VecRRLong"
+vector_text vector.VecRRNarrowLow = codes "VecRRNarrowLow"
+vector_text vector.VecRRNarrowHigh = codes "VecRRNarrowHigh"
+vector_text vector.VecRRPair = codes "VecRRPair"
+vector_text vector.VecRRRLong = codes "VecRRRLong"
+vector_text vector.VecRRRLongMod = codes "VecRRRLongMod"
+vector_text vector.VecRRPairLong = codes "VecRRPairLong"
+vector_text vector.VecRRR = codes "VecRRR"
+vector_text vector.VecRRRMod = codes "VecRRRMod"
+vector_text vector.VecFmlaElem = codes "VecFmlaElem"
+vector_text vector.VecMisc = codes "VecMisc"
+vector_text vector.VecLanes = codes "VecLanes"
+vector_text vector.VecShiftImm = codes "VecShiftImm"
+vector_text vector.VecShiftImmMod = codes "VecShiftImmMod"
+
+abbrev pub vector_move_text : VectorMoveName → List ℕ
+vector_move_text vector_move.MovToVec = codes "MovToVec"
+vector_move_text vector_move.MovFromVec = codes "MovFromVec"
+vector_move_text vector_move.MovFromVecSigned = codes "MovFromVecSigned"
+vector_move_text vector_move.VecDup = codes "VecDup"
+vector_move_text vector_move.VecDupFromFpu = codes "VecDupFromFpu"
+vector_move_text vector_move.VecDupFPImm = codes "VecDupFPImm"
+vector_move_text vector_move.VecDupImm = codes "VecDupImm"
+vector_move_text vector_move.VecMovElement = codes "VecMovElement"
+vector_move_text vector_move.VecExtract = codes "VecExtract"
+vector_move_text vector_move.VecTbl = codes "VecTbl"
+vector_move_text vector_move.VecTblExt = codes "VecTblExt"
+vector_move_text vector_move.VecTbl2 = codes "VecTbl2"
+vector_move_text vector_move.VecTbl2Ext = codes "VecTbl2Ext"
+
 abbrev pub system_text : SystemName → List ℕ
 system_text system.Nop0 = codes "Nop0"
 system_text system.Nop4 = codes "Nop4"
@@ -87,12 +125,18 @@ system_text system.Paci = codes "Paci"
 system_text system.Xpaclri = codes "Xpaclri"
 system_text system.Bti = codes "Bti"
 
--- the operation with a bitmask immediate, and the move of a float, whose immediates their constructors give
+-- the operation with a bitmask immediate, and the moves of floats and to lanes, whose immediates their constructors give
 abbrev pub logic_name : Name
 logic_name = Immediate immediate.AluRRImmLogic
 
 abbrev pub float_imm_name : Name
 float_imm_name = Float float.FpuMoveFPImm
+
+abbrev pub dup_float_name : Name
+dup_float_name = VectorMove vector_move.VecDupFPImm
+
+abbrev pub dup_name : Name
+dup_name = VectorMove vector_move.VecDupImm
 
 -- the fields behind the name of an instruction that is one plain word are those of the instruction
 abbrev pub plain_heading : List ℕ → Inst → Heading
@@ -111,6 +155,7 @@ control_heading control.Word4 = record { text = codes "Word4"; kinds = kinds.U32
 control_heading control.Word8 = record { text = codes "Word8"; kinds = kinds.U64 ∷ [] }
 control_heading control.EmitIsland = record { text = codes "EmitIsland"; kinds = kinds.U32 ∷ [] }
 control_heading control.LabelAddress = record { text = codes "LabelAddress"; kinds = kinds.Reg ∷ kinds.Label ∷ [] }
+control_heading control.AuthenticatedRet = record { text = codes "AuthenticatedRet"; kinds = kinds.ApiKey ∷ kinds.Bool ∷ [] }
 
 abbrev pub sequence_heading : SequenceName → Heading
 sequence_heading sequence.Args = record { text = codes "Args"; kinds = kinds.List ∷ [] }
@@ -122,6 +167,7 @@ sequence_heading sequence.LoadExtNameGot = record { text = codes "LoadExtNameGot
 sequence_heading sequence.LoadExtNameNear = record { text = codes "LoadExtNameNear"; kinds = kinds.Reg ∷ kinds.U32 ∷ kinds.I64 ∷ [] }
 sequence_heading sequence.LoadExtNameFar = record { text = codes "LoadExtNameFar"; kinds = kinds.Reg ∷ kinds.U32 ∷ kinds.I64 ∷ [] }
 sequence_heading sequence.StackProbeLoop = record { text = codes "StackProbeLoop"; kinds = kinds.Reg ∷ kinds.Reg ∷ kinds.Imm12 ∷ [] }
+sequence_heading sequence.VecCSel = record { text = codes "VecCSel"; kinds = kinds.Reg ∷ kinds.Reg ∷ kinds.Reg ∷ kinds.Cond ∷ [] }
 
 abbrev pub call_heading : CallName → Heading
 call_heading call.Call = record { text = codes "Call"; kinds = kinds.U32 ∷ kinds.List ∷ kinds.List ∷ kinds.List ∷ kinds.Convention ∷ kinds.Convention ∷ kinds.U32 ∷ kinds.Bool ∷ kinds.Map ∷ [] }
@@ -129,18 +175,42 @@ call_heading call.CallInd = record { text = codes "CallInd"; kinds = kinds.Reg �
 call_heading call.ReturnCall = record { text = codes "ReturnCall"; kinds = kinds.U32 ∷ kinds.List ∷ kinds.U32 ∷ kinds.Key ∷ kinds.Bool ∷ [] }
 call_heading call.ReturnCallInd = record { text = codes "ReturnCallInd"; kinds = kinds.Reg ∷ kinds.List ∷ kinds.U32 ∷ kinds.Key ∷ kinds.Bool ∷ [] }
 
+-- pairs have the same fields
+abbrev pub pair_text : PairName → List ℕ
+pair_text pair.LoadP64 = codes "LoadP64"
+pair_text pair.StoreP64 = codes "StoreP64"
+pair_text pair.FpuLoadP64 = codes "FpuLoadP64"
+pair_text pair.FpuStoreP64 = codes "FpuStoreP64"
+pair_text pair.FpuLoadP128 = codes "FpuLoadP128"
+pair_text pair.FpuStoreP128 = codes "FpuStoreP128"
+
+abbrev pub pair_heading : PairName → Heading
+pair_heading name = record { text = pair_text name; kinds = kinds.Reg ∷ kinds.Reg ∷ kinds.PairMode ∷ kinds.Flags ∷ [] }
+
 abbrev pub memory_heading : MemoryName → Heading
-memory_heading memory.LoadP64 = record { text = codes "LoadP64"; kinds = kinds.Reg ∷ kinds.Reg ∷ kinds.PairMode ∷ kinds.Flags ∷ [] }
-memory_heading memory.StoreP64 = record { text = codes "StoreP64"; kinds = kinds.Reg ∷ kinds.Reg ∷ kinds.PairMode ∷ kinds.Flags ∷ [] }
 memory_heading memory.LoadAddr = record { text = codes "LoadAddr"; kinds = kinds.Reg ∷ kinds.Mode ∷ [] }
 memory_heading memory.AtomicRMW = record { text = codes "AtomicRMW"; kinds = kinds.Type ∷ kinds.AtomicRmwOp ∷ kinds.Reg ∷ kinds.Reg ∷ kinds.Reg ∷ kinds.Flags ∷ [] }
+memory_heading memory.AtomicRMWLoop = record {
+  text = codes "AtomicRMWLoop";
+  kinds =
+      kinds.Type ∷ kinds.AtomicRmwLoopOp ∷ kinds.Flags
+      ∷ kinds.Reg ∷ kinds.Reg ∷ kinds.Reg ∷ kinds.Reg ∷ kinds.Reg ∷ [];
+}
 memory_heading memory.AtomicCAS = record { text = codes "AtomicCAS"; kinds = kinds.Reg ∷ kinds.Reg ∷ kinds.Reg ∷ kinds.Reg ∷ kinds.Type ∷ kinds.Flags ∷ [] }
 memory_heading memory.AtomicCAS128 = record {
   text = codes "AtomicCAS128";
   kinds = kinds.Reg ∷ kinds.Reg ∷ kinds.Reg ∷ kinds.Reg ∷ kinds.Reg ∷ kinds.Reg ∷ kinds.Reg ∷ kinds.Flags ∷ [];
 }
+memory_heading memory.AtomicCASLoop = record {
+  text = codes "AtomicCASLoop";
+  kinds = kinds.Type ∷ kinds.Flags ∷ kinds.Reg ∷ kinds.Reg ∷ kinds.Reg ∷ kinds.Reg ∷ kinds.Reg ∷ [];
+}
 memory_heading memory.LoadAcquire = record { text = codes "LoadAcquire"; kinds = kinds.Type ∷ kinds.Reg ∷ kinds.Reg ∷ kinds.Flags ∷ [] }
 memory_heading memory.StoreRelease = record { text = codes "StoreRelease"; kinds = kinds.Type ∷ kinds.Reg ∷ kinds.Reg ∷ kinds.Flags ∷ [] }
+memory_heading memory.VecLoadReplicate = record {
+  text = codes "VecLoadReplicate";
+  kinds = kinds.Reg ∷ kinds.Reg ∷ kinds.VectorSize ∷ kinds.Flags ∷ [];
+}
 
 -- loads and stores of one register have the same fields
 abbrev pub access_text : AccessOp → List ℕ
@@ -179,10 +249,21 @@ heading (Float float.FpuMoveFPImm) = record {
   kinds = kinds.Reg ∷ kinds.U8 ∷ kinds.ScalarSize ∷ [];
 }
 heading (Float name) = plain_heading (float_text name) (float_of name [])
+heading (Vector name) = plain_heading (vector_text name) (vector_of name [])
+heading (VectorMove vector_move.VecDupFPImm) = record {
+  text = vector_move_text vector_move.VecDupFPImm;
+  kinds = kinds.Reg ∷ kinds.U8 ∷ kinds.VectorSize ∷ [];
+}
+heading (VectorMove vector_move.VecDupImm) = record {
+  text = vector_move_text vector_move.VecDupImm;
+  kinds = kinds.Reg ∷ kinds.MovImm ∷ kinds.Bool ∷ kinds.VectorSize ∷ [];
+}
+heading (VectorMove name) = plain_heading (vector_move_text name) (vector_move_of name [])
 heading (System name) = plain_heading (system_text name) (system_of name [])
 heading (Control name) = control_heading name
 heading (Sequence name) = sequence_heading name
 heading (Call name) = call_heading name
+heading (Pair name) = pair_heading name
 heading (Memory name) = memory_heading name
 heading (Access op) = access_heading op
 heading Bind = record { text = codes "bind"; kinds = kinds.Label ∷ [] }

@@ -15,15 +15,23 @@ use Rattle.a64_text.specs.declared.name.RegisterName.{RegisterName}
 use Rattle.a64_text.specs.declared.name.RegisterName.TheVariants as register
 use Rattle.a64_text.specs.declared.name.FloatName.{FloatName}
 use Rattle.a64_text.specs.declared.name.FloatName.TheVariants as float
+use Rattle.a64_text.specs.declared.name.VectorName.{VectorName}
+use Rattle.a64_text.specs.declared.name.VectorName.TheVariants as vector
+use Rattle.a64_text.specs.declared.name.VectorMoveName.{VectorMoveName}
+use Rattle.a64_text.specs.declared.name.VectorMoveName.TheVariants as vector_move
 use Rattle.a64_text.specs.declared.name.SystemName.{SystemName}
 use Rattle.a64_text.specs.declared.name.SystemName.TheVariants as system
+use Rattle.a64_read.specs.declared.vec_op.VecOp.TheVariants as vec_ops
 use Rattle.a64_read.specs.declared.value.Value.{Value}
 use Rattle.a64_read.specs.declared.value.Value.TheVariants as values
 use Rattle.a64_read.specs.At.{alu_op3_at, alu_op_at, api_key_at, bfm_op_at, bit_op_at, branch_target_type_at, cond_at, extend_at, fpu_op1_at, fpu_op2_at, fpu_op3_at, fpu_op_ri_at, fpu_op_ri_mod_at, fpu_round_mode_at, fpu_to_int_op_at, i32_at, imm12_at, imm_shift_at, int_to_fpu_op_at, move_wide_op_at, nzcv_at, preg_at, reg_at, scalar_size_at, shift_at, size_at, truth_at, u8_at, uimm5_at, uimm6_at, vector_size_at, wide_at}
+use Rattle.a64_read.specs.VecAt.{vec_alu_mod_op_at, vec_alu_op_at, vec_extend_op_at, vec_lanes_op_at, vec_misc2_at, vec_pair_op_at, vec_rr_long_op_at, vec_rr_narrow_op_at, vec_rr_pair_long_op_at, vec_rrr_long_mod_op_at, vec_rrr_long_op_at, vec_shift_imm_mod_op_at, vec_shift_imm_op_at}
+use Rattle.a64_text.specs.MovImms.{written_mov}
 
 -- ---- fields
 
--- what stands in a file for an operand: for a bitmask immediate its value, and for that of a float its eight bits
+-- what stands in a file for an operand: for a bitmask immediate its value, for that of a float its eight bits, and for that of
+-- a move to lanes its bits, their shift, and whether ones are shifted in
 abbrev pub operand_value : Operand → Value
 operand_value (fields.AluOp x) = values.AluOp x
 operand_value (fields.AluOp3 x) = values.AluOp3 x
@@ -38,6 +46,19 @@ operand_value (fields.FpuOpRIMod x) = values.FpuOpRIMod x
 operand_value (fields.FpuToIntOp x) = values.FpuToIntOp x
 operand_value (fields.IntToFpuOp x) = values.IntToFpuOp x
 operand_value (fields.FpuRoundMode x) = values.FpuRoundMode x
+operand_value (fields.VecAluOp x) = values.VecOp (vec_ops.Alu x)
+operand_value (fields.VecAluModOp x) = values.VecOp (vec_ops.AluMod x)
+operand_value (fields.VecMisc2 x) = values.VecOp (vec_ops.Misc2 x)
+operand_value (fields.VecLanesOp x) = values.VecOp (vec_ops.Lanes x)
+operand_value (fields.VecExtendOp x) = values.VecOp (vec_ops.Extend x)
+operand_value (fields.VecRRLongOp x) = values.VecOp (vec_ops.RRLong x)
+operand_value (fields.VecRRNarrowOp x) = values.VecOp (vec_ops.RRNarrow x)
+operand_value (fields.VecPairOp x) = values.VecOp (vec_ops.Pair x)
+operand_value (fields.VecRRPairLongOp x) = values.VecOp (vec_ops.RRPairLong x)
+operand_value (fields.VecRRRLongOp x) = values.VecOp (vec_ops.RRRLong x)
+operand_value (fields.VecRRRLongModOp x) = values.VecOp (vec_ops.RRRLongMod x)
+operand_value (fields.VecShiftImmOp x) = values.VecOp (vec_ops.ShiftImm x)
+operand_value (fields.VecShiftImmModOp x) = values.VecOp (vec_ops.ShiftImmMod x)
 operand_value (fields.Size x) = values.Size x
 operand_value (fields.ScalarSize x) = values.ScalarSize x
 operand_value (fields.VectorSize x) = values.VectorSize x
@@ -46,6 +67,7 @@ operand_value (fields.Imm12 x) = values.Imm12 x
 operand_value (fields.Logic x) = values.U64 (logic_value x)
 operand_value (fields.Wide x) = values.Wide x
 operand_value (fields.FloatImm x) = values.U8 x.imm
+operand_value (fields.MovImm x) = values.MovImm (written_mov x)
 operand_value (fields.ImmShift x) = values.ImmShift x
 operand_value (fields.UImm5 x) = values.UImm5 x
 operand_value (fields.UImm6 x) = values.UImm6 x
@@ -119,6 +141,36 @@ float_of float.FpuCSel64 vs = insts.FpuCSel64 (reg_at vs 0) (reg_at vs 1) (reg_a
 float_of float.FpuRound vs = insts.FpuRound (fpu_round_mode_at vs 0) (reg_at vs 1) (reg_at vs 2)
 float_of _ vs = insts.MovToFpu (reg_at vs 0) (reg_at vs 1) (scalar_size_at vs 2)
 
+abbrev pub vector_of : VectorName → List Value → Inst
+vector_of vector.VecExtend vs = insts.VecExtend (vec_extend_op_at vs 0) (reg_at vs 1) (reg_at vs 2) (truth_at vs 3) (scalar_size_at vs 4)
+vector_of vector.VecRRLong vs = insts.VecRRLong (vec_rr_long_op_at vs 0) (reg_at vs 1) (reg_at vs 2) (truth_at vs 3)
+vector_of vector.VecRRNarrowLow vs = insts.VecRRNarrowLow (vec_rr_narrow_op_at vs 0) (reg_at vs 1) (reg_at vs 2) (scalar_size_at vs 3)
+vector_of vector.VecRRNarrowHigh vs = insts.VecRRNarrowHigh (vec_rr_narrow_op_at vs 0) (reg_at vs 1) (reg_at vs 2) (reg_at vs 3) (scalar_size_at vs 4)
+vector_of vector.VecRRPair vs = insts.VecRRPair (vec_pair_op_at vs 0) (reg_at vs 1) (reg_at vs 2)
+vector_of vector.VecRRRLong vs = insts.VecRRRLong (vec_rrr_long_op_at vs 0) (reg_at vs 1) (reg_at vs 2) (reg_at vs 3) (truth_at vs 4)
+vector_of vector.VecRRRLongMod vs = insts.VecRRRLongMod (vec_rrr_long_mod_op_at vs 0) (reg_at vs 1) (reg_at vs 2) (reg_at vs 3) (reg_at vs 4) (truth_at vs 5)
+vector_of vector.VecRRPairLong vs = insts.VecRRPairLong (vec_rr_pair_long_op_at vs 0) (reg_at vs 1) (reg_at vs 2)
+vector_of vector.VecRRR vs = insts.VecRRR (vec_alu_op_at vs 0) (reg_at vs 1) (reg_at vs 2) (reg_at vs 3) (vector_size_at vs 4)
+vector_of vector.VecRRRMod vs = insts.VecRRRMod (vec_alu_mod_op_at vs 0) (reg_at vs 1) (reg_at vs 2) (reg_at vs 3) (reg_at vs 4) (vector_size_at vs 5)
+vector_of vector.VecFmlaElem vs = insts.VecFmlaElem (vec_alu_mod_op_at vs 0) (reg_at vs 1) (reg_at vs 2) (reg_at vs 3) (reg_at vs 4) (vector_size_at vs 5) (u8_at vs 6)
+vector_of vector.VecMisc vs = insts.VecMisc (vec_misc2_at vs 0) (reg_at vs 1) (reg_at vs 2) (vector_size_at vs 3)
+vector_of vector.VecLanes vs = insts.VecLanes (vec_lanes_op_at vs 0) (reg_at vs 1) (reg_at vs 2) (vector_size_at vs 3)
+vector_of vector.VecShiftImm vs = insts.VecShiftImm (vec_shift_imm_op_at vs 0) (reg_at vs 1) (reg_at vs 2) (vector_size_at vs 3) (u8_at vs 4)
+vector_of _ vs = insts.VecShiftImmMod (vec_shift_imm_mod_op_at vs 0) (reg_at vs 1) (reg_at vs 2) (reg_at vs 3) (vector_size_at vs 4) (u8_at vs 5)
+
+abbrev pub vector_move_of : VectorMoveName → List Value → Inst
+vector_move_of vector_move.MovToVec vs = insts.MovToVec (reg_at vs 0) (reg_at vs 1) (reg_at vs 2) (u8_at vs 3) (vector_size_at vs 4)
+vector_move_of vector_move.MovFromVec vs = insts.MovFromVec (reg_at vs 0) (reg_at vs 1) (u8_at vs 2) (scalar_size_at vs 3)
+vector_move_of vector_move.MovFromVecSigned vs = insts.MovFromVecSigned (reg_at vs 0) (reg_at vs 1) (u8_at vs 2) (vector_size_at vs 3) (size_at vs 4)
+vector_move_of vector_move.VecDup vs = insts.VecDup (reg_at vs 0) (reg_at vs 1) (vector_size_at vs 2)
+vector_move_of vector_move.VecDupFromFpu vs = insts.VecDupFromFpu (reg_at vs 0) (reg_at vs 1) (vector_size_at vs 2) (u8_at vs 3)
+vector_move_of vector_move.VecMovElement vs = insts.VecMovElement (reg_at vs 0) (reg_at vs 1) (reg_at vs 2) (u8_at vs 3) (u8_at vs 4) (vector_size_at vs 5)
+vector_move_of vector_move.VecExtract vs = insts.VecExtract (reg_at vs 0) (reg_at vs 1) (reg_at vs 2) (u8_at vs 3)
+vector_move_of vector_move.VecTbl vs = insts.VecTbl (reg_at vs 0) (reg_at vs 1) (reg_at vs 2)
+vector_move_of vector_move.VecTblExt vs = insts.VecTblExt (reg_at vs 0) (reg_at vs 1) (reg_at vs 2) (reg_at vs 3)
+vector_move_of vector_move.VecTbl2 vs = insts.VecTbl2 (reg_at vs 0) (reg_at vs 1) (reg_at vs 2) (reg_at vs 3)
+vector_move_of _ vs = insts.VecTbl2Ext (reg_at vs 0) (reg_at vs 1) (reg_at vs 2) (reg_at vs 3) (reg_at vs 4)
+
 abbrev pub system_of : SystemName → List Value → Inst
 system_of system.Nop0 vs = insts.Nop0
 system_of system.Nop4 vs = insts.Nop4
@@ -176,6 +228,34 @@ plain_name (insts.FpuCSel64 rd rn rm cond) = names.Float float.FpuCSel64
 plain_name (insts.FpuRound op rd rn) = names.Float float.FpuRound
 plain_name (insts.MovToFpu rd rn scalar) = names.Float float.MovToFpu
 plain_name (insts.FpuMoveFPImm rd imm scalar) = names.Float float.FpuMoveFPImm
+plain_name (insts.VecExtend t rd rn high_half lane_size) = names.Vector vector.VecExtend
+plain_name (insts.VecRRLong op rd rn high_half) = names.Vector vector.VecRRLong
+plain_name (insts.VecRRNarrowLow op rd rn lane_size) = names.Vector vector.VecRRNarrowLow
+plain_name (insts.VecRRNarrowHigh op rd ri rn lane_size) = names.Vector vector.VecRRNarrowHigh
+plain_name (insts.VecRRPair op rd rn) = names.Vector vector.VecRRPair
+plain_name (insts.VecRRRLong alu_op rd rn rm high_half) = names.Vector vector.VecRRRLong
+plain_name (insts.VecRRRLongMod alu_op rd ri rn rm high_half) = names.Vector vector.VecRRRLongMod
+plain_name (insts.VecRRPairLong op rd rn) = names.Vector vector.VecRRPairLong
+plain_name (insts.VecRRR alu_op rd rn rm size) = names.Vector vector.VecRRR
+plain_name (insts.VecRRRMod alu_op rd ri rn rm size) = names.Vector vector.VecRRRMod
+plain_name (insts.VecFmlaElem alu_op rd ri rn rm size idx) = names.Vector vector.VecFmlaElem
+plain_name (insts.VecMisc op rd rn size) = names.Vector vector.VecMisc
+plain_name (insts.VecLanes op rd rn size) = names.Vector vector.VecLanes
+plain_name (insts.VecShiftImm op rd rn size imm) = names.Vector vector.VecShiftImm
+plain_name (insts.VecShiftImmMod op rd ri rn size imm) = names.Vector vector.VecShiftImmMod
+plain_name (insts.MovToVec rd ri rn idx size) = names.VectorMove vector_move.MovToVec
+plain_name (insts.MovFromVec rd rn idx size) = names.VectorMove vector_move.MovFromVec
+plain_name (insts.MovFromVecSigned rd rn idx size scalar_size) = names.VectorMove vector_move.MovFromVecSigned
+plain_name (insts.VecDup rd rn size) = names.VectorMove vector_move.VecDup
+plain_name (insts.VecDupFromFpu rd rn size lane) = names.VectorMove vector_move.VecDupFromFpu
+plain_name (insts.VecDupFPImm rd imm size) = names.VectorMove vector_move.VecDupFPImm
+plain_name (insts.VecDupImm rd imm invert size) = names.VectorMove vector_move.VecDupImm
+plain_name (insts.VecMovElement rd ri rn dest_idx src_idx size) = names.VectorMove vector_move.VecMovElement
+plain_name (insts.VecExtract rd rn rm imm4) = names.VectorMove vector_move.VecExtract
+plain_name (insts.VecTbl rd rn rm) = names.VectorMove vector_move.VecTbl
+plain_name (insts.VecTblExt rd ri rn rm) = names.VectorMove vector_move.VecTblExt
+plain_name (insts.VecTbl2 rd rn rn2 rm) = names.VectorMove vector_move.VecTbl2
+plain_name (insts.VecTbl2Ext rd ri rn rn2 rm) = names.VectorMove vector_move.VecTbl2Ext
 plain_name insts.Nop0 = names.System system.Nop0
 plain_name (insts.MovToNZCV rn) = names.System system.MovToNZCV
 plain_name (insts.MovFromNZCV rd) = names.System system.MovFromNZCV

@@ -6,12 +6,13 @@ use Rattle.a64_text.specs.declared.entry.Entry.TheVariants as entries
 use Rattle.a64_text.specs.declared.name.ControlName.TheVariants as control
 use Rattle.a64_text.specs.declared.name.FloatName.TheVariants as float
 use Rattle.a64_text.specs.declared.name.ImmediateName.TheVariants as immediate
+use Rattle.a64_text.specs.declared.name.VectorMoveName.TheVariants as vector_move
 use Rattle.a64_text.specs.declared.name.SequenceName.TheVariants as sequence
 use Rattle.a64_text.specs.declared.name.Name.{Name}
 use Rattle.a64_text.specs.declared.name.Name.TheVariants as names
 use Rattle.a64_read.specs.declared.value.Value.{Value}
 use Rattle.a64_text.specs.Makes.{entry_of, Makes}
-use Rattle.a64_text.specs.Names.{float_imm_name, logic_name}
+use Rattle.a64_text.specs.Names.{dup_float_name, dup_name, float_imm_name, logic_name}
 
 -- true: the entry's item stands behind the old ones. False: there is no entry, and the items are the old ones
 abbrev pub PutsEntry : Option Entry → List Item → List Item → Bool → Type 0
@@ -30,6 +31,9 @@ PutsMade name values old new made = (r : Option Entry) × Makes name values r ×
 unfoldable pub Puts : Name → List Value → List Item → List Item → Bool → Type 0
 Puts (names.Immediate immediate.AluRRImmLogic) values old new made = PutsMade logic_name values old new made
 Puts (names.Float float.FpuMoveFPImm) values old new made = PutsMade float_imm_name values old new made
+Puts (names.VectorMove vector_move.VecDupFPImm) values old new made = PutsMade dup_float_name values old new made
+Puts (names.VectorMove vector_move.VecDupImm) values old new made = PutsMade dup_name values old new made
+Puts (names.Pair name) values old new made = PutsMade (names.Pair name) values old new made
 Puts (names.Control control.IndirectBr) values old new made = PutsMade (names.Control control.IndirectBr) values old new made
 Puts (names.Sequence sequence.Args) values old new made = PutsMade (names.Sequence sequence.Args) values old new made
 Puts (names.Sequence sequence.Rets) values old new made = PutsMade (names.Sequence sequence.Rets) values old new made

@@ -4,6 +4,7 @@ use Rattle.std.specs.List.{join_with_byte, AllByRecursion}
 use Rattle.a64_base.specs.declared.entity.TrapCode.{TrapCode}
 use Rattle.a64_base.specs.declared.entity.UserStackMap.{UserStackMap}
 use Rattle.a64_base.specs.declared.reg.Reg.{Reg}
+use Rattle.a64_base.specs.VectorSizes.{lane_of}
 use Rattle.a64_imms.specs.Logic.{logic_value, IsLogicOf}
 use Rattle.a64_inst.specs.declared.call.CallInfo.{CallInfo}
 use Rattle.a64_inst.specs.declared.call.ReturnCallInfo.{ReturnCallInfo}
@@ -12,6 +13,7 @@ use Rattle.a64_inst.specs.declared.inst.Inst.TheVariants as insts
 use Rattle.a64_inst.specs.declared.item.Item.{Item}
 use Rattle.a64_inst.specs.declared.item.Item.TheVariants.{Bind, Emit}
 use Rattle.a64_inst.specs.declared.mode.AMode.{AMode}
+use Rattle.a64_inst.specs.declared.mode.PairAMode.{PairAMode}
 use Rattle.a64_ops.specs.declared.access.AccessOp.{AccessOp}
 use Rattle.a64_ops.specs.declared.access.AccessOp.TheVariants as ops
 use Rattle.a64_text.specs.declared.entry.Entry.{Entry}
@@ -20,6 +22,8 @@ use Rattle.a64_text.specs.declared.name.CallName.{CallName}
 use Rattle.a64_text.specs.declared.name.CallName.TheVariants as call
 use Rattle.a64_text.specs.declared.name.ControlName.TheVariants as control
 use Rattle.a64_text.specs.declared.name.MemoryName.TheVariants as memory
+use Rattle.a64_text.specs.declared.name.PairName.{PairName}
+use Rattle.a64_text.specs.declared.name.PairName.TheVariants as pair
 use Rattle.a64_text.specs.declared.name.SequenceName.TheVariants as sequence
 use Rattle.a64_text.specs.declared.name.Name.{Name}
 use Rattle.a64_text.specs.declared.name.Name.TheVariants as names
@@ -31,8 +35,11 @@ use Rattle.a64_read.specs.Fields.{label_text, IsLabel}
 use Rattle.a64_read.specs.Hex.{hex_text}
 use Rattle.a64_text.specs.Constants.{HasHex}
 use Rattle.a64_read.specs.Lists.{list_text}
+use Rattle.a64_read.specs.PairModes.{written_pair, IsPairAt}
 use Rattle.a64_text.specs.FloatImms.{IsFloatAt}
+use Rattle.a64_text.specs.MovImms.{IsMovAt}
 use Rattle.a64_text.specs.Names.{name_text}
+use Rattle.a64_text.specs.Pairs.{pair_scale}
 use Rattle.a64_text.specs.PlainFields.{inst_fields, plain_name}
 use Rattle.a64_read.specs.RegisterPairs.{arg_pair_text, IsArgPair, ret_pair_text, IsRetPair}
 use Rattle.a64_read.specs.Values.{value_text, IsValue}
@@ -44,6 +51,9 @@ pub record Parts : Type 0 where
 
 abbrev pub access_parts : AccessOp → Reg → AMode → Option TrapCode → Parts
 access_parts op rd mem flags = record { name = names.Access op; fields = values.Reg rd ∷ values.Mode mem ∷ values.Flags flags ∷ [] }
+
+abbrev pub pair_parts : PairName → Reg → Reg → PairAMode → Option TrapCode → Parts
+pair_parts name rt rt2 mem flags = record { name = names.Pair name; fields = values.Reg rt ∷ values.Reg rt2 ∷ values.PairMode (written_pair mem) ∷ values.Flags flags ∷ [] }
 
 -- of a call, but for its map
 abbrev pub call_parts : {T : Type 0} → CallName → Value → CallInfo T → Parts
@@ -65,6 +75,7 @@ inst_parts (insts.Word4 value) = record { name = names.Control control.Word4; fi
 inst_parts (insts.Word8 value) = record { name = names.Control control.Word8; fields = values.U64 value ∷ [] }
 inst_parts (insts.EmitIsland needed_space) = record { name = names.Control control.EmitIsland; fields = values.U32 needed_space ∷ [] }
 inst_parts (insts.LabelAddress dst label) = record { name = names.Control control.LabelAddress; fields = values.Reg dst ∷ values.Label label ∷ [] }
+inst_parts (insts.AuthenticatedRet key is_hint) = record { name = names.Control control.AuthenticatedRet; fields = values.ApiKey key ∷ values.Bool is_hint ∷ [] }
 inst_parts (insts.Args args) = record { name = names.Sequence sequence.Args; fields = values.List (list_text arg_pair_text args) ∷ [] }
 inst_parts (insts.Rets rets) = record { name = names.Sequence sequence.Rets; fields = values.List (list_text ret_pair_text rets) ∷ [] }
 inst_parts (insts.DummyUse reg) = record { name = names.Sequence sequence.DummyUse; fields = values.Reg reg ∷ [] }
@@ -74,15 +85,26 @@ inst_parts (insts.LoadExtNameGot rd name) = record { name = names.Sequence seque
 inst_parts (insts.LoadExtNameNear rd name offset) = record { name = names.Sequence sequence.LoadExtNameNear; fields = values.Reg rd ∷ values.U32 name.0 ∷ values.I64 offset ∷ [] }
 inst_parts (insts.LoadExtNameFar rd name offset) = record { name = names.Sequence sequence.LoadExtNameFar; fields = values.Reg rd ∷ values.U32 name.0 ∷ values.I64 offset ∷ [] }
 inst_parts (insts.StackProbeLoop start end step) = record { name = names.Sequence sequence.StackProbeLoop; fields = values.Reg start ∷ values.Reg end ∷ values.Imm12 step ∷ [] }
+inst_parts (insts.VecCSel rd rn rm cond) = record { name = names.Sequence sequence.VecCSel; fields = values.Reg rd ∷ values.Reg rn ∷ values.Reg rm ∷ values.Cond cond ∷ [] }
 inst_parts (insts.Call info) = call_parts call.Call (values.U32 info.dest.0) info
 inst_parts (insts.CallInd info) = call_parts call.CallInd (values.Reg info.dest) info
 inst_parts (insts.ReturnCall info) = return_call_parts call.ReturnCall (values.U32 info.dest.0) info
 inst_parts (insts.ReturnCallInd info) = return_call_parts call.ReturnCallInd (values.Reg info.dest) info
-inst_parts (insts.LoadP64 rt rt2 mem flags) = record { name = names.Memory memory.LoadP64; fields = values.Reg rt ∷ values.Reg rt2 ∷ values.PairMode mem ∷ values.Flags flags ∷ [] }
-inst_parts (insts.StoreP64 rt rt2 mem flags) = record { name = names.Memory memory.StoreP64; fields = values.Reg rt ∷ values.Reg rt2 ∷ values.PairMode mem ∷ values.Flags flags ∷ [] }
+inst_parts (insts.LoadP64 rt rt2 mem flags) = pair_parts pair.LoadP64 rt rt2 mem flags
+inst_parts (insts.StoreP64 rt rt2 mem flags) = pair_parts pair.StoreP64 rt rt2 mem flags
+inst_parts (insts.FpuLoadP64 rt rt2 mem flags) = pair_parts pair.FpuLoadP64 rt rt2 mem flags
+inst_parts (insts.FpuStoreP64 rt rt2 mem flags) = pair_parts pair.FpuStoreP64 rt rt2 mem flags
+inst_parts (insts.FpuLoadP128 rt rt2 mem flags) = pair_parts pair.FpuLoadP128 rt rt2 mem flags
+inst_parts (insts.FpuStoreP128 rt rt2 mem flags) = pair_parts pair.FpuStoreP128 rt rt2 mem flags
 inst_parts (insts.AtomicRMW ty op rs rt rn flags) = record {
   name = names.Memory memory.AtomicRMW;
   fields = values.Type ty ∷ values.AtomicRmwOp op ∷ values.Reg rs ∷ values.Reg rt ∷ values.Reg rn ∷ values.Flags flags ∷ [];
+}
+inst_parts (insts.AtomicRMWLoop ty op flags addr operand oldval scratch1 scratch2) = record {
+  name = names.Memory memory.AtomicRMWLoop;
+  fields =
+      values.Type ty ∷ values.AtomicRmwLoopOp op ∷ values.Flags flags ∷ values.Reg addr ∷ values.Reg operand
+      ∷ values.Reg oldval ∷ values.Reg scratch1 ∷ values.Reg scratch2 ∷ [];
 }
 inst_parts (insts.AtomicCAS rd rs rt rn ty flags) = record {
   name = names.Memory memory.AtomicCAS;
@@ -94,6 +116,12 @@ inst_parts (insts.AtomicCAS128 args) = record {
       values.Reg args.rd_lo ∷ values.Reg args.rd_hi ∷ values.Reg args.rs_lo ∷ values.Reg args.rs_hi
       ∷ values.Reg args.rt_lo ∷ values.Reg args.rt_hi ∷ values.Reg args.rn ∷ values.Flags args.flags ∷ [];
 }
+inst_parts (insts.AtomicCASLoop ty flags addr expected replacement oldval scratch) = record {
+  name = names.Memory memory.AtomicCASLoop;
+  fields =
+      values.Type ty ∷ values.Flags flags ∷ values.Reg addr ∷ values.Reg expected ∷ values.Reg replacement
+      ∷ values.Reg oldval ∷ values.Reg scratch ∷ [];
+}
 inst_parts (insts.LoadAcquire access_ty rt rn flags) = record {
   name = names.Memory memory.LoadAcquire;
   fields = values.Type access_ty ∷ values.Reg rt ∷ values.Reg rn ∷ values.Flags flags ∷ [];
@@ -101,6 +129,10 @@ inst_parts (insts.LoadAcquire access_ty rt rn flags) = record {
 inst_parts (insts.StoreRelease access_ty rt rn flags) = record {
   name = names.Memory memory.StoreRelease;
   fields = values.Type access_ty ∷ values.Reg rt ∷ values.Reg rn ∷ values.Flags flags ∷ [];
+}
+inst_parts (insts.VecLoadReplicate rd rn size flags) = record {
+  name = names.Memory memory.VecLoadReplicate;
+  fields = values.Reg rd ∷ values.Reg rn ∷ values.VectorSize size ∷ values.Flags flags ∷ [];
 }
 inst_parts (insts.LoadAddr rd mem) = record { name = names.Memory memory.LoadAddr; fields = values.Reg rd ∷ values.Mode mem ∷ [] }
 inst_parts (insts.ULoad8 rd mem flags) = access_parts ops.ULoad8 rd mem flags
@@ -151,6 +183,14 @@ fields_of entry = (parts entry).fields
 abbrev pub IsOwnInst : Inst → Type 0
 IsOwnInst (insts.AluRRImmLogic alu_op size rd rn imml) = IsLogicOf size (logic_value imml) imml
 IsOwnInst (insts.FpuMoveFPImm rd imm scalar) = IsFloatAt scalar imm
+IsOwnInst (insts.VecDupFPImm rd imm size) = IsFloatAt (lane_of size) imm
+IsOwnInst (insts.VecDupImm rd imm invert size) = IsMovAt (lane_of size) imm
+IsOwnInst (insts.LoadP64 rt rt2 mem flags) = IsPairAt (pair_scale pair.LoadP64) mem
+IsOwnInst (insts.StoreP64 rt rt2 mem flags) = IsPairAt (pair_scale pair.StoreP64) mem
+IsOwnInst (insts.FpuLoadP64 rt rt2 mem flags) = IsPairAt (pair_scale pair.FpuLoadP64) mem
+IsOwnInst (insts.FpuStoreP64 rt rt2 mem flags) = IsPairAt (pair_scale pair.FpuStoreP64) mem
+IsOwnInst (insts.FpuLoadP128 rt rt2 mem flags) = IsPairAt (pair_scale pair.FpuLoadP128) mem
+IsOwnInst (insts.FpuStoreP128 rt rt2 mem flags) = IsPairAt (pair_scale pair.FpuStoreP128) mem
 IsOwnInst (insts.IndirectBr rn targets) = AllByRecursion IsLabel targets
 IsOwnInst (insts.Args args) = AllByRecursion IsArgPair args
 IsOwnInst (insts.Rets rets) = AllByRecursion IsRetPair rets

@@ -7,8 +7,8 @@ ghost use Rattle.a64_text.specs.Makers.{name_found};
 
 use crate::name::Name;
 use crate::name_table::{
-    NAME_HOMES, access_rows, control_rows, float_rows, immediate_rows, other_rows, register_rows,
-    sequence_rows, system_rows,
+    NAME_HOMES, access_rows, control_rows, float_rows, integer_rows, other_rows, sequence_rows,
+    vector_move_rows, vector_rows,
 };
 use a64_read::named::{Named, Row};
 
@@ -29,13 +29,13 @@ impl Named for Name {
     fn row_table(class: u8) -> &'static [Row<Name>] {
         // Each number below 8 has an arm, so that the class is not compared with the number of classes.
         match class % 8 {
-            0 => immediate_rows(),
-            1 => register_rows(),
-            2 => float_rows(),
-            3 => control_rows(),
-            4 => sequence_rows(),
-            5 => access_rows(),
-            6 => system_rows(),
+            0 => integer_rows(),
+            1 => float_rows(),
+            2 => vector_rows(),
+            3 => vector_move_rows(),
+            4 => control_rows(),
+            5 => sequence_rows(),
+            6 => access_rows(),
             7 => other_rows(),
             _ => unreachable!(),
         }

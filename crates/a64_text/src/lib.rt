@@ -8,6 +8,7 @@ mod file;
 mod float_imm;
 mod logic;
 mod make;
+mod mov_imm;
 mod name;
 mod name_table;
 mod read;

@@ -3,6 +3,7 @@
 pub mod call;
 pub mod control;
 pub mod memory;
+pub mod pair;
 pub mod plain;
 pub mod sequence;
 

@@ -103,6 +103,72 @@ pub enum FloatName {
     FpuMoveFPImm,
 }
 
+/// The name of an operation on vectors.
+#[derive(Clone, Copy)]
+pub enum VectorName {
+    /// `VecExtend`.
+    VecExtend,
+    /// `VecRRLong`.
+    VecRRLong,
+    /// `VecRRNarrowLow`.
+    VecRRNarrowLow,
+    /// `VecRRNarrowHigh`.
+    VecRRNarrowHigh,
+    /// `VecRRPair`.
+    VecRRPair,
+    /// `VecRRRLong`.
+    VecRRRLong,
+    /// `VecRRRLongMod`.
+    VecRRRLongMod,
+    /// `VecRRPairLong`.
+    VecRRPairLong,
+    /// `VecRRR`.
+    VecRRR,
+    /// `VecRRRMod`.
+    VecRRRMod,
+    /// `VecFmlaElem`.
+    VecFmlaElem,
+    /// `VecMisc`.
+    VecMisc,
+    /// `VecLanes`.
+    VecLanes,
+    /// `VecShiftImm`.
+    VecShiftImm,
+    /// `VecShiftImmMod`.
+    VecShiftImmMod,
+}
+
+/// The name of a move of lanes, or of a table of bytes.
+#[derive(Clone, Copy)]
+pub enum VectorMoveName {
+    /// `MovToVec`.
+    MovToVec,
+    /// `MovFromVec`.
+    MovFromVec,
+    /// `MovFromVecSigned`.
+    MovFromVecSigned,
+    /// `VecDup`.
+    VecDup,
+    /// `VecDupFromFpu`.
+    VecDupFromFpu,
+    /// `VecDupFPImm`.
+    VecDupFPImm,
+    /// `VecDupImm`.
+    VecDupImm,
+    /// `VecMovElement`.
+    VecMovElement,
+    /// `VecExtract`.
+    VecExtract,
+    /// `VecTbl`.
+    VecTbl,
+    /// `VecTblExt`.
+    VecTblExt,
+    /// `VecTbl2`.
+    VecTbl2,
+    /// `VecTbl2Ext`.
+    VecTbl2Ext,
+}
+
 /// The name of a hint, of a barrier, or of an access to the flags.
 #[derive(Clone, Copy)]
 pub enum SystemName {
@@ -153,6 +219,8 @@ pub enum ControlName {
     EmitIsland,
     /// `LabelAddress`.
     LabelAddress,
+    /// `AuthenticatedRet`.
+    AuthenticatedRet,
 }
 
 /// The name of a sequence around a table, a symbol or the stack, or of what has no word.
@@ -176,6 +244,8 @@ pub enum SequenceName {
     LoadExtNameFar,
     /// `StackProbeLoop`.
     StackProbeLoop,
+    /// `VecCSel`.
+    VecCSel,
 }
 
 /// The name of a call, or of a return that calls.
@@ -191,25 +261,44 @@ pub enum CallName {
     ReturnCallInd,
 }
 
-/// The name of an instruction of memory that is no load or store of one register.
+/// The name of a load or a store of a pair of registers.
 #[derive(Clone, Copy)]
-pub enum MemoryName {
+pub enum PairName {
     /// `LoadP64`.
     LoadP64,
     /// `StoreP64`.
     StoreP64,
+    /// `FpuLoadP64`.
+    FpuLoadP64,
+    /// `FpuStoreP64`.
+    FpuStoreP64,
+    /// `FpuLoadP128`.
+    FpuLoadP128,
+    /// `FpuStoreP128`.
+    FpuStoreP128,
+}
+
+/// The name of an instruction of memory that is no load or store of one register.
+#[derive(Clone, Copy)]
+pub enum MemoryName {
     /// `LoadAddr`.
     LoadAddr,
     /// `AtomicRMW`.
     AtomicRMW,
+    /// `AtomicRMWLoop`.
+    AtomicRMWLoop,
     /// `AtomicCAS`.
     AtomicCAS,
     /// `AtomicCAS128`.
     AtomicCAS128,
+    /// `AtomicCASLoop`.
+    AtomicCASLoop,
     /// `LoadAcquire`.
     LoadAcquire,
     /// `StoreRelease`.
     StoreRelease,
+    /// `VecLoadReplicate`.
+    VecLoadReplicate,
 }
 
 /// The name with which a line begins.
@@ -221,6 +310,10 @@ pub enum Name {
     Register(RegisterName),
     /// An operation on scalar floats.
     Float(FloatName),
+    /// An operation on vectors.
+    Vector(VectorName),
+    /// A move of lanes, or a table of bytes.
+    VectorMove(VectorMoveName),
     /// A hint, a barrier, or an access to the flags.
     System(SystemName),
     /// A branch or another instruction of control.
@@ -229,6 +322,8 @@ pub enum Name {
     Sequence(SequenceName),
     /// A call, or a return that calls.
     Call(CallName),
+    /// A load or a store of a pair of registers.
+    Pair(PairName),
     /// An instruction of memory that is no load or store of one register.
     Memory(MemoryName),
     /// A load or store of one register.

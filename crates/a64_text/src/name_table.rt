@@ -2,96 +2,100 @@
 
 ghost use Rattle.std.specs.Prelude.{map};
 ghost use Rattle.a64_read.specs.Hash.{AreRows};
-ghost use Rattle.a64_text.specs.declared.name_table.TheConstants.{IMMEDIATE_NAMES, REGISTER_NAMES, FLOAT_NAMES, CONTROL_NAMES, SEQUENCE_NAMES, ACCESS_NAMES, SYSTEM_NAMES, OTHER_NAMES};
+ghost use Rattle.a64_text.specs.declared.name_table.TheConstants.{INTEGER_NAMES, FLOAT_NAMES, VECTOR_NAMES, VECTOR_MOVE_NAMES, CONTROL_NAMES, SEQUENCE_NAMES, ACCESS_NAMES, OTHER_NAMES};
 ghost use Rattle.a64_text.specs.Names.{name_text, kinds_of};
 
 use crate::name::{
-    CallName, ControlName, FloatName, ImmediateName, MemoryName, Name, RegisterName, SequenceName,
-    SystemName,
+    CallName, ControlName, FloatName, ImmediateName, MemoryName, Name, PairName, RegisterName,
+    SequenceName, SystemName, VectorMoveName, VectorName,
 };
 use a64_inst::AccessOp;
 use a64_read::named::Row;
 use a64_read::value::Kind;
+use a64_read::vec_op::VecOpKind;
 
 /// For each remainder of a hash, the home of the name that has it: 32 times the number of its class, plus
 /// the number of its row there.
 pub static NAME_HOMES: [u8; 2048] = [
-    0, 0, 0, 0, 0, 133, 0, 0, 0, 0, 0, 0, 0, 0, 0, 0, 0, 0, 131, 0, 0, 0, 0, 0, 0, 0, 0, 0, 0, 0,
-    0, 0, 0, 42, 0, 0, 0, 0, 0, 0, 0, 0, 0, 0, 0, 0, 0, 0, 0, 0, 0, 0, 0, 0, 0, 0, 0, 0, 0, 0, 0,
-    0, 0, 0, 0, 0, 77, 165, 176, 0, 0, 0, 0, 0, 0, 0, 0, 0, 0, 0, 0, 0, 68, 0, 0, 0, 0, 171, 225,
-    0, 0, 0, 0, 0, 0, 0, 0, 0, 7, 0, 0, 0, 0, 0, 0, 0, 198, 0, 0, 162, 0, 0, 0, 0, 232, 0, 0, 0, 0,
+    0, 0, 0, 0, 0, 165, 0, 0, 0, 0, 0, 0, 0, 0, 0, 0, 0, 0, 163, 0, 0, 0, 0, 0, 0, 0, 0, 0, 0, 0,
+    0, 0, 0, 20, 0, 0, 0, 0, 0, 0, 0, 0, 0, 0, 0, 0, 0, 0, 0, 0, 0, 0, 0, 0, 0, 0, 0, 0, 0, 0, 0,
+    0, 0, 0, 0, 0, 45, 197, 208, 0, 0, 0, 0, 0, 0, 0, 0, 0, 0, 0, 0, 0, 36, 0, 0, 0, 0, 203, 225,
+    0, 0, 0, 0, 0, 0, 0, 0, 0, 7, 0, 0, 0, 0, 0, 0, 106, 147, 0, 0, 194, 0, 0, 0, 0, 239, 0, 0, 0,
     0, 0, 0, 0, 0, 0, 0, 0, 0, 0, 0, 0, 0, 0, 0, 0, 0, 0, 0, 0, 0, 0, 0, 0, 0, 0, 0, 0, 0, 0, 0, 0,
-    0, 0, 174, 169, 0, 0, 0, 0, 0, 0, 0, 0, 0, 0, 0, 0, 0, 0, 0, 0, 0, 0, 0, 197, 0, 0, 0, 160, 0,
-    0, 0, 0, 76, 0, 0, 0, 0, 0, 0, 0, 0, 130, 0, 0, 0, 0, 0, 0, 0, 0, 1, 0, 64, 0, 0, 0, 0, 0, 0,
-    0, 0, 0, 0, 0, 0, 0, 0, 0, 0, 129, 0, 0, 0, 0, 0, 0, 0, 0, 0, 0, 0, 0, 0, 0, 2, 0, 0, 0, 0, 0,
-    0, 0, 0, 0, 0, 0, 0, 0, 0, 0, 0, 0, 0, 0, 0, 0, 0, 0, 0, 0, 0, 0, 0, 0, 0, 0, 0, 0, 0, 195, 0,
-    0, 0, 0, 0, 0, 0, 0, 0, 0, 0, 0, 0, 0, 0, 70, 0, 0, 0, 0, 0, 0, 0, 0, 0, 0, 0, 0, 0, 0, 0, 0,
+    0, 0, 0, 206, 201, 0, 0, 0, 0, 0, 0, 0, 0, 0, 0, 0, 0, 0, 0, 0, 0, 0, 0, 0, 146, 0, 0, 0, 192,
+    0, 0, 0, 0, 44, 0, 0, 0, 0, 0, 0, 0, 0, 162, 0, 0, 0, 0, 0, 0, 0, 0, 1, 99, 32, 0, 0, 0, 0, 0,
+    0, 0, 0, 0, 0, 0, 0, 0, 0, 0, 0, 161, 0, 0, 0, 0, 0, 0, 0, 0, 0, 0, 0, 0, 0, 0, 2, 0, 0, 0, 0,
+    0, 0, 0, 0, 0, 0, 0, 0, 0, 0, 0, 0, 0, 0, 0, 0, 0, 0, 0, 0, 0, 0, 0, 0, 0, 0, 0, 0, 0, 0, 144,
+    0, 0, 0, 0, 0, 0, 0, 0, 0, 0, 0, 0, 0, 0, 0, 38, 0, 0, 0, 0, 0, 0, 0, 0, 0, 0, 0, 0, 0, 0, 0,
     0, 0, 0, 0, 0, 0, 0, 0, 0, 0, 0, 0, 0, 0, 0, 0, 0, 0, 0, 0, 0, 0, 0, 0, 0, 0, 0, 0, 0, 0, 0, 0,
-    0, 0, 0, 0, 0, 0, 0, 0, 0, 0, 0, 0, 0, 0, 0, 9, 0, 0, 0, 0, 0, 0, 0, 0, 0, 0, 0, 0, 0, 0, 0, 0,
-    0, 0, 0, 0, 0, 0, 0, 0, 0, 0, 0, 0, 0, 0, 0, 0, 0, 101, 0, 0, 0, 0, 0, 0, 75, 0, 0, 0, 0, 0, 0,
-    0, 0, 0, 0, 0, 0, 0, 0, 0, 0, 0, 0, 0, 0, 0, 0, 0, 0, 170, 0, 0, 0, 0, 0, 173, 168, 0, 0, 0, 0,
-    0, 0, 0, 0, 0, 0, 200, 0, 0, 0, 0, 0, 0, 0, 0, 0, 0, 0, 0, 0, 0, 0, 0, 69, 0, 0, 0, 0, 0, 0, 0,
-    0, 0, 233, 0, 0, 0, 0, 0, 0, 0, 0, 0, 0, 0, 0, 0, 0, 0, 0, 0, 0, 0, 0, 0, 0, 0, 0, 0, 0, 0, 0,
+    0, 0, 0, 0, 0, 0, 0, 0, 0, 0, 0, 0, 0, 0, 0, 0, 9, 0, 0, 0, 0, 0, 0, 0, 0, 0, 0, 104, 0, 0, 0,
+    0, 0, 0, 0, 0, 0, 0, 0, 0, 0, 0, 0, 0, 0, 0, 0, 0, 0, 0, 133, 0, 0, 0, 0, 0, 0, 43, 0, 0, 0, 0,
+    0, 0, 0, 0, 0, 0, 0, 0, 70, 0, 0, 0, 0, 0, 0, 0, 0, 0, 0, 0, 202, 0, 0, 0, 0, 0, 205, 200, 0,
+    0, 0, 0, 68, 169, 0, 0, 0, 0, 149, 0, 0, 0, 0, 0, 0, 0, 0, 0, 0, 103, 0, 0, 0, 0, 0, 37, 0, 0,
+    0, 0, 0, 0, 0, 0, 0, 240, 0, 0, 0, 0, 0, 0, 0, 0, 0, 0, 0, 0, 0, 0, 0, 0, 0, 0, 0, 0, 0, 0, 0,
+    0, 0, 0, 0, 0, 0, 0, 0, 0, 0, 0, 0, 0, 0, 0, 0, 0, 0, 0, 0, 0, 0, 0, 0, 0, 0, 0, 0, 108, 0, 0,
+    0, 0, 0, 0, 0, 0, 0, 0, 0, 65, 0, 16, 0, 0, 0, 0, 0, 0, 39, 0, 0, 0, 0, 0, 0, 0, 0, 11, 0, 0,
+    0, 0, 0, 143, 0, 0, 0, 0, 0, 0, 0, 0, 0, 0, 0, 0, 0, 0, 0, 0, 0, 0, 0, 0, 0, 0, 0, 0, 0, 0, 0,
+    0, 0, 0, 0, 0, 0, 0, 0, 0, 0, 0, 0, 0, 0, 0, 0, 0, 0, 0, 0, 0, 47, 0, 0, 0, 0, 0, 0, 0, 0, 0,
+    0, 0, 0, 0, 0, 0, 0, 0, 0, 0, 0, 0, 0, 0, 0, 0, 0, 0, 0, 0, 0, 0, 0, 0, 0, 0, 0, 0, 71, 0, 0,
+    0, 0, 198, 0, 0, 0, 0, 0, 0, 0, 0, 0, 0, 0, 172, 0, 0, 0, 0, 0, 0, 12, 0, 0, 0, 0, 0, 0, 0, 0,
+    0, 0, 0, 0, 48, 0, 0, 0, 0, 0, 0, 0, 0, 0, 0, 0, 0, 0, 0, 0, 0, 0, 0, 0, 0, 0, 0, 0, 0, 236, 0,
+    0, 0, 0, 0, 0, 0, 0, 0, 34, 0, 0, 0, 0, 0, 0, 0, 0, 0, 0, 75, 129, 0, 0, 0, 0, 0, 0, 0, 0, 0,
+    0, 0, 78, 0, 0, 0, 0, 0, 0, 0, 0, 0, 0, 0, 0, 0, 0, 0, 0, 0, 0, 0, 0, 0, 0, 0, 0, 0, 0, 0, 0,
+    0, 0, 0, 0, 0, 142, 0, 0, 0, 0, 0, 0, 0, 0, 0, 0, 0, 0, 0, 0, 0, 0, 0, 0, 0, 0, 0, 0, 0, 0,
+    105, 0, 0, 136, 0, 0, 0, 0, 0, 0, 0, 0, 0, 0, 0, 0, 0, 0, 0, 0, 0, 0, 0, 0, 0, 0, 0, 0, 0, 0,
+    0, 0, 0, 0, 237, 0, 0, 0, 0, 0, 0, 0, 0, 0, 0, 0, 0, 0, 0, 0, 0, 0, 148, 0, 0, 0, 0, 0, 0, 0,
+    0, 0, 0, 0, 0, 0, 0, 73, 0, 0, 0, 0, 0, 0, 0, 0, 0, 46, 0, 0, 0, 0, 0, 0, 0, 0, 0, 0, 0, 0, 0,
+    0, 0, 0, 0, 0, 0, 0, 22, 0, 0, 0, 0, 0, 0, 0, 0, 0, 0, 4, 0, 0, 0, 0, 50, 0, 0, 0, 0, 196, 0,
     0, 0, 0, 0, 0, 0, 0, 0, 0, 0, 0, 0, 0, 0, 0, 0, 0, 0, 0, 0, 0, 0, 0, 0, 0, 0, 0, 0, 0, 0, 0, 0,
-    0, 0, 0, 0, 0, 38, 0, 0, 0, 0, 0, 0, 71, 0, 0, 0, 0, 0, 0, 0, 0, 33, 0, 0, 0, 0, 0, 194, 0, 0,
+    0, 0, 0, 0, 0, 0, 0, 0, 0, 0, 0, 0, 0, 0, 0, 0, 0, 0, 0, 0, 0, 0, 0, 8, 0, 0, 0, 0, 0, 0, 0, 0,
+    0, 0, 0, 0, 0, 0, 0, 0, 0, 0, 0, 0, 0, 0, 0, 0, 0, 0, 0, 0, 0, 0, 0, 0, 0, 0, 0, 0, 0, 145, 0,
     0, 0, 0, 0, 0, 0, 0, 0, 0, 0, 0, 0, 0, 0, 0, 0, 0, 0, 0, 0, 0, 0, 0, 0, 0, 0, 0, 0, 0, 0, 0, 0,
-    0, 0, 0, 0, 0, 0, 0, 0, 0, 0, 0, 0, 0, 0, 79, 0, 0, 0, 0, 0, 0, 0, 0, 0, 0, 0, 0, 0, 0, 0, 0,
-    0, 0, 0, 0, 0, 0, 0, 0, 0, 0, 0, 0, 0, 0, 0, 0, 0, 0, 0, 0, 0, 0, 0, 0, 0, 0, 166, 0, 0, 0, 0,
-    0, 0, 0, 0, 0, 0, 0, 139, 0, 0, 0, 0, 0, 0, 34, 0, 0, 0, 0, 0, 0, 0, 0, 0, 0, 0, 0, 80, 0, 0,
-    0, 0, 0, 0, 0, 0, 0, 0, 0, 0, 0, 0, 0, 0, 0, 0, 0, 0, 0, 0, 0, 0, 230, 0, 0, 0, 0, 0, 0, 0, 0,
-    0, 66, 0, 0, 0, 0, 0, 0, 0, 0, 0, 0, 0, 97, 0, 0, 0, 0, 0, 0, 0, 0, 0, 0, 0, 0, 0, 0, 0, 0, 0,
-    0, 0, 0, 0, 0, 0, 0, 0, 0, 0, 0, 0, 0, 0, 0, 0, 0, 0, 0, 0, 0, 0, 0, 0, 0, 0, 0, 0, 193, 0, 0,
-    0, 0, 0, 0, 0, 0, 0, 0, 0, 0, 0, 0, 0, 0, 0, 0, 0, 0, 0, 0, 0, 0, 0, 0, 0, 104, 0, 0, 0, 0, 0,
-    0, 0, 0, 0, 0, 0, 0, 0, 0, 0, 0, 0, 0, 0, 0, 0, 0, 0, 0, 0, 0, 0, 0, 0, 0, 231, 0, 0, 0, 0, 0,
-    0, 0, 0, 0, 0, 0, 0, 0, 0, 0, 0, 0, 199, 0, 0, 0, 0, 0, 0, 0, 0, 0, 0, 0, 0, 0, 0, 0, 0, 0, 0,
-    0, 0, 0, 0, 0, 0, 78, 0, 0, 0, 0, 0, 0, 0, 0, 0, 0, 0, 0, 0, 0, 0, 0, 0, 0, 0, 0, 44, 0, 0, 0,
-    0, 0, 0, 0, 0, 0, 0, 4, 0, 0, 0, 0, 82, 0, 0, 0, 0, 164, 0, 0, 0, 0, 0, 0, 0, 0, 0, 0, 0, 0, 0,
+    0, 21, 0, 0, 0, 0, 0, 0, 0, 0, 0, 0, 0, 0, 0, 0, 0, 0, 0, 0, 0, 0, 0, 0, 0, 0, 0, 0, 0, 0, 0,
+    0, 0, 0, 0, 0, 0, 0, 0, 0, 0, 0, 0, 0, 0, 0, 0, 0, 0, 226, 0, 130, 0, 0, 0, 0, 0, 0, 0, 0, 0,
+    0, 0, 0, 0, 0, 0, 0, 0, 0, 0, 0, 0, 0, 14, 0, 0, 0, 0, 0, 0, 0, 0, 0, 0, 0, 0, 0, 0, 0, 0, 0,
+    0, 0, 0, 0, 139, 0, 0, 0, 0, 166, 0, 0, 0, 0, 0, 0, 0, 0, 0, 0, 0, 0, 0, 0, 230, 0, 0, 0, 0, 0,
+    0, 0, 0, 0, 0, 0, 0, 0, 0, 0, 0, 0, 0, 0, 0, 0, 0, 0, 0, 0, 0, 0, 0, 0, 0, 0, 234, 0, 0, 0, 0,
+    0, 0, 0, 0, 0, 0, 0, 0, 0, 171, 0, 0, 0, 0, 0, 0, 0, 0, 0, 0, 0, 0, 0, 0, 0, 0, 0, 0, 0, 0, 0,
+    0, 5, 0, 0, 15, 0, 0, 0, 0, 0, 0, 0, 0, 0, 0, 0, 0, 241, 0, 0, 0, 0, 0, 0, 0, 0, 0, 0, 0, 0,
+    23, 0, 0, 0, 0, 0, 0, 0, 0, 0, 0, 0, 0, 0, 0, 0, 0, 0, 0, 0, 0, 0, 74, 0, 0, 0, 0, 0, 0, 0, 0,
+    0, 0, 0, 140, 0, 0, 210, 0, 66, 0, 0, 0, 0, 0, 0, 0, 0, 0, 0, 0, 0, 0, 0, 0, 229, 97, 0, 0, 0,
+    0, 195, 207, 0, 0, 0, 0, 0, 135, 0, 0, 0, 0, 0, 0, 0, 0, 0, 0, 0, 0, 0, 0, 0, 0, 0, 0, 0, 0, 0,
     0, 0, 0, 0, 0, 0, 0, 0, 0, 0, 0, 0, 0, 0, 0, 0, 0, 0, 0, 0, 0, 0, 0, 0, 0, 0, 0, 0, 0, 0, 0, 0,
-    0, 0, 0, 0, 0, 0, 0, 0, 0, 0, 0, 8, 0, 0, 0, 0, 0, 0, 0, 0, 0, 0, 0, 0, 0, 0, 0, 0, 0, 0, 0, 0,
-    0, 0, 0, 0, 0, 0, 0, 0, 0, 0, 0, 0, 0, 0, 0, 0, 0, 196, 0, 0, 0, 0, 0, 0, 0, 0, 0, 0, 0, 0, 0,
-    0, 0, 0, 0, 0, 0, 0, 0, 0, 0, 0, 0, 0, 0, 0, 0, 0, 0, 0, 0, 0, 43, 0, 0, 0, 0, 0, 0, 0, 0, 0,
+    0, 0, 0, 0, 0, 0, 0, 0, 193, 0, 0, 3, 0, 0, 0, 0, 0, 0, 0, 0, 0, 0, 0, 0, 10, 0, 0, 0, 0, 0, 0,
+    0, 0, 0, 0, 0, 0, 0, 0, 0, 0, 0, 13, 0, 0, 0, 0, 0, 0, 0, 0, 0, 49, 0, 0, 0, 0, 0, 0, 0, 0, 0,
+    0, 0, 170, 0, 0, 0, 0, 0, 0, 0, 0, 0, 0, 242, 0, 0, 0, 0, 0, 0, 0, 0, 0, 0, 0, 0, 0, 0, 0, 0,
+    0, 77, 0, 0, 0, 0, 0, 0, 0, 0, 0, 41, 0, 0, 0, 0, 0, 0, 0, 0, 0, 0, 0, 0, 0, 0, 0, 0, 0, 6, 0,
+    0, 0, 0, 0, 0, 0, 0, 0, 0, 0, 0, 0, 0, 0, 0, 0, 0, 0, 0, 0, 35, 0, 0, 0, 0, 0, 0, 0, 0, 0, 0,
+    0, 101, 0, 0, 0, 0, 0, 0, 0, 0, 0, 0, 0, 0, 0, 138, 0, 0, 0, 96, 0, 0, 0, 0, 0, 0, 0, 0, 0, 0,
+    0, 0, 0, 0, 0, 0, 0, 0, 0, 0, 0, 0, 0, 0, 0, 0, 0, 231, 76, 0, 0, 0, 0, 0, 0, 0, 0, 0, 0, 0, 0,
+    0, 0, 0, 0, 137, 0, 0, 0, 0, 0, 0, 0, 0, 0, 0, 0, 0, 0, 0, 0, 100, 0, 0, 0, 0, 0, 0, 0, 0, 0,
+    0, 0, 0, 0, 0, 0, 0, 0, 0, 0, 0, 0, 0, 0, 0, 0, 0, 0, 0, 0, 0, 0, 0, 0, 0, 0, 0, 0, 0, 0, 102,
+    0, 0, 0, 0, 0, 0, 0, 0, 0, 0, 0, 0, 0, 232, 0, 0, 0, 0, 204, 199, 0, 0, 0, 0, 0, 0, 0, 0, 0, 0,
+    0, 0, 0, 0, 0, 0, 0, 0, 0, 0, 235, 0, 0, 0, 0, 0, 168, 0, 0, 0, 0, 98, 0, 0, 0, 0, 0, 0, 0, 0,
+    0, 0, 0, 0, 0, 233, 0, 0, 0, 0, 0, 128, 0, 0, 0, 0, 0, 0, 0, 0, 0, 107, 0, 0, 0, 0, 0, 0, 0, 0,
+    0, 0, 0, 0, 0, 0, 0, 0, 0, 238, 0, 0, 0, 0, 0, 0, 0, 141, 0, 0, 0, 0, 0, 0, 0, 0, 0, 0, 0, 0,
+    0, 0, 0, 0, 0, 0, 0, 0, 0, 0, 0, 0, 0, 0, 0, 0, 0, 0, 0, 0, 0, 72, 0, 0, 167, 42, 0, 0, 0, 0,
     0, 0, 0, 0, 0, 0, 0, 0, 0, 0, 0, 0, 0, 0, 0, 0, 0, 0, 0, 0, 0, 0, 0, 0, 0, 0, 0, 0, 0, 0, 0, 0,
-    0, 0, 0, 0, 0, 0, 0, 0, 98, 0, 0, 0, 0, 0, 0, 0, 0, 0, 0, 0, 0, 0, 0, 0, 0, 0, 0, 0, 0, 0, 0,
-    36, 0, 0, 0, 0, 0, 0, 0, 0, 0, 0, 0, 0, 0, 0, 0, 0, 0, 0, 0, 0, 0, 107, 0, 0, 0, 0, 134, 0, 0,
-    0, 0, 0, 0, 0, 0, 0, 0, 0, 0, 0, 0, 226, 0, 0, 0, 0, 0, 0, 0, 0, 0, 0, 0, 0, 0, 0, 0, 0, 0, 0,
-    0, 0, 0, 0, 0, 0, 0, 0, 0, 0, 0, 0, 0, 229, 0, 0, 0, 0, 0, 0, 0, 0, 0, 0, 0, 0, 0, 138, 0, 0,
-    0, 0, 0, 0, 0, 0, 0, 0, 0, 0, 0, 0, 0, 0, 0, 0, 0, 0, 0, 0, 5, 0, 0, 37, 0, 0, 0, 0, 0, 0, 0,
-    0, 0, 0, 0, 0, 234, 0, 0, 0, 0, 0, 0, 0, 0, 0, 0, 0, 0, 45, 0, 0, 0, 0, 0, 0, 0, 0, 0, 0, 0, 0,
-    0, 0, 0, 0, 0, 0, 0, 0, 0, 0, 0, 0, 0, 0, 0, 0, 0, 0, 0, 0, 0, 0, 0, 0, 178, 0, 0, 0, 0, 0, 0,
-    0, 0, 0, 0, 0, 0, 0, 0, 0, 0, 0, 0, 0, 0, 0, 0, 0, 163, 175, 0, 0, 0, 0, 0, 103, 0, 0, 0, 0, 0,
-    0, 0, 0, 0, 0, 0, 0, 0, 0, 0, 0, 0, 0, 0, 0, 0, 0, 0, 0, 0, 0, 0, 0, 0, 0, 0, 0, 0, 0, 0, 0, 0,
-    0, 0, 0, 0, 0, 0, 0, 0, 0, 0, 0, 0, 0, 0, 0, 0, 0, 0, 0, 0, 0, 0, 0, 0, 161, 0, 0, 3, 0, 0, 0,
-    0, 0, 0, 0, 0, 0, 0, 0, 0, 32, 0, 0, 0, 0, 0, 0, 0, 0, 0, 0, 0, 0, 0, 0, 0, 0, 0, 35, 0, 0, 0,
-    0, 0, 0, 0, 0, 0, 81, 0, 0, 0, 0, 0, 0, 0, 0, 0, 0, 0, 137, 0, 0, 0, 0, 0, 0, 0, 0, 0, 0, 235,
-    0, 0, 0, 0, 0, 0, 0, 0, 0, 0, 0, 0, 0, 0, 0, 0, 0, 0, 0, 0, 0, 0, 0, 0, 0, 0, 0, 73, 0, 0, 0,
-    0, 0, 0, 0, 0, 0, 0, 0, 0, 0, 0, 0, 0, 0, 6, 0, 0, 0, 0, 0, 0, 0, 0, 0, 0, 0, 0, 0, 0, 0, 0, 0,
-    0, 0, 0, 0, 67, 0, 0, 0, 0, 0, 0, 0, 0, 0, 0, 0, 0, 0, 0, 0, 0, 0, 0, 0, 0, 0, 0, 0, 0, 0, 106,
-    0, 0, 0, 0, 0, 0, 0, 0, 0, 0, 0, 0, 0, 0, 0, 0, 0, 0, 0, 0, 0, 0, 0, 0, 0, 0, 0, 0, 0, 0, 0,
-    227, 0, 0, 0, 0, 0, 0, 0, 0, 0, 0, 0, 0, 0, 0, 0, 0, 0, 105, 0, 0, 0, 0, 0, 0, 0, 0, 0, 0, 0,
-    0, 0, 0, 0, 0, 0, 0, 0, 0, 0, 0, 0, 0, 0, 0, 0, 0, 0, 0, 0, 0, 0, 0, 0, 0, 0, 0, 0, 0, 0, 0, 0,
-    0, 0, 0, 0, 0, 0, 0, 0, 0, 0, 0, 0, 0, 0, 0, 0, 0, 0, 0, 0, 0, 0, 0, 0, 0, 0, 0, 0, 0, 0, 0,
-    172, 167, 0, 0, 0, 0, 0, 0, 0, 0, 0, 0, 0, 0, 0, 0, 0, 0, 0, 0, 0, 0, 0, 0, 0, 0, 0, 0, 136, 0,
-    0, 0, 0, 0, 0, 0, 0, 0, 0, 0, 0, 0, 0, 0, 0, 0, 0, 228, 0, 0, 0, 0, 0, 96, 0, 0, 0, 0, 0, 0, 0,
-    0, 0, 0, 0, 0, 0, 0, 0, 0, 0, 0, 0, 0, 0, 0, 0, 0, 0, 0, 0, 0, 0, 0, 0, 0, 0, 0, 0, 192, 0, 0,
-    0, 0, 0, 0, 0, 0, 0, 0, 0, 0, 0, 0, 0, 0, 0, 0, 0, 0, 0, 0, 0, 0, 0, 0, 0, 0, 0, 0, 0, 0, 0, 0,
-    0, 0, 135, 74, 0, 0, 0, 0, 0, 0, 0, 0, 0, 0, 0, 0, 0, 0, 0, 0, 0, 0, 0, 0, 0, 0, 0, 0, 0, 0, 0,
-    0, 0, 0, 0, 0, 0, 0, 0, 0, 0, 0, 0, 0, 0, 41, 0, 0, 224, 0, 0, 0, 99, 0, 177, 0, 0, 0, 0, 0, 0,
-    0, 0, 0, 0, 0, 0, 0, 0, 0, 0, 0, 0, 0, 0, 0, 0, 0, 0, 0, 0, 132, 0, 0, 0, 0, 0, 0, 0, 0, 0, 0,
-    0, 0, 72, 0, 0, 0, 0, 0, 0, 0, 0, 0, 0, 0, 0, 0, 0, 0, 0, 0, 0, 0, 0, 0, 0, 39, 0, 0, 0, 0, 0,
-    0, 0, 0, 0, 0, 0, 0, 0, 0, 0, 0, 0, 0, 0, 0, 0, 102, 0, 0, 0, 0, 0, 0, 0, 0, 0, 0, 0, 0, 0, 0,
-    0, 0, 0, 0, 0, 0, 0, 0, 0, 140, 0, 0, 0, 0, 0, 0, 0, 0, 0, 0, 0, 0, 0, 0, 0, 0, 0, 0, 0, 0, 0,
-    0, 0, 0, 65, 0, 0, 0, 0, 0, 0, 0, 0, 0, 0, 0, 0, 0, 0, 0, 0, 0, 0, 0, 0, 0, 0, 0, 0, 0, 0, 0,
-    128, 0, 0, 0, 0, 0, 0, 100, 40, 0, 0, 0, 0, 0, 0, 0, 0, 0, 0, 0, 0, 0, 0, 0, 0, 0, 0, 0, 0, 0,
-    0, 0, 0, 0, 0, 0, 0, 0, 0,
+    0, 0, 0, 0, 0, 19, 0, 0, 224, 0, 0, 0, 131, 0, 209, 0, 0, 0, 0, 64, 0, 0, 0, 0, 0, 0, 0, 0, 0,
+    0, 0, 0, 0, 0, 0, 0, 0, 0, 0, 0, 0, 164, 0, 0, 0, 0, 0, 67, 0, 0, 0, 0, 0, 0, 40, 0, 0, 0, 0,
+    0, 0, 0, 0, 0, 0, 0, 0, 0, 0, 0, 0, 0, 0, 0, 0, 0, 0, 17, 0, 0, 0, 0, 0, 0, 0, 0, 0, 0, 0, 0,
+    0, 0, 0, 0, 0, 0, 0, 0, 0, 134, 0, 0, 0, 0, 0, 0, 0, 0, 0, 0, 0, 0, 0, 0, 0, 0, 0, 0, 0, 0, 0,
+    0, 0, 173, 0, 0, 0, 0, 0, 227, 0, 0, 0, 0, 0, 0, 0, 0, 0, 0, 0, 0, 228, 0, 0, 0, 0, 0, 33, 0,
+    0, 69, 0, 0, 0, 0, 0, 0, 0, 0, 0, 0, 0, 0, 0, 0, 0, 0, 0, 0, 0, 0, 0, 0, 0, 0, 160, 0, 0, 0, 0,
+    0, 0, 132, 18, 0, 0, 0, 0, 0, 0, 0, 0, 0, 0, 0, 0, 0, 0, 0, 0, 0, 0, 0, 0, 0, 0, 0, 0, 0, 0, 0,
+    0, 0, 0,
 ];
 
 /// A row of the table: a name, what it names, and the kinds of the fields behind it.
 macro_rules! row {
-    ($text:expr, $name:expr $(, $($kind:ident)+)?) => { ($text, &[$($(Kind::$kind),+)?], $name) };
+    ($text:expr, $name:expr $(, $($kind:ident $(($op:ident))?)+)?) => {
+        ($text, &[$($(Kind::$kind $((VecOpKind::$op))?),+)?], $name)
+    };
 }
 
-/// The names of operations with an immediate.
-pub static IMMEDIATE_NAMES: [Row<Name>; 10] = [
+/// The names of integer operations.
+pub static INTEGER_NAMES: [Row<Name>; 24] = [
     row!(b"AluRRImm12", Name::Immediate(ImmediateName::AluRRImm12), AluOp Size Reg Reg Imm12),
     row!(b"AluRRImmLogic", Name::Immediate(ImmediateName::AluRRImmLogic), AluOp Size Reg Reg U64),
     row!(b"AluRRImmShift", Name::Immediate(ImmediateName::AluRRImmShift), AluOp Size Reg Reg ImmShift),
@@ -102,18 +106,6 @@ pub static IMMEDIATE_NAMES: [Row<Name>; 10] = [
     row!(b"BitfieldMoveMod", Name::Immediate(ImmediateName::BitfieldMoveMod), Size Reg Reg Reg UImm6 UImm6),
     row!(b"Adr", Name::Immediate(ImmediateName::Adr), Reg I32),
     row!(b"Adrp", Name::Immediate(ImmediateName::Adrp), Reg I32),
-];
-
-/// Their rows.
-#[inline(always)]
-pub fn immediate_rows() -> &'static [Row<Name>]
-    ensures { AreRows name_text kinds_of (map (λ row. row.2) IMMEDIATE_NAMES) result.now }
-{
-    &IMMEDIATE_NAMES
-}
-
-/// The names of operations on registers.
-pub static REGISTER_NAMES: [Row<Name>; 14] = [
     row!(b"AluRRR", Name::Register(RegisterName::AluRRR), AluOp Size Reg Reg Reg),
     row!(b"AluRRRR", Name::Register(RegisterName::AluRRRR), AluOp3 Size Reg Reg Reg Reg),
     row!(b"AluRRRShift", Name::Register(RegisterName::AluRRRShift), AluOp Size Reg Reg Reg Shift),
@@ -132,10 +124,10 @@ pub static REGISTER_NAMES: [Row<Name>; 14] = [
 
 /// Their rows.
 #[inline(always)]
-pub fn register_rows() -> &'static [Row<Name>]
-    ensures { AreRows name_text kinds_of (map (λ row. row.2) REGISTER_NAMES) result.now }
+pub fn integer_rows() -> &'static [Row<Name>]
+    ensures { AreRows name_text kinds_of (map (λ row. row.2) INTEGER_NAMES) result.now }
 {
-    &REGISTER_NAMES
+    &INTEGER_NAMES
 }
 
 /// The names of operations on scalar floats.
@@ -169,8 +161,60 @@ pub fn float_rows() -> &'static [Row<Name>]
     &FLOAT_NAMES
 }
 
-/// The names of hints, of accesses to the flags and of instructions of control.
-pub static CONTROL_NAMES: [Row<Name>; 12] = [
+/// The names of operations on vectors.
+pub static VECTOR_NAMES: [Row<Name>; 15] = [
+    row!(b"VecExtend", Name::Vector(VectorName::VecExtend), VecOp(Extend) Reg Reg Bool ScalarSize),
+    row!(b"VecRRLong", Name::Vector(VectorName::VecRRLong), VecOp(RRLong) Reg Reg Bool),
+    row!(b"VecRRNarrowLow", Name::Vector(VectorName::VecRRNarrowLow), VecOp(RRNarrow) Reg Reg ScalarSize),
+    row!(b"VecRRNarrowHigh", Name::Vector(VectorName::VecRRNarrowHigh), VecOp(RRNarrow) Reg Reg Reg ScalarSize),
+    row!(b"VecRRPair", Name::Vector(VectorName::VecRRPair), VecOp(Pair) Reg Reg),
+    row!(b"VecRRRLong", Name::Vector(VectorName::VecRRRLong), VecOp(RRRLong) Reg Reg Reg Bool),
+    row!(b"VecRRRLongMod", Name::Vector(VectorName::VecRRRLongMod), VecOp(RRRLongMod) Reg Reg Reg Reg Bool),
+    row!(b"VecRRPairLong", Name::Vector(VectorName::VecRRPairLong), VecOp(RRPairLong) Reg Reg),
+    row!(b"VecRRR", Name::Vector(VectorName::VecRRR), VecOp(Alu) Reg Reg Reg VectorSize),
+    row!(b"VecRRRMod", Name::Vector(VectorName::VecRRRMod), VecOp(AluMod) Reg Reg Reg Reg VectorSize),
+    row!(b"VecFmlaElem", Name::Vector(VectorName::VecFmlaElem), VecOp(AluMod) Reg Reg Reg Reg VectorSize U8),
+    row!(b"VecMisc", Name::Vector(VectorName::VecMisc), VecOp(Misc2) Reg Reg VectorSize),
+    row!(b"VecLanes", Name::Vector(VectorName::VecLanes), VecOp(Lanes) Reg Reg VectorSize),
+    row!(b"VecShiftImm", Name::Vector(VectorName::VecShiftImm), VecOp(ShiftImm) Reg Reg VectorSize U8),
+    row!(b"VecShiftImmMod", Name::Vector(VectorName::VecShiftImmMod), VecOp(ShiftImmMod) Reg Reg Reg VectorSize U8),
+];
+
+/// Their rows.
+#[inline(always)]
+pub fn vector_rows() -> &'static [Row<Name>]
+    ensures { AreRows name_text kinds_of (map (λ row. row.2) VECTOR_NAMES) result.now }
+{
+    &VECTOR_NAMES
+}
+
+/// The names of moves of lanes and of tables of bytes.
+pub static VECTOR_MOVE_NAMES: [Row<Name>; 13] = [
+    row!(b"MovToVec", Name::VectorMove(VectorMoveName::MovToVec), Reg Reg Reg U8 VectorSize),
+    row!(b"MovFromVec", Name::VectorMove(VectorMoveName::MovFromVec), Reg Reg U8 ScalarSize),
+    row!(b"MovFromVecSigned", Name::VectorMove(VectorMoveName::MovFromVecSigned), Reg Reg U8 VectorSize Size),
+    row!(b"VecDup", Name::VectorMove(VectorMoveName::VecDup), Reg Reg VectorSize),
+    row!(b"VecDupFromFpu", Name::VectorMove(VectorMoveName::VecDupFromFpu), Reg Reg VectorSize U8),
+    row!(b"VecDupFPImm", Name::VectorMove(VectorMoveName::VecDupFPImm), Reg U8 VectorSize),
+    row!(b"VecDupImm", Name::VectorMove(VectorMoveName::VecDupImm), Reg MovImm Bool VectorSize),
+    row!(b"VecMovElement", Name::VectorMove(VectorMoveName::VecMovElement), Reg Reg Reg U8 U8 VectorSize),
+    row!(b"VecExtract", Name::VectorMove(VectorMoveName::VecExtract), Reg Reg Reg U8),
+    row!(b"VecTbl", Name::VectorMove(VectorMoveName::VecTbl), Reg Reg Reg),
+    row!(b"VecTblExt", Name::VectorMove(VectorMoveName::VecTblExt), Reg Reg Reg Reg),
+    row!(b"VecTbl2", Name::VectorMove(VectorMoveName::VecTbl2), Reg Reg Reg Reg),
+    row!(b"VecTbl2Ext", Name::VectorMove(VectorMoveName::VecTbl2Ext), Reg Reg Reg Reg Reg),
+];
+
+/// Their rows.
+#[inline(always)]
+pub fn vector_move_rows() -> &'static [Row<Name>]
+    ensures { AreRows name_text kinds_of (map (λ row. row.2) VECTOR_MOVE_NAMES) result.now }
+{
+    &VECTOR_MOVE_NAMES
+}
+
+/// The names of instructions of control, of hints, of barriers and of accesses to the flags.
+pub static CONTROL_NAMES: [Row<Name>; 22] = [
     row!(b"Ret", Name::Control(ControlName::Ret)),
     row!(b"Jump", Name::Control(ControlName::Jump), Target),
     row!(b"CondBr", Name::Control(ControlName::CondBr), Target Target CondBrKind),
@@ -183,6 +227,16 @@ pub static CONTROL_NAMES: [Row<Name>; 12] = [
     row!(b"Word8", Name::Control(ControlName::Word8), U64),
     row!(b"EmitIsland", Name::Control(ControlName::EmitIsland), U32),
     row!(b"LabelAddress", Name::Control(ControlName::LabelAddress), Reg Label),
+    row!(b"AuthenticatedRet", Name::Control(ControlName::AuthenticatedRet), ApiKey Bool),
+    row!(b"Nop0", Name::System(SystemName::Nop0)),
+    row!(b"Nop4", Name::System(SystemName::Nop4)),
+    row!(b"MovToNZCV", Name::System(SystemName::MovToNZCV), Reg),
+    row!(b"MovFromNZCV", Name::System(SystemName::MovFromNZCV), Reg),
+    row!(b"Csdb", Name::System(SystemName::Csdb)),
+    row!(b"Fence", Name::System(SystemName::Fence)),
+    row!(b"Paci", Name::System(SystemName::Paci), ApiKey),
+    row!(b"Xpaclri", Name::System(SystemName::Xpaclri)),
+    row!(b"Bti", Name::System(SystemName::Bti), BranchTargetType),
 ];
 
 /// Their rows.
@@ -194,7 +248,7 @@ pub fn control_rows() -> &'static [Row<Name>]
 }
 
 /// The names of sequences and of calls.
-pub static SEQUENCE_NAMES: [Row<Name>; 13] = [
+pub static SEQUENCE_NAMES: [Row<Name>; 14] = [
     row!(b"Args", Name::Sequence(SequenceName::Args), List),
     row!(b"Rets", Name::Sequence(SequenceName::Rets), List),
     row!(b"DummyUse", Name::Sequence(SequenceName::DummyUse), Reg),
@@ -207,6 +261,7 @@ pub static SEQUENCE_NAMES: [Row<Name>; 13] = [
     row!(b"LoadExtNameNear", Name::Sequence(SequenceName::LoadExtNameNear), Reg U32 I64),
     row!(b"LoadExtNameFar", Name::Sequence(SequenceName::LoadExtNameFar), Reg U32 I64),
     row!(b"StackProbeLoop", Name::Sequence(SequenceName::StackProbeLoop), Reg Reg Imm12),
+    row!(b"VecCSel", Name::Sequence(SequenceName::VecCSel), Reg Reg Reg Cond),
     row!(b"Call", Name::Call(CallName::Call), U32 List List List Convention Convention U32 Bool Map),
     row!(b"CallInd", Name::Call(CallName::CallInd), Reg List List List Convention Convention U32 Bool Map),
     row!(b"ReturnCall", Name::Call(CallName::ReturnCall), U32 List U32 Key Bool),
@@ -252,37 +307,23 @@ pub fn access_rows() -> &'static [Row<Name>]
     &ACCESS_NAMES
 }
 
-/// The names of hints, barriers and accesses to the flags.
-pub static SYSTEM_NAMES: [Row<Name>; 9] = [
-    row!(b"Nop0", Name::System(SystemName::Nop0)),
-    row!(b"Nop4", Name::System(SystemName::Nop4)),
-    row!(b"MovToNZCV", Name::System(SystemName::MovToNZCV), Reg),
-    row!(b"MovFromNZCV", Name::System(SystemName::MovFromNZCV), Reg),
-    row!(b"Csdb", Name::System(SystemName::Csdb)),
-    row!(b"Fence", Name::System(SystemName::Fence)),
-    row!(b"Paci", Name::System(SystemName::Paci), ApiKey),
-    row!(b"Xpaclri", Name::System(SystemName::Xpaclri)),
-    row!(b"Bti", Name::System(SystemName::Bti), BranchTargetType),
-];
-
-/// Their rows.
-#[inline(always)]
-pub fn system_rows() -> &'static [Row<Name>]
-    ensures { AreRows name_text kinds_of (map (λ row. row.2) SYSTEM_NAMES) result.now }
-{
-    &SYSTEM_NAMES
-}
-
 /// The names of other instructions of memory, and of entries that are no instruction.
-pub static OTHER_NAMES: [Row<Name>; 12] = [
-    row!(b"LoadP64", Name::Memory(MemoryName::LoadP64), Reg Reg PairMode Flags),
-    row!(b"StoreP64", Name::Memory(MemoryName::StoreP64), Reg Reg PairMode Flags),
+pub static OTHER_NAMES: [Row<Name>; 19] = [
+    row!(b"LoadP64", Name::Pair(PairName::LoadP64), Reg Reg PairMode Flags),
+    row!(b"StoreP64", Name::Pair(PairName::StoreP64), Reg Reg PairMode Flags),
+    row!(b"FpuLoadP64", Name::Pair(PairName::FpuLoadP64), Reg Reg PairMode Flags),
+    row!(b"FpuStoreP64", Name::Pair(PairName::FpuStoreP64), Reg Reg PairMode Flags),
+    row!(b"FpuLoadP128", Name::Pair(PairName::FpuLoadP128), Reg Reg PairMode Flags),
+    row!(b"FpuStoreP128", Name::Pair(PairName::FpuStoreP128), Reg Reg PairMode Flags),
     row!(b"LoadAddr", Name::Memory(MemoryName::LoadAddr), Reg Mode),
     row!(b"AtomicRMW", Name::Memory(MemoryName::AtomicRMW), Type AtomicRmwOp Reg Reg Reg Flags),
+    row!(b"AtomicRMWLoop", Name::Memory(MemoryName::AtomicRMWLoop), Type AtomicRmwLoopOp Flags Reg Reg Reg Reg Reg),
     row!(b"AtomicCAS", Name::Memory(MemoryName::AtomicCAS), Reg Reg Reg Reg Type Flags),
     row!(b"AtomicCAS128", Name::Memory(MemoryName::AtomicCAS128), Reg Reg Reg Reg Reg Reg Reg Flags),
+    row!(b"AtomicCASLoop", Name::Memory(MemoryName::AtomicCASLoop), Type Flags Reg Reg Reg Reg Reg),
     row!(b"LoadAcquire", Name::Memory(MemoryName::LoadAcquire), Type Reg Reg Flags),
     row!(b"StoreRelease", Name::Memory(MemoryName::StoreRelease), Type Reg Reg Flags),
+    row!(b"VecLoadReplicate", Name::Memory(MemoryName::VecLoadReplicate), Reg Reg VectorSize Flags),
     row!(b"bind", Name::Bind, Label),
     row!(b"const", Name::Const, U32 List),
     row!(b"frame", Name::Frame, FrameField U32),

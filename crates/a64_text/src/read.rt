@@ -15,7 +15,9 @@ use crate::file::{File, FileError};
 use crate::make::call::put_call;
 use crate::make::control::put_control;
 use crate::make::memory::{put_access, put_memory};
+use crate::make::pair::put_pair;
 use crate::make::plain::float::put_float;
+use crate::make::plain::vector::{put_vector, put_vector_move};
 use crate::make::plain::{put_immediate, put_register, put_system};
 use crate::make::sequence::put_sequence;
 use crate::make::{make_constant, make_flag, make_frame, put_bind};
@@ -138,10 +140,13 @@ fn add_made(
         Name::Immediate(name) => Ok(put_immediate(&mut state.file.items, name, values)),
         Name::Register(name) => Ok(put_register(&mut state.file.items, name, values)),
         Name::Float(name) => Ok(put_float(&mut state.file.items, name, values)),
+        Name::Vector(name) => Ok(put_vector(&mut state.file.items, name, values)),
+        Name::VectorMove(name) => Ok(put_vector_move(&mut state.file.items, name, values)),
         Name::System(name) => Ok(put_system(&mut state.file.items, name, values)),
         Name::Control(name) => put_control(alloc, &mut state.file.items, name, values),
         Name::Sequence(name) => put_sequence(alloc, &mut state.file.items, name, values),
         Name::Call(name) => put_call(alloc, &mut state.file.items, name, values),
+        Name::Pair(name) => Ok(put_pair(&mut state.file.items, name, values)),
         Name::Memory(name) => Ok(put_memory(&mut state.file.items, name, values)),
         Name::Access(op) => Ok(put_access(&mut state.file.items, op, values)),
         Name::Bind => Ok(put_bind(&mut state.file.items, values)),

@@ -112,5 +112,12 @@ pub fn put_control(
                 label: at::get(values, 1),
             },
         )),
+        ControlName::AuthenticatedRet => Ok(emit(
+            items,
+            Inst::AuthenticatedRet {
+                key: at::get(values, 0),
+                is_hint: at::get(values, 1),
+            },
+        )),
     }
 }

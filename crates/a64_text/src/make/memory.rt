@@ -36,24 +36,6 @@ pub fn put_memory(items: &mut Vec<Item>, name: MemoryName, values: &[Value]) -> 
     ensures { Puts (names.Memory name) values.now items.old.items items.new.items result }
 {
     match name {
-        MemoryName::LoadP64 => emit(
-            items,
-            Inst::LoadP64 {
-                rt: Writable::from_reg(at::get(values, 0)),
-                rt2: Writable::from_reg(at::get(values, 1)),
-                mem: at::get(values, 2),
-                flags: at::get(values, 3),
-            },
-        ),
-        MemoryName::StoreP64 => emit(
-            items,
-            Inst::StoreP64 {
-                rt: at::get(values, 0),
-                rt2: at::get(values, 1),
-                mem: at::get(values, 2),
-                flags: at::get(values, 3),
-            },
-        ),
         MemoryName::LoadAddr => emit(
             items,
             Inst::LoadAddr {
@@ -70,6 +52,19 @@ pub fn put_memory(items: &mut Vec<Item>, name: MemoryName, values: &[Value]) -> 
                 rt: Writable::from_reg(at::get(values, 3)),
                 rn: at::get(values, 4),
                 flags: at::get(values, 5),
+            },
+        ),
+        MemoryName::AtomicRMWLoop => emit(
+            items,
+            Inst::AtomicRMWLoop {
+                ty: at::get(values, 0),
+                op: at::get(values, 1),
+                flags: at::get(values, 2),
+                addr: at::get(values, 3),
+                operand: at::get(values, 4),
+                oldval: Writable::from_reg(at::get(values, 5)),
+                scratch1: Writable::from_reg(at::get(values, 6)),
+                scratch2: Writable::from_reg(at::get(values, 7)),
             },
         ),
         MemoryName::AtomicCAS => emit(
@@ -98,6 +93,18 @@ pub fn put_memory(items: &mut Vec<Item>, name: MemoryName, values: &[Value]) -> 
                 },
             },
         ),
+        MemoryName::AtomicCASLoop => emit(
+            items,
+            Inst::AtomicCASLoop {
+                ty: at::get(values, 0),
+                flags: at::get(values, 1),
+                addr: at::get(values, 2),
+                expected: at::get(values, 3),
+                replacement: at::get(values, 4),
+                oldval: Writable::from_reg(at::get(values, 5)),
+                scratch: Writable::from_reg(at::get(values, 6)),
+            },
+        ),
         MemoryName::LoadAcquire => emit(
             items,
             Inst::LoadAcquire {
@@ -113,6 +120,15 @@ pub fn put_memory(items: &mut Vec<Item>, name: MemoryName, values: &[Value]) -> 
                 access_ty: at::get(values, 0),
                 rt: at::get(values, 1),
                 rn: at::get(values, 2),
+                flags: at::get(values, 3),
+            },
+        ),
+        MemoryName::VecLoadReplicate => emit(
+            items,
+            Inst::VecLoadReplicate {
+                rd: Writable::from_reg(at::get(values, 0)),
+                rn: at::get(values, 1),
+                size: at::get(values, 2),
                 flags: at::get(values, 3),
             },
         ),

@@ -22,6 +22,7 @@ macro_rules! field_at {
     ($values:expr, $i:tt; Use $class:tt) => { at::get($values, $i) };
     ($values:expr, $i:tt; Is Logic) => { unreachable!() };
     ($values:expr, $i:tt; Is FloatImm) => { unreachable!() };
+    ($values:expr, $i:tt; Is MovImm) => { unreachable!() };
     ($values:expr, $i:tt; Is $kind:tt) => { at::get($values, $i) };
 }
 
@@ -43,6 +44,7 @@ macro_rules! put_arms {
 }
 
 pub mod float;
+pub mod vector;
 
 /// The operation with the immediate that the constructor gives for the number at the size.
 #[tactic(auto, unfolding(crate::specs::Makes::Makes))]

@@ -113,5 +113,14 @@ pub fn put_sequence(
                 step: at::get(values, 2),
             },
         )),
+        SequenceName::VecCSel => Ok(emit(
+            items,
+            Inst::VecCSel {
+                rd: Writable::from_reg(at::get(values, 0)),
+                rn: at::get(values, 1),
+                rm: at::get(values, 2),
+                cond: at::get(values, 3),
+            },
+        )),
     }
 }

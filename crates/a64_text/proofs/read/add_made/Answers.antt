@@ -21,6 +21,12 @@ returns-in-Register c = put_adds c.args.state.now (with_items c.args.state.now c
 pub returns-in-Float : goal.returns-in-Float
 returns-in-Float c = put_adds c.args.state.now (with_items c.args.state.now c.put_float.new.items) refl refl c.args.name (names.Float c.in-Float.name) c.args.values.now c.reserve.new.self.items c.put_float.result c.in-Float.is c.reserve.ensures.items c.put_float.ensures
 
+pub returns-in-Vector : goal.returns-in-Vector
+returns-in-Vector c = put_adds c.args.state.now (with_items c.args.state.now c.put_vector.new.items) refl refl c.args.name (names.Vector c.in-Vector.name) c.args.values.now c.reserve.new.self.items c.put_vector.result c.in-Vector.is c.reserve.ensures.items c.put_vector.ensures
+
+pub returns-in-VectorMove : goal.returns-in-VectorMove
+returns-in-VectorMove c = put_adds c.args.state.now (with_items c.args.state.now c.put_vector_move.new.items) refl refl c.args.name (names.VectorMove c.in-VectorMove.name) c.args.values.now c.reserve.new.self.items c.put_vector_move.result c.in-VectorMove.is c.reserve.ensures.items c.put_vector_move.ensures
+
 pub returns-in-System : goal.returns-in-System
 returns-in-System c = put_adds c.args.state.now (with_items c.args.state.now c.put_system.new.items) refl refl c.args.name (names.System c.in-System.name) c.args.values.now c.reserve.new.self.items c.put_system.result c.in-System.is c.reserve.ensures.items c.put_system.ensures
 
@@ -44,6 +50,9 @@ returns-in-Call c =
     all_ok (Puts (names.Call c.in-Call.name) c.args.values.now c.reserve.new.self.items new.file.items.items) (AddsMade c.args.name c.args.values.now c.args.state.now new)
     (λ made h. put_adds c.args.state.now new refl refl c.args.name (names.Call c.in-Call.name) c.args.values.now c.reserve.new.self.items made c.in-Call.is c.reserve.ensures.items h)
     c.put_call.result c.put_call.ensures
+
+pub returns-in-Pair : goal.returns-in-Pair
+returns-in-Pair c = put_adds c.args.state.now (with_items c.args.state.now c.put_pair.new.items) refl refl c.args.name (names.Pair c.in-Pair.name) c.args.values.now c.reserve.new.self.items c.put_pair.result c.in-Pair.is c.reserve.ensures.items c.put_pair.ensures
 
 pub returns-in-Memory : goal.returns-in-Memory
 returns-in-Memory c = put_adds c.args.state.now (with_items c.args.state.now c.put_memory.new.items) refl refl c.args.name (names.Memory c.in-Memory.name) c.args.values.now c.reserve.new.self.items c.put_memory.result c.in-Memory.is c.reserve.ensures.items c.put_memory.ensures
