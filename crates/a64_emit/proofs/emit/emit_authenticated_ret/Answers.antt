@@ -8,7 +8,7 @@ use Rattle.a64_emit.proofs.emit.emit_authenticated_ret.Goals as goal
 
 pub put_words-requires : goal.put_words-requires
 put_words-requires c =
-    let is = ap silent (c.as_slice.ensures ∙ c.authenticated_ret_words.ensures) ∙ plain_put (authenticated_ret_forms c.args.key c.args.is_hint) in
+    let is = ap silent (c.as_slice.ensures.value ∙ c.authenticated_ret_words.ensures) ∙ plain_put (authenticated_ret_forms c.args.key c.args.is_hint) in
     let can = subst (CanPut c.args.sink.now) (sym is) c.requires.can in
     record {
       short = silent_room c.args.sink.now c.as_slice.result.now can.room;
@@ -17,7 +17,7 @@ put_words-requires c =
 
 pub returns : goal.returns
 returns c =
-    let is = ap silent (c.as_slice.ensures ∙ c.authenticated_ret_words.ensures) ∙ plain_put (authenticated_ret_forms c.args.key c.args.is_hint) in
+    let is = ap silent (c.as_slice.ensures.value ∙ c.authenticated_ret_words.ensures) ∙ plain_put (authenticated_ret_forms c.args.key c.args.is_hint) in
     let words = c.as_slice.result.now in
     subst (PutsCells c.put_words.result c.args.sink.now c.put_words.new.sink) is
     (record {
