@@ -1,6 +1,6 @@
 //! Addressing modes of pairs, and their scales.
 
-ghost use Rattle.a64_imms.specs.Offsets.{IsPairScale};
+ghost use Rattle.a64_imms.specs.Scales.{IsPairScale};
 ghost use Rattle.std.specs.Prelude.{◌≡◌};
 ghost use Rattle.a64_read.specs.PairModes as pairs;
 ghost use Rattle.a64_read.specs.Reads.{Reads};

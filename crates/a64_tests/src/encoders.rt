@@ -1,9 +1,13 @@
 //! Words of other assemblers, by the encoders that no instruction calls yet.
 
-use a64_base::{IrType, stack_reg, writable_xreg, xreg, zero_reg};
+use a64_base::{IrType, stack_reg, vreg, writable_vreg, writable_xreg, xreg, zero_reg};
 use a64_enc_int::{
     enc_acq_rel, enc_arith_rrr, enc_arith_rrrr, enc_cas, enc_casp, enc_dmb_ish, enc_ldar,
     enc_ldaxr, enc_stlr, enc_stlxr,
+};
+use a64_enc_vec::{
+    enc_asimd_mod_imm, enc_tbl, enc_vec_lanes, enc_vec_rr_misc, enc_vec_rr_pair,
+    enc_vec_rr_pair_long, enc_vec_rrr_long, enc_vecmov,
 };
 use a64_ops::AtomicRMWOp;
 
@@ -67,6 +71,51 @@ fn atomic_accesses(rt: HostRuntime) {
         (enc_casp(writable_xreg(16), xreg(24), xreg(28)), 0x4870_ff98),
         // dmb ish
         (enc_dmb_ish(), 0xd503_3bbf),
+    ] {
+        assert_eq!(rt; word, want, "{word:#x} for {want:#x}");
+    }
+}
+
+#[test]
+fn vectors(rt: HostRuntime) {
+    for (word, want) in [
+        // umull2 v1.4s, v2.8h, v3.8h
+        (
+            enc_vec_rrr_long(1, 1, 1, 1, vreg(3), vreg(2), writable_vreg(1)),
+            0x6e63_c041,
+        ),
+        // mov v31.16b, v7.16b
+        (enc_vecmov(true, writable_vreg(31), vreg(7)), 0x4ea7_1cff),
+        // neg v5.4h, v30.4h
+        (
+            enc_vec_rr_misc(0b01, 1, 11, writable_vreg(5), vreg(30)),
+            0x2e60_bbc5,
+        ),
+        // addp d9, v8.2d
+        (
+            enc_vec_rr_pair(0b11011, writable_vreg(9), vreg(8)),
+            0x5ef1_b909,
+        ),
+        // uaddlp v4.4s, v6.8h
+        (
+            enc_vec_rr_pair_long(1, 1, writable_vreg(4), vreg(6)),
+            0x6e60_28c4,
+        ),
+        // addv b1, v2.8b
+        (
+            enc_vec_lanes(0, 0, 0, 0b11011, writable_vreg(1), vreg(2)),
+            0x0e31_b841,
+        ),
+        // tbx v3.16b, {v31.16b, v0.16b}, v12.16b
+        (
+            enc_tbl(true, 1, writable_vreg(3), vreg(31), vreg(12)),
+            0x4e0c_33e3,
+        ),
+        // mvni v20.4s, #0xb8, msl #16
+        (
+            enc_asimd_mod_imm(writable_vreg(20), 0b11, 0b1101, 0xb8),
+            0x6f05_d714,
+        ),
     ] {
         assert_eq!(rt; word, want, "{word:#x} for {want:#x}");
     }

@@ -136,7 +136,7 @@ pub fn float_word(inst: &Inst, frame: &FrameLayout, info: &EmitInfo) -> u32
 }
 
 /// The word of an operation on vectors.
-#[tactic(auto, using(crate::proofs::Operands::vector_real, crate::proofs::VectorForms::three_is_form, crate::proofs::VectorForms::kept_three_is_form, crate::proofs::VectorForms::product_is_form, crate::proofs::VectorForms::added_product_is_form, crate::proofs::VectorForms::long_is_form, crate::proofs::VectorForms::pair_long_is_form, crate::proofs::VectorForms::narrow_low_is_form, crate::proofs::VectorForms::narrow_high_is_form, crate::proofs::VectorForms::two_is_form, crate::proofs::VectorForms::across_is_form, crate::proofs::VectorForms::kept_element, crate::proofs::VectorForms::kept_amount))]
+#[tactic(auto, using(crate::proofs::Operands::vector_real, crate::proofs::VectorForms::three_is_form, crate::proofs::VectorForms::kept_three_is_form, crate::proofs::VectorForms::product_is_form, crate::proofs::VectorForms::added_product_is_form, crate::proofs::VectorForms::long_is_form, crate::proofs::VectorForms::pair_long_is_form, crate::proofs::VectorForms::narrow_low_is_form, crate::proofs::VectorForms::narrow_high_is_form, crate::proofs::VectorForms::two_is_form, crate::proofs::VectorForms::across_is_form, crate::proofs::VectorForms::kept_amount))]
 pub fn vector_word(inst: &Inst, frame: &FrameLayout, info: &EmitInfo) -> u32
     requires group { group_of inst.now ≡ Plain Vector }
     requires good { has_operands frame.now info.now Refused inst.now ≡ true }
