@@ -1,13 +1,14 @@
 -- The forms of loads and stores that have no fault of their own, and of the steps before them, are forms of their rows.
-use Rattle.std.proofs.Common.{ℕ, ℤ, pos, negsuc, ◌≡◌, ◌*◌, ◌/◌, ◌%◌, ◌<◌, ◌≤◌, ◌^◌, Bool, true, false, List, [], ◌∷◌, Option, None, Some, refl, sym, subst, lit<, arith}
-use Rattle.std.specs.Prelude.{All, ◌&&◌, ◌==◌, not, nat_eq, nat_le, if◌then◌else◌}
+use Rattle.std.proofs.Common.{ℕ, ℤ, pos, negsuc, ◌≡◌, ◌+◌, ◌*◌, ◌/◌, ◌%◌, ◌<◌, ◌≤◌, ◌^◌, Bool, true, false, List, [], ◌∷◌, Option, None, Some, inl, inr, refl, sym, subst, lit<, arith}
+use Rattle.std.specs.Prelude.{All, ◌&&◌, ◌==◌, not, nat_eq, nat_le, nat_lt, if◌then◌else◌}
 use Rattle.std.specs.Int.RustNames.{unsigned_abs}
 use Rattle.std.specs.List.{AllByRecursion}
-use Rattle.std.proofs.lemmas.Bool.{and_parts, leb-true, ltb-true}
+use Rattle.std.proofs.lemmas.Bool.{and_parts, eqb-true, leb-true, ltb-true}
 use Rattle.std.proofs.lemmas.Int.{ints}
 use Rattle.std.proofs.lemmas.List.Elements.{All-nil, All-cons}
 use Rattle.std.proofs.lemmas.Nat.{div_below}
 use Rattle.a64_base.specs.declared.ir_type.IrType.{IrType}
+use Rattle.a64_base.specs.declared.ir_type.IrType.TheVariants.{I64, F64, I8X16}
 use Rattle.a64_base.specs.declared.reg.Reg.{Reg}
 use Rattle.a64_base.specs.declared.reg.Reg.TheVariants.{Real, Virtual}
 use Rattle.a64_base.specs.declared.shift.ExtendOp.{ExtendOp}
@@ -16,7 +17,7 @@ use Rattle.a64_base.specs.declared.size.OperandSize.{OperandSize}
 use Rattle.a64_base.specs.Registers.{integer_register}
 use Rattle.a64_base.specs.Shifts.{extend_bits}
 use Rattle.a64_imms.specs.declared.offset.SImm7Scaled.{SImm7Scaled}
-use Rattle.a64_imms.specs.Offsets.{residue}
+use Rattle.a64_imms.specs.Offsets.{residue, IsPairOffset}
 use Rattle.a64_imms.specs.Scales.{type_bytes}
 use Rattle.a64_ops.specs.declared.access.AccessOp.{AccessOp}
 use Rattle.a64_ops.specs.Accesses.{size_of, vector_of, opc_of, literal_of, moves_vector}
@@ -37,7 +38,7 @@ use Rattle.a64_inst.specs.declared.mode.PairAMode.TheVariants as pairs
 use Rattle.a64_inst.specs.declared.virtuals.VirtualRegisters.TheVariants.{Refused}
 use Rattle.a64_inst.specs.Accesses.{access_type}
 use Rattle.a64_inst.specs.FinalModes.{FinalMode, SignedOffset, ScaledOffset, Other, held_mode, parts_of, placed_mode, final_mode, final_steps}
-use Rattle.a64_inst.specs.MemoryOperands.{are_mode_parts, are_mode_operands, has_units, has_access_mode, is_index_extend, is_data_register, are_access_operands, are_pair_parts, is_simm7_of}
+use Rattle.a64_inst.specs.MemoryOperands.{are_mode_parts, are_mode_operands, has_units, has_access_mode, is_index_extend, is_data_register, are_access_operands, are_pair_parts, is_pair_offset, is_same_scale, is_simm7_of}
 use Rattle.a64_inst.specs.Modes.{BaseOffset, base_offset_of, IsAccessSize, is_offset9, is_scaled_offset, is_far, steps_to}
 use Rattle.a64_inst.specs.Operands.{is_register_or_zero, is_register_or_stack, is_vector_register}
 use Rattle.a64_rows.specs.Forms.{IsFormOf}
@@ -256,3 +257,31 @@ pub offset_good : (scale : IrType) (mem : PairAMode) → are_pair_parts Refused 
 offset_good scale (pairs.SignedOffset reg simm7) e = (and_parts (is_register_or_stack Refused reg) (is_simm7_of scale simm7) e).1
 offset_good scale (pairs.SPPreIndexed simm7) e = e
 offset_good scale (pairs.SPPostIndexed simm7) e = e
+
+-- an offset in units of a type fits the field of pairs
+units_fit : (own scale : IrType) (value : ℤ) → is_same_scale own scale ≡ true → is_pair_offset (type_bytes scale) value ≡ true → IsPairOffset own value
+units_fit I64 I64 (pos n) same e =
+    let (le, eq) = and_parts (nat_le n 504) (nat_eq (n % 8) 0) e in
+    record { scale = inl refl; low = omega (arith, ints); high = omega (arith, ints, leb-true n 504 le); multiple = eqb-true (n % 8) 0 eq }
+units_fit I64 I64 (negsuc n) same e =
+    let (lt, eq) = and_parts (nat_lt n 512) (nat_eq ((n + 1) % 8) 0) e in
+    record { scale = inl refl; low = omega (arith, ints, ltb-true n 512 lt); high = omega (arith, ints); multiple = omega (arith, eqb-true ((n + 1) % 8) 0 eq) }
+units_fit F64 F64 (pos n) same e =
+    let (le, eq) = and_parts (nat_le n 504) (nat_eq (n % 8) 0) e in
+    record { scale = inr (inr (inl refl)); low = omega (arith, ints); high = omega (arith, ints, leb-true n 504 le); multiple = eqb-true (n % 8) 0 eq }
+units_fit F64 F64 (negsuc n) same e =
+    let (lt, eq) = and_parts (nat_lt n 512) (nat_eq ((n + 1) % 8) 0) e in
+    record { scale = inr (inr (inl refl)); low = omega (arith, ints, ltb-true n 512 lt); high = omega (arith, ints); multiple = omega (arith, eqb-true ((n + 1) % 8) 0 eq) }
+units_fit I8X16 I8X16 (pos n) same e =
+    let (le, eq) = and_parts (nat_le n 1008) (nat_eq (n % 16) 0) e in
+    record { scale = inr (inr (inr refl)); low = omega (arith, ints); high = omega (arith, ints, leb-true n 1008 le); multiple = eqb-true (n % 16) 0 eq }
+units_fit I8X16 I8X16 (negsuc n) same e =
+    let (lt, eq) = and_parts (nat_lt n 1024) (nat_eq ((n + 1) % 16) 0) e in
+    record { scale = inr (inr (inr refl)); low = omega (arith, ints, ltb-true n 1024 lt); high = omega (arith, ints); multiple = omega (arith, eqb-true ((n + 1) % 16) 0 eq) }
+units_fit _ _ value same e = absurd cc
+
+-- and so does that of a pair's mode
+pub offset_fits : (scale : IrType) (mem : PairAMode) → are_pair_parts Refused scale mem ≡ true → IsPairOffset (pair_offset mem).scale_ty (pair_offset mem).value
+offset_fits scale mem e =
+    let (same, units) = and_parts (is_same_scale (pair_offset mem).scale_ty scale) (is_pair_offset (type_bytes scale) (pair_offset mem).value) (offset_good scale mem e) in
+    units_fit (pair_offset mem).scale_ty scale (pair_offset mem).value same units

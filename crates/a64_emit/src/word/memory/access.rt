@@ -197,7 +197,7 @@ pub fn pair_word(load: u32, rt: Reg, rt2: Reg, mem: &PairAMode) -> u32
 }
 
 /// The word of a load or a store of the lower 64 bits of two vector registers.
-#[tactic(auto, using(crate::proofs::AccessForms::base_general, crate::proofs::AccessForms::offset_good, crate::proofs::AccessForms::float_pair_is_form, crate::proofs::Operands::vector), unfolding(crate::specs::MemoryForms::float_pair_form, a64_inst::specs::MemoryOperands::are_float_pair_operands))]
+#[tactic(auto, using(crate::proofs::AccessForms::base_general, crate::proofs::AccessForms::offset_fits, crate::proofs::AccessForms::float_pair_is_form, crate::proofs::Operands::vector), unfolding(crate::specs::MemoryForms::float_pair_form, a64_inst::specs::MemoryOperands::are_float_pair_operands))]
 pub fn pair64_word(is_load: bool, rt: Reg, rt2: Reg, mem: &PairAMode) -> u32
     requires { are_float_pair_operands Refused F64 rt rt2 mem.now ≡ true }
     ensures { result ≡ form_word (forms.float_pair_form 1 is_load rt rt2 mem.now) }
@@ -207,7 +207,7 @@ pub fn pair64_word(is_load: bool, rt: Reg, rt2: Reg, mem: &PairAMode) -> u32
 }
 
 /// The word of a load or a store of two whole vector registers.
-#[tactic(auto, using(crate::proofs::AccessForms::base_general, crate::proofs::AccessForms::offset_good, crate::proofs::AccessForms::float_pair_is_form, crate::proofs::Operands::vector), unfolding(crate::specs::MemoryForms::float_pair_form, a64_inst::specs::MemoryOperands::are_float_pair_operands))]
+#[tactic(auto, using(crate::proofs::AccessForms::base_general, crate::proofs::AccessForms::offset_fits, crate::proofs::AccessForms::float_pair_is_form, crate::proofs::Operands::vector), unfolding(crate::specs::MemoryForms::float_pair_form, a64_inst::specs::MemoryOperands::are_float_pair_operands))]
 pub fn pair128_word(is_load: bool, rt: Reg, rt2: Reg, mem: &PairAMode) -> u32
     requires { are_float_pair_operands Refused I8X16 rt rt2 mem.now ≡ true }
     ensures { result ≡ form_word (forms.float_pair_form 2 is_load rt rt2 mem.now) }

@@ -1,0 +1,10 @@
+use Rattle.std.proofs.Common.{subst}
+use Rattle.a64_emit.specs.Cells.{loop_cells}
+use Rattle.a64_emit.specs.LoopForms.{awaited_forms}
+use Rattle.a64_emit.specs.Words.{AreLoop}
+use Rattle.a64_emit.proofs.word.exclusive.cas_loop_words.Goals as goal
+
+pub returns : goal.returns
+returns c =
+    subst (λ reg. AreLoop c.loop_words.result (loop_cells c.args.ty (awaited_forms c.args.ty) reg c.args.trap)) c.xreg.ensures
+    (c.loop_words.ensures (awaited_forms c.args.ty) c.awaited_words.ensures)
