@@ -1,6 +1,6 @@
 //! Reads names.
 
-ghost use Rattle.std.specs.Prelude.{◌≡◌, ◌↔◌, ◌+◌, ◌≤◌, length, take, drop, true, ℕ, List, option_map, Option, Some, IfSome};
+ghost use Rattle.std.specs.Prelude.{◌≡◌, ◌↔◌, ◌+◌, ◌*◌, ◌^◌, ◌≤◌, slice_index, length, take, drop, true, ℕ, List, option_map, Option, Some, IfSome};
 ghost use Rattle.a64_read.specs.declared.value.Kind.{Kind};
 ghost use Rattle.a64_read.specs.Reads.{Reads, Always};
 ghost use Rattle.a64_read.specs.Hash.{word_at, mixed, hash, look_up, AreRows};
@@ -35,6 +35,15 @@ pub trait Named: Copy + Drop + 'static {
 
     /// Each value stands in the row to which its name leads.
     ghost found: { (x : Self) → look_up homes rows (text x) ≡ Some x };
+}
+
+/// The number that two bytes of a text are from a place on, the least first.
+#[inline(always)]
+fn half_at(text: &[u8], place: usize) -> u16
+    requires { place + 2 ≤ length text.now }
+    ensures { result ≡ slice_index text.now place + 2 ^ 8 * slice_index text.now (place + 1) }
+{
+    u16::from(text[place]) + 0x100 * u16::from(text[place + 1])
 }
 
 /// The number that four bytes of a text are from a place on, the least first.
@@ -87,10 +96,7 @@ fn has_same_two(a: &[u8], b: &[u8], place: usize) -> bool
     requires { (place + 2 ≤ length a.now) × (place + 2 ≤ length b.now) }
     ensures { (result ≡ true) ↔ (take 2 (drop place a.now) ≡ take 2 (drop place b.now)) }
 {
-    u8x2::from_slice(&a[place..])
-        .simd_eq(u8x2::from_slice(&b[place..]))
-        .to_bitmask()
-        == 3
+    half_at(a, place) == half_at(b, place)
 }
 
 /// Whether four bytes of two texts, from a place on, are the same.
@@ -99,10 +105,7 @@ fn has_same_four(a: &[u8], b: &[u8], place: usize) -> bool
     requires { (place + 4 ≤ length a.now) × (place + 4 ≤ length b.now) }
     ensures { (result ≡ true) ↔ (take 4 (drop place a.now) ≡ take 4 (drop place b.now)) }
 {
-    u8x4::from_slice(&a[place..])
-        .simd_eq(u8x4::from_slice(&b[place..]))
-        .to_bitmask()
-        == 15
+    word_at(a, place) == word_at(b, place)
 }
 
 /// Whether eight bytes of two texts, from a place on, are the same.

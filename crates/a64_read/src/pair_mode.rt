@@ -3,7 +3,7 @@
 ghost use Rattle.a64_imms.specs.Scales.{IsPairScale};
 ghost use Rattle.std.specs.Prelude.{◌≡◌};
 ghost use Rattle.a64_read.specs.PairModes as pairs;
-ghost use Rattle.a64_read.specs.Reads.{Reads};
+ghost use Rattle.a64_read.specs.Reads.{Reads, IsI64};
 
 use a64_base::{IrType, Reg};
 use a64_imms::SImm7Scaled;
@@ -43,13 +43,22 @@ fn offset_at(value: i64, scale: IrType) -> Option<SImm7Scaled>
 impl WrittenPairMode {
     /// The offset in bytes.
     fn offset(&self) -> i64
-        ensures { result ≡ pairs.written_offset self.now }
+        ensures value { result ≡ pairs.written_offset self.now }
+        ensures fits { IsI64 result }
     {
         match self {
             WrittenPairMode::SignedOffset { offset, .. }
             | WrittenPairMode::SPPreIndexed { offset }
             | WrittenPairMode::SPPostIndexed { offset } => *offset,
         }
+    }
+
+    /// The offset that the constructor gives for it at the scale.
+    fn scaled(&self, scale: IrType) -> Option<SImm7Scaled>
+        requires { IsPairScale scale }
+        ensures { Reads (pairs.IsOffsetAt scale) (λ imm. imm.value) (pairs.written_offset self.now) result }
+    {
+        offset_at(self.offset(), scale)
     }
 
     /// The mode with this offset in place of its own.
@@ -66,11 +75,12 @@ impl WrittenPairMode {
     }
 
     /// The mode with its offset at the scale of the type, where the constructor gives one.
+    #[tactic(auto, using(crate::proofs::PairReads::no_pair))]
     pub fn at_scale(&self, scale: IrType) -> Option<PairAMode>
         requires { IsPairScale scale }
         ensures { Reads (pairs.IsPairAt scale) pairs.written_pair self.now result }
     {
-        let simm7 = offset_at(self.offset(), scale)?;
+        let simm7 = self.scaled(scale)?;
         Some(self.with_offset(simm7))
     }
 }
