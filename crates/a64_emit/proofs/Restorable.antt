@@ -1,11 +1,13 @@
 -- What a frame can restore: exactly the instructions without a fault that are one word, which is no use and no call.
-use Rattle.std.proofs.Common.{ℕ, ℤ, pos, ◌≡◌, ◌≤◌, ◌^◌, Bool, true, false, List, [], ◌∷◌, ◌++◌, length, Option, None, Some, refl, ap, ap₂, sym, ◌∙◌, nat_cmp, arith}
+use Rattle.std.proofs.Common.{ℕ, ℤ, pos, ◌≡◌, ◌≤◌, ◌+◌, ◌*◌, ◌^◌, Bool, true, false, List, [], ◌∷◌, ◌++◌, length, map, Option, None, Some, refl, ap₂, sym, ◌∙◌, nat_cmp, arith}
 use Rattle.std.specs.Ordering.{int_eq}
 use Rattle.std.specs.Int.RustNames.{unsigned_abs}
 use Rattle.std.specs.Prelude.{not, ◌&&◌, is_none, if◌then◌else◌}
 use Rattle.std.specs.FinMap.{FinMap}
+use Rattle.std.specs.List.{flat_map}
 use Rattle.std.proofs.lemmas.Bool.{and_parts}
 use Rattle.a64_base.specs.declared.entity.TrapCode.{TrapCode}
+use Rattle.a64_base.specs.declared.entity.VCodeConstant.{VCodeConstant}
 use Rattle.a64_base.specs.declared.ir_type.IrType.{IrType}
 use Rattle.a64_base.specs.declared.ir_type.IrType.TheVariants.{I8}
 use Rattle.a64_base.specs.declared.key.APIKey.{APIKey}
@@ -43,7 +45,7 @@ use Rattle.a64_rows.specs.Forms.{Form}
 use Rattle.a64_emit.specs.declared.call.Callee.{Callee}
 use Rattle.a64_emit.specs.declared.call.Callee.TheVariants.{Symbol, Address}
 use Rattle.a64_emit.specs.declared.site.Site.{Site}
-use Rattle.a64_emit.specs.Cells.{Body, FormOf, Cell, Shape, Words, quiet, several, mode_site, sum_shape, address_shape, access_shape, other_shape, shape_cells, inst_cells, call_cell, call_cells, patchable_cells, return_cell, return_cells, is_lone_cells, loop_cells, table_jump}
+use Rattle.a64_emit.specs.Cells.{Body, FormOf, Cell, Shape, Words, quiet, several, mode_site, sum_shape, address_shape, access_shape, other_shape, shape_cells, inst_cells, call_cell, call_cells, leave_forms, patchable_cells, plain, pop_forms, restored_cell, result_cells, return_cell, is_lone_cells, loop_cells, table_jump}
 use Rattle.a64_emit.specs.IntegerForms.{mov_form, alu_rrr_extend_form}
 use Rattle.a64_emit.specs.LoopForms.{awaited_forms, new_register, operator_forms, stored_register}
 use Rattle.a64_emit.specs.MemoryForms.{step_forms, offset_register, addend_register, addend_form, sum_form, access_steps, access_form}
@@ -82,6 +84,10 @@ call_last (c ∷ []) callee = refl
 call_last (c ∷ d ∷ cs) callee = refl
 
 -- ---- loads and stores of one register
+
+-- the constant of an access
+abbrev constant_of : Option Access → Option VCodeConstant
+constant_of o = elim o [ None ↦ None | Some access ↦ constant_in access.mem ]
 
 use_lone : (mem : AMode) → is_none (mode_site mem) ≡ is_no_use mem
 use_lone (modes.Label (PCRel offset)) = refl
@@ -181,8 +187,12 @@ return_lone frame flags BSP true = refl
 
 module _ (frame : FrameLayout) (flags : EmitFlags) where
   symbol_lone : (callee : Callee) (patchable : Bool) (defs : List CallRetPair) (pop : ℕ) → false ≡ is_lone_cells (if patchable then patchable_cells callee pop else call_cells frame callee defs pop)
-  symbol_lone callee true defs pop = sym (call_first callee _ _)
-  symbol_lone callee false defs pop = sym (call_first callee _ _)
+  symbol_lone callee true defs pop = sym (call_first callee (Some (4 * (length (pop_forms pop) + 1))) (map plain (pop_forms pop)))
+  symbol_lone callee false defs pop = sym (call_first callee None (map plain (pop_forms pop) ++ flat_map (result_cells frame) defs))
+
+  -- the words of a return before its branch
+  abbrev before_return : ℕ → Option APIKey → Bool → List Cell
+  before_return size key all = map (restored_cell frame flags) frame.restore ++ map plain (leave_forms frame size key all)
 
   other_lone : (inst : Inst) → access_of inst ≡ None → has_other_operands frame flags Refused inst ≡ true → is_lone_other frame inst ≡ is_lone_cells (shape_cells (other_shape frame flags inst))
   other_lone (insts.LoadAddr rd mem) e good = address_lone frame rd mem good
@@ -196,9 +206,9 @@ module _ (frame : FrameLayout) (flags : EmitFlags) where
   other_lone (insts.AtomicCASLoop ty trap addr expected replacement oldval scratch) e good =
       sym (many (loop_cells ty (awaited_forms ty) new_register trap) (omega (arith, loop_length ty (awaited_forms ty) new_register trap)))
   other_lone (insts.Call info) e good = symbol_lone (Symbol info.dest) info.patchable info.defs info.callee_pop_size
-  other_lone (insts.CallInd info) e good = sym (call_first (Address info.dest) None _)
-  other_lone (insts.ReturnCall info) e good = sym (call_last _ (Symbol info.dest))
-  other_lone (insts.ReturnCallInd info) e good = sym (call_last _ (Address info.dest))
+  other_lone (insts.CallInd info) e good = symbol_lone (Address info.dest) false info.defs info.callee_pop_size
+  other_lone (insts.ReturnCall info) e good = sym (call_last (before_return info.new_stack_arg_size info.key info.sign_return_address_all) (Symbol info.dest))
+  other_lone (insts.ReturnCallInd info) e good = sym (call_last (before_return info.new_stack_arg_size info.key info.sign_return_address_all) (Address info.dest))
   other_lone _ e good = cc
 
   inst_lone : (inst : Inst) → has_operands frame flags Refused inst ≡ true → is_lone frame inst ≡ is_lone_cells (inst_cells frame flags inst)
@@ -240,7 +250,7 @@ module _ (frame : FrameLayout) (flags : EmitFlags) where
     passes true true true true true a b c d e = refl
     passes _ _ _ _ _ a b c d e = absurd cc
 
-    within : (size : Option ℕ) (o : Option Access) → (elim o [ None ↦ None | Some access ↦ constant_in access.mem ]) ≡ None → (elim o [ None ↦ true | Some access ↦ is_within size access ]) ≡ true
+    within : (size : Option ℕ) (o : Option Access) → constant_of o ≡ None → (elim o [ None ↦ true | Some access ↦ is_within size access ]) ≡ true
     within size None e = refl
     within size (Some access) e = rw (e, is_within) refl
 

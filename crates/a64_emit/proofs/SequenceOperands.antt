@@ -7,7 +7,7 @@ use Rattle.a64_base.specs.declared.reg.Reg.{Reg}
 use Rattle.a64_ops.specs.declared.access.AccessOp.{AccessOp}
 use Rattle.a64_ops.specs.Accesses.{moves_vector}
 use Rattle.a64_inst.specs.declared.virtuals.VirtualRegisters.TheVariants.{Refused}
-use Rattle.a64_inst.specs.AtomicOperands.{are_loop_operands, is_atomic_type}
+use Rattle.a64_inst.specs.AtomicOperands.{are_cas_loop_operands, are_loop_operands, is_atomic_type}
 use Rattle.a64_inst.specs.MemoryOperands.{is_data_register}
 use Rattle.a64_inst.specs.Operands.{is_fixed_register, is_register, is_register_or_zero, is_other_register}
 use Rattle.a64_inst.specs.SequenceOperands.{are_table_operands}
@@ -21,6 +21,10 @@ unfolding are_loop_operands
 loop_type ty addr operand oldval failed good =
     let (first, _) = and_parts (is_atomic_type ty && (is_fixed_register Refused 25 addr && is_fixed_register Refused 26 operand)) (is_fixed_register Refused 27 oldval && is_fixed_register Refused 24 failed) good in
     (and_parts (is_atomic_type ty) (is_fixed_register Refused 25 addr && is_fixed_register Refused 26 operand) first).0
+
+pub cas_loop_type : (ty : IrType) (addr expected replacement oldval scratch : Reg) → are_cas_loop_operands Refused ty addr expected replacement oldval scratch ≡ true → is_atomic_type ty ≡ true
+cas_loop_type ty addr expected replacement oldval scratch good =
+    loop_type ty addr expected oldval scratch (and_parts (are_loop_operands Refused ty addr expected oldval scratch) (is_fixed_register Refused 28 replacement) good).0
 
 -- ---- tables
 

@@ -253,8 +253,9 @@ fn emit_cas_loop(
     emit_loop(sink, &cas_loop_words(ty, trap))
 }
 
-/// A sequence around a table, a symbol or the stack, a loop of atomic accesses, a select of vectors, or nothing for what has no word.
-#[tactic(auto, using(crate::proofs::SequenceOperands::loop_type))]
+/// A sequence around a table, a symbol or the stack, a loop of atomic accesses, a select of vectors, or
+/// nothing for what has no word.
+#[tactic(auto, using(crate::proofs::SequenceOperands::loop_type, crate::proofs::SequenceOperands::cas_loop_type))]
 #[inline(never)]
 pub fn emit_sequence(
     inst: &Inst,

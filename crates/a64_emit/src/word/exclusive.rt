@@ -160,7 +160,8 @@ fn push_sign(words: &mut ArrayVec<u32, 4>, ty: IrType)
 /// Adds the words that choose between what was there and the operand, by a condition on their comparison.
 fn push_choice(words: &mut ArrayVec<u32, 4>, ty: IrType, extendop: Option<ExtendOp>, cond: Cond)
     requires { length words.old.items ≤ 2 }
-    ensures { words.new.items ≡ words.old.items ++ map form_word (forms.choice_forms ty extendop cond) }
+    ensures { words.new.items
+        ≡ words.old.items ++ map form_word (forms.choice_forms ty extendop cond) }
 {
     words.push(compared_word(loop_size(ty), extendop));
     words.push(csel_word(writable_xreg(NEW), xreg(OLD), xreg(OPERAND), cond));
@@ -169,7 +170,8 @@ fn push_choice(words: &mut ArrayVec<u32, 4>, ty: IrType, extendop: Option<Extend
 /// Adds the words that choose between two signed numbers.
 fn push_signed_choice(words: &mut ArrayVec<u32, 4>, ty: IrType, cond: Cond)
     requires { length words.old.items ≤ 1 }
-    ensures { words.new.items ≡ words.old.items ++ map form_word (forms.sign_forms ty ++ forms.choice_forms ty (forms.sign_extend_of ty) cond) }
+    ensures { words.new.items ≡ words.old.items ++ map form_word (forms.sign_forms ty
+        ++ forms.choice_forms ty (forms.sign_extend_of ty) cond) }
 {
     push_sign(words, ty);
     push_choice(words, ty, sign_extend_of(ty), cond);
@@ -231,7 +233,8 @@ fn loop_words(
 ) -> LoopWords
     requires ty { is_atomic_type ty ≡ true }
     requires stored { is_register_or_zero Refused stored ≡ true }
-    ensures { (between' : List Form) → between.items ≡ map form_word between' → AreLoop result (loop_cells ty between' stored trap) }
+    ensures { (between' : List Form) → between.items ≡ map form_word between'
+        → AreLoop result (loop_cells ty between' stored trap) }
 {
     LoopWords {
         load: load_word(ty),
