@@ -167,7 +167,7 @@ pub fn put_items(
     requires quiet { quiet ≡ true → AreQuiet force (elements_of state.old.frame info.now items.now) }
     ensures put { IfOk result (λ places. HasPutAll force (elements_of state.old.frame info.now items.now) places.items buffer.new) }
     ensures constants { OnOk result (buffer.new.constants ≡ buffer.old.constants) }
-    ensures sized { AreConstants buffer.old.constants }
+    ensures sized { OnOk result (AreConstants buffer.old.constants) }
 {
     let mut places = Vec::with_capacity(alloc, items.len())?;
     let mut place = buffer.cur_offset();
