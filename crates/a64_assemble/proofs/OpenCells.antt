@@ -32,11 +32,13 @@ use Rattle.a64_label_use.specs.declared.label_use.LabelUse.TheVariants as uses
 use Rattle.a64_emit.specs.declared.site.Site.{Site}
 use Rattle.a64_label_use.specs.LabelUses.{mask_for}
 use Rattle.a64_emit.specs.IntegerForms.{adr_form}
-use Rattle.a64_emit.specs.ControlForms.{jump_form, cond_br_form, trap_if_form, test_bit_and_branch_form, label_address_form}
+use Rattle.a64_emit.specs.ControlForms.{authenticated_ret_forms, jump_form, cond_br_form, trap_if_form, test_bit_and_branch_form, label_address_form}
+use Rattle.a64_emit.specs.LoopForms.{awaited_forms, new_register, operator_forms, stored_register}
 use Rattle.a64_emit.specs.MemoryForms.{step_forms, offset_register, literal_form, held_form, access_steps, access_form}
 use Rattle.a64_emit.specs.Cells.{Body, FormOf, Data, Cell, plain, branch, trap_site, last_cell, several, entry_site, table_labels, table_cells, table_forms, table_jump, mode_site, shape_cells, access_shape, other_shape, inst_cells, kept_by, keep, cells_of, sites_of}
 use Rattle.a64_emit.proofs.CallSites.{calls_sites}
-use Rattle.a64_emit.proofs.Several.{address_sites}
+use Rattle.a64_emit.proofs.Loops.{loop_sites}
+use Rattle.a64_emit.proofs.Several.{plain_sites, address_sites}
 use Rattle.a64_assemble.proofs.ReadingBack.{IsOpenTo, IsOpenUse, IsOpenCell, open_branch26, open_branch_cond, open_compare_branch, open_test_branch, open_adr, open_ld_literal}
 
 -- ---- cells without a use, and single ones
@@ -146,6 +148,9 @@ module _ (frame : FrameLayout) (flags : EmitFlags) where
       inr (only_cell (branch (label_address_form dst) uses.Adr21 (branch_targets.Label label)) (branch_open (label_address_form dst) uses.Adr21 (branch_targets.Label label) (address_open dst)))
   other_open (insts.JTSequence default targets ridx rtmp1 rtmp2) = inr (table_open flags default targets ridx rtmp1 rtmp2)
   other_open (insts.LoadAddr rd mem) = inl (address_sites rd (step_forms offset_register (final_steps frame I8 mem)) (final_mode frame I8 mem))
+  other_open (insts.AuthenticatedRet key is_hint) = inl (plain_sites (authenticated_ret_forms key is_hint))
+  other_open (insts.AtomicRMWLoop ty op trap addr operand oldval scratch1 scratch2) = inl (loop_sites ty (operator_forms ty op) (stored_register op) trap)
+  other_open (insts.AtomicCASLoop ty trap addr expected replacement oldval scratch) = inl (loop_sites ty (awaited_forms ty) new_register trap)
   other_open (insts.Call info) = inl (calls_sites frame flags (insts.Call info) refl)
   other_open (insts.CallInd info) = inl (calls_sites frame flags (insts.CallInd info) refl)
   other_open (insts.ReturnCall info) = inl (calls_sites frame flags (insts.ReturnCall info) refl)
