@@ -27,3 +27,18 @@ returns-clause-ok c =
 
 pub returns-clause-restores : goal.returns-clause-restores
 returns-clause-restores c inst = restored_exactly c.args.frame.now c.args.info.now c.args.constants.now inst
+
+pub returns-in_err-found-clause-restores : goal.returns-in_err-found-clause-restores
+returns-in_err-found-clause-restores c inst = restored_exactly c.args.frame.now c.args.info.now c.args.constants.now inst
+
+pub returns-in_err-bound-clause-restores : goal.returns-in_err-bound-clause-restores
+returns-in_err-bound-clause-restores c inst = restored_exactly c.args.frame.now c.args.info.now c.args.constants.now inst
+
+pub returns-in_err-found-2-clause-restores : goal.returns-in_err-found-2-clause-restores
+returns-in_err-found-2-clause-restores c inst = restored_exactly c.args.frame.now c.args.info.now c.args.constants.now inst
+
+pub returns-in_err-check_reach-clause-restores : goal.returns-in_err-check_reach-clause-restores
+returns-in_err-check_reach-clause-restores c inst = restored_exactly c.args.frame.now c.args.info.now c.args.constants.now inst
+
+pub returns-in_err-code-clause-restores : goal.returns-in_err-code-clause-restores
+returns-in_err-code-clause-restores c inst = restored_exactly c.args.frame.now c.args.info.now c.args.constants.now inst
