@@ -2,6 +2,7 @@ pub mod Triples
 pub mod LineReads
 pub mod Logics
 pub mod FloatMoves
+pub mod FloatDups
 pub mod MovImms
 pub mod Sequences
 pub mod Givens
