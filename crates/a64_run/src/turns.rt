@@ -8,7 +8,8 @@ ghost use Rattle.a64_run.specs.Gen as definitions;
 ghost use Rattle.a64_run.specs.Gen.{gen_turn, gen_bytes, constants_below};
 
 use a64_base::{
-    BranchTarget, MachLabel, MemFlagsData, TestBitAndBranchKind, VCodeConstant, writable_vreg, xreg,
+    BranchTarget, IrType, MachLabel, MemFlagsData, TestBitAndBranchKind, VCodeConstant,
+    writable_vreg, xreg,
 };
 use a64_buffer::Constants;
 use a64_inst::{AMode, EmitFlags, EmitInfo, FrameLayout, Inst, Item};
@@ -38,13 +39,15 @@ fn gen_branch(count: u32, number: u32) -> Inst
 fn gen_load(number: u32) -> Inst
     ensures { result ≡ definitions.gen_load number }
 {
-    Inst::FpuLoad64 {
-        rd: writable_vreg((number % 32) as u8),
-        mem: AMode::Const {
-            addr: VCodeConstant(number % 4),
-        },
-        flags: MemFlagsData::trusted(),
-    }
+    let mem = AMode::Const {
+        addr: VCodeConstant(number % 4),
+    };
+    Inst::gen_load(
+        writable_vreg((number % 32) as u8),
+        mem,
+        IrType::F64,
+        MemFlagsData::trusted(),
+    )
 }
 
 /// Puts the items of the turn with this number, of so many.
