@@ -508,6 +508,8 @@ def vector_immediate(labels):
         return f"VecDupImm v{rd} {imm},0,false false {lanes}", f"movi v{rd}.{t}, #{imm}"
     ones = bits == 32 and random.randrange(3) == 0
     shift = random.choice([8, 16]) if ones else random.randrange(0, bits, 8)
+    # No constructor gives 0 with a shift, nor 255 with eight ones behind it.
+    imm = min(imm, 254) if ones else max(imm, 1) if shift else imm
     tail = f", {'msl' if ones else 'lsl'} #{shift}"
     return (f"VecDupImm v{rd} {imm},{shift},{'true' if ones else 'false'} {'true' if invert else 'false'} {lanes}",
             f"{'mvni' if invert else 'movi'} v{rd}.{t}, #{imm}{tail}")
