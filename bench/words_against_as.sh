@@ -563,7 +563,8 @@ def atomic_loop(labels):
     sign, short = "s" if op[0] == "S" else "u", ty in ("i8", "i16")
     body = [f"sxt{suffix} w27, w27"] if sign == "s" and short else []
     body.append(f"cmp {old}, {operand}" + (f", {sign}xt{suffix}" if short else ""))
-    body.append(f"csel {result}, {old}, {operand}, {dict(Smin='lt', Smax='gt', Umin='lo', Umax='hi')[op]}")
+    # The choice is of 64 bits, whatever the type.
+    body.append(f"csel x28, x27, x26, {dict(Smin='lt', Smax='gt', Umin='lo', Umax='hi')[op]}")
     return line, loop(body, result)
 
 KINDS = [
