@@ -82,7 +82,7 @@ impl Cond {
     }
 
     /// Its name, in lower case.
-    fn name<'a>(self) -> &'a str
+    pub fn name<'a>(self) -> &'a str
         ensures { result.now ≡ condition_name self }
     {
         match self {

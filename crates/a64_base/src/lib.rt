@@ -25,8 +25,8 @@ pub use mem_flags::MemFlagsData;
 pub use reg::{PReg, RealReg, Reg, RegClass, Writable};
 pub use reg_text::{
     pretty_print_ireg, pretty_print_reg, pretty_print_reg_sized, pretty_print_vreg_element,
-    pretty_print_vreg_scalar, pretty_print_vreg_vector, show_ireg_sized, show_vreg_element,
-    show_vreg_scalar, show_vreg_vector,
+    pretty_print_vreg_scalar, pretty_print_vreg_vector, push_element, push_register, push_scalar,
+    push_vector, show_ireg_sized, show_vreg_element, show_vreg_scalar, show_vreg_vector,
 };
 pub use registers::{
     PINNED_REG, fp_reg, link_reg, pinned_reg, spilltmp_reg, stack_reg, tmp2_reg, vreg,
@@ -37,4 +37,4 @@ pub use set::PRegSet;
 pub use shift::{ExtendOp, ShiftOp, ShiftOpAndAmt, ShiftOpShiftImm};
 pub use size::{OperandSize, ScalarSize, VectorSize};
 pub use target::BranchTarget;
-pub use text::{PrettyPrint, Text};
+pub use text::{PrettyPrint, Text, push_numbered};

@@ -1,6 +1,6 @@
 //! Names of registers in listings.
 
-ghost use Rattle.std.specs.Prelude.{IfOk, ◌≡◌, ◌<◌, ◌++◌, decimal};
+ghost use Rattle.std.specs.Prelude.{IfOk, OnOk, ◌≡◌, ◌<◌, ◌++◌};
 ghost use Rattle.std.specs.String.{string_bytes};
 ghost use Rattle.a64_base.specs.Registers.{class_of};
 ghost use Rattle.a64_base.specs.RegisterText.{
@@ -20,19 +20,8 @@ ghost use Rattle.a64_base.specs.RegisterText.{
 
 use crate::reg::{Reg, RegClass};
 use crate::size::{OperandSize, ScalarSize, VectorSize};
-use crate::text::Text;
-use itoa::Buffer;
-use std::alloc::Global;
-
-/// A text and a number behind it.
-fn numbered(alloc: Global, text: &str, number: u32) -> Text
-    ensures { IfOk result (λ t. string_bytes t ≡ text.now ++ decimal number) }
-{
-    let mut buffer = Buffer::new();
-    let mut name = String::from_str(alloc, text)?;
-    name.push_str(buffer.format(number))?;
-    Ok(name)
-}
+use crate::text::{Text, push_numbered};
+use std::alloc::{AllocError, Global};
 
 /// The letter before the number of an integer register.
 fn letter<'a>(size: OperandSize) -> &'a str
@@ -54,26 +43,43 @@ fn zero_name<'a>(size: OperandSize) -> &'a str
     }
 }
 
-/// The name of an integer register of the machine.
-fn show_ireg(alloc: Global, number: u8, size: OperandSize) -> Text
-    ensures { IfOk result (λ t. string_bytes t ≡ integer_name size number) }
+/// Appends the name of an integer register of the machine.
+fn push_integer(out: &mut String, size: OperandSize, number: u8) -> Result<(), AllocError>
+    ensures { OnOk result (string_bytes out.new ≡ string_bytes out.old ++ integer_name size number) }
 {
     match number {
-        29 => String::from_str(alloc, "fp"),
-        30 => String::from_str(alloc, "lr"),
-        31 => String::from_str(alloc, zero_name(size)),
-        63 => String::from_str(alloc, "sp"),
-        _ => numbered(alloc, letter(size), u32::from(number)),
+        29 => out.push_str("fp"),
+        30 => out.push_str("lr"),
+        31 => out.push_str(zero_name(size)),
+        63 => out.push_str("sp"),
+        _ => push_numbered(out, letter(size), number),
     }
 }
 
-/// The name of a virtual register.
-fn show_virtual(alloc: Global, index: u32, class: RegClass) -> Text
-    ensures { IfOk result (λ t. string_bytes t ≡ virtual_name class index) }
+/// Appends the name of a virtual register.
+fn push_virtual(out: &mut String, index: u32, class: RegClass) -> Result<(), AllocError>
+    ensures { OnOk result (string_bytes out.new ≡ string_bytes out.old ++ virtual_name class index) }
 {
     match class {
-        RegClass::Int => numbered(alloc, "%i", index),
-        RegClass::Float => numbered(alloc, "%f", index),
+        RegClass::Int => push_numbered(out, "%i", index),
+        RegClass::Float => push_numbered(out, "%f", index),
+    }
+}
+
+/// Appends the name of a register, where an integer register has this size, as in `w5`.
+///
+/// # Errors
+///
+/// Want of memory.
+pub fn push_register(out: &mut String, size: OperandSize, reg: Reg) -> Result<(), AllocError>
+    ensures { OnOk result (string_bytes out.new ≡ string_bytes out.old ++ sized_text size reg) }
+{
+    match reg {
+        Reg::Virtual { index, class } => push_virtual(out, index, class),
+        Reg::Real(p) => match p.class() {
+            RegClass::Int => push_integer(out, size, p.hw_enc()),
+            RegClass::Float => push_numbered(out, "v", p.hw_enc()),
+        },
     }
 }
 
@@ -96,13 +102,9 @@ pub fn pretty_print_reg(alloc: Global, reg: Reg) -> Text
 pub fn pretty_print_reg_sized(alloc: Global, reg: Reg, size: OperandSize) -> Text
     ensures { IfOk result (λ t. string_bytes t ≡ sized_text size reg) }
 {
-    match reg {
-        Reg::Virtual { index, class } => show_virtual(alloc, index, class),
-        Reg::Real(p) => match p.class() {
-            RegClass::Int => show_ireg(alloc, p.hw_enc(), size),
-            RegClass::Float => numbered(alloc, "v", u32::from(p.hw_enc())),
-        },
-    }
+    let mut text = String::new(alloc);
+    push_register(&mut text, size, reg)?;
+    Ok(text)
 }
 
 /// The name of an integer register at a size; a register of another class keeps its name.
@@ -140,6 +142,24 @@ fn scalar_prefix<'a>(size: ScalarSize) -> &'a str
     }
 }
 
+/// Appends the name of a vector register that holds a scalar, as in `d3`; a register of another
+/// class keeps its name.
+///
+/// # Errors
+///
+/// Want of memory.
+pub fn push_scalar(out: &mut String, size: ScalarSize, reg: Reg) -> Result<(), AllocError>
+    ensures { OnOk result (string_bytes out.new ≡ string_bytes out.old ++ scalar_text size reg) }
+{
+    match reg {
+        Reg::Virtual { index, class } => push_virtual(out, index, class),
+        Reg::Real(p) => match p.class() {
+            RegClass::Int => push_integer(out, OperandSize::Size64, p.hw_enc()),
+            RegClass::Float => push_numbered(out, scalar_prefix(size), p.hw_enc()),
+        },
+    }
+}
+
 /// The name of a vector register that holds a scalar, as in `d3`; a register of another class
 /// keeps its name.
 ///
@@ -149,13 +169,9 @@ fn scalar_prefix<'a>(size: ScalarSize) -> &'a str
 pub fn show_vreg_scalar(alloc: Global, reg: Reg, size: ScalarSize) -> Text
     ensures { IfOk result (λ t. string_bytes t ≡ scalar_text size reg) }
 {
-    match reg {
-        Reg::Virtual { index, class } => show_virtual(alloc, index, class),
-        Reg::Real(p) => match p.class() {
-            RegClass::Int => show_ireg(alloc, p.hw_enc(), OperandSize::Size64),
-            RegClass::Float => numbered(alloc, scalar_prefix(size), u32::from(p.hw_enc())),
-        },
-    }
+    let mut text = String::new(alloc);
+    push_scalar(&mut text, size, reg)?;
+    Ok(text)
 }
 
 /// The name of a vector register that holds a scalar, as in `d3`; a register of another class
@@ -185,6 +201,18 @@ fn vector_suffix<'a>(size: VectorSize) -> &'a str
     }
 }
 
+/// Appends the name of a vector register with its lanes, as in `v3.8h`.
+///
+/// # Errors
+///
+/// Want of memory.
+pub fn push_vector(out: &mut String, size: VectorSize, reg: Reg) -> Result<(), AllocError>
+    ensures { OnOk result (string_bytes out.new ≡ string_bytes out.old ++ vector_text size reg) }
+{
+    push_register(out, OperandSize::Size64, reg)?;
+    out.push_str(vector_suffix(size))
+}
+
 /// The name of a vector register with its lanes, as in `v3.8h`.
 ///
 /// # Errors
@@ -194,8 +222,8 @@ pub fn show_vreg_vector(alloc: Global, reg: Reg, size: VectorSize) -> Text
     requires { class_of reg ≡ RegClass.Float }
     ensures { IfOk result (λ t. string_bytes t ≡ vector_text size reg) }
 {
-    let mut text = pretty_print_reg(alloc, reg)?;
-    text.push_str(vector_suffix(size))?;
+    let mut text = String::new(alloc);
+    push_vector(&mut text, size, reg)?;
     Ok(text)
 }
 
@@ -211,9 +239,8 @@ pub fn pretty_print_vreg_vector(alloc: Global, reg: Reg, size: VectorSize) -> Te
     show_vreg_vector(alloc, reg, size)
 }
 
-/// The lane behind the name of a vector register.
+/// The lane behind the name of a vector register; of 128 bits there is none.
 fn element_suffix<'a>(size: ScalarSize) -> &'a str
-    requires { HasLanes size }
     ensures { result.now ≡ lane_suffix size }
 {
     match size {
@@ -221,8 +248,21 @@ fn element_suffix<'a>(size: ScalarSize) -> &'a str
         ScalarSize::Size16 => ".h[",
         ScalarSize::Size32 => ".s[",
         ScalarSize::Size64 => ".d[",
-        ScalarSize::Size128 => unreachable!(),
+        ScalarSize::Size128 => "",
     }
+}
+
+/// Appends the name of one lane of a vector register, as in `v3.s[1]`.
+///
+/// # Errors
+///
+/// Want of memory.
+pub fn push_element(out: &mut String, idx: u8, size: ScalarSize, reg: Reg) -> Result<(), AllocError>
+    ensures { OnOk result (string_bytes out.new ≡ string_bytes out.old ++ element_text idx size reg) }
+{
+    push_register(out, OperandSize::Size64, reg)?;
+    push_numbered(out, element_suffix(size), idx)?;
+    out.push_str("]")
 }
 
 /// The name of one lane of a vector register, as in `v3.s[1]`. A lane has at most 64 bits.
@@ -235,11 +275,8 @@ pub fn show_vreg_element(alloc: Global, reg: Reg, idx: u8, size: ScalarSize) -> 
     requires lane { HasLanes size }
     ensures { IfOk result (λ t. string_bytes t ≡ element_text idx size reg) }
 {
-    let mut buffer = Buffer::new();
-    let mut text = pretty_print_reg(alloc, reg)?;
-    text.push_str(element_suffix(size))?;
-    text.push_str(buffer.format(idx))?;
-    text.push_str("]")?;
+    let mut text = String::new(alloc);
+    push_element(&mut text, idx, size, reg)?;
     Ok(text)
 }
 

@@ -1,11 +1,11 @@
 //! Shifts and extensions of register operands.
 
-ghost use Rattle.std.specs.Prelude.{◌≡◌, ◌≤◌, ◌-◌, ⊤, SomeIff};
+ghost use Rattle.std.specs.Prelude.{◌≡◌, ◌≤◌, ◌-◌, ◌++◌, ⊤, SomeIff, OnOk};
+ghost use Rattle.std.specs.String.{string_bytes};
 ghost use Rattle.std.specs.Int.RustNames.{bit_and};
 
-use crate::text::{PrettyPrint, Text};
-use itoa::Buffer;
-use std::alloc::Global;
+use crate::text::{PrettyPrint, Text, push_numbered};
+use std::alloc::{AllocError, Global};
 use std::marker::Model;
 
 /// How a register operand is shifted (Cranelift's `ShiftOp`).
@@ -33,7 +33,7 @@ impl ShiftOp {
     }
 
     /// Its name, in capitals.
-    fn name<'a>(self) -> &'a str
+    pub fn name<'a>(self) -> &'a str
         ensures { result.now ≡ shift_name self }
     {
         match self {
@@ -111,6 +111,8 @@ impl Model for ShiftOpAndAmt {
 }
 
 impl ShiftOpAndAmt {
+    ghost use Rattle.a64_base.specs.Shifts.{shift_text};
+
     /// A shift by an amount.
     pub fn new(op: ShiftOp, shift: ShiftOpShiftImm) -> ShiftOpAndAmt
         ensures { result ≡ record { op = op; amount = shift } }
@@ -131,6 +133,18 @@ impl ShiftOpAndAmt {
     {
         self.shift
     }
+
+    /// Appends its text, as in `LSL 3`.
+    ///
+    /// # Errors
+    ///
+    /// Want of memory.
+    pub fn push_text(&self, out: &mut String) -> Result<(), AllocError>
+        ensures { OnOk result (string_bytes out.new ≡ string_bytes out.old ++ shift_text self.now) }
+    {
+        out.push_str(self.op.name())?;
+        push_numbered(out, " ", self.shift.value())
+    }
 }
 
 impl PrettyPrint for ShiftOpAndAmt {
@@ -141,10 +155,8 @@ impl PrettyPrint for ShiftOpAndAmt {
     ghost can_print = { λ _ _. ⊤ };
 
     fn pretty_print(&self, alloc: Global, _size_bytes: u8) -> Text {
-        let mut buffer = Buffer::new();
-        let mut text = String::from_str(alloc, self.op.name())?;
-        text.push_str(" ")?;
-        text.push_str(buffer.format(self.shift.value()))?;
+        let mut text = String::new(alloc);
+        self.push_text(&mut text)?;
         Ok(text)
     }
 }
@@ -182,7 +194,7 @@ impl ExtendOp {
     }
 
     /// Its name, in capitals.
-    fn name<'a>(self) -> &'a str
+    pub fn name<'a>(self) -> &'a str
         ensures { result.now ≡ extend_name self }
     {
         match self {

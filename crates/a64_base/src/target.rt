@@ -1,13 +1,13 @@
 //! Where branches go.
 
-ghost use Rattle.std.specs.Prelude.{◌≡◌, ◌<◌, ◌^◌, ⊤};
+ghost use Rattle.std.specs.Prelude.{◌≡◌, ◌<◌, ◌^◌, ◌++◌, ⊤, OnOk};
+ghost use Rattle.std.specs.String.{string_bytes};
 ghost use Rattle.std.specs.Int.{cast_unsigned, w32};
 ghost use Rattle.a64_base.specs.Words.{words_of};
 
 use crate::entity::MachLabel;
-use crate::text::{PrettyPrint, Text};
-use itoa::Buffer;
-use std::alloc::Global;
+use crate::text::{PrettyPrint, Text, push_numbered};
+use std::alloc::{AllocError, Global};
 
 /// Where a branch goes (Cranelift's `BranchTarget`).
 #[derive(Clone, Copy, Debug, PartialEq, Eq)]
@@ -26,7 +26,7 @@ fn words_in(offset: i32) -> u32
 }
 
 impl BranchTarget {
-    ghost use Rattle.a64_base.specs.Target.{label_of, offset_field, FitsField};
+    ghost use Rattle.a64_base.specs.Target.{label_of, offset_field, target_text, FitsField};
 
     /// The label, where it goes to one.
     pub fn as_label(self) -> Option<MachLabel>
@@ -76,6 +76,20 @@ impl BranchTarget {
             BranchTarget::ResolvedOffset(offset) => words_in(offset) % (1 << 26),
         }
     }
+
+    /// Appends its text: `label3`, or the distance in bytes in decimal.
+    ///
+    /// # Errors
+    ///
+    /// Want of memory.
+    pub fn push_text(&self, out: &mut String) -> Result<(), AllocError>
+        ensures { OnOk result (string_bytes out.new ≡ string_bytes out.old ++ target_text self.now) }
+    {
+        match *self {
+            BranchTarget::Label(label) => push_numbered(out, "label", label.0),
+            BranchTarget::ResolvedOffset(offset) => push_numbered(out, "", offset),
+        }
+    }
 }
 
 impl PrettyPrint for BranchTarget {
@@ -86,16 +100,8 @@ impl PrettyPrint for BranchTarget {
     ghost can_print = { λ _ _. ⊤ };
 
     fn pretty_print(&self, alloc: Global, _size_bytes: u8) -> Text {
-        let mut buffer = Buffer::new();
-        match *self {
-            BranchTarget::Label(label) => {
-                let mut text = String::from_str(alloc, "label")?;
-                text.push_str(buffer.format(label.0))?;
-                Ok(text)
-            }
-            BranchTarget::ResolvedOffset(offset) => {
-                String::from_str(alloc, buffer.format(offset))
-            }
-        }
+        let mut text = String::new(alloc);
+        self.push_text(&mut text)?;
+        Ok(text)
     }
 }

@@ -1,12 +1,26 @@
 //! Texts of values in listings.
 
-ghost use Rattle.std.specs.Prelude.{ℕ, List, IfOk, ◌≡◌};
+ghost use Rattle.std.specs.Prelude.{ℕ, List, IfOk, OnOk, ◌≡◌, ◌++◌};
 ghost use Rattle.std.specs.String.{string_bytes};
 
+use itoa::{Buffer, Integer};
 use std::alloc::{AllocError, Global};
 
 /// A text, or want of memory.
 pub type Text = Result<String, AllocError>;
+
+/// Appends a text and a number behind it, in decimal.
+///
+/// # Errors
+///
+/// Want of memory.
+pub fn push_numbered<I: Integer>(out: &mut String, text: &str, number: I) -> Result<(), AllocError>
+    ensures { OnOk result (string_bytes out.new ≡ string_bytes out.old ++ text.now ++ I.text number) }
+{
+    let mut buffer = Buffer::new();
+    out.push_str(text)?;
+    out.push_str(buffer.format(number))
+}
 
 /// What can be printed in a listing (Cranelift's `PrettyPrint`).
 pub trait PrettyPrint {

@@ -1,14 +1,15 @@
 //! The immediate of vector moves of floats.
 
-ghost use Rattle.std.specs.Prelude.{◌≡◌, ◌≢◌, ℕ, ◌<◌, ◌≤◌, ◌+◌, ◌*◌, ◌/◌, ◌%◌, ◌^◌, MatchOption, ◌++◌};
+ghost use Rattle.std.specs.Prelude.{◌≡◌, ◌≢◌, ℕ, ◌<◌, ◌≤◌, ◌+◌, ◌*◌, ◌/◌, ◌%◌, ◌^◌, MatchOption, ◌++◌, OnOk};
+ghost use Rattle.std.specs.String.{string_bytes};
 ghost use Rattle.a64_imms.specs.Texts.{hex_digit, hex_text};
 ghost use Rattle.a64_imms.specs.FloatImms.{float_pattern, float_text, pattern_at, IsFloatSize, IsFloatImm, IsFloatValue, IsFloatLawful};
 ghost use Rattle.a64_imms.specs.FloatLaws.{float_within, one_float};
 
 use crate::class::ImmClass;
-use crate::text::text_of_pattern;
+use crate::text::push_pattern;
 use a64_base::{PrettyPrint, ScalarSize, Text};
-use std::alloc::Global;
+use std::alloc::{AllocError, Global};
 
 /// The modified immediate of `fmov`: a float by its sign, three bits of its exponent and four of
 /// its fraction, which are called a, b to d and e to h, the highest first.
@@ -77,6 +78,23 @@ impl ASIMDFPModImm {
     {
         self.imm
     }
+
+    /// Appends `#0x` and the float's bits in 4, 8 or 16 hexadecimal digits.
+    ///
+    /// # Errors
+    ///
+    /// Want of memory.
+    pub fn push_text(&self, out: &mut String) -> Result<(), AllocError>
+        requires { IsFloatSize self.now.size }
+        ensures { OnOk result (string_bytes out.new ≡ string_bytes out.old ++ float_text self.now) }
+    {
+        let digits = match self.size {
+            ScalarSize::Size16 => 4,
+            ScalarSize::Size32 => 8,
+            _ => 16,
+        };
+        push_pattern(out, pattern_of(self.size, self.imm), digits)
+    }
 }
 
 /// `#0x` and the float's bits in 4, 8 or 16 hexadecimal digits.
@@ -86,12 +104,9 @@ impl PrettyPrint for ASIMDFPModImm {
     ghost can_print = { λ made _. IsFloatSize made.size };
 
     fn pretty_print(&self, alloc: Global, _size_bytes: u8) -> Text {
-        let digits = match self.size {
-            ScalarSize::Size16 => 4,
-            ScalarSize::Size32 => 8,
-            _ => 16,
-        };
-        text_of_pattern(alloc, pattern_of(self.size, self.imm), digits)
+        let mut text = String::new(alloc);
+        self.push_text(&mut text)?;
+        Ok(text)
     }
 }
 

@@ -1,14 +1,14 @@
 //! The immediate of vector moves.
 
-ghost use Rattle.std.specs.Prelude.{◌≡◌, ◌≢◌, ℕ, ◌<◌, ◌≤◌, ◌+◌, ◌-◌, ◌*◌, ◌%◌, ◌^◌, if◌then◌else◌, false, MatchOption, IfSome};
+ghost use Rattle.std.specs.Prelude.{◌≡◌, ◌≢◌, ℕ, ◌<◌, ◌≤◌, ◌+◌, ◌-◌, ◌*◌, ◌%◌, ◌^◌, if◌then◌else◌, false, MatchOption, IfSome, ◌++◌, OnOk};
+ghost use Rattle.std.specs.String.{string_bytes};
 ghost use Rattle.a64_base.specs.declared.size.ScalarSize.TheVariants.{Size16, Size32, Size64, Size128};
 ghost use Rattle.a64_imms.specs.MovImms.{byte_of, spread, looked_at, is_64, mov_value, mov_field, mov_text, forms_of, HasForm, HoldsForm, IsFirst, IsMovImm, IsMovValue, IsMovLawful, HasMovFields};
 ghost use Rattle.a64_imms.specs.MovLaws.{mov_within, one_mov};
 
 use crate::class::ImmClass;
-use crate::text::text_of_number;
-use a64_base::{PrettyPrint, ScalarSize, Text};
-use std::alloc::Global;
+use a64_base::{PrettyPrint, ScalarSize, Text, push_numbered};
+use std::alloc::{AllocError, Global};
 
 /// The modified immediate of `movi` and `mvni`.
 #[derive(Clone, Copy, Debug, PartialEq, Eq)]
@@ -174,6 +174,30 @@ impl ASIMDMovModImm {
     {
         (self.imm, u32::from(self.shift), self.shift_ones)
     }
+
+    /// Appends `#` and the value of 64 bits, or `#`, the bits, and `, MSL #` (with ones) or
+    /// `, LSL #` and the shift where that is not 0.
+    ///
+    /// # Errors
+    ///
+    /// Want of memory.
+    pub fn push_text(&self, out: &mut String) -> Result<(), AllocError>
+        ensures { OnOk result (string_bytes out.new ≡ string_bytes out.old ++ mov_text self.now) }
+    {
+        if self.is_64bit {
+            return push_numbered(out, "#", spread_bits(self.imm));
+        }
+        push_numbered(out, "#", self.imm)?;
+        if self.shift == 0 {
+            return Ok(());
+        }
+        let shifted = if self.shift_ones {
+            ", MSL #"
+        } else {
+            ", LSL #"
+        };
+        push_numbered(out, shifted, self.shift)
+    }
 }
 
 /// `#` and the number of 64 bits; else `#` and the bits, then `, MSL #` where ones are shifted
@@ -184,15 +208,8 @@ impl PrettyPrint for ASIMDMovModImm {
     ghost can_print = { λ imm _. HasMovFields imm };
 
     fn pretty_print(&self, alloc: Global, _size_bytes: u8) -> Text {
-        if self.is_64bit {
-            return text_of_number(alloc, spread_bits(self.imm));
-        }
-        let mut text = text_of_number(alloc, u64::from(self.imm))?;
-        if self.shift == 0 {
-            return Ok(text);
-        }
-        text.push_str(if self.shift_ones { ", MSL " } else { ", LSL " })?;
-        text.push_str(text_of_number(alloc, u64::from(self.shift))?.as_str())?;
+        let mut text = String::new(alloc);
+        self.push_text(&mut text)?;
         Ok(text)
     }
 }

@@ -1,12 +1,13 @@
 //! The condition flags as an immediate.
 
-ghost use Rattle.std.specs.Prelude.{◌≡◌, ℕ, ◌<◌, true, ⊤};
+ghost use Rattle.std.specs.Prelude.{◌≡◌, ℕ, ◌<◌, true, ⊤, ◌++◌, OnOk};
+ghost use Rattle.std.specs.String.{string_bytes};
 ghost use Rattle.a64_imms.specs.Flags.{flags_of, nzcv_bits, nzcv_text, Flags};
 ghost use Rattle.a64_imms.specs.Laws.{same_flags};
 
 use crate::class::ImmClass;
 use a64_base::{PrettyPrint, Text};
-use std::alloc::Global;
+use std::alloc::{AllocError, Global};
 
 /// The condition flags that a conditional compare sets where its condition does not hold.
 #[derive(Clone, Copy, Debug)]
@@ -32,6 +33,21 @@ impl NZCV {
     {
         8 * u32::from(self.n) + 4 * u32::from(self.z) + 2 * u32::from(self.c) + u32::from(self.v)
     }
+
+    /// Appends `#nzcv`, with a capital for each flag that is set.
+    ///
+    /// # Errors
+    ///
+    /// Want of memory.
+    pub fn push_text(&self, out: &mut String) -> Result<(), AllocError>
+        ensures { OnOk result (string_bytes out.new ≡ string_bytes out.old ++ nzcv_text (flags_of self.now)) }
+    {
+        out.push_str("#")?;
+        out.push_str(if self.n { "N" } else { "n" })?;
+        out.push_str(if self.z { "Z" } else { "z" })?;
+        out.push_str(if self.c { "C" } else { "c" })?;
+        out.push_str(if self.v { "V" } else { "v" })
+    }
 }
 
 /// `#nzcv`, with a capital for each flag that is set.
@@ -41,11 +57,8 @@ impl PrettyPrint for NZCV {
     ghost can_print = { λ _ _. ⊤ };
 
     fn pretty_print(&self, alloc: Global, _size_bytes: u8) -> Text {
-        let mut text = String::from_str(alloc, "#")?;
-        text.push_str(if self.n { "N" } else { "n" })?;
-        text.push_str(if self.z { "Z" } else { "z" })?;
-        text.push_str(if self.c { "C" } else { "c" })?;
-        text.push_str(if self.v { "V" } else { "v" })?;
+        let mut text = String::new(alloc);
+        self.push_text(&mut text)?;
         Ok(text)
     }
 }

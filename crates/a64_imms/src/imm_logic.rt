@@ -117,7 +117,6 @@ impl ImmLogic {
 
     /// The value that the immediate was made of, with all its bits.
     pub fn value(&self) -> u64
-        requires { IsImmLogic self.now }
         ensures { result ≡ logic_value self.now }
     {
         self.value

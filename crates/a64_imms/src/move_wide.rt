@@ -1,13 +1,13 @@
 //! The immediate of wide moves.
 
-ghost use Rattle.std.specs.Prelude.{◌≡◌, ℕ, ◌<◌, ◌≤◌, ◌+◌, ◌/◌, ◌*◌, ◌^◌, MatchOption};
+ghost use Rattle.std.specs.Prelude.{◌≡◌, ℕ, ◌<◌, ◌≤◌, ◌+◌, ◌/◌, ◌*◌, ◌^◌, MatchOption, ◌++◌, OnOk};
+ghost use Rattle.std.specs.String.{string_bytes};
 ghost use Rattle.a64_imms.specs.MoveWides.{wide_value, wide_field, wide_text, IsWideValue, IsWide, HasWide, wide_of};
 ghost use Rattle.a64_imms.specs.Laws.{wide_within, one_wide};
 
 use crate::class::ImmClass;
-use crate::text::text_of_number;
-use a64_base::{PrettyPrint, Text};
-use std::alloc::Global;
+use a64_base::{PrettyPrint, Text, push_numbered};
+use std::alloc::{AllocError, Global};
 
 /// 16 bits at one of the four halfwords of a register.
 #[derive(Clone, Copy, Debug)]
@@ -73,6 +73,22 @@ impl MoveWideConst {
     {
         MoveWideConst { bits: 0, shift: 0 }
     }
+
+    /// Appends `#` and the bits, then `, LSL #` and 16 times the shift where that is not 0.
+    ///
+    /// # Errors
+    ///
+    /// Want of memory.
+    pub fn push_text(&self, out: &mut String) -> Result<(), AllocError>
+        ensures { OnOk result (string_bytes out.new ≡ string_bytes out.old ++ wide_text self.now) }
+    {
+        push_numbered(out, "#", self.bits)?;
+        if self.shift == 0 {
+            Ok(())
+        } else {
+            push_numbered(out, ", LSL #", 16 * u32::from(self.shift))
+        }
+    }
 }
 
 /// `#` and the bits, then `, LSL #` and 16 times the shift where that is not 0.
@@ -82,12 +98,8 @@ impl PrettyPrint for MoveWideConst {
     ghost can_print = { λ imm _. imm.shift ≤ 3 };
 
     fn pretty_print(&self, alloc: Global, _size_bytes: u8) -> Text {
-        let mut text = text_of_number(alloc, u64::from(self.bits))?;
-        if self.shift == 0 {
-            return Ok(text);
-        }
-        text.push_str(", LSL ")?;
-        text.push_str(text_of_number(alloc, 16 * u64::from(self.shift))?.as_str())?;
+        let mut text = String::new(alloc);
+        self.push_text(&mut text)?;
         Ok(text)
     }
 }

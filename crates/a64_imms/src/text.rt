@@ -5,6 +5,7 @@ ghost use Rattle.std.specs.Fmt.{decimal, signed_decimal};
 ghost use Rattle.std.specs.String.{string_bytes};
 ghost use Rattle.a64_imms.specs.Texts.{number_text, signed_text, hex_digit, hex_text, pattern_text};
 
+use a64_base::push_numbered;
 use std::alloc::{AllocError, Global};
 
 /// `#` and a number in decimal.
@@ -15,9 +16,8 @@ use std::alloc::{AllocError, Global};
 pub fn text_of_number(alloc: Global, number: u64) -> Result<String, AllocError>
     ensures { IfOk result (λ text. string_bytes text ≡ number_text number) }
 {
-    let digits = number.to_string(alloc)?;
-    let mut text = String::from_str(alloc, "#")?;
-    text.push_str(digits.as_str())?;
+    let mut text = String::new(alloc);
+    push_numbered(&mut text, "#", number)?;
     Ok(text)
 }
 
@@ -29,9 +29,8 @@ pub fn text_of_number(alloc: Global, number: u64) -> Result<String, AllocError>
 pub fn text_of_signed(alloc: Global, number: i64) -> Result<String, AllocError>
     ensures { IfOk result (λ text. string_bytes text ≡ signed_text number) }
 {
-    let digits = number.to_string(alloc)?;
-    let mut text = String::from_str(alloc, "#")?;
-    text.push_str(digits.as_str())?;
+    let mut text = String::new(alloc);
+    push_numbered(&mut text, "#", number)?;
     Ok(text)
 }
 
@@ -60,15 +59,14 @@ fn push_hex(text: &mut String, number: u64, digits: u32) -> Result<(), AllocErro
     Ok(())
 }
 
-/// `#0x` and a number in so many hexadecimal digits.
+/// Appends `#0x` and a number in so many hexadecimal digits.
 ///
 /// # Errors
 ///
 /// Want of memory.
-pub fn text_of_pattern(alloc: Global, number: u64, digits: u32) -> Result<String, AllocError>
-    ensures { IfOk result (λ text. string_bytes text ≡ pattern_text digits number) }
+pub fn push_pattern(text: &mut String, number: u64, digits: u32) -> Result<(), AllocError>
+    ensures { OnOk result (string_bytes text.new ≡ string_bytes text.old ++ pattern_text digits number) }
 {
-    let mut text = String::from_str(alloc, "#0x")?;
-    push_hex(&mut text, number, digits)?;
-    Ok(text)
+    text.push_str("#0x")?;
+    push_hex(text, number, digits)
 }

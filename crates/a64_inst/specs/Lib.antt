@@ -11,6 +11,7 @@ pub mod SequenceOperands
 pub mod CallOperands
 pub mod Lone
 pub mod Faults
+pub mod ModeTexts
 pub mod Modes
 pub mod Addresses
 pub mod Accesses

@@ -18,6 +18,7 @@ mod lanes;
 mod lists;
 mod makers;
 mod mode;
+mod mode_text;
 mod operand;
 mod own_fault;
 mod pair;

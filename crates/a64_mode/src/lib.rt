@@ -5,4 +5,4 @@ mod finalize;
 mod placed;
 
 pub use finalize::mem_finalize;
-pub use placed::{final_mode, final_steps};
+pub use placed::{final_mode, final_steps, shown_mode};

@@ -1,6 +1,6 @@
 //! The addressing modes that stand in instructions, and the steps before them.
 
-ghost use Rattle.std.specs.Prelude.{◌≡◌, ◌≤◌, ◌^◌, ◌⊎◌, true, [], length};
+ghost use Rattle.std.specs.Prelude.{◌≡◌, ◌≤◌, ◌^◌, ◌⊎◌, true, false, [], length};
 ghost use Rattle.a64_base.specs.declared.shift.ExtendOp.TheVariants.{SXTX};
 ghost use Rattle.a64_base.specs.Registers.{integer_register};
 ghost use Rattle.a64_imms.specs.Offsets.{residue};
@@ -71,8 +71,24 @@ pub fn final_mode(frame: &FrameLayout, ty: IrType, mem: &AMode) -> AMode
     requires { IsAccessSize (type_bytes ty) }
     ensures { parts_of result ≡ finals.final_mode frame.now ty mem.now }
 {
+    mode_for(true, frame, ty, mem)
+}
+
+/// The same where it is only shown: a constant stays one. The access has 1, 2, 4, 8 or 16 bytes.
+pub fn shown_mode(frame: &FrameLayout, ty: IrType, mem: &AMode) -> AMode
+    requires { IsAccessSize (type_bytes ty) }
+    ensures { parts_of result ≡ finals.mode_for false frame.now ty mem.now }
+{
+    mode_for(false, frame, ty, mem)
+}
+
+/// The mode that stands in the instruction of an access, in code or where it is only shown.
+fn mode_for(for_code: bool, frame: &FrameLayout, ty: IrType, mem: &AMode) -> AMode
+    requires { IsAccessSize (type_bytes ty) }
+    ensures { parts_of result ≡ finals.mode_for for_code frame.now ty mem.now }
+{
     let Some(place) = place_of(frame, mem) else {
-        return held_mode(true, mem);
+        return held_mode(for_code, mem);
     };
     if place.offset < -(1 << 63) || place.offset >= 1 << 63 {
         far_mode(place.base)

@@ -53,6 +53,41 @@ pub enum ALUOp {
     UMulH,
 }
 
+impl ALUOp {
+    ghost use Rattle.a64_ops.specs.Names.{alu_op_name};
+
+    /// Its name in assembly text.
+    pub fn op_str(&self) -> &'static str
+        ensures { result.now ≡ alu_op_name self.now }
+    {
+        match self {
+            ALUOp::Add => "add",
+            ALUOp::Sub => "sub",
+            ALUOp::AddS => "adds",
+            ALUOp::SubS => "subs",
+            ALUOp::And => "and",
+            ALUOp::Orr => "orr",
+            ALUOp::Eor => "eor",
+            ALUOp::AndS => "ands",
+            ALUOp::AndNot => "bic",
+            ALUOp::OrrNot => "orn",
+            ALUOp::EorNot => "eon",
+            ALUOp::Adc => "adc",
+            ALUOp::Sbc => "sbc",
+            ALUOp::AdcS => "adcs",
+            ALUOp::SbcS => "sbcs",
+            ALUOp::UDiv => "udiv",
+            ALUOp::SDiv => "sdiv",
+            ALUOp::Lsl => "lsl",
+            ALUOp::Lsr => "lsr",
+            ALUOp::Asr => "asr",
+            ALUOp::Extr => "extr",
+            ALUOp::SMulH => "smulh",
+            ALUOp::UMulH => "umulh",
+        }
+    }
+}
+
 /// An integer operator with three operands (Cranelift's `ALUOp3`).
 #[derive(Clone, Copy, Debug, PartialEq, Eq)]
 pub enum ALUOp3 {
@@ -64,6 +99,22 @@ pub enum ALUOp3 {
     UMAddL,
     /// The 64-bit product of signed 32-bit operands, which is added.
     SMAddL,
+}
+
+impl ALUOp3 {
+    ghost use Rattle.a64_ops.specs.Names.{alu_op3_name};
+
+    /// Its name in assembly text.
+    pub fn op_str(&self) -> &'static str
+        ensures { result.now ≡ alu_op3_name self.now }
+    {
+        match self {
+            ALUOp3::MAdd => "madd",
+            ALUOp3::MSub => "msub",
+            ALUOp3::UMAddL => "umaddl",
+            ALUOp3::SMAddL => "smaddl",
+        }
+    }
 }
 
 /// An operation on the bits of one register (Cranelift's `BitOp`).
@@ -133,6 +184,20 @@ pub enum MoveWideOp {
     MovN,
 }
 
+impl MoveWideOp {
+    ghost use Rattle.a64_ops.specs.Names.{move_wide_op_name};
+
+    /// Its name in assembly text.
+    pub fn op_str(&self) -> &'static str
+        ensures { result.now ≡ move_wide_op_name self.now }
+    {
+        match self {
+            MoveWideOp::MovZ => "movz",
+            MoveWideOp::MovN => "movn",
+        }
+    }
+}
+
 /// An atomic operation of memory and a register (Cranelift's `AtomicRMWOp`).
 #[derive(Clone, Copy, Debug, PartialEq, Eq)]
 pub enum AtomicRMWOp {
@@ -154,6 +219,27 @@ pub enum AtomicRMWOp {
     Umin,
     /// The register in place of what was there.
     Swp,
+}
+
+impl AtomicRMWOp {
+    ghost use Rattle.a64_ops.specs.Names.{atomic_rmw_op_name};
+
+    /// Its name in assembly text.
+    pub fn op_str(&self) -> &'static str
+        ensures { result.now ≡ atomic_rmw_op_name self.now }
+    {
+        match self {
+            AtomicRMWOp::Add => "ldaddal",
+            AtomicRMWOp::Clr => "ldclral",
+            AtomicRMWOp::Eor => "ldeoral",
+            AtomicRMWOp::Set => "ldsetal",
+            AtomicRMWOp::Smax => "ldsmaxal",
+            AtomicRMWOp::Smin => "ldsminal",
+            AtomicRMWOp::Umax => "ldumaxal",
+            AtomicRMWOp::Umin => "lduminal",
+            AtomicRMWOp::Swp => "swpal",
+        }
+    }
 }
 
 /// An atomic operation of memory and a register that is a loop of its own (Cranelift's `AtomicRMWLoopOp`).
@@ -181,4 +267,27 @@ pub enum AtomicRMWLoopOp {
     Umin,
     /// The operand in place of what was there.
     Xchg,
+}
+
+impl AtomicRMWLoopOp {
+    ghost use Rattle.a64_ops.specs.Names.{atomic_rmw_loop_op_name};
+
+    /// Its name in the text of a loop.
+    pub fn op_str(&self) -> &'static str
+        ensures { result.now ≡ atomic_rmw_loop_op_name self.now }
+    {
+        match self {
+            AtomicRMWLoopOp::Add => "add",
+            AtomicRMWLoopOp::Sub => "sub",
+            AtomicRMWLoopOp::And => "and",
+            AtomicRMWLoopOp::Nand => "nand",
+            AtomicRMWLoopOp::Eor => "eor",
+            AtomicRMWLoopOp::Orr => "orr",
+            AtomicRMWLoopOp::Smax => "smax",
+            AtomicRMWLoopOp::Smin => "smin",
+            AtomicRMWLoopOp::Umax => "umax",
+            AtomicRMWLoopOp::Umin => "umin",
+            AtomicRMWLoopOp::Xchg => "xchg",
+        }
+    }
 }

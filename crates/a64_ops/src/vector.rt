@@ -1,6 +1,8 @@
 //! The operators of vector instructions (Arm Architecture Reference Manual, C4.1, "Data Processing --
 //! Scalar Floating-Point and Advanced SIMD").
 
+ghost use Rattle.std.specs.Prelude.{◌≡◌};
+
 /// An operator on two vectors (Cranelift's `VecALUOp`).
 #[derive(Clone, Copy, Debug, PartialEq, Eq)]
 pub enum VecALUOp {
@@ -92,6 +94,60 @@ pub enum VecALUOp {
     Trn2,
 }
 
+impl VecALUOp {
+    ghost use Rattle.a64_ops.specs.Names.{vec_alu_op_name};
+
+    /// Its name in assembly text.
+    pub fn op_str(&self) -> &'static str
+        ensures { result.now ≡ vec_alu_op_name self.now }
+    {
+        match self {
+            VecALUOp::Sqadd => "sqadd",
+            VecALUOp::Uqadd => "uqadd",
+            VecALUOp::Sqsub => "sqsub",
+            VecALUOp::Uqsub => "uqsub",
+            VecALUOp::Cmeq => "cmeq",
+            VecALUOp::Cmge => "cmge",
+            VecALUOp::Cmgt => "cmgt",
+            VecALUOp::Cmhs => "cmhs",
+            VecALUOp::Cmhi => "cmhi",
+            VecALUOp::Fcmeq => "fcmeq",
+            VecALUOp::Fcmgt => "fcmgt",
+            VecALUOp::Fcmge => "fcmge",
+            VecALUOp::And => "and",
+            VecALUOp::Bic => "bic",
+            VecALUOp::Orr => "orr",
+            VecALUOp::Orn => "orn",
+            VecALUOp::Eor => "eor",
+            VecALUOp::Umaxp => "umaxp",
+            VecALUOp::Add => "add",
+            VecALUOp::Sub => "sub",
+            VecALUOp::Mul => "mul",
+            VecALUOp::Sshl => "sshl",
+            VecALUOp::Ushl => "ushl",
+            VecALUOp::Umin => "umin",
+            VecALUOp::Smin => "smin",
+            VecALUOp::Umax => "umax",
+            VecALUOp::Smax => "smax",
+            VecALUOp::Urhadd => "urhadd",
+            VecALUOp::Fadd => "fadd",
+            VecALUOp::Fsub => "fsub",
+            VecALUOp::Fdiv => "fdiv",
+            VecALUOp::Fmax => "fmax",
+            VecALUOp::Fmin => "fmin",
+            VecALUOp::Fmul => "fmul",
+            VecALUOp::Addp => "addp",
+            VecALUOp::Zip1 => "zip1",
+            VecALUOp::Zip2 => "zip2",
+            VecALUOp::Sqrdmulh => "sqrdmulh",
+            VecALUOp::Uzp1 => "uzp1",
+            VecALUOp::Uzp2 => "uzp2",
+            VecALUOp::Trn1 => "trn1",
+            VecALUOp::Trn2 => "trn2",
+        }
+    }
+}
+
 /// An operator on two vectors that takes its result's register as a third operand (Cranelift's
 /// `VecALUModOp`).
 #[derive(Clone, Copy, Debug, PartialEq, Eq)]
@@ -106,6 +162,23 @@ pub enum VecALUModOp {
     Sdot,
     /// The sum of four products of unsigned bytes and signed ones, added to each lane of 32 bits.
     Usdot,
+}
+
+impl VecALUModOp {
+    ghost use Rattle.a64_ops.specs.Names.{vec_alu_mod_op_name};
+
+    /// Its name in assembly text.
+    pub fn op_str(&self) -> &'static str
+        ensures { result.now ≡ vec_alu_mod_op_name self.now }
+    {
+        match self {
+            VecALUModOp::Bsl => "bsl",
+            VecALUModOp::Fmla => "fmla",
+            VecALUModOp::Fmls => "fmls",
+            VecALUModOp::Sdot => "sdot",
+            VecALUModOp::Usdot => "usdot",
+        }
+    }
 }
 
 /// An operator on one vector (Cranelift's `VecMisc2`).
@@ -169,6 +242,46 @@ pub enum VecMisc2 {
     Fcmlt0,
 }
 
+impl VecMisc2 {
+    ghost use Rattle.a64_ops.specs.Names.{vec_misc2_name};
+
+    /// Its name in assembly text, without the zero that a comparison has behind its registers.
+    pub fn op_str(&self) -> &'static str
+        ensures { result.now ≡ vec_misc2_name self.now }
+    {
+        match self {
+            VecMisc2::Not => "mvn",
+            VecMisc2::Neg => "neg",
+            VecMisc2::Abs => "abs",
+            VecMisc2::Fabs => "fabs",
+            VecMisc2::Fneg => "fneg",
+            VecMisc2::Fsqrt => "fsqrt",
+            VecMisc2::Rev16 => "rev16",
+            VecMisc2::Rev32 => "rev32",
+            VecMisc2::Rev64 => "rev64",
+            VecMisc2::Fcvtzs => "fcvtzs",
+            VecMisc2::Fcvtzu => "fcvtzu",
+            VecMisc2::Scvtf => "scvtf",
+            VecMisc2::Ucvtf => "ucvtf",
+            VecMisc2::Frintn => "frintn",
+            VecMisc2::Frintz => "frintz",
+            VecMisc2::Frintm => "frintm",
+            VecMisc2::Frintp => "frintp",
+            VecMisc2::Cnt => "cnt",
+            VecMisc2::Cmeq0 => "cmeq",
+            VecMisc2::Cmge0 => "cmge",
+            VecMisc2::Cmgt0 => "cmgt",
+            VecMisc2::Cmle0 => "cmle",
+            VecMisc2::Cmlt0 => "cmlt",
+            VecMisc2::Fcmeq0 => "fcmeq",
+            VecMisc2::Fcmge0 => "fcmge",
+            VecMisc2::Fcmgt0 => "fcmgt",
+            VecMisc2::Fcmle0 => "fcmle",
+            VecMisc2::Fcmlt0 => "fcmlt",
+        }
+    }
+}
+
 /// An operator over the lanes of one vector (Cranelift's `VecLanesOp`).
 #[derive(Clone, Copy, Debug, PartialEq, Eq)]
 pub enum VecLanesOp {
@@ -178,6 +291,20 @@ pub enum VecLanesOp {
     Uminv,
 }
 
+impl VecLanesOp {
+    ghost use Rattle.a64_ops.specs.Names.{vec_lanes_op_name};
+
+    /// Its name in assembly text.
+    pub fn op_str(&self) -> &'static str
+        ensures { result.now ≡ vec_lanes_op_name self.now }
+    {
+        match self {
+            VecLanesOp::Addv => "addv",
+            VecLanesOp::Uminv => "uminv",
+        }
+    }
+}
+
 /// An extension of lanes to twice their bits (Cranelift's `VecExtendOp`).
 #[derive(Clone, Copy, Debug, PartialEq, Eq)]
 pub enum VecExtendOp {
@@ -185,6 +312,20 @@ pub enum VecExtendOp {
     Sxtl,
     /// With zeros.
     Uxtl,
+}
+
+impl VecExtendOp {
+    ghost use Rattle.a64_ops.specs.Names.{vec_extend_op_name};
+
+    /// Its name in assembly text.
+    pub fn op_str(&self) -> &'static str
+        ensures { result.now ≡ vec_extend_op_name self.now }
+    {
+        match self {
+            VecExtendOp::Sxtl => "sxtl",
+            VecExtendOp::Uxtl => "uxtl",
+        }
+    }
 }
 
 /// An operator on one vector whose lanes become twice as long; the name ends with the bits of a
@@ -203,6 +344,23 @@ pub enum VecRRLongOp {
     Shll32,
 }
 
+impl VecRRLongOp {
+    ghost use Rattle.a64_ops.specs.Names.{vec_rr_long_op_name};
+
+    /// Its name in assembly text.
+    pub fn op_str(&self) -> &'static str
+        ensures { result.now ≡ vec_rr_long_op_name self.now }
+    {
+        match self {
+            VecRRLongOp::Fcvtl16 => "fcvtl",
+            VecRRLongOp::Fcvtl32 => "fcvtl",
+            VecRRLongOp::Shll8 => "shll",
+            VecRRLongOp::Shll16 => "shll",
+            VecRRLongOp::Shll32 => "shll",
+        }
+    }
+}
+
 /// An operator on one vector whose lanes become half as long (Cranelift's `VecRRNarrowOp`).
 #[derive(Clone, Copy, Debug, PartialEq, Eq)]
 pub enum VecRRNarrowOp {
@@ -218,11 +376,41 @@ pub enum VecRRNarrowOp {
     Fcvtn,
 }
 
+impl VecRRNarrowOp {
+    ghost use Rattle.a64_ops.specs.Names.{vec_rr_narrow_op_name};
+
+    /// Its name in assembly text.
+    pub fn op_str(&self) -> &'static str
+        ensures { result.now ≡ vec_rr_narrow_op_name self.now }
+    {
+        match self {
+            VecRRNarrowOp::Xtn => "xtn",
+            VecRRNarrowOp::Sqxtn => "sqxtn",
+            VecRRNarrowOp::Sqxtun => "sqxtun",
+            VecRRNarrowOp::Uqxtn => "uqxtn",
+            VecRRNarrowOp::Fcvtn => "fcvtn",
+        }
+    }
+}
+
 /// An operator on the two lanes of one vector (Cranelift's `VecPairOp`).
 #[derive(Clone, Copy, Debug, PartialEq, Eq)]
 pub enum VecPairOp {
     /// Their sum.
     Addp,
+}
+
+impl VecPairOp {
+    ghost use Rattle.a64_ops.specs.Names.{vec_pair_op_name};
+
+    /// Its name in assembly text.
+    pub fn op_str(&self) -> &'static str
+        ensures { result.now ≡ vec_pair_op_name self.now }
+    {
+        match self {
+            VecPairOp::Addp => "addp",
+        }
+    }
 }
 
 /// An operator on each two neighbouring lanes of one vector, whose result has twice as many bits;
@@ -237,6 +425,22 @@ pub enum VecRRPairLongOp {
     Uaddlp8,
     /// The sum of unsigned lanes of 16 bits.
     Uaddlp16,
+}
+
+impl VecRRPairLongOp {
+    ghost use Rattle.a64_ops.specs.Names.{vec_rr_pair_long_op_name};
+
+    /// Its name in assembly text.
+    pub fn op_str(&self) -> &'static str
+        ensures { result.now ≡ vec_rr_pair_long_op_name self.now }
+    {
+        match self {
+            VecRRPairLongOp::Saddlp8 => "saddlp",
+            VecRRPairLongOp::Saddlp16 => "saddlp",
+            VecRRPairLongOp::Uaddlp8 => "uaddlp",
+            VecRRPairLongOp::Uaddlp16 => "uaddlp",
+        }
+    }
 }
 
 /// An operator on two vectors whose result has lanes twice as long; the name ends with the bits of
@@ -257,6 +461,24 @@ pub enum VecRRRLongOp {
     Umull32,
 }
 
+impl VecRRRLongOp {
+    ghost use Rattle.a64_ops.specs.Names.{vec_rrr_long_op_name};
+
+    /// Its name in assembly text.
+    pub fn op_str(&self) -> &'static str
+        ensures { result.now ≡ vec_rrr_long_op_name self.now }
+    {
+        match self {
+            VecRRRLongOp::Smull8 => "smull",
+            VecRRRLongOp::Smull16 => "smull",
+            VecRRRLongOp::Smull32 => "smull",
+            VecRRRLongOp::Umull8 => "umull",
+            VecRRRLongOp::Umull16 => "umull",
+            VecRRRLongOp::Umull32 => "umull",
+        }
+    }
+}
+
 /// An operator on two vectors that adds to lanes twice as long of its result's register; the name
 /// ends with the bits of a lane that is read (Cranelift's `VecRRRLongModOp`).
 #[derive(Clone, Copy, Debug, PartialEq, Eq)]
@@ -267,6 +489,21 @@ pub enum VecRRRLongModOp {
     Umlal16,
     /// The product of unsigned lanes of 32 bits.
     Umlal32,
+}
+
+impl VecRRRLongModOp {
+    ghost use Rattle.a64_ops.specs.Names.{vec_rrr_long_mod_op_name};
+
+    /// Its name in assembly text.
+    pub fn op_str(&self) -> &'static str
+        ensures { result.now ≡ vec_rrr_long_mod_op_name self.now }
+    {
+        match self {
+            VecRRRLongModOp::Umlal8 => "umlal",
+            VecRRRLongModOp::Umlal16 => "umlal",
+            VecRRRLongModOp::Umlal32 => "umlal",
+        }
+    }
 }
 
 /// A shift of lanes by a number (Cranelift's `VecShiftImmOp`).
@@ -280,10 +517,38 @@ pub enum VecShiftImmOp {
     Sshr,
 }
 
+impl VecShiftImmOp {
+    ghost use Rattle.a64_ops.specs.Names.{vec_shift_imm_op_name};
+
+    /// Its name in assembly text.
+    pub fn op_str(&self) -> &'static str
+        ensures { result.now ≡ vec_shift_imm_op_name self.now }
+    {
+        match self {
+            VecShiftImmOp::Shl => "shl",
+            VecShiftImmOp::Ushr => "ushr",
+            VecShiftImmOp::Sshr => "sshr",
+        }
+    }
+}
+
 /// A shift of lanes by a number that keeps some bits of its result's register (Cranelift's
 /// `VecShiftImmModOp`).
 #[derive(Clone, Copy, Debug, PartialEq, Eq)]
 pub enum VecShiftImmModOp {
     /// To the left; the bits below stay.
     Sli,
+}
+
+impl VecShiftImmModOp {
+    ghost use Rattle.a64_ops.specs.Names.{vec_shift_imm_mod_op_name};
+
+    /// Its name in assembly text.
+    pub fn op_str(&self) -> &'static str
+        ensures { result.now ≡ vec_shift_imm_mod_op_name self.now }
+    {
+        match self {
+            VecShiftImmModOp::Sli => "sli",
+        }
+    }
 }

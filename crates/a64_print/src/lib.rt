@@ -1,0 +1,22 @@
+//! The texts of instructions, and listings.
+#![tactic(auto)]
+
+mod call;
+mod control;
+mod float;
+mod immediate;
+mod items;
+mod lanes;
+mod line;
+mod memory;
+mod number;
+mod operand;
+mod print;
+mod register;
+mod sequence;
+mod system;
+mod vector;
+mod vector_move;
+
+pub use items::listing;
+pub use print::{PrintInst, push_inst};

@@ -1,0 +1,565 @@
+//! The texts of loads and stores, and of the addresses of their modes.
+
+ghost use Rattle.std.specs.Prelude.{◌≡◌, ◌++◌, [], ◌∷◌, if◌then◌else◌, codes, true, is_some, OnOk};
+ghost use Rattle.std.specs.List.{flat_map};
+ghost use Rattle.std.specs.String.{string_bytes};
+ghost use Rattle.a64_imms.specs.Scales.{type_bytes};
+ghost use Rattle.a64_inst.specs.declared.group.Group.TheVariants.{Memory};
+ghost use Rattle.a64_inst.specs.Accesses.{access_of, access_type};
+ghost use Rattle.a64_inst.specs.Constants.{step_into};
+ghost use Rattle.a64_inst.specs.FinalModes.{parts_of};
+ghost use Rattle.a64_inst.specs.Groups.{group_of};
+ghost use Rattle.a64_inst.specs.MemoryOperands as operands;
+ghost use Rattle.a64_print.specs.declared.operand.Operand.TheVariants as operand;
+ghost use Rattle.a64_print.specs.Lines.{line_text};
+ghost use Rattle.a64_print.specs.MemoryTexts as texts;
+ghost use Rattle.a64_print.specs.MemoryTexts.{memory_text};
+ghost use Rattle.a64_print.specs.Texts.{own_text};
+
+use crate::line::{line2, line3, line4};
+use crate::operand::Operand::{Base, Extend, Number, PairMode, Scalar, Sized, Table, Wide, X};
+use crate::operand::{Operand, push_line, push_operand};
+use a64_base::{
+    IrType, OperandSize, Reg, ScalarSize, Writable, tmp2_reg, writable_spilltmp_reg,
+    writable_tmp2_reg, zero_reg,
+};
+use a64_inst::{AMode, AccessOp, AtomicCAS128Args, ConstStep, FrameLayout, Inst, const_plan};
+use a64_mode::{final_steps, shown_mode};
+use std::alloc::AllocError;
+
+/// One of two names.
+fn one_of<'a>(is_first: bool, first: &'a str, second: &'a str) -> &'a str
+    ensures { result.now ≡ (if is_first then first.now else second.now) }
+{
+    if is_first { first } else { second }
+}
+
+/// The name of a load or a store, where the mode that is written has a signed offset of 9 bits, or
+/// has not.
+fn access_name<'a>(unscaled: bool, op: AccessOp) -> &'a str
+    ensures { result.now ≡ texts.access_name unscaled op }
+{
+    match op {
+        AccessOp::ULoad8 => one_of(unscaled, "ldurb", "ldrb"),
+        AccessOp::SLoad8 => one_of(unscaled, "ldursb", "ldrsb"),
+        AccessOp::ULoad16 => one_of(unscaled, "ldurh", "ldrh"),
+        AccessOp::SLoad16 => one_of(unscaled, "ldursh", "ldrsh"),
+        AccessOp::ULoad32 | AccessOp::ULoad64 => one_of(unscaled, "ldur", "ldr"),
+        AccessOp::SLoad32 => one_of(unscaled, "ldursw", "ldrsw"),
+        AccessOp::FpuLoad16 | AccessOp::FpuLoad32 | AccessOp::FpuLoad64 | AccessOp::FpuLoad128 =>
+            "ldr",
+        AccessOp::Store8 => one_of(unscaled, "sturb", "strb"),
+        AccessOp::Store16 => one_of(unscaled, "sturh", "strh"),
+        AccessOp::Store32 | AccessOp::Store64 => one_of(unscaled, "stur", "str"),
+        AccessOp::FpuStore16
+        | AccessOp::FpuStore32
+        | AccessOp::FpuStore64
+        | AccessOp::FpuStore128 => "str",
+    }
+}
+
+/// The register of a load or a store, at the size that is loaded into it or stored.
+fn access_operand(op: AccessOp, reg: Reg) -> Operand
+    ensures { result ≡ texts.access_operand op reg }
+{
+    match op {
+        AccessOp::ULoad8
+        | AccessOp::ULoad16
+        | AccessOp::ULoad32
+        | AccessOp::Store8
+        | AccessOp::Store16
+        | AccessOp::Store32 => Sized(OperandSize::Size32, reg),
+        AccessOp::SLoad8
+        | AccessOp::SLoad16
+        | AccessOp::SLoad32
+        | AccessOp::ULoad64
+        | AccessOp::Store64 => Sized(OperandSize::Size64, reg),
+        AccessOp::FpuLoad16 | AccessOp::FpuStore16 => Scalar(ScalarSize::Size16, reg),
+        AccessOp::FpuLoad32 | AccessOp::FpuStore32 => Scalar(ScalarSize::Size32, reg),
+        AccessOp::FpuLoad64 | AccessOp::FpuStore64 => Scalar(ScalarSize::Size64, reg),
+        AccessOp::FpuLoad128 | AccessOp::FpuStore128 => Scalar(ScalarSize::Size128, reg),
+    }
+}
+
+/// Whether the mode that is written has a signed offset of 9 bits.
+fn is_unscaled(mem: &AMode) -> bool
+    ensures { result ≡ texts.is_unscaled mem.now }
+{
+    matches!(mem, AMode::Unscaled { .. })
+}
+
+/// The type of the value that is loaded or stored, and its bytes.
+fn access_type(op: AccessOp) -> (IrType, u8)
+    ensures ty { result.0 ≡ access_type op }
+    ensures bytes { result.1 ≡ type_bytes (access_type op) }
+{
+    match op {
+        AccessOp::ULoad8 | AccessOp::SLoad8 | AccessOp::Store8 => (IrType::I8, 1),
+        AccessOp::ULoad16 | AccessOp::SLoad16 | AccessOp::Store16 => (IrType::I16, 2),
+        AccessOp::ULoad32 | AccessOp::SLoad32 | AccessOp::Store32 => (IrType::I32, 4),
+        AccessOp::ULoad64 | AccessOp::Store64 => (IrType::I64, 8),
+        AccessOp::FpuLoad16 | AccessOp::FpuStore16 => (IrType::F16, 2),
+        AccessOp::FpuLoad32 | AccessOp::FpuStore32 => (IrType::F32, 4),
+        AccessOp::FpuLoad64 | AccessOp::FpuStore64 => (IrType::F64, 8),
+        AccessOp::FpuLoad128 | AccessOp::FpuStore128 => (IrType::I8X16, 16),
+    }
+}
+
+/// Appends a step of a constant into a register.
+fn push_step(out: &mut String, rd: Writable<Reg>, step: ConstStep) -> Result<(), AllocError>
+    ensures { OnOk result
+        (string_bytes out.new ≡ string_bytes out.old ++ own_text (step_into rd step)) }
+{
+    match step {
+        ConstStep::MovZ(imm, size) => line2(out, "movz", Sized(size, rd.to_reg()), Wide(imm)),
+        ConstStep::MovN(imm, size) => line2(out, "movn", Sized(size, rd.to_reg()), Wide(imm)),
+        ConstStep::MovK(imm, size) => {
+            line3(
+                out,
+                "movk",
+                Sized(size, rd.to_reg()),
+                Sized(size, rd.to_reg()),
+                Wide(imm),
+            )
+        }
+        ConstStep::Orr(imml) => line3(
+            out,
+            "orr",
+            Sized(imml.size, rd.to_reg()),
+            Sized(imml.size, zero_reg()),
+            Number(imml.value()),
+        ),
+    }
+}
+
+/// Appends the steps of a constant into a register, with nothing between them.
+fn push_steps(out: &mut String, rd: Writable<Reg>, steps: &[ConstStep]) -> Result<(), AllocError>
+    ensures { OnOk result
+        (string_bytes out.new ≡ string_bytes out.old ++ texts.steps_text rd steps.now) }
+{
+    for step in steps {
+        push_step(out, rd, *step)?;
+    }
+    Ok(())
+}
+
+/// Appends a step that a mode needs before it, and a semicolon.
+fn push_step_before(out: &mut String, step: ConstStep) -> Result<(), AllocError>
+    ensures { OnOk result
+        (string_bytes out.new ≡ string_bytes out.old ++ texts.step_before step) }
+{
+    push_step(out, writable_spilltmp_reg(), step)?;
+    out.push_str(" ; ")
+}
+
+/// Appends the steps that a mode needs before it, with a semicolon behind each.
+fn push_steps_before(out: &mut String, steps: &[ConstStep]) -> Result<(), AllocError>
+    ensures { OnOk result (string_bytes out.new
+        ≡ string_bytes out.old ++ flat_map texts.step_before steps.now) }
+{
+    for step in steps {
+        push_step_before(out, *step)?;
+    }
+    Ok(())
+}
+
+/// Appends a load or a store of one register, without the steps before it.
+fn push_held(
+    out: &mut String,
+    frame: &FrameLayout,
+    op: AccessOp,
+    reg: Reg,
+    mem: &AMode,
+) -> Result<(), AllocError>
+    ensures { OnOk result (string_bytes out.new
+        ≡ string_bytes out.old ++ texts.held_text frame.now op reg mem.now) }
+{
+    let (ty, bytes) = access_type(op);
+    out.push_str(access_name(is_unscaled(mem), op))?;
+    out.push_str(" ")?;
+    push_operand(out, access_operand(op, reg))?;
+    out.push_str(", ")?;
+    shown_mode(frame, ty, mem).push_text(out, bytes)
+}
+
+/// Appends a load or a store of one register.
+#[tactic(auto, unfolding(crate::specs::MemoryTexts::access_text))]
+fn push_access(
+    out: &mut String,
+    frame: &FrameLayout,
+    op: AccessOp,
+    reg: Reg,
+    mem: &AMode,
+) -> Result<(), AllocError>
+    ensures { OnOk result (string_bytes out.new
+        ≡ string_bytes out.old ++ texts.access_text frame.now op reg mem.now) }
+{
+    let (ty, _) = access_type(op);
+    push_steps_before(out, final_steps(frame, ty, mem).as_slice())?;
+    push_held(out, frame, op, reg, mem)
+}
+
+/// What adds an offset, or takes its amount away where it is negative.
+fn sum_name<'a>(offset: i32) -> &'a str
+    ensures { result.now ≡ texts.sum_name offset }
+{
+    if offset < 0 { "sub" } else { "add" }
+}
+
+/// Whether an addition holds a number.
+fn is_addend(n: u32) -> bool
+    ensures { result ≡ operands.is_addend n }
+{
+    n < 4096 || n < 1 << 24 && n % 4096 == 0
+}
+
+/// Appends a base and an offset, of which x17 gets the amount first.
+fn push_far_sum(out: &mut String, rd: Reg, rn: Reg, offset: i32) -> Result<(), AllocError>
+    ensures { OnOk result
+        (string_bytes out.new ≡ string_bytes out.old ++ texts.far_sum_text rd rn offset) }
+{
+    let plan = const_plan(u64::from(offset.unsigned_abs()));
+    push_steps(out, writable_tmp2_reg(), plan.as_slice())?;
+    line3(out, sum_name(offset), X(rd), X(rn), X(tmp2_reg()))
+}
+
+/// Appends a base and an offset.
+#[tactic(auto, unfolding(crate::specs::MemoryTexts::sum_text))]
+fn push_sum(out: &mut String, rd: Reg, rn: Reg, offset: i32) -> Result<(), AllocError>
+    ensures { OnOk result
+        (string_bytes out.new ≡ string_bytes out.old ++ texts.sum_text rd rn offset) }
+{
+    let amount = offset.unsigned_abs();
+    if offset == 0 {
+        line2(out, "mov", X(rd), X(rn))
+    } else if is_addend(amount) {
+        line3(
+            out,
+            sum_name(offset),
+            X(rd),
+            X(rn),
+            Number(u64::from(amount)),
+        )
+    } else {
+        push_far_sum(out, rd, rn, offset)
+    }
+}
+
+/// Appends the address of a mode that stands in an instruction.
+fn push_final_address(out: &mut String, rd: Reg, mode: AMode) -> Result<(), AllocError>
+    ensures { OnOk result (string_bytes out.new
+        ≡ string_bytes out.old ++ texts.final_address_text rd (parts_of mode)) }
+{
+    match mode {
+        AMode::Unscaled { rn, simm9 } => push_sum(out, rd, rn, i32::from(simm9.value)),
+        AMode::UnsignedOffset { rn, uimm12 } => push_sum(out, rd, rn, uimm12.value() as i32),
+        AMode::RegExtended { rn, rm, extendop } => {
+            line4(out, "add", X(rd), X(rn), X(rm), Extend(extendop))
+        }
+        _ => Ok(()),
+    }
+}
+
+/// Appends the address of a mode, with the steps before it.
+#[tactic(auto, unfolding(crate::specs::MemoryTexts::address_text))]
+fn push_address(
+    out: &mut String,
+    frame: &FrameLayout,
+    rd: Reg,
+    mem: &AMode,
+) -> Result<(), AllocError>
+    ensures { OnOk result (string_bytes out.new
+        ≡ string_bytes out.old ++ texts.address_text frame.now rd mem.now) }
+{
+    push_steps(
+        out,
+        writable_spilltmp_reg(),
+        final_steps(frame, IrType::I8, mem).as_slice(),
+    )?;
+    push_final_address(out, rd, shown_mode(frame, IrType::I8, mem))
+}
+
+/// What stands behind the name of an access of bytes and of halfwords.
+fn width_suffix<'a>(ty: IrType) -> &'a str
+    ensures { result.now ≡ texts.width_suffix ty }
+{
+    match ty {
+        IrType::I8 => "b",
+        IrType::I16 => "h",
+        _ => "",
+    }
+}
+
+/// The size of the registers of an atomic access.
+fn width_size(ty: IrType) -> OperandSize
+    ensures { result ≡ texts.width_size ty }
+{
+    match ty {
+        IrType::I64 => OperandSize::Size64,
+        _ => OperandSize::Size32,
+    }
+}
+
+/// Appends a name with the suffix of a width, and two operands.
+fn push_wide2(
+    out: &mut String,
+    name: &str,
+    ty: IrType,
+    first: Operand,
+    second: Operand,
+) -> Result<(), AllocError>
+    ensures { OnOk result (string_bytes out.new ≡ string_bytes out.old
+        ++ (name.now ++ line_text (texts.width_suffix ty) (first ∷ second ∷ []))) }
+{
+    out.push_str(name)?;
+    line2(out, width_suffix(ty), first, second)
+}
+
+/// Appends a name with the suffix of a width, and three operands.
+fn push_wide3(
+    out: &mut String,
+    name: &str,
+    ty: IrType,
+    first: Operand,
+    second: Operand,
+    third: Operand,
+) -> Result<(), AllocError>
+    ensures { OnOk result (string_bytes out.new ≡ string_bytes out.old
+        ++ (name.now ++ line_text (texts.width_suffix ty) (first ∷ second ∷ third ∷ []))) }
+{
+    out.push_str(name)?;
+    line3(out, width_suffix(ty), first, second, third)
+}
+
+/// Appends a comparison and exchange of one register.
+fn push_cas(
+    out: &mut String,
+    ty: IrType,
+    rd: Reg,
+    rs: Reg,
+    rt: Reg,
+    rn: Reg,
+) -> Result<(), AllocError>
+    ensures { OnOk result (string_bytes out.new ≡ string_bytes out.old
+        ++ (codes "casal" ++ line_text (texts.width_suffix ty)
+        (operand.Sized (texts.width_size ty) rd ∷ operand.Sized (texts.width_size ty) rs
+        ∷ operand.Sized (texts.width_size ty) rt ∷ operand.Base rn ∷ []))) }
+{
+    let size = width_size(ty);
+    out.push_str("casal")?;
+    line4(
+        out,
+        width_suffix(ty),
+        Sized(size, rd),
+        Sized(size, rs),
+        Sized(size, rt),
+        Base(rn),
+    )
+}
+
+/// Appends a comparison and exchange of two registers.
+fn push_cas128(out: &mut String, args: AtomicCAS128Args) -> Result<(), AllocError>
+    ensures { OnOk result (string_bytes out.new ≡ string_bytes out.old
+        ++ line_text (codes "caspal") (operand.X args.rd_lo ∷ operand.X args.rd_hi
+        ∷ operand.X args.rs_lo ∷ operand.X args.rs_hi ∷ operand.X args.rt_lo
+        ∷ operand.X args.rt_hi ∷ operand.Base args.rn ∷ [])) }
+{
+    push_line(
+        out,
+        "caspal",
+        &[
+            X(args.rd_lo.to_reg()),
+            X(args.rd_hi.to_reg()),
+            X(args.rs_lo),
+            X(args.rs_hi),
+            X(args.rt_lo),
+            X(args.rt_hi),
+            Base(args.rn),
+        ],
+    )
+}
+
+/// Appends the text of a load or a store of one register.
+fn push_access_inst(out: &mut String, frame: &FrameLayout, inst: &Inst) -> Result<(), AllocError>
+    requires { is_some (access_of inst.now) ≡ true }
+    ensures { OnOk result
+        (string_bytes out.new ≡ string_bytes out.old ++ memory_text frame.now inst.now) }
+{
+    match inst {
+        Inst::ULoad8 { rd, mem, .. } => push_access(out, frame, AccessOp::ULoad8, rd.to_reg(), mem),
+        Inst::SLoad8 { rd, mem, .. } => push_access(out, frame, AccessOp::SLoad8, rd.to_reg(), mem),
+        Inst::ULoad16 { rd, mem, .. } => push_access(
+            out,
+            frame,
+            AccessOp::ULoad16,
+            rd.to_reg(),
+            mem,
+        ),
+        Inst::SLoad16 { rd, mem, .. } => push_access(
+            out,
+            frame,
+            AccessOp::SLoad16,
+            rd.to_reg(),
+            mem,
+        ),
+        Inst::ULoad32 { rd, mem, .. } => push_access(
+            out,
+            frame,
+            AccessOp::ULoad32,
+            rd.to_reg(),
+            mem,
+        ),
+        Inst::SLoad32 { rd, mem, .. } => push_access(
+            out,
+            frame,
+            AccessOp::SLoad32,
+            rd.to_reg(),
+            mem,
+        ),
+        Inst::ULoad64 { rd, mem, .. } => push_access(
+            out,
+            frame,
+            AccessOp::ULoad64,
+            rd.to_reg(),
+            mem,
+        ),
+        Inst::FpuLoad16 { rd, mem, .. } => push_access(
+            out,
+            frame,
+            AccessOp::FpuLoad16,
+            rd.to_reg(),
+            mem,
+        ),
+        Inst::FpuLoad32 { rd, mem, .. } => push_access(
+            out,
+            frame,
+            AccessOp::FpuLoad32,
+            rd.to_reg(),
+            mem,
+        ),
+        Inst::FpuLoad64 { rd, mem, .. } => push_access(
+            out,
+            frame,
+            AccessOp::FpuLoad64,
+            rd.to_reg(),
+            mem,
+        ),
+        Inst::FpuLoad128 { rd, mem, .. } => push_access(
+            out,
+            frame,
+            AccessOp::FpuLoad128,
+            rd.to_reg(),
+            mem,
+        ),
+        Inst::Store8 { rd, mem, .. } => push_access(out, frame, AccessOp::Store8, *rd, mem),
+        Inst::Store16 { rd, mem, .. } => push_access(out, frame, AccessOp::Store16, *rd, mem),
+        Inst::Store32 { rd, mem, .. } => push_access(out, frame, AccessOp::Store32, *rd, mem),
+        Inst::Store64 { rd, mem, .. } => push_access(out, frame, AccessOp::Store64, *rd, mem),
+        Inst::FpuStore16 { rd, mem, .. } => push_access(out, frame, AccessOp::FpuStore16, *rd, mem),
+        Inst::FpuStore32 { rd, mem, .. } => push_access(out, frame, AccessOp::FpuStore32, *rd, mem),
+        Inst::FpuStore64 { rd, mem, .. } => push_access(out, frame, AccessOp::FpuStore64, *rd, mem),
+        Inst::FpuStore128 { rd, mem, .. } => push_access(
+            out,
+            frame,
+            AccessOp::FpuStore128,
+            *rd,
+            mem,
+        ),
+        _ => unreachable!(),
+    }
+}
+
+/// Appends the text of a load, a store, or the address of a mode.
+pub fn push_memory(out: &mut String, frame: &FrameLayout, inst: &Inst) -> Result<(), AllocError>
+    requires { group_of inst.now ≡ Memory }
+    ensures { OnOk result
+        (string_bytes out.new ≡ string_bytes out.old ++ memory_text frame.now inst.now) }
+{
+    match inst {
+        Inst::LoadP64 { rt, rt2, mem, .. } => {
+            line3(out, "ldp", X(rt.to_reg()), X(rt2.to_reg()), PairMode(*mem))
+        }
+        Inst::StoreP64 { rt, rt2, mem, .. } => line3(out, "stp", X(*rt), X(*rt2), PairMode(*mem)),
+        Inst::FpuLoadP64 { rt, rt2, mem, .. } => line3(
+            out,
+            "ldp",
+            Scalar(ScalarSize::Size64, rt.to_reg()),
+            Scalar(ScalarSize::Size64, rt2.to_reg()),
+            PairMode(*mem),
+        ),
+        Inst::FpuStoreP64 { rt, rt2, mem, .. } => line3(
+            out,
+            "stp",
+            Scalar(ScalarSize::Size64, *rt),
+            Scalar(ScalarSize::Size64, *rt2),
+            PairMode(*mem),
+        ),
+        Inst::FpuLoadP128 { rt, rt2, mem, .. } => line3(
+            out,
+            "ldp",
+            Scalar(ScalarSize::Size128, rt.to_reg()),
+            Scalar(ScalarSize::Size128, rt2.to_reg()),
+            PairMode(*mem),
+        ),
+        Inst::FpuStoreP128 { rt, rt2, mem, .. } => line3(
+            out,
+            "stp",
+            Scalar(ScalarSize::Size128, *rt),
+            Scalar(ScalarSize::Size128, *rt2),
+            PairMode(*mem),
+        ),
+        Inst::LoadAddr { rd, mem } => push_address(out, frame, rd.to_reg(), mem),
+        Inst::AtomicRMW {
+            ty,
+            op,
+            rs,
+            rt,
+            rn,
+            ..
+        } => push_wide3(
+            out,
+            op.op_str(),
+            *ty,
+            Sized(width_size(*ty), *rs),
+            Sized(width_size(*ty), rt.to_reg()),
+            Base(*rn),
+        ),
+        Inst::AtomicCAS {
+            rd,
+            rs,
+            rt,
+            rn,
+            ty,
+            ..
+        } => push_cas(out, *ty, rd.to_reg(), *rs, *rt, *rn),
+        Inst::AtomicCAS128 { args } => push_cas128(out, *args),
+        Inst::LoadAcquire {
+            access_ty,
+            rt,
+            rn,
+            ..
+        } => push_wide2(
+            out,
+            "ldar",
+            *access_ty,
+            Sized(width_size(*access_ty), rt.to_reg()),
+            Base(*rn),
+        ),
+        Inst::StoreRelease {
+            access_ty,
+            rt,
+            rn,
+            ..
+        } => push_wide2(
+            out,
+            "stlr",
+            *access_ty,
+            Sized(width_size(*access_ty), *rt),
+            Base(*rn),
+        ),
+        Inst::VecLoadReplicate { rd, rn, size, .. } => {
+            line2(out, "ld1r", Table(*size, rd.to_reg()), Base(*rn))
+        }
+        _ => push_access_inst(out, frame, inst),
+    }
+}

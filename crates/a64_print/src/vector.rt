@@ -1,0 +1,304 @@
+//! The texts of operations on vectors.
+
+ghost use Rattle.std.specs.Prelude.{◌≡◌, ◌++◌, OnOk};
+ghost use Rattle.std.specs.String.{string_bytes};
+ghost use Rattle.a64_inst.specs.Groups.{group_of};
+ghost use Rattle.a64_inst.specs.declared.group.Group.TheVariants as groups;
+ghost use Rattle.a64_inst.specs.declared.group.PlainGroup.TheVariants as plain;
+ghost use Rattle.a64_print.specs.VectorTexts as texts;
+ghost use Rattle.a64_print.specs.Texts.{own_text};
+
+use crate::lanes::{
+    added_product_lane, alu_lanes, alu_mod_lanes, long_lane, misc_lanes, narrower, pair_long_lane,
+    product_lane, vector_of, wider,
+};
+use crate::line::{line2, line3, line4};
+use crate::operand::Operand::{Element, FloatZero, Number, Scalar, Vector};
+use crate::operand::{Operand, push_line};
+use a64_base::{Reg, ScalarSize, VectorSize};
+use a64_inst::Inst;
+use a64_ops::{VecMisc2, VecRRLongOp};
+use std::alloc::AllocError;
+
+/// What stands behind the name of an operator on the upper half of the lanes.
+fn half_suffix(high_half: bool) -> &'static str
+    ensures { result.now ≡ texts.half_suffix high_half }
+{
+    if high_half { "2" } else { "" }
+}
+
+/// Appends a line of an operator on a half of the lanes.
+#[tactic(auto, unfolding(crate::specs::VectorTexts::half_text))]
+fn push_half(
+    out: &mut String,
+    name: &str,
+    high_half: bool,
+    operands: &[Operand],
+) -> Result<(), AllocError>
+    ensures { OnOk result (string_bytes out.new
+        ≡ string_bytes out.old ++ texts.half_text name.now high_half operands.now) }
+{
+    out.push_str(name)?;
+    push_line(out, half_suffix(high_half), operands)
+}
+
+/// Appends the text of an operator that makes lanes wider.
+#[tactic(auto, unfolding(crate::specs::VectorTexts::vec_rr_long_text))]
+fn push_vec_rr_long(
+    out: &mut String,
+    op: VecRRLongOp,
+    high_half: bool,
+    rd: Reg,
+    rn: Reg,
+) -> Result<(), AllocError>
+    ensures { OnOk result (string_bytes out.new
+        ≡ string_bytes out.old ++ texts.vec_rr_long_text op high_half rd rn) }
+{
+    let lane = long_lane(op);
+    let wide = Vector(vector_of(wider(lane), true), rd);
+    let narrow = Vector(vector_of(lane, high_half), rn);
+    match op {
+        VecRRLongOp::Fcvtl16 | VecRRLongOp::Fcvtl32 => {
+            push_half(out, op.op_str(), high_half, &[wide, narrow])
+        }
+        VecRRLongOp::Shll8 => push_half(out, op.op_str(), high_half, &[wide, narrow, Number(8)]),
+        VecRRLongOp::Shll16 => push_half(out, op.op_str(), high_half, &[wide, narrow, Number(16)]),
+        VecRRLongOp::Shll32 => push_half(out, op.op_str(), high_half, &[wide, narrow, Number(32)]),
+    }
+}
+
+/// Appends the text of an operator on one vector.
+#[tactic(auto, unfolding(crate::specs::VectorTexts::vec_misc_text))]
+fn push_vec_misc(
+    out: &mut String,
+    op: VecMisc2,
+    size: VectorSize,
+    rd: Reg,
+    rn: Reg,
+) -> Result<(), AllocError>
+    ensures { OnOk result (string_bytes out.new
+        ≡ string_bytes out.old ++ texts.vec_misc_text op size rd rn) }
+{
+    let lanes = misc_lanes(op, size);
+    match op {
+        VecMisc2::Cmeq0 | VecMisc2::Cmge0 | VecMisc2::Cmgt0 | VecMisc2::Cmle0 | VecMisc2::Cmlt0 => {
+            line3(
+                out,
+                op.op_str(),
+                Vector(lanes, rd),
+                Vector(lanes, rn),
+                Number(0),
+            )
+        }
+        VecMisc2::Fcmeq0
+        | VecMisc2::Fcmge0
+        | VecMisc2::Fcmgt0
+        | VecMisc2::Fcmle0
+        | VecMisc2::Fcmlt0 => {
+            line3(
+                out,
+                op.op_str(),
+                Vector(lanes, rd),
+                Vector(lanes, rn),
+                FloatZero,
+            )
+        }
+        _ => line2(out, op.op_str(), Vector(lanes, rd), Vector(lanes, rn)),
+    }
+}
+
+/// Appends the text of an operation on vectors.
+///
+/// # Errors
+///
+/// Want of memory.
+pub fn push_vector(out: &mut String, inst: &Inst) -> Result<(), AllocError>
+    requires { group_of inst.now ≡ groups.Plain plain.Vector }
+    ensures { OnOk result (string_bytes out.new ≡ string_bytes out.old ++ own_text inst.now) }
+{
+    match inst {
+        Inst::VecExtend {
+            t,
+            rd,
+            rn,
+            high_half,
+            lane_size,
+        } => push_half(
+            out,
+            t.op_str(),
+            *high_half,
+            &[
+                Vector(vector_of(*lane_size, true), rd.to_reg()),
+                Vector(vector_of(narrower(*lane_size), *high_half), *rn),
+            ],
+        ),
+        Inst::VecRRLong {
+            op,
+            rd,
+            rn,
+            high_half,
+        } => push_vec_rr_long(out, *op, *high_half, rd.to_reg(), *rn),
+        Inst::VecRRNarrowLow {
+            op,
+            rd,
+            rn,
+            lane_size,
+        } => line2(
+            out,
+            op.op_str(),
+            Vector(vector_of(*lane_size, false), rd.to_reg()),
+            Vector(vector_of(wider(*lane_size), true), *rn),
+        ),
+        Inst::VecRRNarrowHigh {
+            op,
+            rd,
+            ri,
+            rn,
+            lane_size,
+        } => push_half(
+            out,
+            op.op_str(),
+            true,
+            &[
+                Vector(vector_of(*lane_size, true), rd.to_reg()),
+                Vector(vector_of(*lane_size, true), *ri),
+                Vector(vector_of(wider(*lane_size), true), *rn),
+            ],
+        ),
+        Inst::VecRRPair { op, rd, rn } => line2(
+            out,
+            op.op_str(),
+            Scalar(ScalarSize::Size64, rd.to_reg()),
+            Vector(VectorSize::Size64x2, *rn),
+        ),
+        Inst::VecRRRLong {
+            alu_op,
+            rd,
+            rn,
+            rm,
+            high_half,
+        } => push_half(
+            out,
+            alu_op.op_str(),
+            *high_half,
+            &[
+                Vector(vector_of(wider(product_lane(*alu_op)), true), rd.to_reg()),
+                Vector(vector_of(product_lane(*alu_op), *high_half), *rn),
+                Vector(vector_of(product_lane(*alu_op), *high_half), *rm),
+            ],
+        ),
+        Inst::VecRRRLongMod {
+            alu_op,
+            rd,
+            ri,
+            rn,
+            rm,
+            high_half,
+        } => push_half(
+            out,
+            alu_op.op_str(),
+            *high_half,
+            &[
+                Vector(
+                    vector_of(wider(added_product_lane(*alu_op)), true),
+                    rd.to_reg(),
+                ),
+                Vector(vector_of(wider(added_product_lane(*alu_op)), true), *ri),
+                Vector(vector_of(added_product_lane(*alu_op), *high_half), *rn),
+                Vector(vector_of(added_product_lane(*alu_op), *high_half), *rm),
+            ],
+        ),
+        Inst::VecRRPairLong { op, rd, rn } => line2(
+            out,
+            op.op_str(),
+            Vector(vector_of(wider(pair_long_lane(*op)), true), rd.to_reg()),
+            Vector(vector_of(pair_long_lane(*op), true), *rn),
+        ),
+        Inst::VecRRR {
+            alu_op,
+            rd,
+            rn,
+            rm,
+            size,
+        } => {
+            let lanes = alu_lanes(*alu_op, *size);
+            line3(
+                out,
+                alu_op.op_str(),
+                Vector(lanes, rd.to_reg()),
+                Vector(lanes, *rn),
+                Vector(lanes, *rm),
+            )
+        }
+        Inst::VecRRRMod {
+            alu_op,
+            rd,
+            ri,
+            rn,
+            rm,
+            size,
+        } => {
+            let lanes = alu_mod_lanes(*alu_op, *size);
+            line4(
+                out,
+                alu_op.op_str(),
+                Vector(lanes, rd.to_reg()),
+                Vector(lanes, *ri),
+                Vector(lanes, *rn),
+                Vector(lanes, *rm),
+            )
+        }
+        Inst::VecFmlaElem {
+            alu_op,
+            rd,
+            ri,
+            rn,
+            rm,
+            size,
+            idx,
+        } => line4(
+            out,
+            alu_op.op_str(),
+            Vector(*size, rd.to_reg()),
+            Vector(*size, *ri),
+            Vector(*size, *rn),
+            Element(*idx, size.lane_size(), *rm),
+        ),
+        Inst::VecMisc { op, rd, rn, size } => push_vec_misc(out, *op, *size, rd.to_reg(), *rn),
+        Inst::VecLanes { op, rd, rn, size } => line2(
+            out,
+            op.op_str(),
+            Scalar(size.lane_size(), rd.to_reg()),
+            Vector(*size, *rn),
+        ),
+        Inst::VecShiftImm {
+            op,
+            rd,
+            rn,
+            size,
+            imm,
+        } => line3(
+            out,
+            op.op_str(),
+            Vector(*size, rd.to_reg()),
+            Vector(*size, *rn),
+            Number(u64::from(*imm)),
+        ),
+        Inst::VecShiftImmMod {
+            op,
+            rd,
+            ri,
+            rn,
+            size,
+            imm,
+        } => line4(
+            out,
+            op.op_str(),
+            Vector(*size, rd.to_reg()),
+            Vector(*size, *ri),
+            Vector(*size, *rn),
+            Number(u64::from(*imm)),
+        ),
+        _ => unreachable!(),
+    }
+}
