@@ -97,7 +97,7 @@ module _ (frame : FrameLayout) where
 -- ---- how many words there are
 
 -- an offset takes four steps at most
-final_few : (frame : FrameLayout) (ty : IrType) (mem : AMode) → length (final_steps frame ty mem) ≤ 4
+pub final_few : (frame : FrameLayout) (ty : IrType) (mem : AMode) → length (final_steps frame ty mem) ≤ 4
 final_few frame ty mem = at (base_offset_of frame mem)
   where
     steps_few : (offset : ℤ) → length (steps_to ty offset) ≤ 4

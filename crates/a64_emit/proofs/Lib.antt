@@ -48,3 +48,5 @@ pub mod InstForms
 pub mod Shapes
 pub mod WrongAnswers
 pub mod Lights
+pub mod ShownFaults
+pub mod WorstCases

@@ -20,3 +20,5 @@ pub mod Contents
 pub mod Emission
 pub mod Records
 pub mod Faults
+pub mod ShownFaults
+pub mod WorstCases

@@ -1,6 +1,6 @@
 //! Emission of single instructions.
 
-ghost use Rattle.std.specs.Prelude.{◌≡◌, ◌≢◌, ◌⊎◌, ◌+◌, ◌*◌, ◌/◌, ◌%◌, ◌^◌, ◌<◌, [], ◌∷◌, ◌++◌, length, map, OnOk, OnErr, IfSome, IsSome, true, None, Some};
+ghost use Rattle.std.specs.Prelude.{◌≡◌, ◌≢◌, ◌⊎◌, ◌+◌, ◌*◌, ◌/◌, ◌%◌, ◌^◌, ◌<◌, ◌≤◌, Bool, List, [], ◌∷◌, ◌++◌, length, map, OnOk, OnErr, IfSome, IsSome, true, None, Some};
 ghost use Rattle.a64_inst.specs.declared.group.Group.TheVariants.{Call, Control, Memory};
 ghost use Rattle.a64_inst.specs.declared.emission.EmitFlags.{EmitFlags};
 ghost use Rattle.a64_inst.specs.declared.virtuals.VirtualRegisters.TheVariants.{Refused};
@@ -12,12 +12,13 @@ ghost use Rattle.a64_inst.specs.State.{State};
 ghost use Rattle.a64_buffer.specs.Buffer.{Buffer, end_of};
 ghost use Rattle.a64_buffer.specs.Classes.{Fits};
 ghost use Rattle.a64_label_use.specs.declared.label_use.LabelUse.{LabelUse};
-ghost use Rattle.a64_emit.specs.Bounds.{asked_of};
+ghost use Rattle.a64_emit.specs.Bounds.{asked_of, charge_of, size_of};
 ghost use Rattle.a64_emit.specs.Cells as cells;
-ghost use Rattle.a64_emit.specs.Cells.{Data, data_cell, plain, reloc_cell, inst_cells, kept_cells};
+ghost use Rattle.a64_emit.specs.Cells.{Cell, Data, data_cell, plain, reloc_cell, inst_cells, kept_cells};
 ghost use Rattle.a64_emit.specs.ControlForms.{authenticated_ret_forms};
 ghost use Rattle.a64_emit.specs.Words.{MayBePut, IsThere, as_put, put_branches, put_cell, put_cells, put_cond_br, put_for, put_jump, put_label_address, put_test_bit, put_trap_if};
 ghost use Rattle.a64_label_use.specs.LabelUses.{label_kinds};
+ghost use Rattle.a64_emit.specs.WorstCases as worst_cases;
 ghost use Rattle.a64_emit.specs.Emission.{trapped, CanPut, PutsCells, PutsInPart, IslandsIfNeeded, Puts, Emits, EmitsInPart, IsAppendedInPart, HasIslandRoom, IsReady};
 
 use crate::call::emit_calling;
@@ -51,6 +52,12 @@ pub trait MachInstEmit {
     /// What emitting only a first part of it does.
     ghost emits_in_part: { Self → EmitFlags → State → Buffer LabelUse → Buffer LabelUse → Type 0 };
 
+    /// The words that it is made of, under the settings and the state before.
+    ghost item_cells: { Self → EmitFlags → State → List Cell };
+
+    /// Whether the worst cases bound it.
+    ghost is_bounded: { Self → Bool };
+
     /// Adds the words at the end of the buffer, with their uses; at a place for an island, the island, where
     /// the space behind it needs one.
     ///
@@ -67,6 +74,23 @@ pub trait MachInstEmit {
         ensures ok { OnOk result (emits self.now info.now state.old sink.old sink.new) }
         ensures state { OnOk result (state.new ≡ record state.old { map = None }) }
         ensures err { OnErr result (emits_in_part self.now info.now state.old sink.old sink.new) };
+
+    /// The most bytes that the words of one instruction take. It bounds no call, no return that calls,
+    /// no jump through a table and no place for an island.
+    fn worst_case_size() -> u32
+        ensures number { result ≡ 44 }
+        ensures size { (item : Self) (flags : EmitFlags) (state : State) → is_bounded item ≡ true
+            → size_of (item_cells item flags state) ≤ result }
+        ensures growth { (item : Self) (flags : EmitFlags) (state : State)
+            (before after : Buffer LabelUse) → is_bounded item ≡ true
+            → emits item flags state before after → end_of after ≤ end_of before + result };
+
+    /// The most bytes that islands may add because of one instruction: a jump around an island, and what
+    /// its uses may want there. It bounds the instructions that [`MachInstEmit::worst_case_size`] does.
+    fn worst_case_island_growth() -> u32
+        ensures number { result ≡ 128 }
+        ensures charge { (item : Self) (flags : EmitFlags) (state : State) → is_bounded item ≡ true
+            → charge_of (item_cells item flags state) ≤ result };
 }
 
 /// One word without a use.
@@ -519,6 +543,10 @@ impl MachInstEmit for Inst {
 
     ghost emits_in_part = { λ inst flags state before after. EmitsInPart flags state inst before after };
 
+    ghost item_cells = { λ inst flags state. kept_cells state.frame flags inst state.map };
+
+    ghost is_bounded = { worst_cases.is_bounded };
+
     fn emit(
         &self,
         sink: &mut MachBuffer<'_, LabelUse>,
@@ -527,5 +555,15 @@ impl MachInstEmit for Inst {
     ) -> Result<(), AllocError> {
         let kept = state.take_stack_map();
         emit_by_group(self, sink, info, state.frame_layout(), kept)
+    }
+
+    #[tactic(auto, using(crate::proofs::WorstCases::worst_size, crate::proofs::WorstCases::worst_bytes))]
+    fn worst_case_size() -> u32 {
+        44
+    }
+
+    #[tactic(auto, using(crate::proofs::WorstCases::worst_charge))]
+    fn worst_case_island_growth() -> u32 {
+        128
     }
 }

@@ -11,6 +11,7 @@ mod falling;
 mod halfword;
 mod one_word;
 mod sequence;
+mod shown;
 mod site;
 mod state;
 mod uses;
@@ -26,6 +27,7 @@ pub use extent::{Burden, Extent, Light, asked_space, burden_of, inst_light, less
 pub use falling::falls;
 pub use halfword::{has_halfword, restores_halfwords};
 pub use one_word::is_one_word;
+pub use shown::{ShownFault, first_shown_fault, shown_fault, shown_fault_with};
 pub use site::{Site, Table, Uses, near_label};
 pub use state::MachInstEmitState;
 pub use uses::uses_in;
