@@ -1,6 +1,6 @@
 //! Reads fields that stand in a row.
 
-ghost use Rattle.std.specs.Prelude.{◌≡◌, ◌≤◌, ◌<◌, ℕ, true, false, List, length, option_map, IfSome, MatchOption};
+ghost use Rattle.std.specs.Prelude.{◌≡◌, ◌≤◌, ◌<◌, ℕ, true, false, List, length, take, option_map, IfSome, MatchOption};
 ghost use Rattle.a64_read.specs.declared.value.Value.{Value};
 ghost use Rattle.a64_read.specs.Reads.{Reads};
 ghost use Rattle.a64_read.specs.Values.{kind_of, IsValue};
@@ -38,6 +38,18 @@ pub trait FieldRow {
     ghost each_field: { (v : Value) → fits v → IsValue v };
 }
 
+/// Adds a value at the place, where there is none: a line puts its fields where those of the line before stood.
+#[inline(always)]
+fn add_slot<const N: usize>(values: &mut ArrayVec<Value<'_>, N>, place: usize)
+    requires { (place < N) × (place ≤ length values.old.items) }
+    ensures front { take place values.new.items ≡ take place values.old.items }
+    ensures some { place < length values.new.items }
+{
+    if place == values.len() {
+        values.push(Value::default());
+    }
+}
+
 /// Reads the fields of these kinds that the text is into `values`, and answers the lines behind them.
 /// None: it is no such fields.
 #[inline(always)]
@@ -51,19 +63,18 @@ pub fn read_fields<'t, L: FieldRow, const N: usize>(
     ensures read { Reads (AreFields L.fits kinds.now) texts (of_text L.tokens text.entry) (option_map (λ _. values.new.items) result) }
     ensures lines { IfSome result (λ left. of_text lines_of left ≡ behind_text L.behind text.entry lines.entry) }
 {
-    values.clear();
     let mut more = text;
     let mut left = lines;
-    for kind in kinds {
+    for (place, kind) in kinds.iter().enumerate() {
         let cut = L::cut(more?);
-        let place = values.len();
-        values.push(Value::default());
+        add_slot(values, place);
         if !L::put(*kind, cut.token, &mut values[place]) {
             return None;
         }
         more = cut.more;
         left = cut.lines;
     }
+    values.truncate(kinds.len());
     match more {
         None => Some(left),
         Some(_) => None,

@@ -138,11 +138,18 @@ fn is_same(a: &[u8], b: &[u8]) -> bool
     if len != b.len() {
         return false;
     }
-    match len {
-        2..=3 => has_same_two(a, b, 0) && has_same_two(a, b, len - 2),
-        4..=8 => has_same_four(a, b, 0) && has_same_four(a, b, len - 4),
-        9..=16 => has_same_eight(a, b, 0) && has_same_eight(a, b, len - 8),
-        _ => is_same_long(a, b),
+    if len >= 4 {
+        if len <= 8 {
+            has_same_four(a, b, 0) && has_same_four(a, b, len - 4)
+        } else if len <= 16 {
+            has_same_eight(a, b, 0) && has_same_eight(a, b, len - 8)
+        } else {
+            is_same_long(a, b)
+        }
+    } else if len >= 2 {
+        has_same_two(a, b, 0) && has_same_two(a, b, len - 2)
+    } else {
+        is_same_long(a, b)
     }
 }
 

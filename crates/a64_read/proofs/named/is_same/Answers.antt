@@ -7,7 +7,7 @@ returns-then-has_same_four c =
     let a = c.args.a.now in
     let b = c.args.b.now in
     let back = length a - 4 in (
-      λ yes. from_both 4 a b back (omega (arith, c.if-len-b.false)) (omega (arith, c.in-4-to-8)) (omega (arith, c.in-4-to-8)) (c.has_same_four.ensures.0 c.if-has_same_four.true) (c.has_same_four-then-has_same_four.ensures.0 yes),
+      λ yes. from_both 4 a b back (omega (arith, c.if-len-b.false)) (omega (arith, c.if-len-ge4.true, c.if-len-le8.true)) (omega (arith, c.if-len-ge4.true, c.if-len-le8.true)) (c.has_same_four.ensures.0 c.if-has_same_four.true) (c.has_same_four-then-has_same_four.ensures.0 yes),
       λ same. c.has_same_four-then-has_same_four.ensures.1 (ap (λ (l : List ℕ). take 4 (drop back l)) same),
     )
 
@@ -16,6 +16,6 @@ returns-then-has_same_eight c =
     let a = c.args.a.now in
     let b = c.args.b.now in
     let back = length a - 8 in (
-      λ yes. from_both 8 a b back (omega (arith, c.if-len-b.false)) (omega (arith, c.in-9-to-16)) (omega (arith, c.in-9-to-16)) (c.has_same_eight.ensures.0 c.if-has_same_eight.true) (c.has_same_eight-then-has_same_eight.ensures.0 yes),
+      λ yes. from_both 8 a b back (omega (arith, c.if-len-b.false)) (omega (arith, c.if-len-ge4.true, c.if-len-le8.false, c.if-len-le16.true)) (omega (arith, c.if-len-ge4.true, c.if-len-le8.false, c.if-len-le16.true)) (c.has_same_eight.ensures.0 c.if-has_same_eight.true) (c.has_same_eight-then-has_same_eight.ensures.0 yes),
       λ same. c.has_same_eight-then-has_same_eight.ensures.1 (ap (λ (l : List ℕ). take 8 (drop back l)) same),
     )
