@@ -174,7 +174,22 @@ impl<'a> Case<'a> {
             lines: &self.lines,
             absent: &self.absent,
             counts: &self.counts,
+            lists: self.lists(),
         }
+    }
+
+    /// Whether the command lists the file, and so makes no code.
+    pub fn lists(&self) -> bool {
+        match self.command.first() {
+            Some(word) => word.as_str() == "list",
+            None => false,
+        }
+    }
+
+    /// Sets the command that lists the file.
+    fn list(&mut self, alloc: Global) -> Result<(), Problem> {
+        self.command = command(alloc, "list")?;
+        Ok(())
     }
 
     /// Appends words that are wanted.
@@ -356,10 +371,18 @@ impl<'a> Case<'a> {
     }
 
     /// The case of one line: a line of a file, and behind ` = ` its words, or behind ` ! ` the line on
-    /// standard error.
+    /// standard error; or for `list`, behind ` ~ ` its text, or behind ` ~! ` the line on standard error.
     pub fn of_line(alloc: Global, line: &'a str) -> Result<Case<'a>, Problem> {
         let mut case = Case::new(alloc);
-        let text = if let Some((text, fault)) = line.rsplit_once(" ! ") {
+        let text = if let Some((text, fault)) = line.rsplit_once(" ~! ") {
+            case.list(alloc)?;
+            case.fault = Some(fault);
+            text
+        } else if let Some((text, listed)) = line.rsplit_once(" ~ ") {
+            case.list(alloc)?;
+            case.append_report(alloc, listed, b"\n")?;
+            text
+        } else if let Some((text, fault)) = line.rsplit_once(" ! ") {
             case.fault = Some(fault);
             text
         } else if let Some((text, words)) = line.rsplit_once(" = ") {

@@ -137,7 +137,7 @@ fn run_each_write(alloc: Global, case: &Case<'_>) -> Result<(), Problem> {
     let calls = report.len().div_ceil(pieces);
     for done in 0..calls {
         let taken = &report[..done.saturating_mul(pieces).min(report.len())];
-        run_failing_write(alloc, case, done, &Wanted::cut_off(taken))?;
+        run_failing_write(alloc, case, done, &Wanted::cut_off(taken, case.lists()))?;
     }
     run_failing_write(alloc, case, calls, &case.wanted())
 }
@@ -163,7 +163,7 @@ fn run_in_room(
 fn run_each_room(alloc: Global, case: &Case<'_>) -> Result<(), Problem> {
     let report = report_of(case)?;
     for room in 0..report.len() {
-        let wanted = Wanted::cut_off(&report[..room]);
+        let wanted = Wanted::cut_off(&report[..room], case.lists());
         run_in_room(alloc, case, &case.file, room, &wanted)?;
     }
     run_in_room(alloc, case, &case.file, report.len(), &case.wanted())
@@ -213,7 +213,11 @@ fn run_holding(alloc: Global, case: &Case<'_>, least: usize, most: usize) -> Res
         writes: &case.failing_writes,
         room,
     };
-    let whole = run_whole(alloc, case, sure, &Wanted::done())?;
+    let done = Wanted {
+        lists: case.lists(),
+        ..Wanted::done()
+    };
+    let whole = run_whole(alloc, case, sure, &done)?;
     let streams = streams_of(case, limits);
     let outcome = try_run(alloc, &case.command, &case.file, &streams)?;
     let report = whole.sink.bytes();

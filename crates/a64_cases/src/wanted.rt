@@ -77,6 +77,8 @@ pub struct Wanted<'a> {
     pub absent: &'a [&'a str],
     /// How many lines the report has of some kinds.
     pub counts: &'a [Count<'a>],
+    /// Whether the file is listed, so that there is no code.
+    pub lists: bool,
 }
 
 /// Whether a line on standard error is that of a refused item or file.
@@ -97,6 +99,7 @@ impl<'a> Wanted<'a> {
             lines: &[],
             absent: &[],
             counts: &[],
+            lists: false,
         }
     }
 
@@ -108,10 +111,11 @@ impl<'a> Wanted<'a> {
         }
     }
 
-    /// A run whose write is to fail when the sink has taken these bytes.
-    pub fn cut_off(taken: &'a [u8]) -> Wanted<'a> {
+    /// A run whose write is to fail when the sink has taken these bytes, and that lists its file or not.
+    pub fn cut_off(taken: &'a [u8], lists: bool) -> Wanted<'a> {
         Wanted {
             report: Some(taken),
+            lists,
             ..Wanted::refused("write fault")
         }
     }
@@ -146,6 +150,6 @@ impl<'a> Wanted<'a> {
 
     /// Whether the run keeps its code.
     pub fn has_code(&self) -> bool {
-        matches!(self.fault, None | Some("write fault"))
+        !self.lists && matches!(self.fault, None | Some("write fault"))
     }
 }

@@ -4,6 +4,7 @@ use Rattle.a64_emit.specs.declared.code.Code.{Code}
 use Rattle.a64_emit.specs.declared.error.EmitError.{EmitError}
 use Rattle.a64_run.specs.declared.command.Command.{Command}
 use Rattle.a64_run.specs.declared.command.Command.TheVariants.{Asm, Gen}
+use Rattle.a64_run.specs.declared.command.Command.TheVariants as commands
 use Rattle.a64_text.specs.declared.file.File.{File}
 use Rattle.a64_run.specs.declared.ran.Fault.{Fault}
 use Rattle.a64_run.specs.declared.ran.Fault.TheVariants as faults
@@ -103,5 +104,7 @@ pub ends_due : (command : Command) (taken taken' : Option (List ℕ)) (file : Fi
     → HasWords command → IsDueInput command left file → Ends command taken taken' file fault code → IsDueAnswer command left fault
 ends_due (Asm force) taken taken' file None fault code w o e = tt
 ends_due (Asm force) taken taken' file (Some text) fault code w o e = text_ends_due (Asm force) taken taken' file text fault code o e
+ends_due commands.List taken taken' file None fault code w o e = tt
+ends_due commands.List taken taken' file (Some text) fault code w o e = text_ends_due commands.List taken taken' file text fault code o e
 ends_due (Gen count force) taken taken' file left fault code w o e =
     done_always (Gen count force) taken taken' file fault code e (ap (contents_fault (Gen count force)) o ∙ gen_faultless count force w)

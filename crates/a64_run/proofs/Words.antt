@@ -11,6 +11,7 @@ use Rattle.a64_buffer.specs.declared.force.ForceVeneers.TheVariants.{No, Yes}
 use Rattle.a64_read.specs.Reads.{Reads, Always}
 use Rattle.a64_run.specs.declared.command.Command.{Command}
 use Rattle.a64_run.specs.declared.command.Command.TheVariants.{Asm, Gen}
+use Rattle.a64_run.specs.declared.command.Command.TheVariants as commands
 use Rattle.a64_run.specs.Commands.{force_words, IsCount, IsCommand}
 use Rattle.a64_run.specs.Stages.{ReadsCommand}
 
@@ -89,6 +90,7 @@ only_asm : (rest : List (List ℕ)) (command : Command) → IsCommand (codes "as
 only_asm rest (Asm force) (inl h) = absurd (let empty = h.1 in cc)
 only_asm rest (Asm force) (inr h) = record { force = force; is = refl; rest_is = ap (drop 1) h }
 only_asm rest (Gen count force) h = absurd (let first = ap (λ ws. get_or (get_or ws 0 []) 0 0) h.1 in omega arith)
+only_asm rest commands.List h = absurd (let first = ap (λ ws. get_or (get_or ws 0 []) 0 0) h in omega arith)
 
 pub asm_read : (rest : List (List ℕ)) (force : ForceVeneers) → Reads Always force_words rest (Some force) → ReadsCommand (codes "asm" ∷ rest) (Some (Asm force))
 asm_read rest force h =
@@ -113,6 +115,7 @@ only_gen : (rest : List (List ℕ)) (command : Command) → IsCommand (codes "ge
 only_gen rest (Asm force) (inl h) = absurd (let empty = h.1 in cc)
 only_gen rest (Asm force) (inr h) = absurd (let first = ap (λ ws. get_or (get_or ws 0 []) 0 0) h in omega arith)
 only_gen rest (Gen count force) h = record { count = count; force = force; is = refl; fits = h.0; rest_is = ap (drop 1) h.1 }
+only_gen rest commands.List h = absurd (let first = ap (λ ws. get_or (get_or ws 0 []) 0 0) h in omega arith)
 
 pub gen_read : (token : List ℕ) (rest : List (List ℕ)) (count : ℕ) (force : ForceVeneers) → Reads IsCount decimal token (Some count) → Reads Always force_words rest (Some force) → ReadsCommand (codes "gen" ∷ token ∷ rest) (Some (Gen count force))
 gen_read token rest count force h k =
@@ -151,6 +154,17 @@ gen_unread token rest h =
 pub gen_alone : ReadsCommand (codes "gen" ∷ []) None
 gen_alone = record { some = tt; only = λ command is. absurd (let g = only_gen [] command is in let rest_is = g.rest_is in cc) }
 
+-- a command whose name is `list` is that one, and has no words behind the name
+record IsList (rest : List (List ℕ)) (command : Command) : Type 0 where
+  is : command ≡ commands.List
+  rest_is : rest ≡ []
+
+only_list : (rest : List (List ℕ)) (command : Command) → IsCommand (codes "list" ∷ rest) command → IsList rest command
+only_list rest (Asm force) (inl h) = absurd (let empty = h.1 in cc)
+only_list rest (Asm force) (inr h) = absurd (let first = ap (λ ws. get_or (get_or ws 0 []) 0 0) h in omega arith)
+only_list rest (Gen count force) h = absurd (let first = ap (λ ws. get_or (get_or ws 0 []) 0 0) h.1 in omega arith)
+only_list rest commands.List h = record { is = refl; rest_is = ap (drop 1) h }
+
 -- no words are `asm`
 empty_read : ReadsCommand [] (Some (Asm No))
 empty_read = record { some = inl (refl, refl); only = only }
@@ -159,15 +173,17 @@ empty_read = record { some = inl (refl, refl); only = only }
     only (Asm force) (inl h) = ap (λ f. Some (Asm f)) (sym h.0)
     only (Asm force) (inr h) = absurd cc
     only (Gen count force) h = absurd (let is = h.1 in cc)
+    only commands.List h = absurd cc
 
 -- another name is no command's
-pub name_unread : (name : List ℕ) (rest : List (List ℕ)) → name ≢ codes "asm" → name ≢ codes "gen" → ReadsCommand (name ∷ rest) None
-name_unread name rest no_asm no_gen = record { some = tt; only = only }
+pub name_unread : (name : List ℕ) (rest : List (List ℕ)) → name ≢ codes "asm" → name ≢ codes "gen" → name ≢ codes "list" → ReadsCommand (name ∷ rest) None
+name_unread name rest no_asm no_gen no_list = record { some = tt; only = only }
   where
     only : (command : Command) → IsCommand (name ∷ rest) command → None ≡ Some command
     only (Asm force) (inl h) = absurd (let empty = h.1 in cc)
     only (Asm force) (inr h) = absurd (no_asm (ap (λ ws. get_or ws 0 []) h))
     only (Gen count force) h = absurd (no_gen (ap (λ ws. get_or ws 0 []) h.1))
+    only commands.List h = absurd (no_list (ap (λ ws. get_or ws 0 []) h))
 
 -- ---- words as they are held
 
@@ -184,3 +200,12 @@ module _ {A : Type 0} where
   pub no_word_read : (words : List (String A)) → length words < 1 → ReadsCommand (map string_bytes words) (Some (Asm No))
   no_word_read [] h = empty_read
   no_word_read (word ∷ words) h = absurd (omega arith)
+
+  -- the words behind `list`
+  pub list_alone : (words : List (String A)) → length words < 1 → ReadsCommand (codes "list" ∷ map string_bytes words) (Some commands.List)
+  list_alone [] h = record { some = refl; only = λ command is. ap (λ c. Some c) (sym (only_list [] command is).is) }
+  list_alone (word ∷ words) h = absurd (omega arith)
+
+  pub list_more : (words : List (String A)) → 1 ≤ length words → ReadsCommand (codes "list" ∷ map string_bytes words) None
+  list_more [] h = absurd (omega arith)
+  list_more (word ∷ words) h = record { some = tt; only = λ command is. absurd (let rest_is = (only_list (map string_bytes (word ∷ words)) command is).rest_is in cc) }

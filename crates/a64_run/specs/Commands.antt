@@ -7,8 +7,11 @@ use Rattle.a64_emit.specs.declared.code.Code.{Code}
 use Rattle.a64_emit.specs.declared.error.EmitError.{EmitError}
 use Rattle.a64_assemble.specs.Assembled.{IsAssembled}
 use Rattle.a64_emit.specs.Faults.{own_fault, fault_of}
+use Rattle.a64_emit.specs.ShownFaults.{first_shown_fault}
+use Rattle.a64_print.specs.InstTexts.{listing_of}
 use Rattle.a64_run.specs.declared.command.Command.{Command}
 use Rattle.a64_run.specs.declared.command.Command.TheVariants.{Asm, Gen}
+use Rattle.a64_run.specs.declared.command.Command.TheVariants as commands
 use Rattle.a64_text.specs.declared.file.File.{File}
 use Rattle.a64_text.specs.States.{Contents, contents_of}
 use Rattle.a64_text.specs.FileText.{IsFile}
@@ -28,11 +31,13 @@ IsCount count = (1 ≤ count) × (count ≤ 100000)
 abbrev pub IsCommand : List (List ℕ) → Command → Type 0
 IsCommand words (Asm force) = ((force ≡ No) × (words ≡ [])) ⊎ (words ≡ codes "asm" ∷ force_words force)
 IsCommand words (Gen count force) = IsCount count × (words ≡ codes "gen" ∷ decimal count ∷ force_words force)
+IsCommand words commands.List = words ≡ codes "list" ∷ []
 
 -- some words may be the command's
 abbrev pub HasWords : Command → Type 0
 HasWords (Asm force) = ⊤
 HasWords (Gen count force) = IsCount count
+HasWords commands.List = ⊤
 
 -- no command has these words
 abbrev pub IsNoCommand : List (List ℕ) → Type 0
@@ -46,11 +51,13 @@ OfCommand words P = (command : Command) → IsCommand words command → P comman
 abbrev pub reads_source : Command → Bool
 reads_source (Asm force) = true
 reads_source (Gen count force) = false
+reads_source commands.List = true
 
 -- whether the command forces islands
 abbrev pub force_of : Command → ForceVeneers
 force_of (Asm force) = force
 force_of (Gen count force) = force
+force_of commands.List = No
 
 -- the first fault of `assemble` in what a file says
 abbrev pub assembly_fault : Command → Contents → Option EmitError
@@ -60,6 +67,7 @@ assembly_fault command file = fault_of file.frame file.flags file.constants (for
 abbrev pub contents_fault : Command → Contents → Option EmitError
 contents_fault (Asm force) file = assembly_fault (Asm force) file
 contents_fault (Gen count force) file = assembly_fault (Gen count force) file
+contents_fault commands.List file = first_shown_fault file.frame file.flags file.constants file.items
 
 abbrev pub file_fault : Command → File → Option EmitError
 file_fault command file = contents_fault command (contents_of file)
@@ -67,6 +75,12 @@ file_fault command file = contents_fault command (contents_of file)
 -- each item of a file is right by itself: none has a fault that stands in it alone
 abbrev pub HasRightItems : File → Type 0
 HasRightItems file = own_fault file.frame file.info file.constants file.items.items ≡ None
+
+-- the command finds no fault that stands in one item of a file alone
+abbrev pub HasNoItemFault : Command → File → Type 0
+HasNoItemFault (Asm force) file = HasRightItems file
+HasNoItemFault (Gen count force) file = HasRightItems file
+HasNoItemFault commands.List file = file_fault commands.List file ≡ None
 
 -- the code is that of the file
 abbrev pub IsCodeOf : Command → File → Code → Type 0
@@ -86,11 +100,13 @@ pub record WasRead (left left' : Option (List ℕ)) (file : File) : Type 0 where
 abbrev pub IsInput : Command → Option (List ℕ) → Option (List ℕ) → File → Type 0
 IsInput (Asm force) left left' file = WasRead left left' file
 IsInput (Gen count force) left left' file = contents_of file ≡ gen_file count
+IsInput commands.List left left' file = WasRead left left' file
 
 -- what the command makes of a file: the code that is kept, if any, and the bytes that are written
 abbrev pub IsOutput : Command → File → Option Code → List ℕ → Type 0
 IsOutput (Asm force) file code output = IsSomeAnd code (λ c. IsCodeOf (Asm force) file c × (output ≡ report_of c))
 IsOutput (Gen count force) file code output = IsSomeAnd code (λ c. IsCodeOf (Gen count force) file c × (output ≡ summary_of (length file.items.items) c))
+IsOutput commands.List file code output = (code ≡ None) × (output ≡ listing_of file.frame file.items.items)
 
 -- the same, for a file in which the command finds no fault
 pub record IsMade (command : Command) (file : File) (code : Option Code) (output : List ℕ) : Type 0 where

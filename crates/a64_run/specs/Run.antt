@@ -6,11 +6,12 @@ use Rattle.a64_emit.specs.declared.error.EmitError.{EmitError}
 use Rattle.a64_emit.specs.declared.error.EmitError.TheVariants as errors
 use Rattle.a64_run.specs.declared.command.Command.{Command}
 use Rattle.a64_run.specs.declared.command.Command.TheVariants.{Asm, Gen}
+use Rattle.a64_run.specs.declared.command.Command.TheVariants as commands
 use Rattle.a64_text.specs.declared.file.File.{File}
 use Rattle.a64_run.specs.declared.ran.Fault.{Fault}
 use Rattle.a64_run.specs.declared.ran.Fault.TheVariants as faults
 use Rattle.a64_text.specs.FileText.{IsFile, IsFirstBad}
-use Rattle.a64_run.specs.Commands.{limit, HasRightItems, file_fault, IsInput, IsMade}
+use Rattle.a64_run.specs.Commands.{limit, HasNoItemFault, file_fault, IsInput, IsMade}
 use Rattle.a64_run.specs.Streams.{Takes, TakesPart}
 
 -- the status of each answer
@@ -78,7 +79,8 @@ module _ (command : Command) (left left' : Option (List ℕ)) (taken taken' : Op
   -- the headline: the file is the command's, without a fault, and what the command makes of it was
   -- written. For `asm`, what was read is a file of items, and the report was written of code in
   -- which the words of each item stand at its place, in order, with only islands between them that no item
-  -- runs into and one pool behind them, and each use of a label or constant leads to it
+  -- runs into and one pool behind them, and each use of a label or constant leads to it. For `list`, it was the listing of such a
+  -- file, of which each item may be shown
   pub record IsDone (file : File) (code : Option Code) : Type 0 where
     pub input : IsInput command left left' file
     pub output : List ℕ
@@ -99,10 +101,10 @@ module _ (command : Command) (left left' : Option (List ℕ)) (taken taken' : Op
     -- want of memory is an answer of its own
     pub no_memory : error ≢ errors.OutOfMemory
 
-  -- the command's file, for which there was no memory, though each item of it is right by itself
+  -- the command's file, for which there was no memory, though the command finds no fault in an item of it alone
   pub record IsUndone (file : File) : Type 0 where
     pub input : IsInput command left left' file
-    pub right : HasRightItems file
+    pub right : HasNoItemFault command file
 
   -- the file and the code that are kept at each answer
   abbrev pub Keeps : Option Fault → Option File → Option Code → Type 0
@@ -128,3 +130,4 @@ IsDueAlways fault = (fault ≡ None) ⊎ ((fault ≡ Some faults.Write) ⊎ (fau
 abbrev pub IsDueAnswer : Command → Option (List ℕ) → Option Fault → Type 0
 IsDueAnswer (Asm force) left fault = IfSome left (λ text. IsDueForText (Asm force) text fault)
 IsDueAnswer (Gen count force) left fault = IsDueAlways fault
+IsDueAnswer commands.List left fault = IfSome left (λ text. IsDueForText commands.List text fault)

@@ -1,10 +1,12 @@
 -- What the parts of a run answer.
 use Rattle.std.specs.Prelude.{ℕ, ◌≡◌, ◌≢◌, ◌<◌, ◌≤◌, ◌^◌, ◌/◌, ◌%◌, ◌++◌, ◌∷◌, List, [], take, drop, length, Option, None, Some, IfSome, Result, IfOk, IfErr, ⊤}
 use Rattle.std.specs.Fmt.{decimal}
+use Rattle.std.specs.String.{string_bytes}
 use Rattle.a64_emit.specs.declared.code.Code.{Code}
 use Rattle.a64_emit.specs.declared.error.EmitError.TheVariants as errors
 use Rattle.a64_run.specs.declared.command.Command.{Command}
 use Rattle.a64_run.specs.declared.command.Command.TheVariants.{Asm, Gen}
+use Rattle.a64_run.specs.declared.command.Command.TheVariants as commands
 use Rattle.a64_text.specs.declared.file.File.{File}
 use Rattle.a64_run.specs.declared.ran.Fault.{Fault}
 use Rattle.a64_run.specs.declared.ran.Fault.TheVariants as faults
@@ -12,11 +14,11 @@ use Rattle.a64_read.specs.Hex.{hex_digit}
 use Rattle.a64_text.specs.States.{contents_of}
 use Rattle.a64_text.specs.FileText.{IsFile, IsFirstBad}
 use Rattle.a64_run.specs.declared.making.Made.{Made}
-use Rattle.a64_run.specs.declared.making.Made.TheVariants.{Report, Summary}
+use Rattle.a64_run.specs.declared.making.Made.TheVariants.{Report, Summary, Listing}
 use Rattle.a64_run.specs.Report.{report_of}
 use Rattle.a64_run.specs.Gen.{gen_file, summary_of}
 use Rattle.a64_run.specs.Streams.{HasFailed, Takes, TakesPart}
-use Rattle.a64_run.specs.Commands.{limit, IsCommand, OfCommand, HasRightItems, assembly_fault, file_fault, IsMade}
+use Rattle.a64_run.specs.Commands.{limit, IsCommand, OfCommand, HasRightItems, HasNoItemFault, assembly_fault, file_fault, IsMade}
 use Rattle.a64_run.specs.Run.{Held, IsDueForText}
 
 -- what is answered for words: Some exactly for the command that they are
@@ -100,6 +102,7 @@ pub record IsParsed (bytes : List ℕ) (result : Result File Fault) : Type 0 whe
 abbrev pub IsDueInput : Command → Option (List ℕ) → File → Type 0
 IsDueInput (Asm force) left file = IfSome left (λ text. IsFileOf text file)
 IsDueInput (Gen count force) left file = contents_of file ≡ gen_file count
+IsDueInput commands.List left file = IfSome left (λ text. IsFileOf text file)
 
 -- why a file has no report; want of memory is an answer only where each item is right by itself
 abbrev pub IsAssemblyFault : Command → File → Fault → Type 0
@@ -111,15 +114,17 @@ IsAssemblyFault command file _ = ⊥
 abbrev pub kept_of : Made → Option Code
 kept_of (Report code) = Some code
 kept_of (Summary items code) = Some code
+kept_of (Listing text) = None
 
 abbrev pub text_of : Made → List ℕ
 text_of (Report code) = report_of code
 text_of (Summary items code) = summary_of items code
+text_of (Listing text) = string_bytes text
 
--- why a command makes nothing of a file; want of memory is an answer only where each item is right by itself
+-- why a command makes nothing of a file; want of memory is an answer only where it finds no fault in one item alone
 abbrev pub IsFileFault : Command → File → Fault → Type 0
 IsFileFault command file (faults.Assembly error) = (file_fault command file ≡ Some error) × (error ≢ errors.OutOfMemory)
-IsFileFault command file faults.Memory = HasRightItems file
+IsFileFault command file faults.Memory = HasNoItemFault command file
 IsFileFault command file _ = ⊥
 
 -- how the writing of what was made ends: what the sink has taken, and the code that is kept
@@ -147,7 +152,7 @@ module _ (command : Command) (taken taken' : Option (List ℕ)) (file : File) wh
   Ends None code = IsWritten code
   Ends (Some faults.Write) code = IsPartWritten code
   Ends (Some (faults.Assembly error)) code = (file_fault command file ≡ Some error) × (error ≢ errors.OutOfMemory) × (code ≡ None) × (taken' ≡ taken)
-  Ends (Some faults.Memory) code = HasRightItems file × (code ≡ None) × (taken' ≡ taken)
+  Ends (Some faults.Memory) code = HasNoItemFault command file × (code ≡ None) × (taken' ≡ taken)
   Ends (Some _) code = ⊥
 
 -- a text, a number, and a text

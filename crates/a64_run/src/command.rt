@@ -24,6 +24,8 @@ pub enum Command {
         /// Whether islands are forced.
         force: ForceVeneers,
     },
+    /// Lists a file of items as assembly text.
+    List,
 }
 
 impl Command {
@@ -33,6 +35,7 @@ impl Command {
     {
         match self {
             Command::Asm(force) | Command::Gen { force, .. } => force,
+            Command::List => ForceVeneers::No,
         }
     }
 }
@@ -89,6 +92,16 @@ fn read_gen(words: &[String]) -> Option<Command>
     }
 }
 
+/// The command `list`, behind whose name no word stands.
+fn read_list(words: &[String]) -> Option<Command>
+    ensures { ReadsCommand (codes "list" ∷ map string_bytes words.now) result }
+{
+    match words {
+        [] => Some(Command::List),
+        [_, ..] => None,
+    }
+}
+
 /// The command with this name, of the words behind it.
 fn read_named(name: &str, words: &[String]) -> Option<Command>
     ensures { ReadsCommand (name.now ∷ map string_bytes words.now) result }
@@ -97,6 +110,8 @@ fn read_named(name: &str, words: &[String]) -> Option<Command>
         read_asm(words)
     } else if is_word(name, "gen") {
         read_gen(words)
+    } else if is_word(name, "list") {
+        read_list(words)
     } else {
         None
     }

@@ -12,6 +12,7 @@ mod hundred;
 mod input;
 mod kept;
 mod line;
+mod listing;
 mod making;
 mod memory;
 mod output;

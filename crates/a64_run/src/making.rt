@@ -7,6 +7,8 @@ ghost use Rattle.a64_run.specs.Stages.{IsFileFault, kept_of, text_of};
 
 use crate::assembling::assemble_file;
 use crate::command::Command;
+use crate::listing::list_file;
+use crate::output::write_all;
 use crate::piece::Piece;
 use crate::ran::Fault;
 use crate::report::write_report;
@@ -28,6 +30,8 @@ pub enum Made {
         /// The code.
         code: Code,
     },
+    /// A listing.
+    Listing(String),
 }
 
 impl Made {
@@ -46,6 +50,7 @@ impl Made {
         match self {
             Made::Report(code) => write_report(sink, piece, code),
             Made::Summary { items, code } => write_summary(sink, piece, *items, code),
+            Made::Listing(text) => write_all(sink, text.as_bytes()),
         }
     }
 
@@ -55,6 +60,7 @@ impl Made {
     {
         match self {
             Made::Report(code) | Made::Summary { code, .. } => Some(code),
+            Made::Listing(_) => None,
         }
     }
 }
@@ -79,6 +85,10 @@ pub fn make(alloc: Global, command: Command, file: &File) -> Result<Made, Fault>
                 items: file.items.len() as u64,
                 code,
             }),
+            Err(fault) => Err(fault),
+        },
+        Command::List => match list_file(alloc, file) {
+            Ok(text) => Ok(Made::Listing(text)),
             Err(fault) => Err(fault),
         },
     }

@@ -5,14 +5,13 @@ ghost use Rattle.std.specs.Prelude.{◌≡◌, ◌<◌, ◌^◌, true, length, I
 ghost use Rattle.a64_inst.specs.Accesses.{type_has_load_form};
 
 use a64_assemble::assemble;
-use a64_base::{
-    IrType, MemFlagsData, VCodeConstant, vreg, writable_vreg, writable_xreg, xreg, zero_reg,
-};
+use a64_base::{IrType, MemFlagsData, VCodeConstant, vreg, writable_vreg, writable_xreg, xreg};
 use a64_buffer::{Constants, ForceVeneers};
 use a64_emit::{Code, EmitError, Item};
-use a64_inst::{ALUOp, AMode, EmitFlags, EmitInfo, EmitState, FrameLayout, Inst, MoveWideOp};
+use a64_inst::{AMode, EmitFlags, EmitInfo, EmitState, FrameLayout, Inst};
 use a64_list::ListVec;
 use a64_mode::mem_finalize;
+use a64_print::push_inst;
 use std::alloc::{AllocError, Global};
 use std::test::Fail;
 
@@ -104,40 +103,13 @@ fn loads_and_stores_by_types(rt: HostRuntime) -> Result<(), Fail> {
     Ok(())
 }
 
-/// An instruction of a constant into x0, by its name, its width and what it has.
-fn text_of(alloc: Global, inst: &Inst) -> Result<String, AllocError> {
-    match inst {
-        Inst::MovWide { op, rd, imm, size } if rd.to_reg() == xreg(0) => {
-            let name = match op {
-                MoveWideOp::MovZ => "movz",
-                MoveWideOp::MovN => "movn",
-            };
-            let (width, bits, shift) = (size.bits(), imm.bits, imm.shift);
-            format!(in alloc; "{name}{width} {bits:x},{shift}; ")
-        }
-        Inst::MovK { rd, rn, imm, size } if rd.to_reg() == xreg(0) && *rn == xreg(0) => {
-            let (width, bits, shift) = (size.bits(), imm.bits, imm.shift);
-            format!(in alloc; "movk{width} {bits:x},{shift}; ")
-        }
-        Inst::AluRRImmLogic {
-            alu_op: ALUOp::Orr,
-            rd,
-            rn,
-            imml,
-            size,
-        } if rd.to_reg() == xreg(0) && *rn == zero_reg() => {
-            let (width, n, r, s) = (size.bits(), u8::from(imml.n), imml.r, imml.s);
-            format!(in alloc; "orr{width} {n},{r},{s}; ")
-        }
-        _ => String::from_str(alloc, "another; "),
-    }
-}
-
-/// The texts of instructions, one behind the other.
+/// The texts of instructions, with a semicolon behind each.
 fn texts_of(alloc: Global, insts: &[Inst]) -> Result<String, AllocError> {
+    let frame = frame(ListVec::new(alloc));
     let mut texts = String::new(alloc);
     for inst in insts {
-        texts.push_str(text_of(alloc, inst)?.as_str())?;
+        push_inst(&mut texts, inst, &frame)?;
+        texts.push_str("; ")?;
     }
     Ok(texts)
 }
@@ -175,40 +147,40 @@ fn code_of(alloc: Global, insts: &[Inst]) -> Result<Code, EmitError>
 fn constants_into_a_register(rt: HostRuntime) -> Result<(), Fail> {
     let alloc = rt.alloc();
     for (value, texts, bytes) in [
-        (0, "movz64 0,0; ", [0x00, 0x00, 0x80, 0xd2].as_slice()),
+        (0, "movz x0, #0; ", [0x00, 0x00, 0x80, 0xd2].as_slice()),
         (
             u64::MAX,
-            "movn64 0,0; ",
+            "movn x0, #0; ",
             [0x00, 0x00, 0x80, 0x92].as_slice(),
         ),
         (
             0x1234_ffff,
-            "movn32 edcb,1; ",
+            "movn w0, #60875, LSL #16; ",
             [0x60, 0xb9, 0xbd, 0x12].as_slice(),
         ),
         (
             0x5555_5555_5555_5555,
-            "orr64 0,0,60; ",
+            "orr x0, xzr, #6148914691236517205; ",
             [0xe0, 0xf3, 0x00, 0xb2].as_slice(),
         ),
         (
             0x5555_5555,
-            "orr32 0,0,60; ",
+            "orr w0, wzr, #1431655765; ",
             [0xe0, 0xf3, 0x00, 0x32].as_slice(),
         ),
         (
             0xf00f_f00f,
-            "orr32 0,4,39; ",
+            "orr w0, wzr, #4027576335; ",
             [0xe0, 0x9f, 0x04, 0x32].as_slice(),
         ),
         (
             0x00ff_ff00,
-            "orr64 1,56,15; ",
+            "orr x0, xzr, #16776960; ",
             [0xe0, 0x3f, 0x78, 0xb2].as_slice(),
         ),
         (
             0x1234_5678,
-            "movz32 5678,0; movk32 1234,1; ",
+            "movz w0, #22136; movk w0, w0, #4660, LSL #16; ",
             [0x00, 0xcf, 0x8a, 0x52, 0x80, 0x46, 0xa2, 0x72].as_slice(),
         ),
     ] {
