@@ -1,17 +1,20 @@
 #!/usr/bin/env bash
 # Counts the machine instructions that the program takes for each further line of a file, by
 # callgrind: the whole run, and of it the assembly and the report. It installs valgrind
-# where it is missing, and builds the program.
+# where it is missing, and builds the program. With PROGRAM=FILE it counts that program, and builds none.
 set -eu
 cd "$(dirname "$0")/.."
 command -v valgrind >/dev/null || apt-get install -y -q valgrind >/dev/null ||
     { apt-get update -q >/dev/null; apt-get install -y -q valgrind >/dev/null; }
-(cd crates/a64_cli && rt run </dev/null >/dev/null 2>&1)
-program=$PWD/crates/a64_cli/out/a64_cli
+[ -n "${PROGRAM:-}" ] || (cd crates/a64_cli && rt run </dev/null >/dev/null 2>&1)
+program=${PROGRAM:-$PWD/crates/a64_cli/out/a64_cli}
 work=$(mktemp -d)
 trap 'rm -rf "$work"' EXIT
 small=20000
 large=40000
+
+# The function that assembles a file.
+assembly=a64_run::assembling::assemble_file
 
 # A file of so many lines of a kind.
 lines() {
@@ -39,6 +42,6 @@ for kind in nops operations branches; do
     lines "$kind" "$small" > "$work/small"
     lines "$kind" "$large" > "$work/large"
     printf '| %s | %s | %s | %s |\n' "$kind" "$(each)" \
-        "$(each '--toggle-collect=*assembly::assemble*')" \
+        "$(each "--toggle-collect=$assembly")" \
         "$(each '--toggle-collect=*report::write_report*')"
 done

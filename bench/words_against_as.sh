@@ -1,18 +1,25 @@
 #!/usr/bin/env bash
-# Holds the words of the program against those of GNU as: random instructions on integers, scalar floats and vectors, loads and stores,
-# atomic accesses, branches, hints, data and labels.
+# Holds the words of the program against those of GNU as and of llvm-mc: random instructions on integers, scalar floats and vectors,
+# loads and stores, atomic accesses, branches, hints, data and labels. No word may differ from either.
 # `Adrp` is left out: of it GNU as leaves the offset to the linker. Branches on conditions go to labels in files of at most 100,000
 # items, branches on bits in files of at most 2,000, and addresses are those of labels in files of at most 150,000: in longer
-# ones a label could be out of reach.
-# Usage: bench/words_against_as.sh [ITEMS] [SEED]
+# ones a label could be out of reach. A pair of loads has two registers, since llvm-mc refuses one.
+# Usage: bench/words_against_as.sh [ITEMS] [SEED] [FILES]
+# So many files of so many items are made, by this seed and those behind it: the program reads no file of more than 16,777,216
+# bytes, which some 500,000 items have. With PROGRAM=FILE that program is asked, and none is built.
 set -eu
 cd "$(dirname "$0")/.."
 command -v aarch64-linux-gnu-as >/dev/null || { apt-get update -q >/dev/null; apt-get install -y -q binutils-aarch64-linux-gnu >/dev/null; }
-(cd crates/a64_cli && rt run </dev/null >/dev/null 2>&1)
+command -v llvm-mc-14 >/dev/null || { apt-get update -q >/dev/null; apt-get install -y -q llvm-14 >/dev/null; }
+[ -n "${PROGRAM:-}" ] || (cd crates/a64_cli && rt run </dev/null >/dev/null 2>&1)
+program=${PROGRAM:-crates/a64_cli/out/a64_cli}
 work=$(mktemp -d)
 trap 'rm -rf "$work"' EXIT
 
-python3 - "$work" "${1:-100000}" "${2:-1}" <<'P'
+# Makes a file of so many items by a seed, for the program and for the assemblers.
+make_items() {
+    python3 - "$work" "$1" "$2" <<'P'
+
 import random, sys
 work, count, seed = sys.argv[1], int(sys.argv[2]), int(sys.argv[3])
 random.seed(seed)
@@ -301,6 +308,9 @@ def literal(labels):
 def pair(labels):
     (name, mnemonic), offset = random.choice([("LoadP64", "ldp"), ("StoreP64", "stp")]), 8 * random.randrange(-64, 64)
     first, second, base = named("x", True), named("x", True), named("x", False)
+    # llvm-mc refuses a load of one register twice, of which no result is certain.
+    while name == "LoadP64" and first == second:
+        second = named("x", True)
     mode, operand = random.choice([
         (f"SignedOffset({base[0]},{offset})", f"[{base[1]}, #{offset}]"),
         (f"SPPreIndexed({offset})", f"[sp, #{offset}]!"), (f"SPPostIndexed({offset})", f"[sp], #{offset}"),
@@ -587,17 +597,30 @@ with open(f"{work}/items.txt", "w") as ours, open(f"{work}/items.s", "w") as the
         ours.write(line + "\n")
         theirs.write(text + "\n")
 P
+}
 
-crates/a64_cli/out/a64_cli < "$work/items.txt" | awk '$1 == "word" { print $3 }' > "$work/ours"
-aarch64-linux-gnu-as -march=armv8.6-a+fp16 --no-warn "$work/items.s" -o "$work/items.o"
-aarch64-linux-gnu-objcopy -O binary --only-section=.text "$work/items.o" "$work/items.bin"
-python3 - "$work" <<'P'
-import struct, sys
-work = sys.argv[1]
-code = open(f"{work}/items.bin", "rb").read()
-theirs = [f"{word:08x}" for (word,) in struct.iter_unpack("<I", code)]
-ours = open(f"{work}/ours").read().split()
-different = sum(a != b for a, b in zip(ours, theirs)) + abs(len(ours) - len(theirs))
-print(f"{len(theirs)} words, {different} different")
-sys.exit(different != 0 or not theirs)
-P
+# The words of the object file that an assembler made.
+words_of() {
+    aarch64-linux-gnu-objcopy -O binary --only-section=.text "$1" "$work/code"
+    od -An -v -tx4 -w4 --endian=little "$work/code" | tr -d ' '
+}
+
+# How many words of the program differ from those of an assembler, which are these.
+differing() {
+    paste "$work/ours" "$1" | awk -F '\t' '$1 != $2 { count++ } END { print count + 0 }'
+}
+
+all=0 from_as=0 from_mc=0
+for ((file = 0; file < ${3:-1}; file++)); do
+    make_items "${1:-100000}" $((${2:-1} + file))
+    "$program" < "$work/items.txt" | awk '$1 == "word" { print $3 }' > "$work/ours"
+    aarch64-linux-gnu-as -march=armv8.6-a+fp16 --no-warn "$work/items.s" -o "$work/as.o"
+    llvm-mc-14 -triple=aarch64 -mattr=+v8.6a,+fullfp16 -filetype=obj "$work/items.s" -o "$work/mc.o"
+    words_of "$work/as.o" > "$work/as"
+    words_of "$work/mc.o" > "$work/mc"
+    all=$((all + $(wc -l < "$work/as")))
+    from_as=$((from_as + $(differing "$work/as")))
+    from_mc=$((from_mc + $(differing "$work/mc")))
+done
+echo "$all words, $from_as different from those of GNU as, $from_mc from those of llvm-mc"
+[ "$all" -gt 0 ] && [ "$from_as" -eq 0 ] && [ "$from_mc" -eq 0 ]
