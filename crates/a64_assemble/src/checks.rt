@@ -346,6 +346,8 @@ fn found_of(size: u64, totals: Totals) -> Result<Found, EmitError>
 ///
 /// The fault of the first item that is not right by itself. Inside: the first label that is not bound, or else
 /// that the code may be too large.
+// A function of its own, so that its loop keeps its counts in registers.
+#[inline(never)]
 pub fn check_items(
     items: &[Item],
     bound: Option<&LabelMap<()>>,

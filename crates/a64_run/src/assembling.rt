@@ -16,6 +16,8 @@ use std::alloc::Global;
 /// # Errors
 ///
 /// The first fault of the file, or want of memory.
+// A function of its own in the machine code, so that a profiler can tell its share.
+#[inline(never)]
 pub fn assemble_file(alloc: Global, command: Command, file: &File) -> Result<Code, Fault>
     requires { length file.now.items.items < 2 ^ 32 }
     ensures ok { IfOk result (IsCodeOf command file.now) }
