@@ -1,0 +1,4 @@
+pub mod Visits
+pub mod Lists
+pub mod Roles
+pub mod Queries

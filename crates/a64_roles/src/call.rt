@@ -1,0 +1,51 @@
+//! The roles of calls, and of returns that call.
+
+ghost use Rattle.std.specs.Prelude.{◌≡◌, ◌≤◌, ◌++◌, OnOk, OnErr};
+ghost use Rattle.a64_inst.specs.declared.group.Group.TheVariants.{Call};
+ghost use Rattle.a64_inst.specs.Groups.{group_of};
+ghost use Rattle.a64_roles.specs.Roles.{roles_of};
+ghost use Rattle.a64_roles.specs.Visits.{HasRefused, HasPart};
+
+use crate::hand::{hand_call, hand_return_call};
+use crate::role::Role::{RegFixedUse, RegUse};
+use crate::visitor::OperandVisitor;
+use a64_base::xreg;
+use a64_inst::Inst;
+use std::alloc::AllocError;
+
+/// Tells a visitor the roles of a call, or of a return that calls.
+///
+/// # Errors
+///
+/// The visitor refused one; it was told those before.
+pub fn hand_calling<V: OperandVisitor>(visitor: &mut V, inst: &Inst) -> Result<(), AllocError>
+    requires { group_of inst.now ≡ Call }
+    ensures ok { OnOk result (V.told visitor.new ≡ V.told visitor.old ++ roles_of inst.now) }
+    ensures err { OnErr result (HasPart (V.told visitor.old) (V.told visitor.new) (roles_of inst.now)) }
+    ensures rises { V.refusals visitor.old ≤ V.refusals visitor.new }
+    ensures cause { OnErr result (HasRefused (V.refusals visitor.old) (V.refusals visitor.new)) }
+{
+    match inst {
+        Inst::Call { info } => hand_call(
+            visitor,
+            &[],
+            info.uses.as_slice(),
+            info.defs.as_slice(),
+            info.clobbers,
+        ),
+        Inst::CallInd { info } => hand_call(
+            visitor,
+            &[RegUse(info.dest)],
+            info.uses.as_slice(),
+            info.defs.as_slice(),
+            info.clobbers,
+        ),
+        Inst::ReturnCall { info } => hand_return_call(visitor, &[], info.uses.as_slice()),
+        Inst::ReturnCallInd { info } => hand_return_call(
+            visitor,
+            &[RegFixedUse(info.dest, xreg(1))],
+            info.uses.as_slice(),
+        ),
+        _ => unreachable!(),
+    }
+}

@@ -1,0 +1,34 @@
+//! The roles of the registers of an instruction.
+
+ghost use Rattle.std.specs.Prelude.{◌≡◌, ◌≤◌, ◌++◌, OnOk, OnErr};
+ghost use Rattle.a64_roles.specs.Roles.{roles_of};
+ghost use Rattle.a64_roles.specs.Visits.{HasRefused, HasPart};
+
+use crate::call::hand_calling;
+use crate::control::hand_control;
+use crate::memory::hand_memory;
+use crate::plain::hand_plain;
+use crate::sequence::hand_sequence;
+use crate::visitor::OperandVisitor;
+use a64_inst::{Group, Inst};
+use std::alloc::AllocError;
+
+/// Tells a visitor the roles of an instruction.
+///
+/// # Errors
+///
+/// The visitor refused one; it was told those before.
+pub fn hand_operands<V: OperandVisitor>(visitor: &mut V, inst: &Inst) -> Result<(), AllocError>
+    ensures ok { OnOk result (V.told visitor.new ≡ V.told visitor.old ++ roles_of inst.now) }
+    ensures err { OnErr result (HasPart (V.told visitor.old) (V.told visitor.new) (roles_of inst.now)) }
+    ensures rises { V.refusals visitor.old ≤ V.refusals visitor.new }
+    ensures cause { OnErr result (HasRefused (V.refusals visitor.old) (V.refusals visitor.new)) }
+{
+    match inst.group() {
+        Group::Plain(group) => hand_plain(visitor, inst, group),
+        Group::Control => hand_control(visitor, inst),
+        Group::Sequence => hand_sequence(visitor, inst),
+        Group::Call => hand_calling(visitor, inst),
+        Group::Memory => hand_memory(visitor, inst),
+    }
+}

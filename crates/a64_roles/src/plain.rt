@@ -1,0 +1,246 @@
+//! The roles of instructions that are one plain word.
+
+ghost use Rattle.std.specs.Prelude.{◌≡◌, ◌≤◌, ◌++◌, OnOk, OnErr};
+ghost use Rattle.a64_inst.specs.declared.group.Group.TheVariants.{Plain};
+ghost use Rattle.a64_inst.specs.declared.group.PlainGroup.TheVariants.{Float, Immediate, Register, System, Vector, VectorMove};
+ghost use Rattle.a64_inst.specs.Groups.{group_of};
+ghost use Rattle.a64_roles.specs.Roles as roles;
+ghost use Rattle.a64_roles.specs.Lists as lists;
+ghost use Rattle.a64_roles.specs.Roles.{roles_of};
+ghost use Rattle.a64_roles.specs.Visits.{HasRefused, HasPart};
+
+use crate::hand::hand;
+use crate::role::Role;
+use crate::role::Role::{RegDef, RegFixedNonallocatable, RegFixedUse, RegReuseDef, RegUse};
+use crate::visitor::OperandVisitor;
+use a64_base::{Reg, vreg};
+use a64_inst::{
+    Inst, PlainGroup, float_list, immediate_list, register_list, system_list, vector_list,
+    vector_move_list,
+};
+use std::alloc::AllocError;
+
+/// The roles of the fields, which are registers that are written or read, or are no registers.
+macro_rules! hand_fields {
+    ($visitor:expr, $tied:expr; [$($role:expr,)*];) => {
+        hand($visitor, &[$($role),*])
+    };
+    ($visitor:expr, $tied:expr; [$($role:expr,)*]; $field:ident Def $class:tt, $($more:tt)*) => {
+        hand_fields!($visitor, $tied; [$($role,)* result_role($tied, $field.to_reg()),]; $($more)*)
+    };
+    ($visitor:expr, $tied:expr; [$($role:expr,)*]; $field:ident Use $class:tt, $($more:tt)*) => {
+        hand_fields!($visitor, $tied; [$($role,)* RegUse(*$field),]; $($more)*)
+    };
+    ($visitor:expr, $tied:expr; [$($role:expr,)*]; $field:ident Is PReg, $($more:tt)*) => {
+        hand_fields!($visitor, $tied; [$($role,)* RegFixedNonallocatable(*$field),]; $($more)*)
+    };
+    ($visitor:expr, $tied:expr; [$($role:expr,)*]; $field:ident Is $kind:tt, $($more:tt)*) => {
+        hand_fields!($visitor, $tied; [$($role,)*]; $($more)*)
+    };
+}
+
+/// The roles of an instruction of a list, in the order of its fields.
+macro_rules! role_arms {
+    ($visitor:ident, $inst:expr; $($name:ident { $($field:ident: $way:ident $what:tt),* } if $rest:expr;)+) => {
+        match $inst {
+            $(Inst::$name { $($field),* } => {
+                hand_fields!($visitor, is_tied($inst); []; $($field $way $what,)*)
+            })+
+            _ => unreachable!(),
+        }
+    };
+}
+
+/// Whether the result is the register of the operand that is read behind it.
+fn is_tied(inst: &Inst) -> bool
+    ensures { result ≡ roles.is_tied inst.now }
+{
+    matches!(
+        inst,
+        Inst::BitfieldMoveMod { .. }
+            | Inst::FpuRRIMod { .. }
+            | Inst::VecRRRLongMod { .. }
+            | Inst::VecRRRMod { .. }
+            | Inst::VecFmlaElem { .. }
+            | Inst::VecShiftImmMod { .. }
+            | Inst::MovToVec { .. }
+            | Inst::VecMovElement { .. }
+    )
+}
+
+/// The role of a register that is written: the register of the operand behind it, or any.
+fn result_role(tied: bool, reg: Reg) -> Role
+    ensures { result ≡ lists.result_role tied reg }
+{
+    if tied {
+        RegReuseDef(reg, 1)
+    } else {
+        RegDef(reg)
+    }
+}
+
+/// Tells a visitor the roles of an integer operation with an immediate.
+///
+/// # Errors
+///
+/// The visitor refused one; it was told those before.
+fn hand_immediate<V: OperandVisitor>(visitor: &mut V, inst: &Inst) -> Result<(), AllocError>
+    requires { group_of inst.now ≡ Plain Immediate }
+    ensures ok { OnOk result (V.told visitor.new ≡ V.told visitor.old ++ roles_of inst.now) }
+    ensures err { OnErr result (HasPart (V.told visitor.old) (V.told visitor.new) (roles_of inst.now)) }
+    ensures rises { V.refusals visitor.old ≤ V.refusals visitor.new }
+    ensures cause { OnErr result (HasRefused (V.refusals visitor.old) (V.refusals visitor.new)) }
+{
+    match inst {
+        Inst::MovK { rd, rn, .. } => hand(visitor, &[RegUse(*rn), RegReuseDef(rd.to_reg(), 0)]),
+        other => immediate_list!(role_arms, visitor, other),
+    }
+}
+
+/// Tells a visitor the roles of an integer operation on registers.
+///
+/// # Errors
+///
+/// The visitor refused one; it was told those before.
+fn hand_register<V: OperandVisitor>(visitor: &mut V, inst: &Inst) -> Result<(), AllocError>
+    requires { group_of inst.now ≡ Plain Register }
+    ensures ok { OnOk result (V.told visitor.new ≡ V.told visitor.old ++ roles_of inst.now) }
+    ensures err { OnErr result (HasPart (V.told visitor.old) (V.told visitor.new) (roles_of inst.now)) }
+    ensures rises { V.refusals visitor.old ≤ V.refusals visitor.new }
+    ensures cause { OnErr result (HasRefused (V.refusals visitor.old) (V.refusals visitor.new)) }
+{
+    register_list!(role_arms, visitor, inst)
+}
+
+/// Tells a visitor the roles of an operation on scalar floats.
+///
+/// # Errors
+///
+/// The visitor refused one; it was told those before.
+fn hand_float<V: OperandVisitor>(visitor: &mut V, inst: &Inst) -> Result<(), AllocError>
+    requires { group_of inst.now ≡ Plain Float }
+    ensures ok { OnOk result (V.told visitor.new ≡ V.told visitor.old ++ roles_of inst.now) }
+    ensures err { OnErr result (HasPart (V.told visitor.old) (V.told visitor.new) (roles_of inst.now)) }
+    ensures rises { V.refusals visitor.old ≤ V.refusals visitor.new }
+    ensures cause { OnErr result (HasRefused (V.refusals visitor.old) (V.refusals visitor.new)) }
+{
+    float_list!(role_arms, visitor, inst)
+}
+
+/// Tells a visitor the roles of an operation on vectors.
+///
+/// # Errors
+///
+/// The visitor refused one; it was told those before.
+fn hand_vector<V: OperandVisitor>(visitor: &mut V, inst: &Inst) -> Result<(), AllocError>
+    requires { group_of inst.now ≡ Plain Vector }
+    ensures ok { OnOk result (V.told visitor.new ≡ V.told visitor.old ++ roles_of inst.now) }
+    ensures err { OnErr result (HasPart (V.told visitor.old) (V.told visitor.new) (roles_of inst.now)) }
+    ensures rises { V.refusals visitor.old ≤ V.refusals visitor.new }
+    ensures cause { OnErr result (HasRefused (V.refusals visitor.old) (V.refusals visitor.new)) }
+{
+    match inst {
+        Inst::VecRRNarrowLow { rd, rn, .. } => hand(visitor, &[RegUse(*rn), RegDef(rd.to_reg())]),
+        Inst::VecRRNarrowHigh { rd, ri, rn, .. } => hand(
+            visitor,
+            &[RegUse(*rn), RegReuseDef(rd.to_reg(), 2), RegUse(*ri)],
+        ),
+        other => vector_list!(role_arms, visitor, other),
+    }
+}
+
+/// Tells a visitor the roles of a move of lanes or a table of bytes.
+///
+/// # Errors
+///
+/// The visitor refused one; it was told those before.
+fn hand_vector_move<V: OperandVisitor>(visitor: &mut V, inst: &Inst) -> Result<(), AllocError>
+    requires { group_of inst.now ≡ Plain VectorMove }
+    ensures ok { OnOk result (V.told visitor.new ≡ V.told visitor.old ++ roles_of inst.now) }
+    ensures err { OnErr result (HasPart (V.told visitor.old) (V.told visitor.new) (roles_of inst.now)) }
+    ensures rises { V.refusals visitor.old ≤ V.refusals visitor.new }
+    ensures cause { OnErr result (HasRefused (V.refusals visitor.old) (V.refusals visitor.new)) }
+{
+    match inst {
+        Inst::VecTbl { rd, rn, rm } => hand(
+            visitor,
+            &[RegUse(*rn), RegUse(*rm), RegDef(rd.to_reg())],
+        ),
+        Inst::VecTblExt { rd, ri, rn, rm } => hand(
+            visitor,
+            &[
+                RegUse(*rn),
+                RegUse(*rm),
+                RegReuseDef(rd.to_reg(), 3),
+                RegUse(*ri),
+            ],
+        ),
+        Inst::VecTbl2 { rd, rn, rn2, rm } => hand(
+            visitor,
+            &[
+                RegFixedUse(*rn, vreg(30)),
+                RegFixedUse(*rn2, vreg(31)),
+                RegUse(*rm),
+                RegDef(rd.to_reg()),
+            ],
+        ),
+        Inst::VecTbl2Ext {
+            rd,
+            ri,
+            rn,
+            rn2,
+            rm,
+        } => hand(
+            visitor,
+            &[
+                RegFixedUse(*rn, vreg(30)),
+                RegFixedUse(*rn2, vreg(31)),
+                RegUse(*rm),
+                RegReuseDef(rd.to_reg(), 4),
+                RegUse(*ri),
+            ],
+        ),
+        other => vector_move_list!(role_arms, visitor, other),
+    }
+}
+
+/// Tells a visitor the roles of a hint or a barrier.
+///
+/// # Errors
+///
+/// The visitor refused one; it was told those before.
+fn hand_system<V: OperandVisitor>(visitor: &mut V, inst: &Inst) -> Result<(), AllocError>
+    requires { group_of inst.now ≡ Plain System }
+    ensures ok { OnOk result (V.told visitor.new ≡ V.told visitor.old ++ roles_of inst.now) }
+    ensures err { OnErr result (HasPart (V.told visitor.old) (V.told visitor.new) (roles_of inst.now)) }
+    ensures rises { V.refusals visitor.old ≤ V.refusals visitor.new }
+    ensures cause { OnErr result (HasRefused (V.refusals visitor.old) (V.refusals visitor.new)) }
+{
+    system_list!(role_arms, visitor, inst)
+}
+
+/// Tells a visitor the roles of an instruction that is one plain word.
+///
+/// # Errors
+///
+/// The visitor refused one; it was told those before.
+pub fn hand_plain<V: OperandVisitor>(
+    visitor: &mut V,
+    inst: &Inst,
+    group: PlainGroup,
+) -> Result<(), AllocError>
+    requires { group_of inst.now ≡ Plain group }
+    ensures ok { OnOk result (V.told visitor.new ≡ V.told visitor.old ++ roles_of inst.now) }
+    ensures err { OnErr result (HasPart (V.told visitor.old) (V.told visitor.new) (roles_of inst.now)) }
+    ensures rises { V.refusals visitor.old ≤ V.refusals visitor.new }
+    ensures cause { OnErr result (HasRefused (V.refusals visitor.old) (V.refusals visitor.new)) }
+{
+    match group {
+        PlainGroup::Immediate => hand_immediate(visitor, inst),
+        PlainGroup::Register => hand_register(visitor, inst),
+        PlainGroup::Float => hand_float(visitor, inst),
+        PlainGroup::Vector => hand_vector(visitor, inst),
+        PlainGroup::VectorMove => hand_vector_move(visitor, inst),
+        PlainGroup::System => hand_system(visitor, inst),
+    }
+}
