@@ -1,5 +1,5 @@
 -- What is asked of an instruction beside the roles of its registers, and what makes instructions.
-use Rattle.std.specs.Prelude.{ℕ, ◌≡◌, ◌↔◌, ⊤, ⊥, nat_le, nat_lt, Bool, true, false, if◌then◌else◌, IsTrue, List, [], ◌∷◌, ◌×◌, Option, Some, None, is_some}
+use Rattle.std.specs.Prelude.{ℕ, ◌≡◌, ◌↔◌, ⊤, ⊥, nat_eq, nat_le, nat_lt, Bool, true, false, if◌then◌else◌, IsTrue, List, [], ◌∷◌, Option, Some, None, is_some}
 use Rattle.a64_base.specs.declared.convention.CallConv.{CallConv}
 use Rattle.a64_base.specs.declared.convention.CallConv.TheVariants as conventions
 use Rattle.a64_base.specs.declared.entity.MachLabel.{MachLabel}
@@ -120,12 +120,9 @@ block_start _ _ = None
 
 -- ---- classes of registers for types
 
--- the type of lanes of 8 bits with as many bytes as a vector
+-- the type of lanes of 8 bits that is as wide as a vector, in bits
 abbrev pub bytes_type : ℕ → IrType
-bytes_type 16 = I8X2
-bytes_type 32 = I8X4
-bytes_type 64 = I8X8
-bytes_type _ = I8X16
+bytes_type bits = if nat_eq bits 16 then I8X2 else if nat_eq bits 32 then I8X4 else if nat_eq bits 64 then I8X8 else I8X16
 
 -- the classes of the registers in which a value of a type stands, and the types of its parts there
 abbrev pub classes_of : IrType → Option (List RegClass × List IrType)

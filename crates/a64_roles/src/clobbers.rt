@@ -32,10 +32,10 @@ impl ClobberTable {
 }
 
 /// Whether a set has a register of a class, with a number below 32, that another lacks.
+#[tactic(auto, using(crate::proofs::Sets::more_by, crate::proofs::Sets::held_more))]
 fn has_more_of(set: &PRegSet, other: &PRegSet, class: RegClass) -> bool
-    ensures { MatchBool result
-        ((n : ℕ) → n < 32 → has_number set.now class n ≡ true → has_number other.now class n ≡ true)
-        (HasMore set.now other.now) }
+    ensures { MatchBool result (HasMore set.now other.now)
+        ((n : ℕ) → n < 32 → has_number set.now class n ≡ true → has_number other.now class n ≡ true) }
 {
     for number in 0..32 {
         let register = PReg::new(number, class);
@@ -47,10 +47,10 @@ fn has_more_of(set: &PRegSet, other: &PRegSet, class: RegClass) -> bool
 }
 
 /// Whether a set has the stack pointer, and another lacks it.
+#[tactic(auto, using(crate::proofs::Sets::more_by))]
 fn has_more_stack(set: &PRegSet, other: &PRegSet) -> bool
-    ensures { MatchBool result
-        (has_number set.now RegClass.Int 63 ≡ true → has_number other.now RegClass.Int 63 ≡ true)
-        (HasMore set.now other.now) }
+    ensures { MatchBool result (HasMore set.now other.now)
+        (has_number set.now RegClass.Int 63 ≡ true → has_number other.now RegClass.Int 63 ≡ true) }
 {
     let register = PReg::new(63, RegClass::Int);
     set.contains(register) && !other.contains(register)

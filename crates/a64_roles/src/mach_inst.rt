@@ -1,6 +1,6 @@
 //! What register allocation and code generators ask of instructions.
 
-ghost use Rattle.std.specs.Prelude.{ℕ, ◌≡◌, ◌≤◌, ◌×◌, ◌↔◌, ◌⊎◌, Bool, IsTrue, List, [], ◌∷◌, ◌++◌, map, None, Option, Some, OnOk, OnErr, IfOk, IfErr};
+ghost use Rattle.std.specs.Prelude.{ℕ, ◌≡◌, ◌≤◌, ◌↔◌, ◌⊎◌, Bool, IsTrue, List, [], ◌∷◌, ◌++◌, map, None, Option, Some, OnOk, OnErr, IfOk, IfErr};
 ghost use Rattle.a64_base.specs.declared.ir_type.IrType.{IrType};
 ghost use Rattle.a64_base.specs.declared.entity.MachLabel.{MachLabel};
 ghost use Rattle.a64_base.specs.declared.reg.Reg.{Reg};
@@ -69,6 +69,9 @@ pub trait MachInst: Sized {
 
     /// That at the start of a block.
     ghost start: { Bool → Bool → Option Self };
+
+    /// The bytes of an instruction that traps wherever it is reached.
+    const TRAP_OPCODE: &'static [u8];
 
     /// Tells a visitor the roles of the registers, one call a role.
     ///
@@ -194,6 +197,8 @@ impl MachInst for Inst {
     ghost nop = { queries.nop_inst };
 
     ghost start = { queries.block_start };
+
+    const TRAP_OPCODE: &'static [u8] = &[0x1f, 0xc1, 0x00, 0x00];
 
     fn get_operands<V: OperandVisitor>(&self, collector: &mut V) -> Result<(), AllocError> {
         hand_operands(collector, self)
