@@ -1,10 +1,10 @@
 //! The roles of calls, and of returns that call.
 
-ghost use Rattle.std.specs.Prelude.{◌≡◌, ◌≤◌, ◌++◌, OnOk, OnErr};
+ghost use Rattle.std.specs.Prelude.{◌≡◌};
 ghost use Rattle.a64_inst.specs.declared.group.Group.TheVariants.{Call};
 ghost use Rattle.a64_inst.specs.Groups.{group_of};
 ghost use Rattle.a64_roles.specs.Roles.{roles_of};
-ghost use Rattle.a64_roles.specs.Visits.{HasRefused, HasPart};
+ghost use Rattle.a64_roles.specs.Visits.{Tells};
 
 use crate::hand::{hand_call, hand_return_call};
 use crate::role::Role::{RegFixedUse, RegUse};
@@ -20,10 +20,7 @@ use std::alloc::AllocError;
 /// The visitor refused one; it was told those before.
 pub fn hand_calling<V: OperandVisitor>(visitor: &mut V, inst: &Inst) -> Result<(), AllocError>
     requires { group_of inst.now ≡ Call }
-    ensures ok { OnOk result (V.told visitor.new ≡ V.told visitor.old ++ roles_of inst.now) }
-    ensures err { OnErr result (HasPart (V.told visitor.old) (V.told visitor.new) (roles_of inst.now)) }
-    ensures rises { V.refusals visitor.old ≤ V.refusals visitor.new }
-    ensures cause { OnErr result (HasRefused (V.refusals visitor.old) (V.refusals visitor.new)) }
+    ensures { Tells V.told V.refusals visitor.old visitor.new (roles_of inst.now) result }
 {
     match inst {
         Inst::Call { info } => hand_call(

@@ -1,11 +1,11 @@
 //! The roles of control flow, of data and of places for islands.
 
-ghost use Rattle.std.specs.Prelude.{◌≡◌, ◌≤◌, ◌++◌, OnOk, OnErr};
+ghost use Rattle.std.specs.Prelude.{◌≡◌};
 ghost use Rattle.a64_inst.specs.declared.group.Group.TheVariants.{Control};
 ghost use Rattle.a64_inst.specs.Groups.{group_of};
 ghost use Rattle.a64_roles.specs.Roles.{roles_of};
 ghost use Rattle.a64_roles.specs.Lists.{kind_roles};
-ghost use Rattle.a64_roles.specs.Visits.{HasRefused, HasPart};
+ghost use Rattle.a64_roles.specs.Visits.{Tells};
 
 use crate::hand::hand;
 use crate::role::Role::{RegDef, RegUse};
@@ -20,10 +20,7 @@ use std::alloc::AllocError;
 ///
 /// The visitor refused it.
 fn hand_kind<V: OperandVisitor>(visitor: &mut V, kind: CondBrKind) -> Result<(), AllocError>
-    ensures ok { OnOk result (V.told visitor.new ≡ V.told visitor.old ++ kind_roles kind) }
-    ensures err { OnErr result (HasPart (V.told visitor.old) (V.told visitor.new) (kind_roles kind)) }
-    ensures rises { V.refusals visitor.old ≤ V.refusals visitor.new }
-    ensures cause { OnErr result (HasRefused (V.refusals visitor.old) (V.refusals visitor.new)) }
+    ensures { Tells V.told V.refusals visitor.old visitor.new (kind_roles kind) result }
 {
     match kind {
         CondBrKind::Zero(reg, _) | CondBrKind::NotZero(reg, _) => hand(visitor, &[RegUse(reg)]),
@@ -38,15 +35,11 @@ fn hand_kind<V: OperandVisitor>(visitor: &mut V, kind: CondBrKind) -> Result<(),
 /// The visitor refused one; it was told those before.
 pub fn hand_control<V: OperandVisitor>(visitor: &mut V, inst: &Inst) -> Result<(), AllocError>
     requires { group_of inst.now ≡ Control }
-    ensures ok { OnOk result (V.told visitor.new ≡ V.told visitor.old ++ roles_of inst.now) }
-    ensures err { OnErr result (HasPart (V.told visitor.old) (V.told visitor.new) (roles_of inst.now)) }
-    ensures rises { V.refusals visitor.old ≤ V.refusals visitor.new }
-    ensures cause { OnErr result (HasRefused (V.refusals visitor.old) (V.refusals visitor.new)) }
+    ensures { Tells V.told V.refusals visitor.old visitor.new (roles_of inst.now) result }
 {
     match inst {
-        Inst::MovToNZCV { rn }
-        | Inst::TestBitAndBranch { rn, .. }
-        | Inst::IndirectBr { rn, .. } => hand(visitor, &[RegUse(*rn)]),
+        Inst::MovToNZCV { rn } | Inst::TestBitAndBranch { rn, .. } | Inst::IndirectBr { rn, .. } =>
+            hand(visitor, &[RegUse(*rn)]),
         Inst::MovFromNZCV { rd } => hand(visitor, &[RegDef(rd.to_reg())]),
         Inst::LabelAddress { dst, .. } => hand(visitor, &[RegDef(dst.to_reg())]),
         Inst::CondBr { kind, .. } | Inst::TrapIf { kind, .. } => hand_kind(visitor, *kind),

@@ -34,7 +34,7 @@ pub trait MachInst: Sized {
     /// The register that it writes and the one that it reads, where it is a move.
     ghost move_of: { Self → Option (Reg × Reg) };
 
-    /// That what it changes counts among what its function changes.
+    /// That the registers that it changes count among those that its function changes.
     ghost is_included: { ClobberTable → Self → Type 0 };
 
     /// Whether it traps wherever it is reached.
@@ -58,16 +58,16 @@ pub trait MachInst: Sized {
     /// The move of a value between two registers.
     ghost move_inst: { Reg → Reg → IrType → Self };
 
-    /// That which only reads a register.
+    /// The instruction that only reads a register.
     ghost dummy_use: { Reg → Self };
 
     /// The jump to a label.
     ghost jump: { MachLabel → Self };
 
-    /// That which does nothing, of at most so many bytes.
+    /// The instruction that does nothing, of at most so many bytes.
     ghost nop: { ℕ → Self };
 
-    /// That at the start of a block.
+    /// What has to stand at the start of a block.
     ghost start: { Bool → Bool → Option Self };
 
     /// The bytes of an instruction that traps wherever it is reached.
@@ -88,8 +88,9 @@ pub trait MachInst: Sized {
     fn is_move(&self) -> Option<(Writable<Reg>, Reg)>
         ensures { result ≡ move_of self.now };
 
-    /// Whether what it changes counts among what its function changes, by a table of what functions of each
-    /// convention may change.
+    /// Whether the registers that it changes count among those that its function changes, by a table of what
+    /// functions of each convention may change. What a call changes counts only where the function that is
+    /// called may change a register that the caller may not; what `Args` writes never does.
     fn is_included_in_clobbers(&self, table: &ClobberTable) -> bool
         ensures { IsTrue result ↔ is_included table.now self.now };
 
@@ -123,7 +124,7 @@ pub trait MachInst: Sized {
         requires bits { type_bits ty ≤ 128 }
         ensures { result ≡ move_inst to from ty };
 
-    /// That which only reads a register.
+    /// The instruction of no bytes that only reads a register.
     fn gen_dummy_use(reg: Reg) -> Self
         ensures { result ≡ dummy_use reg };
 
@@ -131,13 +132,12 @@ pub trait MachInst: Sized {
     fn gen_jump(target: MachLabel) -> Self
         ensures { result ≡ jump target };
 
-    /// That which does nothing, of 0 bytes, or of as many as the shortest one has where at least 4 are asked
-    /// for.
+    /// The instruction that does nothing: of 0 bytes where 0 are asked for, of 4 bytes where at least 4 are.
     fn gen_nop(preferred_size: usize) -> Self
         requires { (preferred_size ≡ 0) ⊎ (4 ≤ preferred_size) }
         ensures { result ≡ nop preferred_size };
 
-    /// The bytes of that which does nothing, of each length that there is.
+    /// The bytes of each instruction that does nothing, the shortest first, but for that of 0 bytes.
     ///
     /// # Errors
     ///
@@ -145,9 +145,12 @@ pub trait MachInst: Sized {
     fn gen_nop_units(alloc: Global) -> Result<Vec<Vec<u8>>, AllocError>
         ensures { IfOk result (λ units. map (λ unit. unit.items) units.items ≡ (31 ∷ 32 ∷ 3 ∷ 213 ∷ []) ∷ []) };
 
-    /// What stands at the start of a block, where one has to: whether it is jumped to by an address, and
-    /// whether control flow is checked.
-    fn gen_block_start(is_indirect_branch_target: bool, is_forward_edge_cfi_enabled: bool) -> Option<Self>
+    /// What has to stand at the start of a block, where something has to: where the block is jumped to by an
+    /// address, and the settings have such jumps checked.
+    fn gen_block_start(
+        is_indirect_branch_target: bool,
+        is_forward_edge_cfi_enabled: bool,
+    ) -> Option<Self>
         ensures { result ≡ start is_indirect_branch_target is_forward_edge_cfi_enabled };
 
     /// At which multiples of bytes functions begin.
@@ -163,12 +166,11 @@ pub trait MachInst: Sized {
         ensures ok { IfOk result (λ parts. queries.classes_of ty.now ≡ Some (parts.0.now, parts.1.now)) }
         ensures err { OnErr result (queries.classes_of ty.now ≡ None) };
 
-    /// The type of all that a register of a class holds.
+    /// The type of a whole register of a class.
     fn canonical_type_for_rc(rc: RegClass) -> IrType
         ensures { result ≡ queries.canonical_type rc };
 }
 
-/// The words of the instructions that Cranelift has for each query.
 impl MachInst for Inst {
     ghost roles = { roles_of };
 
@@ -308,7 +310,10 @@ impl MachInst for Inst {
         Ok(units)
     }
 
-    fn gen_block_start(is_indirect_branch_target: bool, is_forward_edge_cfi_enabled: bool) -> Option<Inst> {
+    fn gen_block_start(
+        is_indirect_branch_target: bool,
+        is_forward_edge_cfi_enabled: bool,
+    ) -> Option<Inst> {
         if is_indirect_branch_target && is_forward_edge_cfi_enabled {
             Some(Inst::Bti {
                 targets: BranchTargetType::J,
@@ -331,10 +336,7 @@ impl MachInst for Inst {
             IrType::I16 => Ok((&[RegClass::Int], &[IrType::I16])),
             IrType::I32 => Ok((&[RegClass::Int], &[IrType::I32])),
             IrType::I64 => Ok((&[RegClass::Int], &[IrType::I64])),
-            IrType::I128 => Ok((
-                &[RegClass::Int, RegClass::Int],
-                &[IrType::I64, IrType::I64],
-            )),
+            IrType::I128 => Ok((&[RegClass::Int, RegClass::Int], &[IrType::I64, IrType::I64])),
             IrType::F16 => Ok((&[RegClass::Float], &[IrType::F16])),
             IrType::F32 => Ok((&[RegClass::Float], &[IrType::F32])),
             IrType::F64 => Ok((&[RegClass::Float], &[IrType::F64])),

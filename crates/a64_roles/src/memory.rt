@@ -1,12 +1,12 @@
 //! The roles of loads and stores, of addresses and of atomic operations.
 
-ghost use Rattle.std.specs.Prelude.{◌≡◌, ◌≤◌, ◌++◌, OnOk, OnErr};
+ghost use Rattle.std.specs.Prelude.{◌≡◌};
 ghost use Rattle.a64_inst.specs.declared.group.Group.TheVariants.{Memory};
 ghost use Rattle.a64_inst.specs.Groups.{group_of};
 ghost use Rattle.a64_roles.specs.Roles.{roles_of};
 ghost use Rattle.a64_roles.specs.Lists as lists;
 ghost use Rattle.a64_ops.specs.Accesses.{loads};
-ghost use Rattle.a64_roles.specs.Visits.{HasRefused, HasPart};
+ghost use Rattle.a64_roles.specs.Visits.{Tells};
 
 use crate::hand::{hand, hand_mode, hand_pair_mode};
 use crate::role::Role;
@@ -52,10 +52,7 @@ fn hand_pair_swap<V: OperandVisitor>(
     visitor: &mut V,
     args: &AtomicCAS128Args,
 ) -> Result<(), AllocError>
-    ensures ok { OnOk result (V.told visitor.new ≡ V.told visitor.old ++ lists.pair_swap_roles args.now) }
-    ensures err { OnErr result (HasPart (V.told visitor.old) (V.told visitor.new) (lists.pair_swap_roles args.now)) }
-    ensures rises { V.refusals visitor.old ≤ V.refusals visitor.new }
-    ensures cause { OnErr result (HasRefused (V.refusals visitor.old) (V.refusals visitor.new)) }
+    ensures { Tells V.told V.refusals visitor.old visitor.new (lists.pair_swap_roles args.now) result }
 {
     hand(
         visitor,
@@ -77,10 +74,7 @@ fn hand_pair_swap<V: OperandVisitor>(
 ///
 /// The visitor refused one; it was told those before.
 fn hand_access<V: OperandVisitor>(visitor: &mut V, access: &AccessRef<'_>) -> Result<(), AllocError>
-    ensures ok { OnOk result (V.told visitor.new ≡ V.told visitor.old ++ lists.access_roles access.now) }
-    ensures err { OnErr result (HasPart (V.told visitor.old) (V.told visitor.new) (lists.access_roles access.now)) }
-    ensures rises { V.refusals visitor.old ≤ V.refusals visitor.new }
-    ensures cause { OnErr result (HasRefused (V.refusals visitor.old) (V.refusals visitor.new)) }
+    ensures { Tells V.told V.refusals visitor.old visitor.new (lists.access_roles access.now) result }
 {
     hand_mode(visitor, &[moved_role(access.op, access.reg)], access.mem)
 }
@@ -92,10 +86,7 @@ fn hand_access<V: OperandVisitor>(visitor: &mut V, access: &AccessRef<'_>) -> Re
 /// The visitor refused one; it was told those before.
 pub fn hand_memory<V: OperandVisitor>(visitor: &mut V, inst: &Inst) -> Result<(), AllocError>
     requires { group_of inst.now ≡ Memory }
-    ensures ok { OnOk result (V.told visitor.new ≡ V.told visitor.old ++ roles_of inst.now) }
-    ensures err { OnErr result (HasPart (V.told visitor.old) (V.told visitor.new) (roles_of inst.now)) }
-    ensures rises { V.refusals visitor.old ≤ V.refusals visitor.new }
-    ensures cause { OnErr result (HasRefused (V.refusals visitor.old) (V.refusals visitor.new)) }
+    ensures { Tells V.told V.refusals visitor.old visitor.new (roles_of inst.now) result }
 {
     match inst {
         Inst::VecLoadReplicate { rd, rn, .. } => {

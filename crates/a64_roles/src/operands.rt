@@ -1,8 +1,8 @@
 //! The roles of the registers of an instruction.
 
-ghost use Rattle.std.specs.Prelude.{◌≡◌, ◌≤◌, ◌++◌, OnOk, OnErr};
+ghost use Rattle.std.specs.Prelude.{◌≡◌};
 ghost use Rattle.a64_roles.specs.Roles.{roles_of};
-ghost use Rattle.a64_roles.specs.Visits.{HasRefused, HasPart};
+ghost use Rattle.a64_roles.specs.Visits.{Tells};
 
 use crate::call::hand_calling;
 use crate::control::hand_control;
@@ -19,10 +19,7 @@ use std::alloc::AllocError;
 ///
 /// The visitor refused one; it was told those before.
 pub fn hand_operands<V: OperandVisitor>(visitor: &mut V, inst: &Inst) -> Result<(), AllocError>
-    ensures ok { OnOk result (V.told visitor.new ≡ V.told visitor.old ++ roles_of inst.now) }
-    ensures err { OnErr result (HasPart (V.told visitor.old) (V.told visitor.new) (roles_of inst.now)) }
-    ensures rises { V.refusals visitor.old ≤ V.refusals visitor.new }
-    ensures cause { OnErr result (HasRefused (V.refusals visitor.old) (V.refusals visitor.new)) }
+    ensures { Tells V.told V.refusals visitor.old visitor.new (roles_of inst.now) result }
 {
     match inst.group() {
         Group::Plain(group) => hand_plain(visitor, inst, group),

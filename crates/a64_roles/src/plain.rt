@@ -1,13 +1,13 @@
 //! The roles of instructions that are one plain word.
 
-ghost use Rattle.std.specs.Prelude.{◌≡◌, ◌≤◌, ◌++◌, OnOk, OnErr};
+ghost use Rattle.std.specs.Prelude.{◌≡◌};
 ghost use Rattle.a64_inst.specs.declared.group.Group.TheVariants.{Plain};
 ghost use Rattle.a64_inst.specs.declared.group.PlainGroup.TheVariants.{Float, Immediate, Register, System, Vector, VectorMove};
 ghost use Rattle.a64_inst.specs.Groups.{group_of};
 ghost use Rattle.a64_roles.specs.Roles as roles;
 ghost use Rattle.a64_roles.specs.Lists as lists;
 ghost use Rattle.a64_roles.specs.Roles.{roles_of};
-ghost use Rattle.a64_roles.specs.Visits.{HasRefused, HasPart};
+ghost use Rattle.a64_roles.specs.Visits.{Tells};
 
 use crate::hand::hand;
 use crate::role::Role;
@@ -86,10 +86,7 @@ fn result_role(tied: bool, reg: Reg) -> Role
 /// The visitor refused one; it was told those before.
 fn hand_immediate<V: OperandVisitor>(visitor: &mut V, inst: &Inst) -> Result<(), AllocError>
     requires { group_of inst.now ≡ Plain Immediate }
-    ensures ok { OnOk result (V.told visitor.new ≡ V.told visitor.old ++ roles_of inst.now) }
-    ensures err { OnErr result (HasPart (V.told visitor.old) (V.told visitor.new) (roles_of inst.now)) }
-    ensures rises { V.refusals visitor.old ≤ V.refusals visitor.new }
-    ensures cause { OnErr result (HasRefused (V.refusals visitor.old) (V.refusals visitor.new)) }
+    ensures { Tells V.told V.refusals visitor.old visitor.new (roles_of inst.now) result }
 {
     match inst {
         Inst::MovK { rd, rn, .. } => hand(visitor, &[RegUse(*rn), RegReuseDef(rd.to_reg(), 0)]),
@@ -104,10 +101,7 @@ fn hand_immediate<V: OperandVisitor>(visitor: &mut V, inst: &Inst) -> Result<(),
 /// The visitor refused one; it was told those before.
 fn hand_register<V: OperandVisitor>(visitor: &mut V, inst: &Inst) -> Result<(), AllocError>
     requires { group_of inst.now ≡ Plain Register }
-    ensures ok { OnOk result (V.told visitor.new ≡ V.told visitor.old ++ roles_of inst.now) }
-    ensures err { OnErr result (HasPart (V.told visitor.old) (V.told visitor.new) (roles_of inst.now)) }
-    ensures rises { V.refusals visitor.old ≤ V.refusals visitor.new }
-    ensures cause { OnErr result (HasRefused (V.refusals visitor.old) (V.refusals visitor.new)) }
+    ensures { Tells V.told V.refusals visitor.old visitor.new (roles_of inst.now) result }
 {
     register_list!(role_arms, visitor, inst)
 }
@@ -119,10 +113,7 @@ fn hand_register<V: OperandVisitor>(visitor: &mut V, inst: &Inst) -> Result<(), 
 /// The visitor refused one; it was told those before.
 fn hand_float<V: OperandVisitor>(visitor: &mut V, inst: &Inst) -> Result<(), AllocError>
     requires { group_of inst.now ≡ Plain Float }
-    ensures ok { OnOk result (V.told visitor.new ≡ V.told visitor.old ++ roles_of inst.now) }
-    ensures err { OnErr result (HasPart (V.told visitor.old) (V.told visitor.new) (roles_of inst.now)) }
-    ensures rises { V.refusals visitor.old ≤ V.refusals visitor.new }
-    ensures cause { OnErr result (HasRefused (V.refusals visitor.old) (V.refusals visitor.new)) }
+    ensures { Tells V.told V.refusals visitor.old visitor.new (roles_of inst.now) result }
 {
     float_list!(role_arms, visitor, inst)
 }
@@ -134,10 +125,7 @@ fn hand_float<V: OperandVisitor>(visitor: &mut V, inst: &Inst) -> Result<(), All
 /// The visitor refused one; it was told those before.
 fn hand_vector<V: OperandVisitor>(visitor: &mut V, inst: &Inst) -> Result<(), AllocError>
     requires { group_of inst.now ≡ Plain Vector }
-    ensures ok { OnOk result (V.told visitor.new ≡ V.told visitor.old ++ roles_of inst.now) }
-    ensures err { OnErr result (HasPart (V.told visitor.old) (V.told visitor.new) (roles_of inst.now)) }
-    ensures rises { V.refusals visitor.old ≤ V.refusals visitor.new }
-    ensures cause { OnErr result (HasRefused (V.refusals visitor.old) (V.refusals visitor.new)) }
+    ensures { Tells V.told V.refusals visitor.old visitor.new (roles_of inst.now) result }
 {
     match inst {
         Inst::VecRRNarrowLow { rd, rn, .. } => hand(visitor, &[RegUse(*rn), RegDef(rd.to_reg())]),
@@ -156,10 +144,7 @@ fn hand_vector<V: OperandVisitor>(visitor: &mut V, inst: &Inst) -> Result<(), Al
 /// The visitor refused one; it was told those before.
 fn hand_vector_move<V: OperandVisitor>(visitor: &mut V, inst: &Inst) -> Result<(), AllocError>
     requires { group_of inst.now ≡ Plain VectorMove }
-    ensures ok { OnOk result (V.told visitor.new ≡ V.told visitor.old ++ roles_of inst.now) }
-    ensures err { OnErr result (HasPart (V.told visitor.old) (V.told visitor.new) (roles_of inst.now)) }
-    ensures rises { V.refusals visitor.old ≤ V.refusals visitor.new }
-    ensures cause { OnErr result (HasRefused (V.refusals visitor.old) (V.refusals visitor.new)) }
+    ensures { Tells V.told V.refusals visitor.old visitor.new (roles_of inst.now) result }
 {
     match inst {
         Inst::VecTbl { rd, rn, rm } => hand(
@@ -211,10 +196,7 @@ fn hand_vector_move<V: OperandVisitor>(visitor: &mut V, inst: &Inst) -> Result<(
 /// The visitor refused one; it was told those before.
 fn hand_system<V: OperandVisitor>(visitor: &mut V, inst: &Inst) -> Result<(), AllocError>
     requires { group_of inst.now ≡ Plain System }
-    ensures ok { OnOk result (V.told visitor.new ≡ V.told visitor.old ++ roles_of inst.now) }
-    ensures err { OnErr result (HasPart (V.told visitor.old) (V.told visitor.new) (roles_of inst.now)) }
-    ensures rises { V.refusals visitor.old ≤ V.refusals visitor.new }
-    ensures cause { OnErr result (HasRefused (V.refusals visitor.old) (V.refusals visitor.new)) }
+    ensures { Tells V.told V.refusals visitor.old visitor.new (roles_of inst.now) result }
 {
     system_list!(role_arms, visitor, inst)
 }
@@ -230,10 +212,7 @@ pub fn hand_plain<V: OperandVisitor>(
     group: PlainGroup,
 ) -> Result<(), AllocError>
     requires { group_of inst.now ≡ Plain group }
-    ensures ok { OnOk result (V.told visitor.new ≡ V.told visitor.old ++ roles_of inst.now) }
-    ensures err { OnErr result (HasPart (V.told visitor.old) (V.told visitor.new) (roles_of inst.now)) }
-    ensures rises { V.refusals visitor.old ≤ V.refusals visitor.new }
-    ensures cause { OnErr result (HasRefused (V.refusals visitor.old) (V.refusals visitor.new)) }
+    ensures { Tells V.told V.refusals visitor.old visitor.new (roles_of inst.now) result }
 {
     match group {
         PlainGroup::Immediate => hand_immediate(visitor, inst),

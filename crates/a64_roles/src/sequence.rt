@@ -1,10 +1,10 @@
 //! The roles of sequences, and of what only says something of registers.
 
-ghost use Rattle.std.specs.Prelude.{◌≡◌, ◌≤◌, ◌++◌, OnOk, OnErr};
+ghost use Rattle.std.specs.Prelude.{◌≡◌};
 ghost use Rattle.a64_inst.specs.declared.group.Group.TheVariants.{Sequence};
 ghost use Rattle.a64_inst.specs.Groups.{group_of};
 ghost use Rattle.a64_roles.specs.Roles.{rmw_loop_roles, roles_of};
-ghost use Rattle.a64_roles.specs.Visits.{HasRefused, HasPart};
+ghost use Rattle.a64_roles.specs.Visits.{Tells};
 
 use crate::hand::{hand, hand_each};
 use crate::role::Role::{RegDef, RegEarlyDef, RegFixedDef, RegFixedUse, RegUse};
@@ -28,13 +28,13 @@ fn hand_rmw_loop<V: OperandVisitor>(
     scratch1: Reg,
     scratch2: Reg,
 ) -> Result<(), AllocError>
-    ensures ok { OnOk result (V.told visitor.new ≡ V.told visitor.old ++ rmw_loop_roles op addr operand oldval scratch1 scratch2) }
-    ensures err { OnErr result (HasPart (V.told visitor.old) (V.told visitor.new) (rmw_loop_roles op addr operand oldval scratch1 scratch2)) }
-    ensures rises { V.refusals visitor.old ≤ V.refusals visitor.new }
-    ensures cause { OnErr result (HasRefused (V.refusals visitor.old) (V.refusals visitor.new)) }
+    ensures { Tells V.told V.refusals visitor.old visitor.new (rmw_loop_roles op addr operand oldval scratch1 scratch2) result }
 {
     let (addr, operand) = (RegFixedUse(addr, xreg(25)), RegFixedUse(operand, xreg(26)));
-    let (oldval, scratch1) = (RegFixedDef(oldval, xreg(27)), RegFixedDef(scratch1, xreg(24)));
+    let (oldval, scratch1) = (
+        RegFixedDef(oldval, xreg(27)),
+        RegFixedDef(scratch1, xreg(24)),
+    );
     match op {
         AtomicRMWLoopOp::Xchg => hand(visitor, &[addr, operand, oldval, scratch1]),
         _ => {
@@ -51,10 +51,7 @@ fn hand_rmw_loop<V: OperandVisitor>(
 /// The visitor refused one; it was told those before.
 pub fn hand_sequence<V: OperandVisitor>(visitor: &mut V, inst: &Inst) -> Result<(), AllocError>
     requires { group_of inst.now ≡ Sequence }
-    ensures ok { OnOk result (V.told visitor.new ≡ V.told visitor.old ++ roles_of inst.now) }
-    ensures err { OnErr result (HasPart (V.told visitor.old) (V.told visitor.new) (roles_of inst.now)) }
-    ensures rises { V.refusals visitor.old ≤ V.refusals visitor.new }
-    ensures cause { OnErr result (HasRefused (V.refusals visitor.old) (V.refusals visitor.new)) }
+    ensures { Tells V.told V.refusals visitor.old visitor.new (roles_of inst.now) result }
 {
     match inst {
         Inst::Args { args } => hand_each(visitor, args.as_slice()),
@@ -62,7 +59,10 @@ pub fn hand_sequence<V: OperandVisitor>(visitor: &mut V, inst: &Inst) -> Result<
         Inst::DummyUse { reg } => hand(visitor, &[RegUse(*reg)]),
         Inst::SequencePoint => hand(visitor, &[]),
         Inst::JTSequence {
-            ridx, rtmp1, rtmp2, ..
+            ridx,
+            rtmp1,
+            rtmp2,
+            ..
         } => hand(
             visitor,
             &[
