@@ -100,11 +100,13 @@ IsIncludedInClobbers table _ = ⊤
 
 -- ---- instructions that are made
 
--- a move of a value between registers of one class: of an integer register always whole
+-- a move of a value between registers of a class: of an integer register always whole
+abbrev pub class_move : RegClass → Reg → Reg → IrType → Inst
+class_move Int to from ty = insts.Mov Size64 to from
+class_move Float to from ty = if nat_le (type_bits ty) 64 then insts.FpuMove64 to from else insts.FpuMove128 to from
+
 abbrev pub move_inst : Reg → Reg → IrType → Inst
-move_inst to from ty with class_of to
-  | Int = insts.Mov Size64 to from
-  | Float = if nat_le (type_bits ty) 64 then insts.FpuMove64 to from else insts.FpuMove128 to from
+move_inst to from ty = class_move (class_of to) to from ty
 
 abbrev pub jump_inst : MachLabel → Inst
 jump_inst label = insts.Jump (Label label)
