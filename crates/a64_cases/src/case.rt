@@ -178,18 +178,12 @@ impl<'a> Case<'a> {
         }
     }
 
-    /// Whether the command lists the file, and so makes no code.
+    /// Whether the command lists the file or its roles, and so makes no code.
     pub fn lists(&self) -> bool {
         match self.command.first() {
-            Some(word) => word.as_str() == "list",
+            Some(word) => matches!(word.as_str(), "list" | "roles"),
             None => false,
         }
-    }
-
-    /// Sets the command that lists the file.
-    fn list(&mut self, alloc: Global) -> Result<(), Problem> {
-        self.command = command(alloc, "list")?;
-        Ok(())
     }
 
     /// Appends words that are wanted.
@@ -370,17 +364,37 @@ impl<'a> Case<'a> {
         Ok(case)
     }
 
+    /// Takes what a command writes that makes no code, behind one mark, or the line on standard error, behind
+    /// the other. Answers the line of the file, where one of them is there.
+    fn take_listed(
+        &mut self,
+        alloc: Global,
+        line: &'a str,
+        word: &str,
+        marks: (&str, &str),
+    ) -> Result<Option<&'a str>, Problem> {
+        let (done, refused) = marks;
+        let text = if let Some((text, fault)) = line.rsplit_once(refused) {
+            self.fault = Some(fault);
+            text
+        } else if let Some((text, listed)) = line.rsplit_once(done) {
+            self.append_report(alloc, listed, b"\n")?;
+            text
+        } else {
+            return Ok(None);
+        };
+        self.command = command(alloc, word)?;
+        Ok(Some(text))
+    }
+
     /// The case of one line: a line of a file, and behind ` = ` its words, or behind ` ! ` the line on
-    /// standard error; or for `list`, behind ` ~ ` its text, or behind ` ~! ` the line on standard error.
+    /// standard error; or for `list`, behind ` ~ ` its text, or behind ` ~! ` the line on standard error; or
+    /// for `roles`, behind ` @ ` its roles, or behind ` @! ` the line on standard error.
     pub fn of_line(alloc: Global, line: &'a str) -> Result<Case<'a>, Problem> {
         let mut case = Case::new(alloc);
-        let text = if let Some((text, fault)) = line.rsplit_once(" ~! ") {
-            case.list(alloc)?;
-            case.fault = Some(fault);
+        let text = if let Some(text) = case.take_listed(alloc, line, "list", (" ~ ", " ~! "))? {
             text
-        } else if let Some((text, listed)) = line.rsplit_once(" ~ ") {
-            case.list(alloc)?;
-            case.append_report(alloc, listed, b"\n")?;
+        } else if let Some(text) = case.take_listed(alloc, line, "roles", (" @ ", " @! "))? {
             text
         } else if let Some((text, fault)) = line.rsplit_once(" ! ") {
             case.fault = Some(fault);

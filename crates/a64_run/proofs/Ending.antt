@@ -106,5 +106,7 @@ ends_due (Asm force) taken taken' file None fault code w o e = tt
 ends_due (Asm force) taken taken' file (Some text) fault code w o e = text_ends_due (Asm force) taken taken' file text fault code o e
 ends_due commands.List taken taken' file None fault code w o e = tt
 ends_due commands.List taken taken' file (Some text) fault code w o e = text_ends_due commands.List taken taken' file text fault code o e
+ends_due commands.Roles taken taken' file None fault code w o e = tt
+ends_due commands.Roles taken taken' file (Some text) fault code w o e = text_ends_due commands.Roles taken taken' file text fault code o e
 ends_due (Gen count force) taken taken' file left fault code w o e =
     done_always (Gen count force) taken taken' file fault code e (ap (contents_fault (Gen count force)) o ∙ gen_faultless count force w)

@@ -61,5 +61,6 @@ later_faults command file =
 -- where a command finds no fault in a file, it finds none in one item alone
 pub right_faultless : (command : Command) (file : File) → file_fault command file ≡ None → HasNoItemFault command file
 right_faultless commands.List file h = h
+right_faultless commands.Roles file h = tt
 right_faultless (Asm force) file h = first_is_none (own_fault file.frame file.info file.constants file.items.items) (later_faults (Asm force) file) h
 right_faultless (Gen count force) file h = first_is_none (own_fault file.frame file.info file.constants file.items.items) (later_faults (Gen count force) file) h

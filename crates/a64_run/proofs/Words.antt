@@ -91,6 +91,7 @@ only_asm rest (Asm force) (inl h) = absurd (let empty = h.1 in cc)
 only_asm rest (Asm force) (inr h) = record { force = force; is = refl; rest_is = ap (drop 1) h }
 only_asm rest (Gen count force) h = absurd (let first = ap (λ ws. get_or (get_or ws 0 []) 0 0) h.1 in omega arith)
 only_asm rest commands.List h = absurd (let first = ap (λ ws. get_or (get_or ws 0 []) 0 0) h in omega arith)
+only_asm rest commands.Roles h = absurd (let first = ap (λ ws. get_or (get_or ws 0 []) 0 0) h in omega arith)
 
 pub asm_read : (rest : List (List ℕ)) (force : ForceVeneers) → Reads Always force_words rest (Some force) → ReadsCommand (codes "asm" ∷ rest) (Some (Asm force))
 asm_read rest force h =
@@ -116,6 +117,7 @@ only_gen rest (Asm force) (inl h) = absurd (let empty = h.1 in cc)
 only_gen rest (Asm force) (inr h) = absurd (let first = ap (λ ws. get_or (get_or ws 0 []) 0 0) h in omega arith)
 only_gen rest (Gen count force) h = record { count = count; force = force; is = refl; fits = h.0; rest_is = ap (drop 1) h.1 }
 only_gen rest commands.List h = absurd (let first = ap (λ ws. get_or (get_or ws 0 []) 0 0) h in omega arith)
+only_gen rest commands.Roles h = absurd (let first = ap (λ ws. get_or (get_or ws 0 []) 0 0) h in omega arith)
 
 pub gen_read : (token : List ℕ) (rest : List (List ℕ)) (count : ℕ) (force : ForceVeneers) → Reads IsCount decimal token (Some count) → Reads Always force_words rest (Some force) → ReadsCommand (codes "gen" ∷ token ∷ rest) (Some (Gen count force))
 gen_read token rest count force h k =
@@ -164,6 +166,19 @@ only_list rest (Asm force) (inl h) = absurd (let empty = h.1 in cc)
 only_list rest (Asm force) (inr h) = absurd (let first = ap (λ ws. get_or (get_or ws 0 []) 0 0) h in omega arith)
 only_list rest (Gen count force) h = absurd (let first = ap (λ ws. get_or (get_or ws 0 []) 0 0) h.1 in omega arith)
 only_list rest commands.List h = record { is = refl; rest_is = ap (drop 1) h }
+only_list rest commands.Roles h = absurd (let first = ap (λ ws. get_or (get_or ws 0 []) 0 0) h in omega arith)
+
+-- a command whose name is `roles` is that one, and has no words behind the name
+record IsRoles (rest : List (List ℕ)) (command : Command) : Type 0 where
+  is : command ≡ commands.Roles
+  rest_is : rest ≡ []
+
+only_roles : (rest : List (List ℕ)) (command : Command) → IsCommand (codes "roles" ∷ rest) command → IsRoles rest command
+only_roles rest (Asm force) (inl h) = absurd (let empty = h.1 in cc)
+only_roles rest (Asm force) (inr h) = absurd (let first = ap (λ ws. get_or (get_or ws 0 []) 0 0) h in omega arith)
+only_roles rest (Gen count force) h = absurd (let first = ap (λ ws. get_or (get_or ws 0 []) 0 0) h.1 in omega arith)
+only_roles rest commands.List h = absurd (let first = ap (λ ws. get_or (get_or ws 0 []) 0 0) h in omega arith)
+only_roles rest commands.Roles h = record { is = refl; rest_is = ap (drop 1) h }
 
 -- no words are `asm`
 empty_read : ReadsCommand [] (Some (Asm No))
@@ -174,16 +189,19 @@ empty_read = record { some = inl (refl, refl); only = only }
     only (Asm force) (inr h) = absurd cc
     only (Gen count force) h = absurd (let is = h.1 in cc)
     only commands.List h = absurd cc
+    only commands.Roles h = absurd cc
 
 -- another name is no command's
-pub name_unread : (name : List ℕ) (rest : List (List ℕ)) → name ≢ codes "asm" → name ≢ codes "gen" → name ≢ codes "list" → ReadsCommand (name ∷ rest) None
-name_unread name rest no_asm no_gen no_list = record { some = tt; only = only }
+pub name_unread : (name : List ℕ) (rest : List (List ℕ)) → name ≢ codes "asm" → name ≢ codes "gen" → name ≢ codes "list"
+    → name ≢ codes "roles" → ReadsCommand (name ∷ rest) None
+name_unread name rest no_asm no_gen no_list no_roles = record { some = tt; only = only }
   where
     only : (command : Command) → IsCommand (name ∷ rest) command → None ≡ Some command
     only (Asm force) (inl h) = absurd (let empty = h.1 in cc)
     only (Asm force) (inr h) = absurd (no_asm (ap (λ ws. get_or ws 0 []) h))
     only (Gen count force) h = absurd (no_gen (ap (λ ws. get_or ws 0 []) h.1))
     only commands.List h = absurd (no_list (ap (λ ws. get_or ws 0 []) h))
+    only commands.Roles h = absurd (no_roles (ap (λ ws. get_or ws 0 []) h))
 
 -- ---- words as they are held
 
@@ -209,3 +227,12 @@ module _ {A : Type 0} where
   pub list_more : (words : List (String A)) → 1 ≤ length words → ReadsCommand (codes "list" ∷ map string_bytes words) None
   list_more [] h = absurd (omega arith)
   list_more (word ∷ words) h = record { some = tt; only = λ command is. absurd (let rest_is = (only_list (map string_bytes (word ∷ words)) command is).rest_is in cc) }
+
+  -- the words behind `roles`
+  pub roles_alone : (words : List (String A)) → length words < 1 → ReadsCommand (codes "roles" ∷ map string_bytes words) (Some commands.Roles)
+  roles_alone [] h = record { some = refl; only = λ command is. ap (λ c. Some c) (sym (only_roles [] command is).is) }
+  roles_alone (word ∷ words) h = absurd (omega arith)
+
+  pub roles_more : (words : List (String A)) → 1 ≤ length words → ReadsCommand (codes "roles" ∷ map string_bytes words) None
+  roles_more [] h = absurd (omega arith)
+  roles_more (word ∷ words) h = record { some = tt; only = λ command is. absurd (let rest_is = (only_roles (map string_bytes (word ∷ words)) command is).rest_is in cc) }

@@ -9,6 +9,7 @@ use Rattle.a64_assemble.specs.Assembled.{IsAssembled}
 use Rattle.a64_emit.specs.Faults.{own_fault, fault_of}
 use Rattle.a64_emit.specs.ShownFaults.{first_shown_fault}
 use Rattle.a64_print.specs.InstTexts.{listing_of}
+use Rattle.a64_role_lines.specs.RoleLines.{role_listing_of}
 use Rattle.a64_run.specs.declared.command.Command.{Command}
 use Rattle.a64_run.specs.declared.command.Command.TheVariants.{Asm, Gen}
 use Rattle.a64_run.specs.declared.command.Command.TheVariants as commands
@@ -32,12 +33,14 @@ abbrev pub IsCommand : List (List ℕ) → Command → Type 0
 IsCommand words (Asm force) = ((force ≡ No) × (words ≡ [])) ⊎ (words ≡ codes "asm" ∷ force_words force)
 IsCommand words (Gen count force) = IsCount count × (words ≡ codes "gen" ∷ decimal count ∷ force_words force)
 IsCommand words commands.List = words ≡ codes "list" ∷ []
+IsCommand words commands.Roles = words ≡ codes "roles" ∷ []
 
 -- some words may be the command's
 abbrev pub HasWords : Command → Type 0
 HasWords (Asm force) = ⊤
 HasWords (Gen count force) = IsCount count
 HasWords commands.List = ⊤
+HasWords commands.Roles = ⊤
 
 -- no command has these words
 abbrev pub IsNoCommand : List (List ℕ) → Type 0
@@ -52,22 +55,25 @@ abbrev pub reads_source : Command → Bool
 reads_source (Asm force) = true
 reads_source (Gen count force) = false
 reads_source commands.List = true
+reads_source commands.Roles = true
 
 -- whether the command forces islands
 abbrev pub force_of : Command → ForceVeneers
 force_of (Asm force) = force
 force_of (Gen count force) = force
 force_of commands.List = No
+force_of commands.Roles = No
 
 -- the first fault of `assemble` in what a file says
 abbrev pub assembly_fault : Command → Contents → Option EmitError
 assembly_fault command file = fault_of file.frame file.flags file.constants (force_of command) file.items
 
--- the first fault that the command finds in what a file says
+-- the first fault that the command finds in what a file says; `roles` looks for none
 abbrev pub contents_fault : Command → Contents → Option EmitError
 contents_fault (Asm force) file = assembly_fault (Asm force) file
 contents_fault (Gen count force) file = assembly_fault (Gen count force) file
 contents_fault commands.List file = first_shown_fault file.frame file.flags file.constants file.items
+contents_fault commands.Roles file = None
 
 abbrev pub file_fault : Command → File → Option EmitError
 file_fault command file = contents_fault command (contents_of file)
@@ -81,6 +87,7 @@ abbrev pub HasNoItemFault : Command → File → Type 0
 HasNoItemFault (Asm force) file = HasRightItems file
 HasNoItemFault (Gen count force) file = HasRightItems file
 HasNoItemFault commands.List file = file_fault commands.List file ≡ None
+HasNoItemFault commands.Roles file = ⊤
 
 -- the code is that of the file
 abbrev pub IsCodeOf : Command → File → Code → Type 0
@@ -101,12 +108,14 @@ abbrev pub IsInput : Command → Option (List ℕ) → Option (List ℕ) → Fil
 IsInput (Asm force) left left' file = WasRead left left' file
 IsInput (Gen count force) left left' file = contents_of file ≡ gen_file count
 IsInput commands.List left left' file = WasRead left left' file
+IsInput commands.Roles left left' file = WasRead left left' file
 
 -- what the command makes of a file: the code that is kept, if any, and the bytes that are written
 abbrev pub IsOutput : Command → File → Option Code → List ℕ → Type 0
 IsOutput (Asm force) file code output = IsSomeAnd code (λ c. IsCodeOf (Asm force) file c × (output ≡ report_of c))
 IsOutput (Gen count force) file code output = IsSomeAnd code (λ c. IsCodeOf (Gen count force) file c × (output ≡ summary_of (length file.items.items) c))
 IsOutput commands.List file code output = (code ≡ None) × (output ≡ listing_of file.frame file.items.items)
+IsOutput commands.Roles file code output = (code ≡ None) × (output ≡ role_listing_of file.items.items)
 
 -- the same, for a file in which the command finds no fault
 pub record IsMade (command : Command) (file : File) (code : Option Code) (output : List ℕ) : Type 0 where

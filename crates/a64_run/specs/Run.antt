@@ -80,7 +80,7 @@ module _ (command : Command) (left left' : Option (List ℕ)) (taken taken' : Op
   -- written. For `asm`, what was read is a file of items, and the report was written of code in
   -- which the words of each item stand at its place, in order, with only islands between them that no item
   -- runs into and one pool behind them, and each use of a label or constant leads to it. For `list`, it was the listing of such a
-  -- file, of which each item may be shown
+  -- file, of which each item may be shown; for `roles`, the lines of the roles of any such file
   pub record IsDone (file : File) (code : Option Code) : Type 0 where
     pub input : IsInput command left left' file
     pub output : List ℕ
@@ -131,3 +131,4 @@ abbrev pub IsDueAnswer : Command → Option (List ℕ) → Option Fault → Type
 IsDueAnswer (Asm force) left fault = IfSome left (λ text. IsDueForText (Asm force) text fault)
 IsDueAnswer (Gen count force) left fault = IsDueAlways fault
 IsDueAnswer commands.List left fault = IfSome left (λ text. IsDueForText commands.List text fault)
+IsDueAnswer commands.Roles left fault = IfSome left (λ text. IsDueForText commands.Roles text fault)

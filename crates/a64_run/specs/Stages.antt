@@ -103,6 +103,7 @@ abbrev pub IsDueInput : Command → Option (List ℕ) → File → Type 0
 IsDueInput (Asm force) left file = IfSome left (λ text. IsFileOf text file)
 IsDueInput (Gen count force) left file = contents_of file ≡ gen_file count
 IsDueInput commands.List left file = IfSome left (λ text. IsFileOf text file)
+IsDueInput commands.Roles left file = IfSome left (λ text. IsFileOf text file)
 
 -- why a file has no report; want of memory is an answer only where each item is right by itself
 abbrev pub IsAssemblyFault : Command → File → Fault → Type 0

@@ -26,6 +26,8 @@ pub enum Command {
     },
     /// Lists a file of items as assembly text.
     List,
+    /// Lists the roles of the registers in a file of items.
+    Roles,
 }
 
 impl Command {
@@ -35,7 +37,7 @@ impl Command {
     {
         match self {
             Command::Asm(force) | Command::Gen { force, .. } => force,
-            Command::List => ForceVeneers::No,
+            Command::List | Command::Roles => ForceVeneers::No,
         }
     }
 }
@@ -102,6 +104,16 @@ fn read_list(words: &[String]) -> Option<Command>
     }
 }
 
+/// The command `roles`, behind whose name no word stands.
+fn read_roles(words: &[String]) -> Option<Command>
+    ensures { ReadsCommand (codes "roles" ∷ map string_bytes words.now) result }
+{
+    match words {
+        [] => Some(Command::Roles),
+        [_, ..] => None,
+    }
+}
+
 /// The command with this name, of the words behind it.
 fn read_named(name: &str, words: &[String]) -> Option<Command>
     ensures { ReadsCommand (name.now ∷ map string_bytes words.now) result }
@@ -112,6 +124,8 @@ fn read_named(name: &str, words: &[String]) -> Option<Command>
         read_gen(words)
     } else if is_word(name, "list") {
         read_list(words)
+    } else if is_word(name, "roles") {
+        read_roles(words)
     } else {
         None
     }

@@ -153,6 +153,7 @@ pub fn input_of<S: Source>(alloc: Global, command: Command, source: &mut S) -> R
     match command {
         Command::Asm(_) => read_input(alloc, source),
         Command::List => read_input(alloc, source),
+        Command::Roles => read_input(alloc, source),
         Command::Gen { count, .. } => match gen_file(alloc, count) {
             Ok(made) => Ok(made),
             Err(_) => Err(Fault::Memory),

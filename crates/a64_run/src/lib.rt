@@ -20,6 +20,7 @@ mod piece;
 mod ran;
 mod report;
 mod report_lines;
+mod roles;
 mod running;
 mod stream;
 mod summary;

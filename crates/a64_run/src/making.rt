@@ -12,6 +12,7 @@ use crate::output::write_all;
 use crate::piece::Piece;
 use crate::ran::Fault;
 use crate::report::write_report;
+use crate::roles::list_roles;
 use crate::stream::{Failed, Sink};
 use crate::summary::write_summary;
 use a64_emit::Code;
@@ -30,7 +31,7 @@ pub enum Made {
         /// The code.
         code: Code,
     },
-    /// A listing.
+    /// A listing, of items or of the roles of their registers.
     Listing(String),
 }
 
@@ -88,6 +89,10 @@ pub fn make(alloc: Global, command: Command, file: &File) -> Result<Made, Fault>
             Err(fault) => Err(fault),
         },
         Command::List => match list_file(alloc, file) {
+            Ok(text) => Ok(Made::Listing(text)),
+            Err(fault) => Err(fault),
+        },
+        Command::Roles => match list_roles(alloc, file) {
             Ok(text) => Ok(Made::Listing(text)),
             Err(fault) => Err(fault),
         },

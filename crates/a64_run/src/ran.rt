@@ -49,8 +49,8 @@ pub struct Ran {
     /// The file that was read, or, for `gen`, made: where all was written, where a write failed, where
     /// its items are refused, and perhaps at want of memory.
     pub file: Option<File>,
-    /// The code that was assembled: where all was written, and where a write failed, but for `list`, which
-    /// makes none.
+    /// The code that was assembled: where all was written, and where a write failed, but for `list` and
+    /// `roles`, which make none.
     pub code: Option<Code>,
     /// Why the status is not 0.
     pub fault: Option<Fault>,

@@ -136,20 +136,24 @@ fn tell<E: Sink>(errs: &mut E, fault: Fault)
 /// Runs the command that the words are; no word stands for `asm`. `asm` reads a file of items from the
 /// source and writes the report of its code to the sink. `gen` and a number of turns from 1 to 100,000
 /// makes a file of its own, and writes a summary of its code. `force` behind either forces islands. `list`
-/// reads a file of items, and writes each as assembly text, where registers may be virtual.
+/// reads a file of items, and writes each as assembly text, where registers may be virtual. `roles` reads
+/// one too, and writes for each instruction the roles of its registers and the answers to queries; it
+/// refuses no item.
 ///
 /// The answer tells how that ended, by its fault:
 ///
-/// - None: all was written, and nothing is offered to `errs`. The file and its code are kept; `list` makes none.
+/// - None: all was written, and nothing is offered to `errs`. The file and its code are kept; `list` and
+///   `roles` make none.
 /// - [`Fault::Usage`]: the words are no command. Nothing is read, and no memory is taken.
 /// - [`Fault::Read`]: a read failed. It is not tried again.
 /// - [`Fault::TooLong`]: the source holds more than 16,777,216 bytes, and no read failed before.
 /// - [`Fault::Line`]: that line is the first that is no entry.
-/// - [`Fault::Assembly`]: that is the first fault of the file's items. The file is kept.
+/// - [`Fault::Assembly`]: that is the first fault of the file's items; `roles` looks for none. The file is
+///   kept.
 /// - [`Fault::Write`]: a write failed, and is not tried again. The sink has taken a proper prefix of what
 ///   is written of the file that is kept, and of its code where there is one.
 /// - [`Fault::Memory`]: want of memory. Where a file is kept, each item of it is right by itself, or for
-///   `list` may be shown.
+///   `list` may be shown; for `roles` it may be any.
 ///
 /// But for the first, the line of the fault is offered to `errs`. A failed write there changes nothing,
 /// and is not tried again. But for the first and [`Fault::Write`], the sink has taken nothing.
