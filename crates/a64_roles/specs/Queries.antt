@@ -1,5 +1,5 @@
 -- What is asked of an instruction beside the roles of its registers, and what makes instructions.
-use Rattle.std.specs.Prelude.{ℕ, ◌≡◌, ◌↔◌, ⊤, ⊥, nat_eq, nat_le, nat_lt, Bool, true, false, if◌then◌else◌, IsTrue, List, [], ◌∷◌, Option, Some, None, is_some}
+use Rattle.std.specs.Prelude.{ℕ, ◌≡◌, ◌↔◌, ◌||◌, ⊤, nat_eq, nat_le, nat_lt, Bool, true, false, if◌then◌else◌, IsTrue, List, [], ◌∷◌, Option, Some, None, is_some}
 use Rattle.a64_base.specs.declared.convention.CallConv.{CallConv}
 use Rattle.a64_base.specs.declared.convention.CallConv.TheVariants as conventions
 use Rattle.a64_base.specs.declared.entity.MachLabel.{MachLabel}
@@ -67,13 +67,17 @@ term_of (insts.IndirectBr rn targets) = terms.Branch
 term_of (insts.JTSequence default targets ridx rtmp1 rtmp2) = terms.Branch
 term_of _ = terms.None
 
--- the loads and stores of one register, and of pairs of registers but for stores of pairs of vector registers
+-- the loads and stores of pairs of registers, but for stores of pairs of vector registers
+abbrev pub is_pair_access : Inst → Bool
+is_pair_access (insts.LoadP64 rt rt2 mem flags) = true
+is_pair_access (insts.StoreP64 rt rt2 mem flags) = true
+is_pair_access (insts.FpuLoadP64 rt rt2 mem flags) = true
+is_pair_access (insts.FpuLoadP128 rt rt2 mem flags) = true
+is_pair_access _ = false
+
+-- these, and the loads and stores of one register
 abbrev pub is_mem_access : Inst → Bool
-is_mem_access (insts.LoadP64 rt rt2 mem flags) = true
-is_mem_access (insts.StoreP64 rt rt2 mem flags) = true
-is_mem_access (insts.FpuLoadP64 rt rt2 mem flags) = true
-is_mem_access (insts.FpuLoadP128 rt rt2 mem flags) = true
-is_mem_access inst = is_some (access_of inst)
+is_mem_access inst = is_pair_access inst || is_some (access_of inst)
 
 -- ---- registers that calls change
 

@@ -35,62 +35,66 @@ abbrev pub rmw_loop_roles : AtomicRMWLoopOp → Reg → Reg → Reg → Reg → 
 rmw_loop_roles op addr operand oldval scratch1 scratch2 =
     used_in 25 addr ∷ used_in 26 operand ∷ defined_in 27 oldval ∷ defined_in 24 scratch1 ∷ second_scratch_roles op scratch2
 
--- the registers of the others: those of a load's or a store's, or those of the sheet
-abbrev pub other_roles : Option Access → List Role → List Role
-other_roles (Some access) roles = access_roles access
-other_roles None roles = roles
-
-abbrev pub roles_of : Inst → List Role
+-- the roles of all instructions but the loads and stores of one register
+abbrev pub own_roles : Inst → List Role
 -- one plain word, whose operands are told in an order of their own
-roles_of (insts.MovK rd rn imm size) = RegUse rn ∷ RegReuseDef rd 0 ∷ []
-roles_of (insts.VecRRNarrowLow op rd rn lane_size) = RegUse rn ∷ RegDef rd ∷ []
-roles_of (insts.VecRRNarrowHigh op rd ri rn lane_size) = RegUse rn ∷ RegReuseDef rd 2 ∷ RegUse ri ∷ []
-roles_of (insts.VecTbl rd rn rm) = RegUse rn ∷ RegUse rm ∷ RegDef rd ∷ []
-roles_of (insts.VecTblExt rd ri rn rm) = RegUse rn ∷ RegUse rm ∷ RegReuseDef rd 3 ∷ RegUse ri ∷ []
-roles_of (insts.VecTbl2 rd rn rn2 rm) =
+own_roles (insts.MovK rd rn imm size) = RegUse rn ∷ RegReuseDef rd 0 ∷ []
+own_roles (insts.VecRRNarrowLow op rd rn lane_size) = RegUse rn ∷ RegDef rd ∷ []
+own_roles (insts.VecRRNarrowHigh op rd ri rn lane_size) = RegUse rn ∷ RegReuseDef rd 2 ∷ RegUse ri ∷ []
+own_roles (insts.VecTbl rd rn rm) = RegUse rn ∷ RegUse rm ∷ RegDef rd ∷ []
+own_roles (insts.VecTblExt rd ri rn rm) = RegUse rn ∷ RegUse rm ∷ RegReuseDef rd 3 ∷ RegUse ri ∷ []
+own_roles (insts.VecTbl2 rd rn rn2 rm) =
     RegFixedUse rn (float_register 30) ∷ RegFixedUse rn2 (float_register 31) ∷ RegUse rm ∷ RegDef rd ∷ []
-roles_of (insts.VecTbl2Ext rd ri rn rn2 rm) =
+own_roles (insts.VecTbl2Ext rd ri rn rn2 rm) =
     RegFixedUse rn (float_register 30) ∷ RegFixedUse rn2 (float_register 31) ∷ RegUse rm ∷ RegReuseDef rd 4 ∷ RegUse ri ∷ []
 -- control
-roles_of (insts.MovToNZCV rn) = RegUse rn ∷ []
-roles_of (insts.MovFromNZCV rd) = RegDef rd ∷ []
-roles_of (insts.CondBr taken not_taken kind) = kind_roles kind
-roles_of (insts.TestBitAndBranch kind taken not_taken rn bit) = RegUse rn ∷ []
-roles_of (insts.TrapIf kind trap_code) = kind_roles kind
-roles_of (insts.IndirectBr rn targets) = RegUse rn ∷ []
-roles_of (insts.LabelAddress dst label) = RegDef dst ∷ []
+own_roles (insts.MovToNZCV rn) = RegUse rn ∷ []
+own_roles (insts.MovFromNZCV rd) = RegDef rd ∷ []
+own_roles (insts.CondBr taken not_taken kind) = kind_roles kind
+own_roles (insts.TestBitAndBranch kind taken not_taken rn bit) = RegUse rn ∷ []
+own_roles (insts.TrapIf kind trap_code) = kind_roles kind
+own_roles (insts.IndirectBr rn targets) = RegUse rn ∷ []
+own_roles (insts.LabelAddress dst label) = RegDef dst ∷ []
 -- sequences
-roles_of (insts.Args args) = map arg_role args
-roles_of (insts.Rets rets) = map ret_role rets
-roles_of (insts.DummyUse reg) = RegUse reg ∷ []
-roles_of (insts.JTSequence default targets ridx rtmp1 rtmp2) = RegUse ridx ∷ RegEarlyDef rtmp1 ∷ RegEarlyDef rtmp2 ∷ []
-roles_of (insts.LoadExtNameGot rd name) = RegDef rd ∷ []
-roles_of (insts.LoadExtNameNear rd name offset) = RegDef rd ∷ []
-roles_of (insts.LoadExtNameFar rd name offset) = RegDef rd ∷ []
-roles_of (insts.StackProbeLoop start end step) = RegEarlyDef start ∷ RegUse end ∷ []
-roles_of (insts.VecCSel rd rn rm cond) = RegDef rd ∷ RegUse rn ∷ RegUse rm ∷ []
-roles_of (insts.AtomicRMWLoop ty op flags addr operand oldval scratch1 scratch2) =
+own_roles (insts.Args args) = map arg_role args
+own_roles (insts.Rets rets) = map ret_role rets
+own_roles (insts.DummyUse reg) = RegUse reg ∷ []
+own_roles (insts.JTSequence default targets ridx rtmp1 rtmp2) = RegUse ridx ∷ RegEarlyDef rtmp1 ∷ RegEarlyDef rtmp2 ∷ []
+own_roles (insts.LoadExtNameGot rd name) = RegDef rd ∷ []
+own_roles (insts.LoadExtNameNear rd name offset) = RegDef rd ∷ []
+own_roles (insts.LoadExtNameFar rd name offset) = RegDef rd ∷ []
+own_roles (insts.StackProbeLoop start end step) = RegEarlyDef start ∷ RegUse end ∷ []
+own_roles (insts.VecCSel rd rn rm cond) = RegDef rd ∷ RegUse rn ∷ RegUse rm ∷ []
+own_roles (insts.AtomicRMWLoop ty op flags addr operand oldval scratch1 scratch2) =
     rmw_loop_roles op addr operand oldval scratch1 scratch2
-roles_of (insts.AtomicCASLoop ty flags addr expected replacement oldval scratch) =
+own_roles (insts.AtomicCASLoop ty flags addr expected replacement oldval scratch) =
     used_in 25 addr ∷ used_in 26 expected ∷ used_in 28 replacement ∷ defined_in 27 oldval ∷ defined_in 24 scratch ∷ []
 -- calls
-roles_of (insts.Call info) = call_roles [] info.uses info.defs info.clobbers
-roles_of (insts.CallInd info) = call_roles (RegUse info.dest ∷ []) info.uses info.defs info.clobbers
-roles_of (insts.ReturnCall info) = return_call_roles [] info.uses
-roles_of (insts.ReturnCallInd info) = return_call_roles (used_in 1 info.dest ∷ []) info.uses
--- memory, but for the loads and stores of one register
-roles_of (insts.VecLoadReplicate rd rn size flags) = RegDef rd ∷ RegUse rn ∷ []
-roles_of (insts.LoadP64 rt rt2 mem flags) = (RegDef rt ∷ RegDef rt2 ∷ []) ++ pair_mode_roles mem
-roles_of (insts.StoreP64 rt rt2 mem flags) = (RegUse rt ∷ RegUse rt2 ∷ []) ++ pair_mode_roles mem
-roles_of (insts.FpuLoadP64 rt rt2 mem flags) = (RegDef rt ∷ RegDef rt2 ∷ []) ++ pair_mode_roles mem
-roles_of (insts.FpuStoreP64 rt rt2 mem flags) = (RegUse rt ∷ RegUse rt2 ∷ []) ++ pair_mode_roles mem
-roles_of (insts.FpuLoadP128 rt rt2 mem flags) = (RegDef rt ∷ RegDef rt2 ∷ []) ++ pair_mode_roles mem
-roles_of (insts.FpuStoreP128 rt rt2 mem flags) = (RegUse rt ∷ RegUse rt2 ∷ []) ++ pair_mode_roles mem
-roles_of (insts.LoadAddr rd mem) = (RegDef rd ∷ []) ++ mode_roles mem
-roles_of (insts.AtomicRMW ty op rs rt rn flags) = RegUse rs ∷ RegDef rt ∷ RegUse rn ∷ []
-roles_of (insts.AtomicCAS rd rs rt rn ty flags) = RegReuseDef rd 1 ∷ RegUse rs ∷ RegUse rt ∷ RegUse rn ∷ []
-roles_of (insts.AtomicCAS128 args) = pair_swap_roles args
-roles_of (insts.LoadAcquire access_ty rt rn flags) = RegUse rn ∷ RegDef rt ∷ []
-roles_of (insts.StoreRelease access_ty rt rn flags) = RegUse rn ∷ RegUse rt ∷ []
--- the loads and stores of one register, and the other plain words
-roles_of inst = other_roles (access_of inst) (field_roles (is_tied inst) (sheet inst))
+own_roles (insts.Call info) = call_roles [] info.uses info.defs info.clobbers
+own_roles (insts.CallInd info) = call_roles (RegUse info.dest ∷ []) info.uses info.defs info.clobbers
+own_roles (insts.ReturnCall info) = return_call_roles [] info.uses
+own_roles (insts.ReturnCallInd info) = return_call_roles (used_in 1 info.dest ∷ []) info.uses
+-- memory
+own_roles (insts.VecLoadReplicate rd rn size flags) = RegDef rd ∷ RegUse rn ∷ []
+own_roles (insts.LoadP64 rt rt2 mem flags) = (RegDef rt ∷ RegDef rt2 ∷ []) ++ pair_mode_roles mem
+own_roles (insts.StoreP64 rt rt2 mem flags) = (RegUse rt ∷ RegUse rt2 ∷ []) ++ pair_mode_roles mem
+own_roles (insts.FpuLoadP64 rt rt2 mem flags) = (RegDef rt ∷ RegDef rt2 ∷ []) ++ pair_mode_roles mem
+own_roles (insts.FpuStoreP64 rt rt2 mem flags) = (RegUse rt ∷ RegUse rt2 ∷ []) ++ pair_mode_roles mem
+own_roles (insts.FpuLoadP128 rt rt2 mem flags) = (RegDef rt ∷ RegDef rt2 ∷ []) ++ pair_mode_roles mem
+own_roles (insts.FpuStoreP128 rt rt2 mem flags) = (RegUse rt ∷ RegUse rt2 ∷ []) ++ pair_mode_roles mem
+own_roles (insts.LoadAddr rd mem) = (RegDef rd ∷ []) ++ mode_roles mem
+own_roles (insts.AtomicRMW ty op rs rt rn flags) = RegUse rs ∷ RegDef rt ∷ RegUse rn ∷ []
+own_roles (insts.AtomicCAS rd rs rt rn ty flags) = RegReuseDef rd 1 ∷ RegUse rs ∷ RegUse rt ∷ RegUse rn ∷ []
+own_roles (insts.AtomicCAS128 args) = pair_swap_roles args
+own_roles (insts.LoadAcquire access_ty rt rn flags) = RegUse rn ∷ RegDef rt ∷ []
+own_roles (insts.StoreRelease access_ty rt rn flags) = RegUse rn ∷ RegUse rt ∷ []
+-- the other plain words: those of their sheets, in the order of the fields
+own_roles inst = field_roles (is_tied inst) (sheet inst)
+
+-- the roles of an instruction that is a load or a store of one register, or else has roles of its own
+abbrev pub roles_or : Option Access → List Role → List Role
+roles_or (Some access) roles = access_roles access
+roles_or None roles = roles
+
+abbrev pub roles_of : Inst → List Role
+roles_of inst = roles_or (access_of inst) (own_roles inst)

@@ -171,6 +171,19 @@ pub trait MachInst: Sized {
         ensures { result ≡ queries.canonical_type rc };
 }
 
+/// Whether it loads or stores a pair of registers; stores of pairs of vector registers do not count.
+fn is_pair_access(inst: &Inst) -> bool
+    ensures { result ≡ queries.is_pair_access inst.now }
+{
+    matches!(
+        inst,
+        Inst::LoadP64 { .. }
+            | Inst::StoreP64 { .. }
+            | Inst::FpuLoadP64 { .. }
+            | Inst::FpuLoadP128 { .. }
+    )
+}
+
 impl MachInst for Inst {
     ghost roles = { roles_of };
 
@@ -265,13 +278,7 @@ impl MachInst for Inst {
     }
 
     fn is_mem_access(&self) -> bool {
-        match self {
-            Inst::LoadP64 { .. }
-            | Inst::StoreP64 { .. }
-            | Inst::FpuLoadP64 { .. }
-            | Inst::FpuLoadP128 { .. } => true,
-            other => other.access_ref().is_some(),
-        }
+        is_pair_access(self) || self.access_ref().is_some()
     }
 
     fn gen_move(to: Writable<Reg>, from: Reg, ty: IrType) -> Inst {
