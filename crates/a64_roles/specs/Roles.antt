@@ -88,7 +88,7 @@ own_roles (insts.AtomicCAS rd rs rt rn ty flags) = RegReuseDef rd 1 ∷ RegUse r
 own_roles (insts.AtomicCAS128 args) = pair_swap_roles args
 own_roles (insts.LoadAcquire access_ty rt rn flags) = RegUse rn ∷ RegDef rt ∷ []
 own_roles (insts.StoreRelease access_ty rt rn flags) = RegUse rn ∷ RegUse rt ∷ []
--- the other plain words: those of their sheets, in the order of the fields
+-- the others: the registers among the fields of their sheets, in their order; what has no sheet has none
 own_roles inst = field_roles (is_tied inst) (sheet inst)
 
 -- the roles of an instruction that is a load or a store of one register, or else has roles of its own
