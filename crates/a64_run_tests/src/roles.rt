@@ -129,10 +129,12 @@ fn trap_opcode() -> &'static [u8]
 #[test]
 fn types_have_registers(rt: HostRuntime) -> Result<(), Fail> {
     assert!(rt; Inst::rc_for_type(&IrType::I8X32).is_err());
-    assert!(rt; matches!(
-        Inst::rc_for_type(&IrType::I16X4),
-        Ok(([RegClass::Float], [IrType::I8X8]))
-    ));
+    assert!(rt;
+        matches!(
+            Inst::rc_for_type(&IrType::I16X4),
+            Ok(([RegClass::Float], [IrType::I8X8]))
+        )
+    );
     assert_eq!(rt; trap_opcode(), [0x1f, 0xc1, 0x00, 0x00].as_slice());
     let units = Inst::gen_nop_units(rt.alloc())?;
     assert_eq!(rt; units.len(), 1);
