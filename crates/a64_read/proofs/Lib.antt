@@ -28,6 +28,7 @@ pub mod Lists
 pub mod CommaPairs
 pub mod RegisterSets
 pub mod Bytes
+pub mod Words
 pub mod Wides
 pub mod MovImmReads
 pub mod PairReads

@@ -1,5 +1,5 @@
 -- The texts of bytes: hexadecimal digits, in order.
-use Rattle.std.specs.Prelude.{ℕ, ◌<◌, ◌+◌, ◌/◌, ◌%◌, nat_lt, if◌then◌else◌, List, [], ◌∷◌}
+use Rattle.std.specs.Prelude.{ℕ, ◌<◌, ◌+◌, ◌/◌, ◌%◌, ◌^◌, nat_lt, if◌then◌else◌, List, [], ◌∷◌, map}
 use Rattle.std.specs.List.{AllByRecursion}
 use Rattle.a64_read.specs.Reads.{IsU8}
 
@@ -22,3 +22,7 @@ hex_text (byte ∷ bytes) = hex_digit (byte / 16) ∷ hex_digit (byte % 16) ∷ 
 
 abbrev pub AreBytes : List ℕ → Type 0
 AreBytes bytes = AllByRecursion IsU8 bytes
+
+-- a word as eight hexadecimal digits, the highest first
+abbrev pub hex_word : ℕ → List ℕ
+hex_word word = map (λ k. hex_digit (word / 16 ^ k % 16)) (7 ∷ 6 ∷ 5 ∷ 4 ∷ 3 ∷ 2 ∷ 1 ∷ 0 ∷ [])

@@ -1,5 +1,5 @@
 -- Texts, cut into lines and tokens.
-use Rattle.std.specs.Prelude.{ℕ, ◌≡◌, ◌==◌, List, [], ◌∷◌, ◌++◌, Option, Some, None}
+use Rattle.std.specs.Prelude.{ℕ, ◌≡◌, ◌==◌, Bool, true, List, [], ◌∷◌, ◌++◌, Option, Some, None}
 use Rattle.std.specs.List.{slice_split}
 use Rattle.std.proofs.Common.{Bor}
 
@@ -7,6 +7,11 @@ use Rattle.std.proofs.Common.{Bor}
 -- means nothing
 abbrev pub lines_of : List ℕ → List (List ℕ)
 lines_of bytes = slice_split (λ b. b == 10) bytes
+
+-- an empty line, and one that begins with a semicolon, mean nothing
+abbrev pub is_blank : List ℕ → Bool
+is_blank [] = true
+is_blank (b ∷ bytes) = b == 59
 
 -- the first of some lines, and the others. There always is one
 abbrev pub first : List (List ℕ) → List ℕ

@@ -1,8 +1,8 @@
 //! Reads bytes in hexadecimal digits.
 
 ghost use Rattle.std.specs.Prelude.{IfOk};
-ghost use Rattle.a64_read.specs.Hex.{hex_digit, IsDigit, byte_digits, hex_text, AreBytes};
-ghost use Rattle.a64_read.specs.Reads.{Reads, IsU8};
+ghost use Rattle.a64_read.specs.Hex.{hex_digit, hex_word, IsDigit, byte_digits, hex_text, AreBytes};
+ghost use Rattle.a64_read.specs.Reads.{Reads, IsU8, IsU32};
 
 use a64_list::ListVec;
 use std::alloc::{AllocError, Global};
@@ -30,6 +30,33 @@ fn byte_of(high: u8, low: u8) -> Option<u8>
         return None;
     };
     Some(above * 16 + below)
+}
+
+/// The word that the eight digits are, the highest first.
+#[tactic(auto, using(crate::proofs::Words::no_length, crate::proofs::Words::no_first, crate::proofs::Words::no_second, crate::proofs::Words::no_third, crate::proofs::Words::no_fourth, crate::proofs::Words::all_four))]
+pub fn read_word(token: &[u8]) -> Option<u32>
+    ensures { Reads IsU32 hex_word token.now result }
+{
+    match token {
+        [a, b, c, d, e, f, g, h] => {
+            let Some(first) = byte_of(*a, *b) else {
+                return None;
+            };
+            let Some(second) = byte_of(*c, *d) else {
+                return None;
+            };
+            let Some(third) = byte_of(*e, *f) else {
+                return None;
+            };
+            let Some(fourth) = byte_of(*g, *h) else {
+                return None;
+            };
+            let upper = u32::from(first) * 0x100 + u32::from(second);
+            let lower = u32::from(third) * 0x100 + u32::from(fourth);
+            Some(upper * 0x1_0000 + lower)
+        }
+        _ => None,
+    }
 }
 
 /// The bytes that the digits are.

@@ -2,7 +2,8 @@
 
 ghost use Rattle.std.specs.Prelude.{◌≡◌, ◌==◌, ◌<◌, [], ◌∷◌, length, MatchOption};
 ghost use Rattle.std.specs.List.{slice_split};
-ghost use Rattle.a64_read.specs.Splitting.{line_tokens, lines_behind, IsCut};
+ghost use Rattle.a64_read.specs.Splitting as Splitting;
+ghost use Rattle.a64_read.specs.Splitting.{first_line, line_tokens, lines_behind, IsCut};
 ghost use Rattle.a64_read.specs.Fronts.{first_set, IsPlainTo, EndsAt};
 
 use std::simd::prelude::*;
@@ -19,6 +20,17 @@ pub struct CutToken<'t> {
     pub more: Option<&'t [u8]>,
     /// The lines behind the token's line, where the token is the last of its line and there are any.
     pub lines: Option<&'t [u8]>,
+}
+
+/// Whether the first line means nothing: it is empty, or begins with a semicolon.
+#[inline(always)]
+pub fn is_blank(text: &[u8]) -> bool
+    ensures { result ≡ Splitting.is_blank (first_line text.now) }
+{
+    match text {
+        [] => true,
+        [first, ..] => *first == b'\n' || *first == b';',
+    }
 }
 
 /// The part before the first separator, and what comes after it, where there is one.

@@ -2,7 +2,7 @@
 use Rattle.std.proofs.Common.{◌≡◌, ℕ, ◌+◌, ◌*◌, ◌/◌, ◌%◌, ◌^◌, ◌<◌, ◌++◌, get_or, refl, arith}
 use Rattle.a64_run.proofs.DigitPairs.{pair_at}
 use Rattle.a64_run.specs.declared.line.TheConstants.{HEX_PAIRS}
-use Rattle.a64_run.specs.Report.{hex_word}
+use Rattle.a64_read.specs.Hex.{hex_word}
 use Rattle.a64_run.specs.Stages.{hex_pair}
 use Rattle.a64_read.specs.Hex.{hex_digit}
 

@@ -15,7 +15,8 @@ use Rattle.a64_inst.specs.declared.item.Item.TheVariants.{Bind, Emit}
 use Rattle.a64_inst.specs.declared.mode.AMode.TheVariants.{Const}
 use Rattle.a64_emit.specs.declared.code.Code.{Code}
 use Rattle.a64_text.specs.States.{Contents, default_frame, default_flags}
-use Rattle.a64_run.specs.Report.{hex_word, words_in, line_of_one}
+use Rattle.a64_run.specs.Report.{words_in, line_of_one}
+use Rattle.a64_read.specs.Hex.{hex_word}
 
 -- the label with this number
 abbrev pub label_at : ℕ → MachLabel

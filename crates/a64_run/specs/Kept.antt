@@ -3,7 +3,8 @@ use Rattle.std.specs.Prelude.{ℕ, ◌≡◌, ◌+◌, ◌/◌, ◌%◌, ◌^◌
 use Rattle.std.specs.Fmt.{decimal}
 use Rattle.std.specs.List.{flat_map, enumerate_from}
 use Rattle.a64_run.specs.declared.hundred.Hundred.{Hundred}
-use Rattle.a64_run.specs.Report.{hex_word, item_line, word_line, words_in}
+use Rattle.a64_run.specs.Report.{item_line, word_line, words_in}
+use Rattle.a64_read.specs.Hex.{hex_word}
 
 -- the two digits of a number below 100
 abbrev pub last_digits : ℕ → List ℕ

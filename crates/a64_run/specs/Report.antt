@@ -1,5 +1,5 @@
 -- The report of assembled code.
-use Rattle.std.specs.Prelude.{ℕ, ℤ, ◌*◌, ◌/◌, ◌%◌, ◌^◌, List, [], ◌∷◌, ◌++◌, map, codes}
+use Rattle.std.specs.Prelude.{ℕ, ℤ, ◌*◌, List, [], ◌∷◌, ◌++◌, map, codes}
 use Rattle.std.specs.Int.{w32, from_le_bytes}
 use Rattle.std.specs.List.{flat_map, enumerate_from}
 use Rattle.std.specs.Fmt.{decimal, signed_decimal}
@@ -10,11 +10,7 @@ use Rattle.a64_base.specs.declared.entity.Reloc.TheVariants.{Arm64Call, Abs8, Aa
 use Rattle.a64_base.specs.declared.entity.TrapCode.{TrapCode}
 use Rattle.a64_base.specs.declared.entity.UserStackMap.{UserStackMap}
 use Rattle.a64_emit.specs.declared.code.Code.{Code}
-use Rattle.a64_read.specs.Hex.{hex_digit}
-
--- a word as eight hexadecimal digits, the highest first
-abbrev pub hex_word : ℕ → List ℕ
-hex_word word = map (λ k. hex_digit (word / 16 ^ k % 16)) (7 ∷ 6 ∷ 5 ∷ 4 ∷ 3 ∷ 2 ∷ 1 ∷ 0 ∷ [])
+use Rattle.a64_read.specs.Hex.{hex_word}
 
 -- the words of code, each with its least byte first
 abbrev pub words_in : List ℕ → List ℕ

@@ -6,7 +6,7 @@
 
 ghost use Rattle.std.specs.Prelude.{◌≡◌, ◌+◌, ◌≤◌, ◌++◌, drop, take, length};
 ghost use Rattle.std.specs.Fmt.{decimal, signed_decimal};
-ghost use Rattle.a64_run.specs.Report.{hex_word};
+ghost use Rattle.a64_read.specs.Hex.{hex_word};
 ghost use Rattle.a64_run.specs.Stages.{hex_pair};
 
 use itoa::write_digits;

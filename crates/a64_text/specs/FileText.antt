@@ -1,16 +1,11 @@
 -- When bytes are a file, and which line is the first that is no entry.
-use Rattle.std.specs.Prelude.{◌≡◌, ◌==◌, ℕ, ◌+◌, Bool, true, false, not, List, [], ◌∷◌, ◌++◌, length, map, filter}
+use Rattle.std.specs.Prelude.{◌≡◌, ℕ, ◌+◌, false, not, List, ◌∷◌, ◌++◌, length, map, filter}
 use Rattle.std.specs.List.{AllByRecursion}
 use Rattle.a64_text.specs.declared.entry.Entry.{Entry}
 use Rattle.a64_text.specs.declared.file.File.{File}
 use Rattle.a64_text.specs.States.{contents_of, State, start, MayStand, Chain}
-use Rattle.a64_read.specs.Splitting.{lines_of}
+use Rattle.a64_read.specs.Splitting.{is_blank, lines_of}
 use Rattle.a64_text.specs.Tokens.{line_of, IsEntry}
-
--- an empty line, and one that begins with a semicolon, mean nothing
-abbrev pub is_blank : List ℕ → Bool
-is_blank [] = true
-is_blank (b ∷ bytes) = b == 59
 
 abbrev pub meaningful : List (List ℕ) → List (List ℕ)
 meaningful lines = filter (λ line. not (is_blank line)) lines

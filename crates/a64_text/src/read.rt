@@ -2,10 +2,8 @@
 
 ghost use Rattle.std.specs.Prelude.{◌≡◌, ◌≤◌, ◌+◌, length, map, Some, IfOk, OnOk};
 ghost use Rattle.a64_text.specs.States.{contents_of, said, IsSized};
-ghost use Rattle.a64_text.specs.FileText as FileText;
 ghost use Rattle.a64_text.specs.declared.name.Name.TheVariants as names;
 ghost use Rattle.a64_text.specs.Names.{kinds_of, names_inst};
-ghost use Rattle.a64_read.specs.Splitting.{first_line};
 ghost use Rattle.a64_read.specs.Values.{kind_of};
 ghost use Rattle.a64_text.specs.AddsLine.{AddsName, AddsEntry, AddsMade, AddsNamed, AddsLine, IsBehindRestore, PopsInst, RestoresLast};
 ghost use Rattle.a64_text.specs.Reading.{Answers};
@@ -26,7 +24,7 @@ use crate::settings::{set_emit_flag, set_frame_field};
 use crate::state::{ReaderState, start_state};
 use a64_inst::{Inst, Item};
 use a64_read::line::read_line;
-use a64_read::split::cut;
+use a64_read::split::{cut, is_blank};
 use a64_read::value::Value;
 use arrayvec::ArrayVec;
 use std::alloc::{AllocError, Global};
@@ -34,17 +32,6 @@ use std::collections::BTreeSet;
 
 /// The fields of an entry: a name has few of them.
 type Fields<'t> = ArrayVec<Value<'t>, 12>;
-
-/// Whether the first line means nothing.
-#[inline(always)]
-fn is_blank(text: &[u8]) -> bool
-    ensures { result ≡ FileText.is_blank (first_line text.now) }
-{
-    match text {
-        [] => true,
-        [first, ..] => *first == b'\n' || *first == b';',
-    }
-}
 
 /// Adds the name to those that were given. False: it was given before.
 #[inline(always)]
