@@ -178,10 +178,10 @@ impl<'a> Case<'a> {
         }
     }
 
-    /// Whether the command lists the file or its roles, and so makes no code.
+    /// Whether the command lists something, audits words or reads them, and so makes no code.
     pub fn lists(&self) -> bool {
         match self.command.first() {
-            Some(word) => matches!(word.as_str(), "list" | "roles"),
+            Some(word) => matches!(word.as_str(), "list" | "roles" | "audit" | "dis" | "undis"),
             None => false,
         }
     }

@@ -33,8 +33,9 @@ fn judge_line(
 
 /// Holds what is kept of a run against what is wanted.
 fn judge_kept(alloc: Global, outcome: &Outcome, wanted: &Wanted<'_>) -> Result<(), Problem> {
-    let has_file = outcome.ran.file.is_some();
-    let has_code = outcome.ran.code.is_some();
+    let ran = &outcome.ran;
+    let has_file = ran.file.is_some() || ran.audit.is_some() || ran.shown.is_some();
+    let has_code = ran.code.is_some();
     same_number(
         alloc,
         "whether the file is kept",

@@ -77,7 +77,7 @@ pub struct Wanted<'a> {
     pub absent: &'a [&'a str],
     /// How many lines the report has of some kinds.
     pub counts: &'a [Count<'a>],
-    /// Whether the file or its roles are listed, so that there is no code.
+    /// Whether the command makes no code.
     pub lists: bool,
 }
 
@@ -111,7 +111,7 @@ impl<'a> Wanted<'a> {
         }
     }
 
-    /// A run whose write is to fail when the sink has taken these bytes, and that lists something or makes code.
+    /// A run whose write is to fail when the sink has taken these bytes, and that makes no code or some.
     pub fn cut_off(taken: &'a [u8], lists: bool) -> Wanted<'a> {
         Wanted {
             report: Some(taken),

@@ -1,120 +1,248 @@
--- What is answered for the bytes of a file, from what reading them answers.
-use Rattle.std.proofs.Common.{◌≡◌, ℕ, ◌+◌, ◌≤◌, List, length, refl, sym, ap, ◌∙◌, subst, inl, inr, arith, Option, None, Some, IfSome, Result, Ok, Err, IfOk, IfErr}
+-- What is answered for bytes, from what reading them answers.
+use Rattle.std.proofs.Common.{◌≡◌, ℕ, ◌+◌, ◌<◌, ◌≤◌, List, [], length, refl, sym, ap, ◌∙◌, subst, inl, inr, arith, Option, None, Some, IfSome, Result, Ok, Err, IfOk, IfErr}
+use Rattle.a64_audit.specs.declared.file.AuditFile.{AuditFile}
+use Rattle.a64_audit.specs.Entries as Audit
+use Rattle.a64_formtext.specs.declared.file.ShownFile.{ShownFile}
+use Rattle.a64_formtext.specs.Shown as Shown
+use Rattle.a64_lines.specs.declared.error.LinesError.TheVariants as line_errors
+use Rattle.a64_lines.specs.Lines as Lines
 use Rattle.a64_text.specs.declared.file.File.{File}
 use Rattle.a64_text.specs.declared.file.FileError.TheVariants.{BadLine}
+use Rattle.a64_text.specs.Reading.{Answers}
+use Rattle.a64_run.specs.declared.command.Command.{Command}
+use Rattle.a64_run.specs.declared.command.Command.TheVariants.{Asm, Gen}
+use Rattle.a64_run.specs.declared.command.Command.TheVariants as commands
+use Rattle.a64_run.specs.declared.command.Format.{Format}
+use Rattle.a64_run.specs.declared.command.Format.TheVariants as formats
+use Rattle.a64_run.specs.declared.input.Input.{Input}
+use Rattle.a64_run.specs.declared.input.Input.TheVariants as inputs
 use Rattle.a64_run.specs.declared.ran.Fault.{Fault}
 use Rattle.a64_run.specs.declared.ran.Fault.TheVariants as faults
-use Rattle.a64_text.specs.FileText.{IsFile, IsFirstBad}
-use Rattle.a64_text.specs.Reading.{Answers}
-use Rattle.a64_run.specs.Commands.{limit, WasRead}
-use Rattle.a64_run.specs.Run.{Held, FailsOnlyAt}
-use Rattle.a64_run.specs.Stages.{IsWhole, IsFileOf, IsTextDue, IsParsed, IsTextFault, IsInputFault}
+use Rattle.a64_buffer.specs.declared.force.ForceVeneers.{ForceVeneers}
+use Rattle.a64_run.specs.Commands.{limit, works_on, format_of, reads_source, IsText, IsFirstBad, IsGenFile, IsInput, WasRead}
+use Rattle.a64_run.specs.Run.{Held, FailsOnlyAt, IsDueAnswer}
+use Rattle.a64_run.specs.Stages.{IsWhole, IsLike, IsInputOf, IsDueInput, IsTextDue, IsParsed, IsTextFault, IsInputFault}
 
-pub parsed_file : (bytes : List ℕ) (file : File) → length bytes ≤ limit → Answers bytes (Ok file) → length file.items.items ≤ length bytes + 1 → IsParsed bytes (Ok file)
-parsed_file bytes file l a few =
-    record {
-      ok = a.ok;
-      items = omega arith;
-      held = tt;
-      cause = tt;
-      due_ok = record {
-        short = l;
-        good = λ n bad. a.only_bad n bad;
-        same = λ other f. f.holds ∙ sym (a.only_ok f.es f.state f.written f.chain);
-      };
-      due_err = tt;
-    }
+-- ---- bytes in a format
 
-pub parsed_line : (bytes : List ℕ) (n : ℕ) → length bytes ≤ limit → Answers bytes (Err (BadLine n)) → IsParsed bytes (Err (faults.Line n))
-parsed_line bytes n l a = record {
+-- bytes with a bad line
+bad_line : (format : Format) (bytes : List ℕ) (n : ℕ) → length bytes ≤ limit → IsFirstBad format bytes n → ((m : ℕ) → IsFirstBad format bytes m → n ≡ m)
+    → ((other : Input) → format_of other ≡ format → IsText bytes other → ⊥) → IsParsed format bytes (Err (faults.Line n))
+bad_line format bytes n l bad one never = record {
+  kind = tt;
   ok = tt;
-  items = tt;
-  held = (l, a.bad);
+  few = tt;
+  held = (l, bad);
   cause = tt;
   due_ok = tt;
-  due_err = λ command. record {
+  due_err = λ command works. record {
     too_long = λ h. absurd (omega arith);
-    bad_line = λ m h bad. inl (ap (λ k. Some (faults.Line k)) (a.only_bad m bad));
-    refused = λ file error h f e. absurd (a.only_ok f.es f.state f.written f.chain);
-    done = λ file h f e. absurd (a.only_ok f.es f.state f.written f.chain);
+    bad_line = λ m h other. inl (ap (λ k. Some (faults.Line k)) (one m (subst (λ (f : Format). IsFirstBad f bytes m) works other)));
+    refused = λ input first h kind is f. absurd (never input (kind ∙ works) is);
+    done = λ input h kind is f. absurd (never input (kind ∙ works) is);
   };
 }
+
+pub parsed_items : (bytes : List ℕ) (file : File) → length bytes ≤ limit → Answers bytes (Ok file) → length file.items.items ≤ length bytes + 1 → IsParsed formats.Items bytes (Ok (inputs.Items file))
+parsed_items bytes file l a few = record {
+  kind = refl;
+  ok = a.ok;
+  few = omega arith;
+  held = tt;
+  cause = tt;
+  due_ok = record { short = l; good = λ n bad. a.only_bad n bad; same = same };
+  due_err = tt;
+}
+  where
+    same : (other : Input) → format_of other ≡ formats.Items → IsText bytes other → IsLike other (inputs.Items file)
+    same (inputs.Items other) kind f = f.holds ∙ sym (a.only_ok f.es f.state f.written f.chain)
+    same (inputs.Words other) kind f = absurd cc
+    same (inputs.Listing other) kind f = absurd cc
+
+pub bad_items : (bytes : List ℕ) (n : ℕ) → length bytes ≤ limit → Answers bytes (Err (BadLine n)) → IsParsed formats.Items bytes (Err (faults.Line n))
+bad_items bytes n l a = bad_line formats.Items bytes n l a.bad (λ m bad. a.only_bad m bad) never
+  where
+    never : (other : Input) → format_of other ≡ formats.Items → IsText bytes other → ⊥
+    never (inputs.Items other) kind f = a.only_ok f.es f.state f.written f.chain
+    never (inputs.Words other) kind f = absurd cc
+    never (inputs.Listing other) kind f = absurd cc
+
+pub parsed_words : (bytes : List ℕ) (file : AuditFile) → length bytes ≤ limit → Lines.Answers Audit.says bytes Audit.nothing (Ok (Audit.contents_of file)) → length file.words.items ≤ length bytes → IsParsed formats.Words bytes (Ok (inputs.Words file))
+parsed_words bytes file l a few = record {
+  kind = refl;
+  ok = a.ok;
+  few = omega arith;
+  held = tt;
+  cause = tt;
+  due_ok = record { short = l; good = λ n bad. a.only_bad n bad; same = same };
+  due_err = tt;
+}
+  where
+    same : (other : Input) → format_of other ≡ formats.Words → IsText bytes other → IsLike other (inputs.Words file)
+    same (inputs.Words other) kind f = sym (a.only_ok (Audit.contents_of other) f)
+    same (inputs.Items other) kind f = absurd cc
+    same (inputs.Listing other) kind f = absurd cc
+
+pub bad_words : (bytes : List ℕ) (n : ℕ) → length bytes ≤ limit → Lines.Answers Audit.says bytes Audit.nothing (Err (line_errors.BadLine n)) → IsParsed formats.Words bytes (Err (faults.Line n))
+bad_words bytes n l a = bad_line formats.Words bytes n l a.bad (λ m bad. a.only_bad m bad) never
+  where
+    never : (other : Input) → format_of other ≡ formats.Words → IsText bytes other → ⊥
+    never (inputs.Words other) kind f = a.only_ok (Audit.contents_of other) f
+    never (inputs.Items other) kind f = absurd cc
+    never (inputs.Listing other) kind f = absurd cc
+
+pub parsed_listing : (bytes : List ℕ) (file : ShownFile) → length bytes ≤ limit → Lines.Answers Shown.says bytes [] (Ok (Shown.words_of file)) → Shown.IsShownFile bytes file → IsParsed formats.Listing bytes (Ok (inputs.Listing file))
+parsed_listing bytes file l a is = record {
+  kind = refl;
+  ok = is;
+  few = tt;
+  held = tt;
+  cause = tt;
+  due_ok = record { short = l; good = λ n bad. a.only_bad n bad; same = same };
+  due_err = tt;
+}
+  where
+    same : (other : Input) → format_of other ≡ formats.Listing → IsText bytes other → IsLike other (inputs.Listing file)
+    same (inputs.Listing other) kind f = sym (a.only_ok (Shown.words_of other) f.lines)
+    same (inputs.Items other) kind f = absurd cc
+    same (inputs.Words other) kind f = absurd cc
+
+pub bad_listing : (bytes : List ℕ) (n : ℕ) → length bytes ≤ limit → Lines.Answers Shown.says bytes [] (Err (line_errors.BadLine n)) → IsParsed formats.Listing bytes (Err (faults.Line n))
+bad_listing bytes n l a = bad_line formats.Listing bytes n l a.bad (λ m bad. a.only_bad m bad) never
+  where
+    never : (other : Input) → format_of other ≡ formats.Listing → IsText bytes other → ⊥
+    never (inputs.Listing other) kind f = a.only_ok (Shown.words_of other) f.lines
+    never (inputs.Items other) kind f = absurd cc
+    never (inputs.Words other) kind f = absurd cc
+
+-- ---- what the source told
 
 -- what holds of the bytes holds of what the source told
 told : (left : Option (List ℕ)) (bytes : List ℕ) (P : List ℕ → Type 0) → IfSome left (λ text. text ≡ bytes) → P bytes → IfSome left P
 told None bytes P e p = tt
 told (Some text) bytes P e p = subst P (sym e) p
 
-module _ (left left' : Option (List ℕ)) (bytes : List ℕ) where
-  pub input_ok : (r : Result File Fault) → IsWhole left left' bytes → IsParsed bytes r → IfOk r (WasRead left left')
+module _ (format : Format) (left left' : Option (List ℕ)) (bytes : List ℕ) where
+  pub input_ok : (r : Result Input Fault) → IsWhole left left' bytes → IsParsed format bytes r → IfOk r (WasRead format left left')
   input_ok (Err e) w p = tt
-  input_ok (Ok file) w p = record {
-    bytes = told left bytes (λ text. IsFile text file) w.same p.ok;
+  input_ok (Ok input) w p = record {
+    kind = p.kind;
+    bytes = told left bytes (λ text. IsText text input) w.same p.ok;
     short = told left bytes (λ text. length text ≤ limit) w.same w.short;
     nothing_left = w.nothing_left;
   }
 
-  pub input_held : (r : Result File Fault) → IsWhole left left' bytes → IsParsed bytes r → IfErr r (λ fault. Held left (Some fault))
-  input_held (Ok file) w p = tt
-  input_held (Err (faults.Line n)) w p = told left bytes (λ text. (length text ≤ limit) × IsFirstBad text n) w.same p.held
+  pub input_held : (r : Result Input Fault) → IsWhole left left' bytes → IsParsed format bytes r → IfErr r (λ fault. Held format left (Some fault))
+  input_held (Ok input) w p = tt
+  input_held (Err (faults.Line n)) w p = told left bytes (λ text. (length text ≤ limit) × IsFirstBad format text n) w.same p.held
   input_held (Err faults.TooLong) w p = absurd p.cause
   input_held (Err faults.Usage) w p = tt
   input_held (Err faults.Read) w p = tt
-  input_held (Err (faults.Assembly e)) w p = tt
+  input_held (Err (faults.Assembly error)) w p = tt
+  input_held (Err (faults.Audit verdict)) w p = tt
   input_held (Err faults.Write) w p = tt
   input_held (Err faults.Memory) w p = tt
 
-  pub input_due_ok : (r : Result File Fault) → IsWhole left left' bytes → IsParsed bytes r → IfOk r (λ file. IfSome left (λ text. IsFileOf text file))
+  pub input_due_ok : (r : Result Input Fault) → IsWhole left left' bytes → IsParsed format bytes r → IfOk r (λ input. IfSome left (λ text. IsInputOf format text input))
   input_due_ok (Err e) w p = tt
-  input_due_ok (Ok file) w p = told left bytes (λ text. IsFileOf text file) w.same p.due_ok
+  input_due_ok (Ok input) w p = told left bytes (λ text. IsInputOf format text input) w.same p.due_ok
 
-  pub input_due_err : (r : Result File Fault) → IsWhole left left' bytes → IsParsed bytes r → IfErr r (λ fault. IfSome left (λ text. IsTextDue text fault))
-  input_due_err (Ok file) w p = tt
-  input_due_err (Err fault) w p = told left bytes (λ text. IsTextDue text fault) w.same p.due_err
+  pub input_due_err : (r : Result Input Fault) → IsWhole left left' bytes → IsParsed format bytes r → IfErr r (λ fault. IfSome left (λ text. IsTextDue format text fault))
+  input_due_err (Ok input) w p = tt
+  input_due_err (Err fault) w p = told left bytes (λ text. IsTextDue format text fault) w.same p.due_err
 
 -- what the bytes are found to be is no failed read
-pub input_cause : (old new : ℕ) (bytes : List ℕ) (r : Result File Fault) → new ≡ old → IsParsed bytes r → IfErr r (IsInputFault old new)
-input_cause old new bytes (Ok file) e p = tt
-input_cause old new bytes (Err (faults.Line n)) e p = e
-input_cause old new bytes (Err faults.Memory) e p = e
-input_cause old new bytes (Err faults.TooLong) e p = absurd p.cause
-input_cause old new bytes (Err faults.Usage) e p = absurd p.cause
-input_cause old new bytes (Err faults.Read) e p = absurd p.cause
-input_cause old new bytes (Err (faults.Assembly error)) e p = absurd p.cause
-input_cause old new bytes (Err faults.Write) e p = absurd p.cause
+pub input_cause : (format : Format) (old new : ℕ) (bytes : List ℕ) (r : Result Input Fault) → new ≡ old → IsParsed format bytes r → IfErr r (IsInputFault old new)
+input_cause format old new bytes (Ok input) e p = tt
+input_cause format old new bytes (Err (faults.Line n)) e p = e
+input_cause format old new bytes (Err faults.Memory) e p = e
+input_cause format old new bytes (Err faults.Usage) e p = absurd p.cause
+input_cause format old new bytes (Err faults.Read) e p = absurd p.cause
+input_cause format old new bytes (Err faults.TooLong) e p = absurd p.cause
+input_cause format old new bytes (Err (faults.Assembly error)) e p = absurd p.cause
+input_cause format old new bytes (Err (faults.Audit verdict)) e p = absurd p.cause
+input_cause format old new bytes (Err faults.Write) e p = absurd p.cause
 
--- where no file was read, a read failed only if that is the answer
+-- where nothing was read, a read failed only if that is the answer
 pub input_fails : (old new : ℕ) (fault : Fault) → IsInputFault old new fault → FailsOnlyAt faults.Read (Some fault) old new
 input_fails old new faults.Read c = inr refl
 input_fails old new faults.Memory c = inl c
 input_fails old new faults.TooLong c = inl c
 input_fails old new (faults.Line n) c = inl c
 input_fails old new faults.Usage c = absurd c
-input_fails old new (faults.Assembly e) c = absurd c
+input_fails old new (faults.Assembly error) c = absurd c
+input_fails old new (faults.Audit verdict) c = absurd c
 input_fails old new faults.Write c = absurd c
 
 -- a failed read and want of memory are free, and too long a text is told by itself
-pub text_due : (left : Option (List ℕ)) (old new : ℕ) (fault : Fault) → IsTextFault old new fault → Held left (Some fault) → IfSome left (λ text. IsTextDue text fault)
-text_due None old new fault c h = tt
-text_due (Some text) old new faults.Read c h = λ command. record {
+pub text_due : (format : Format) (left : Option (List ℕ)) (old new : ℕ) (fault : Fault) → IsTextFault old new fault → Held format left (Some fault) → IfSome left (λ text. IsTextDue format text fault)
+text_due format None old new fault c h = tt
+text_due format (Some text) old new faults.Read c h = λ command works. record {
   too_long = λ l. inr (inl refl);
   bad_line = λ n l bad. inr (inl refl);
-  refused = λ file error l f e. inr (inl refl);
-  done = λ file l f e. inl (inr (inl refl));
+  refused = λ input first l kind is f. inr (inl refl);
+  done = λ input l kind is f. inl (inr (inl refl));
 }
-text_due (Some text) old new faults.Memory c h = λ command. record {
+text_due format (Some text) old new faults.Memory c h = λ command works. record {
   too_long = λ l. inr (inr refl);
   bad_line = λ n l bad. inr (inr refl);
-  refused = λ file error l f e. inr (inr refl);
-  done = λ file l f e. inl (inr (inr refl));
+  refused = λ input first l kind is f. inr (inr refl);
+  done = λ input l kind is f. inl (inr (inr refl));
 }
-text_due (Some text) old new faults.TooLong c h = λ command. record {
+text_due format (Some text) old new faults.TooLong c h = λ command works. record {
   too_long = λ l. inl refl;
   bad_line = λ n l bad. absurd (omega arith);
-  refused = λ file error l f e. absurd (omega arith);
-  done = λ file l f e. absurd (omega arith);
+  refused = λ input first l kind is f. absurd (omega arith);
+  done = λ input l kind is f. absurd (omega arith);
 }
-text_due (Some text) old new faults.Usage c h = absurd c
-text_due (Some text) old new (faults.Line n) c h = absurd c
-text_due (Some text) old new (faults.Assembly e) c h = absurd c
-text_due (Some text) old new faults.Write c h = absurd c
+text_due format (Some text) old new faults.Usage c h = absurd c
+text_due format (Some text) old new (faults.Line n) c h = absurd c
+text_due format (Some text) old new (faults.Assembly error) c h = absurd c
+text_due format (Some text) old new (faults.Audit verdict) c h = absurd c
+text_due format (Some text) old new faults.Write c h = absurd c
+
+-- ---- what was read for a command: a line for each
+
+-- the command is not `gen`
+abbrev IsNoGen : Command → Type 0
+IsNoGen command = (count : ℕ) (force : ForceVeneers) → command ≡ Gen count force → ⊥
+
+module _ (left left' : Option (List ℕ)) where
+  pub read_is_input : (command : Command) (r : Result Input Fault) → IsNoGen command → IfOk r (WasRead (works_on command) left left') → IfOk r (IsInput command left left')
+  read_is_input command (Err fault) apart h = tt
+  read_is_input (Asm force) (Ok input) apart h = h
+  read_is_input (Gen count force) (Ok input) apart h = absurd (apart count force refl)
+  read_is_input commands.List (Ok input) apart h = h
+  read_is_input commands.Roles (Ok input) apart h = h
+  read_is_input commands.Audit (Ok input) apart h = h
+  read_is_input commands.Dis (Ok input) apart h = h
+  read_is_input commands.Undis (Ok input) apart h = h
+
+  pub read_is_due : (command : Command) (r : Result Input Fault) → IsNoGen command → IfOk r (λ input. IfSome left (λ text. IsInputOf (works_on command) text input)) → IfOk r (IsDueInput command left)
+  read_is_due command (Err fault) apart h = tt
+  read_is_due (Asm force) (Ok input) apart h = h
+  read_is_due (Gen count force) (Ok input) apart h = absurd (apart count force refl)
+  read_is_due commands.List (Ok input) apart h = h
+  read_is_due commands.Roles (Ok input) apart h = h
+  read_is_due commands.Audit (Ok input) apart h = h
+  read_is_due commands.Dis (Ok input) apart h = h
+  read_is_due commands.Undis (Ok input) apart h = h
+
+  due_for : (command : Command) (fault : Fault) (left : Option (List ℕ)) → IsNoGen command → IfSome left (λ text. IsTextDue (works_on command) text fault) → IsDueAnswer command left (Some fault)
+  due_for (Asm force) fault None apart h = tt
+  due_for (Asm force) fault (Some text) apart h = h (Asm force) refl
+  due_for (Gen count force) fault left apart h = absurd (apart count force refl)
+  due_for commands.List fault None apart h = tt
+  due_for commands.List fault (Some text) apart h = h commands.List refl
+  due_for commands.Roles fault None apart h = tt
+  due_for commands.Roles fault (Some text) apart h = h commands.Roles refl
+  due_for commands.Audit fault None apart h = tt
+  due_for commands.Audit fault (Some text) apart h = h commands.Audit refl
+  due_for commands.Dis fault None apart h = tt
+  due_for commands.Dis fault (Some text) apart h = h commands.Dis refl
+  due_for commands.Undis fault None apart h = tt
+  due_for commands.Undis fault (Some text) apart h = h commands.Undis refl
+
+  pub read_fault_due : (command : Command) (r : Result Input Fault) → IsNoGen command → IfErr r (λ fault. IfSome left (λ text. IsTextDue (works_on command) text fault)) → IfErr r (λ fault. IsDueAnswer command left (Some fault))
+  read_fault_due command (Ok input) apart h = tt
+  read_fault_due command (Err fault) apart h = due_for command fault left apart h

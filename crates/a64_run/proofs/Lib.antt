@@ -14,3 +14,4 @@ pub mod SectionLists
 pub mod Overlaps
 pub mod KeptLines
 pub mod LineRuns
+pub mod Faults

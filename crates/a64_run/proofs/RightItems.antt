@@ -17,7 +17,9 @@ use Rattle.a64_text.specs.declared.file.File.{File}
 use Rattle.a64_run.specs.declared.command.Command.{Command}
 use Rattle.a64_run.specs.declared.command.Command.TheVariants.{Asm, Gen}
 use Rattle.a64_run.specs.declared.command.Command.TheVariants as commands
-use Rattle.a64_run.specs.Commands.{file_fault, force_of, HasNoItemFault}
+use Rattle.a64_run.specs.declared.input.Input.{Input}
+use Rattle.a64_run.specs.declared.input.Input.TheVariants as inputs
+use Rattle.a64_run.specs.Commands.{force_of, HasNoItemFault, IsFaultless}
 
 -- a fault of an item by itself is no want of memory
 own_no_memory : (n : ℕ) (fault : OwnFault) → own_error n fault ≢ OutOfMemory
@@ -58,9 +60,16 @@ later_faults command file =
     let items = file.items.items in
     or_else (second_binding items) (or_else (unbound_use file.frame file.info items) (or_else (too_large file.frame file.info items) (out_of_reach file.frame file.info (force_of command) items)))
 
--- where a command finds no fault in a file, it finds none in one item alone
-pub right_faultless : (command : Command) (file : File) → file_fault command file ≡ None → HasNoItemFault command file
-right_faultless commands.List file h = h
-right_faultless commands.Roles file h = tt
-right_faultless (Asm force) file h = first_is_none (own_fault file.frame file.info file.constants file.items.items) (later_faults (Asm force) file) h
-right_faultless (Gen count force) file h = first_is_none (own_fault file.frame file.info file.constants file.items.items) (later_faults (Gen count force) file) h
+-- where a command finds no fault, it finds none in one item alone
+pub right_faultless : (command : Command) (input : Input) → IsFaultless command input → HasNoItemFault command input
+right_faultless (Asm force) (inputs.Items file) h = first_is_none (own_fault file.frame file.info file.constants file.items.items) (later_faults (Asm force) file) h
+right_faultless (Gen count force) (inputs.Items file) h = first_is_none (own_fault file.frame file.info file.constants file.items.items) (later_faults (Gen count force) file) h
+right_faultless (Asm force) (inputs.Words file) h = h
+right_faultless (Asm force) (inputs.Listing file) h = h
+right_faultless (Gen count force) (inputs.Words file) h = h
+right_faultless (Gen count force) (inputs.Listing file) h = h
+right_faultless commands.List input h = h
+right_faultless commands.Roles input h = h
+right_faultless commands.Audit input h = h
+right_faultless commands.Dis input h = h
+right_faultless commands.Undis input h = h

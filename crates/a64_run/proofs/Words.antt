@@ -1,5 +1,5 @@
 -- What words are read as.
-use Rattle.std.proofs.Common.{◌≡◌, ◌≢◌, ℕ, ◌-◌, ◌<◌, ◌≤◌, List, [], ◌∷◌, String, codes, map, length, get_or, take, drop, Option, None, Some, option_map, Result, Ok, Err, refl, sym, ap, ◌∙◌, subst, inl, inr, arith, length-drop}
+use Rattle.std.proofs.Common.{◌≡◌, ◌≢◌, ℕ, ◌+◌, ◌-◌, if◌then◌else◌, ◌==◌, ◌<◌, ◌≤◌, List, [], ◌∷◌, String, codes, map, length, get_or, take, drop, Option, None, Some, option_map, Result, Ok, Err, refl, sym, ap, ◌∙◌, subst, inl, inr, arith, length-drop}
 use Rattle.std.specs.Fmt.{decimal}
 use Rattle.std.specs.String.{string_bytes}
 use Rattle.std.specs.Str.Parse.{AllDigits, digits_value, ParsesUnsigned}
@@ -12,7 +12,7 @@ use Rattle.a64_read.specs.Reads.{Reads, Always}
 use Rattle.a64_run.specs.declared.command.Command.{Command}
 use Rattle.a64_run.specs.declared.command.Command.TheVariants.{Asm, Gen}
 use Rattle.a64_run.specs.declared.command.Command.TheVariants as commands
-use Rattle.a64_run.specs.Commands.{force_words, IsCount, IsCommand}
+use Rattle.a64_run.specs.Commands.{alone_name, force_words, IsCount, IsCommand}
 use Rattle.a64_run.specs.Stages.{ReadsCommand}
 
 -- ---- the words behind a command
@@ -92,6 +92,9 @@ only_asm rest (Asm force) (inr h) = record { force = force; is = refl; rest_is =
 only_asm rest (Gen count force) h = absurd (let first = ap (λ ws. get_or (get_or ws 0 []) 0 0) h.1 in omega arith)
 only_asm rest commands.List h = absurd (let first = ap (λ ws. get_or (get_or ws 0 []) 0 0) h in omega arith)
 only_asm rest commands.Roles h = absurd (let first = ap (λ ws. get_or (get_or ws 0 []) 0 0) h in omega arith)
+only_asm rest commands.Audit h = absurd (let first = ap (λ ws. get_or (get_or ws 0 []) 1 0) h in omega arith)
+only_asm rest commands.Dis h = absurd (let first = ap (λ ws. get_or (get_or ws 0 []) 0 0) h in omega arith)
+only_asm rest commands.Undis h = absurd (let first = ap (λ ws. get_or (get_or ws 0 []) 0 0) h in omega arith)
 
 pub asm_read : (rest : List (List ℕ)) (force : ForceVeneers) → Reads Always force_words rest (Some force) → ReadsCommand (codes "asm" ∷ rest) (Some (Asm force))
 asm_read rest force h =
@@ -118,6 +121,9 @@ only_gen rest (Asm force) (inr h) = absurd (let first = ap (λ ws. get_or (get_o
 only_gen rest (Gen count force) h = record { count = count; force = force; is = refl; fits = h.0; rest_is = ap (drop 1) h.1 }
 only_gen rest commands.List h = absurd (let first = ap (λ ws. get_or (get_or ws 0 []) 0 0) h in omega arith)
 only_gen rest commands.Roles h = absurd (let first = ap (λ ws. get_or (get_or ws 0 []) 0 0) h in omega arith)
+only_gen rest commands.Audit h = absurd (let first = ap (λ ws. get_or (get_or ws 0 []) 0 0) h in omega arith)
+only_gen rest commands.Dis h = absurd (let first = ap (λ ws. get_or (get_or ws 0 []) 0 0) h in omega arith)
+only_gen rest commands.Undis h = absurd (let first = ap (λ ws. get_or (get_or ws 0 []) 0 0) h in omega arith)
 
 pub gen_read : (token : List ℕ) (rest : List (List ℕ)) (count : ℕ) (force : ForceVeneers) → Reads IsCount decimal token (Some count) → Reads Always force_words rest (Some force) → ReadsCommand (codes "gen" ∷ token ∷ rest) (Some (Gen count force))
 gen_read token rest count force h k =
@@ -156,29 +162,64 @@ gen_unread token rest h =
 pub gen_alone : ReadsCommand (codes "gen" ∷ []) None
 gen_alone = record { some = tt; only = λ command is. absurd (let g = only_gen [] command is in let rest_is = g.rest_is in cc) }
 
--- a command whose name is `list` is that one, and has no words behind the name
-record IsList (rest : List (List ℕ)) (command : Command) : Type 0 where
-  is : command ≡ commands.List
+-- ---- commands of one word alone
+
+-- their names differ in the sum of the first two letters
+abbrev tag : List ℕ → ℕ
+tag name = get_or name 0 0 + get_or name 1 0
+
+abbrev by_tag : ℕ → Option Command
+by_tag n =
+    if n == 213 then Some commands.List else
+    if n == 225 then Some commands.Roles else
+    if n == 214 then Some commands.Audit else
+    if n == 205 then Some commands.Dis else
+    if n == 227 then Some commands.Undis else None
+
+found : (command : Command) (name : List ℕ) → alone_name command ≡ Some name → by_tag (tag name) ≡ Some command
+found (Asm force) name is = absurd cc
+found (Gen count force) name is = absurd cc
+found commands.List name is = let same : codes "list" ≡ name = cc in ap (λ t. by_tag (tag t)) (sym same)
+found commands.Roles name is = let same : codes "roles" ≡ name = cc in ap (λ t. by_tag (tag t)) (sym same)
+found commands.Audit name is = let same : codes "audit" ≡ name = cc in ap (λ t. by_tag (tag t)) (sym same)
+found commands.Dis name is = let same : codes "dis" ≡ name = cc in ap (λ t. by_tag (tag t)) (sym same)
+found commands.Undis name is = let same : codes "undis" ≡ name = cc in ap (λ t. by_tag (tag t)) (sym same)
+
+-- a command whose first word is that name is that one, and has no words behind the name
+record IsThat (rest : List (List ℕ)) (command other : Command) : Type 0 where
+  is : other ≡ command
   rest_is : rest ≡ []
 
-only_list : (rest : List (List ℕ)) (command : Command) → IsCommand (codes "list" ∷ rest) command → IsList rest command
-only_list rest (Asm force) (inl h) = absurd (let empty = h.1 in cc)
-only_list rest (Asm force) (inr h) = absurd (let first = ap (λ ws. get_or (get_or ws 0 []) 0 0) h in omega arith)
-only_list rest (Gen count force) h = absurd (let first = ap (λ ws. get_or (get_or ws 0 []) 0 0) h.1 in omega arith)
-only_list rest commands.List h = record { is = refl; rest_is = ap (drop 1) h }
-only_list rest commands.Roles h = absurd (let first = ap (λ ws. get_or (get_or ws 0 []) 0 0) h in omega arith)
+module _ (name : List ℕ) (rest : List (List ℕ)) (command : Command) (is : alone_name command ≡ Some name) where
+  -- two commands of one name are one
+  one_name : (other : Command) (name' : List ℕ) → alone_name other ≡ Some name' → name ∷ rest ≡ name' ∷ [] → IsThat rest command other
+  one_name other name' named h =
+      let same : name ≡ name' = cc in
+      let one : ◌≡◌ {A = Option Command} (Some other) (Some command) = sym (found other name' named) ∙ ap (λ t. by_tag (tag t)) (sym same) ∙ found command name is in
+      record { is = cc; rest_is = ap (drop 1) h }
 
--- a command whose name is `roles` is that one, and has no words behind the name
-record IsRoles (rest : List (List ℕ)) (command : Command) : Type 0 where
-  is : command ≡ commands.Roles
-  rest_is : rest ≡ []
+  -- and it is neither of these names
+  no_tag : by_tag (tag name) ≡ None → ⊥
+  no_tag none = let some = found command name is in absurd cc
 
-only_roles : (rest : List (List ℕ)) (command : Command) → IsCommand (codes "roles" ∷ rest) command → IsRoles rest command
-only_roles rest (Asm force) (inl h) = absurd (let empty = h.1 in cc)
-only_roles rest (Asm force) (inr h) = absurd (let first = ap (λ ws. get_or (get_or ws 0 []) 0 0) h in omega arith)
-only_roles rest (Gen count force) h = absurd (let first = ap (λ ws. get_or (get_or ws 0 []) 0 0) h.1 in omega arith)
-only_roles rest commands.List h = absurd (let first = ap (λ ws. get_or (get_or ws 0 []) 0 0) h in omega arith)
-only_roles rest commands.Roles h = record { is = refl; rest_is = ap (drop 1) h }
+  only_alone : (other : Command) → IsCommand (name ∷ rest) other → IsThat rest command other
+  only_alone (Asm force) (inl h) = absurd (let empty = h.1 in cc)
+  only_alone (Asm force) (inr h) = absurd (no_tag (ap (λ ws. by_tag (tag (get_or ws 0 []))) h))
+  only_alone (Gen count force) h = absurd (no_tag (ap (λ ws. by_tag (tag (get_or ws 0 []))) h.1))
+  only_alone commands.List h = one_name commands.List (codes "list") refl h
+  only_alone commands.Roles h = one_name commands.Roles (codes "roles") refl h
+  only_alone commands.Audit h = one_name commands.Audit (codes "audit") refl h
+  only_alone commands.Dis h = one_name commands.Dis (codes "dis") refl h
+  only_alone commands.Undis h = one_name commands.Undis (codes "undis") refl h
+
+is_command : (name : List ℕ) (command : Command) → alone_name command ≡ Some name → IsCommand (name ∷ []) command
+is_command name (Asm force) is = absurd cc
+is_command name (Gen count force) is = absurd cc
+is_command name commands.List is = let same : name ≡ codes "list" = cc in ap (λ t. t ∷ []) same
+is_command name commands.Roles is = let same : name ≡ codes "roles" = cc in ap (λ t. t ∷ []) same
+is_command name commands.Audit is = let same : name ≡ codes "audit" = cc in ap (λ t. t ∷ []) same
+is_command name commands.Dis is = let same : name ≡ codes "dis" = cc in ap (λ t. t ∷ []) same
+is_command name commands.Undis is = let same : name ≡ codes "undis" = cc in ap (λ t. t ∷ []) same
 
 -- no words are `asm`
 empty_read : ReadsCommand [] (Some (Asm No))
@@ -190,11 +231,14 @@ empty_read = record { some = inl (refl, refl); only = only }
     only (Gen count force) h = absurd (let is = h.1 in cc)
     only commands.List h = absurd cc
     only commands.Roles h = absurd cc
+    only commands.Audit h = absurd cc
+    only commands.Dis h = absurd cc
+    only commands.Undis h = absurd cc
 
 -- another name is no command's
-pub name_unread : (name : List ℕ) (rest : List (List ℕ)) → name ≢ codes "asm" → name ≢ codes "gen" → name ≢ codes "list"
-    → name ≢ codes "roles" → ReadsCommand (name ∷ rest) None
-name_unread name rest no_asm no_gen no_list no_roles = record { some = tt; only = only }
+pub name_unread : (name : List ℕ) (rest : List (List ℕ)) → name ≢ codes "asm" → name ≢ codes "gen" → name ≢ codes "list" → name ≢ codes "roles"
+    → name ≢ codes "audit" → name ≢ codes "dis" → name ≢ codes "undis" → ReadsCommand (name ∷ rest) None
+name_unread name rest no_asm no_gen no_list no_roles no_audit no_dis no_undis = record { some = tt; only = only }
   where
     only : (command : Command) → IsCommand (name ∷ rest) command → None ≡ Some command
     only (Asm force) (inl h) = absurd (let empty = h.1 in cc)
@@ -202,6 +246,9 @@ name_unread name rest no_asm no_gen no_list no_roles = record { some = tt; only 
     only (Gen count force) h = absurd (no_gen (ap (λ ws. get_or ws 0 []) h.1))
     only commands.List h = absurd (no_list (ap (λ ws. get_or ws 0 []) h))
     only commands.Roles h = absurd (no_roles (ap (λ ws. get_or ws 0 []) h))
+    only commands.Audit h = absurd (no_audit (ap (λ ws. get_or ws 0 []) h))
+    only commands.Dis h = absurd (no_dis (ap (λ ws. get_or ws 0 []) h))
+    only commands.Undis h = absurd (no_undis (ap (λ ws. get_or ws 0 []) h))
 
 -- ---- words as they are held
 
@@ -219,20 +266,11 @@ module _ {A : Type 0} where
   no_word_read [] h = empty_read
   no_word_read (word ∷ words) h = absurd (omega arith)
 
-  -- the words behind `list`
-  pub list_alone : (words : List (String A)) → length words < 1 → ReadsCommand (codes "list" ∷ map string_bytes words) (Some commands.List)
-  list_alone [] h = record { some = refl; only = λ command is. ap (λ c. Some c) (sym (only_list [] command is).is) }
-  list_alone (word ∷ words) h = absurd (omega arith)
+  -- the words behind a name that stands alone
+  pub alone_read : (name : List ℕ) (command : Command) (words : List (String A)) → alone_name command ≡ Some name → length words < 1 → ReadsCommand (name ∷ map string_bytes words) (Some command)
+  alone_read name command [] is h = record { some = is_command name command is; only = λ other k. ap (λ c. Some c) (sym (only_alone name [] command is other k).is) }
+  alone_read name command (word ∷ words) is h = absurd (omega arith)
 
-  pub list_more : (words : List (String A)) → 1 ≤ length words → ReadsCommand (codes "list" ∷ map string_bytes words) None
-  list_more [] h = absurd (omega arith)
-  list_more (word ∷ words) h = record { some = tt; only = λ command is. absurd (let rest_is = (only_list (map string_bytes (word ∷ words)) command is).rest_is in cc) }
-
-  -- the words behind `roles`
-  pub roles_alone : (words : List (String A)) → length words < 1 → ReadsCommand (codes "roles" ∷ map string_bytes words) (Some commands.Roles)
-  roles_alone [] h = record { some = refl; only = λ command is. ap (λ c. Some c) (sym (only_roles [] command is).is) }
-  roles_alone (word ∷ words) h = absurd (omega arith)
-
-  pub roles_more : (words : List (String A)) → 1 ≤ length words → ReadsCommand (codes "roles" ∷ map string_bytes words) None
-  roles_more [] h = absurd (omega arith)
-  roles_more (word ∷ words) h = record { some = tt; only = λ command is. absurd (let rest_is = (only_roles (map string_bytes (word ∷ words)) command is).rest_is in cc) }
+  pub more_read : (name : List ℕ) (command : Command) (words : List (String A)) → alone_name command ≡ Some name → 1 ≤ length words → ReadsCommand (name ∷ map string_bytes words) None
+  more_read name command [] is h = absurd (omega arith)
+  more_read name command (word ∷ words) is h = record { some = tt; only = λ other k. absurd (let rest_is = (only_alone name (map string_bytes (word ∷ words)) command is other k).rest_is in cc) }

@@ -1,5 +1,5 @@
 -- What the commands are: a line for each in each table.
-use Rattle.std.specs.Prelude.{ℕ, ◌≡◌, ◌⊎◌, ◌≤◌, List, [], ◌∷◌, codes, length, Bool, true, false, Option, None, Some, IfSome, IsSomeAnd, ⊤}
+use Rattle.std.specs.Prelude.{ℕ, ◌≡◌, ◌≢◌, ◌⊎◌, ◌≤◌, List, [], ◌∷◌, codes, length, Bool, true, false, Option, None, Some, IfSome, IsSomeAnd, ⊤}
 use Rattle.std.specs.Fmt.{decimal}
 use Rattle.a64_buffer.specs.declared.force.ForceVeneers.{ForceVeneers}
 use Rattle.a64_buffer.specs.declared.force.ForceVeneers.TheVariants.{No, Yes}
@@ -13,10 +13,23 @@ use Rattle.a64_role_lines.specs.RoleLines.{role_listing_of}
 use Rattle.a64_run.specs.declared.command.Command.{Command}
 use Rattle.a64_run.specs.declared.command.Command.TheVariants.{Asm, Gen}
 use Rattle.a64_run.specs.declared.command.Command.TheVariants as commands
+use Rattle.a64_run.specs.declared.command.Format.{Format}
+use Rattle.a64_run.specs.declared.command.Format.TheVariants as formats
+use Rattle.a64_run.specs.declared.input.Input.{Input}
+use Rattle.a64_run.specs.declared.input.Input.TheVariants as inputs
+use Rattle.a64_run.specs.declared.ran.Fault.{Fault}
+use Rattle.a64_run.specs.declared.ran.Fault.TheVariants as faults
 use Rattle.a64_text.specs.declared.file.File.{File}
 use Rattle.a64_text.specs.States.{Contents, contents_of}
-use Rattle.a64_text.specs.FileText.{IsFile}
-use Rattle.a64_run.specs.Report.{report_of}
+use Rattle.a64_text.specs.FileText as FileText
+use Rattle.a64_audit.specs.declared.file.AuditFile.{AuditFile}
+use Rattle.a64_audit.specs.declared.verdict.Verdict.TheVariants.{Clean}
+use Rattle.a64_audit.specs.Entries as Audit
+use Rattle.a64_audit.specs.Verdicts.{IsClean, IsVerdict}
+use Rattle.a64_formtext.specs.declared.file.ShownFile.{ShownFile}
+use Rattle.a64_formtext.specs.Shown as Shown
+use Rattle.a64_lines.specs.Lines as Lines
+use Rattle.a64_run.specs.Report.{report_of, words_text}
 use Rattle.a64_run.specs.Gen.{gen_file, summary_of}
 
 -- the words behind a command that forces islands, and behind one that does not
@@ -28,19 +41,26 @@ force_words Yes = codes "force" ∷ []
 abbrev pub IsCount : ℕ → Type 0
 IsCount count = (1 ≤ count) × (count ≤ 100000)
 
+-- the name of a command that is one word alone
+abbrev pub alone_name : Command → Option (List ℕ)
+alone_name (Asm force) = None
+alone_name (Gen count force) = None
+alone_name commands.List = Some (codes "list")
+alone_name commands.Roles = Some (codes "roles")
+alone_name commands.Audit = Some (codes "audit")
+alone_name commands.Dis = Some (codes "dis")
+alone_name commands.Undis = Some (codes "undis")
+
 -- the words of the command
 abbrev pub IsCommand : List (List ℕ) → Command → Type 0
 IsCommand words (Asm force) = ((force ≡ No) × (words ≡ [])) ⊎ (words ≡ codes "asm" ∷ force_words force)
 IsCommand words (Gen count force) = IsCount count × (words ≡ codes "gen" ∷ decimal count ∷ force_words force)
-IsCommand words commands.List = words ≡ codes "list" ∷ []
-IsCommand words commands.Roles = words ≡ codes "roles" ∷ []
+IsCommand words command = IsSomeAnd (alone_name command) (λ name. words ≡ name ∷ [])
 
 -- some words may be the command's
 abbrev pub HasWords : Command → Type 0
-HasWords (Asm force) = ⊤
 HasWords (Gen count force) = IsCount count
-HasWords commands.List = ⊤
-HasWords commands.Roles = ⊤
+HasWords command = ⊤
 
 -- no command has these words
 abbrev pub IsNoCommand : List (List ℕ) → Type 0
@@ -50,19 +70,47 @@ IsNoCommand words = (command : Command) → ¬ IsCommand words command
 abbrev pub OfCommand : List (List ℕ) → (Command → Type 0) → Type 0
 OfCommand words P = (command : Command) → IsCommand words command → P command
 
--- the command reads its file from the source
+-- what the command works on
+abbrev pub works_on : Command → Format
+works_on (Asm force) = formats.Items
+works_on (Gen count force) = formats.Items
+works_on commands.List = formats.Items
+works_on commands.Roles = formats.Items
+works_on commands.Audit = formats.Words
+works_on commands.Dis = formats.Words
+works_on commands.Undis = formats.Listing
+
+-- the command reads that from the source
 abbrev pub reads_source : Command → Bool
-reads_source (Asm force) = true
 reads_source (Gen count force) = false
-reads_source commands.List = true
-reads_source commands.Roles = true
+reads_source command = true
 
 -- whether the command forces islands
 abbrev pub force_of : Command → ForceVeneers
 force_of (Asm force) = force
 force_of (Gen count force) = force
-force_of commands.List = No
-force_of commands.Roles = No
+force_of command = No
+
+-- ---- what a command works on
+
+abbrev pub format_of : Input → Format
+format_of (inputs.Items file) = formats.Items
+format_of (inputs.Words file) = formats.Words
+format_of (inputs.Listing file) = formats.Listing
+
+-- the bytes are this
+abbrev pub IsText : List ℕ → Input → Type 0
+IsText bytes (inputs.Items file) = FileText.IsFile bytes file
+IsText bytes (inputs.Words file) = Audit.IsAuditFile bytes file
+IsText bytes (inputs.Listing file) = Shown.IsShownFile bytes file
+
+-- line n, counted from 1, is the first that is no entry which may stand there
+abbrev pub IsFirstBad : Format → List ℕ → ℕ → Type 0
+IsFirstBad formats.Items bytes n = FileText.IsFirstBad bytes n
+IsFirstBad formats.Words bytes n = Lines.IsFirstBad Audit.says Audit.nothing bytes n
+IsFirstBad formats.Listing bytes n = Lines.IsFirstBad Shown.says [] bytes n
+
+-- ---- faults
 
 -- the first fault of `assemble` in what a file says
 abbrev pub assembly_fault : Command → Contents → Option EmitError
@@ -73,51 +121,73 @@ abbrev pub contents_fault : Command → Contents → Option EmitError
 contents_fault (Asm force) file = assembly_fault (Asm force) file
 contents_fault (Gen count force) file = assembly_fault (Gen count force) file
 contents_fault commands.List file = first_shown_fault file.frame file.flags file.constants file.items
-contents_fault commands.Roles file = None
+contents_fault command file = None
 
 abbrev pub file_fault : Command → File → Option EmitError
 file_fault command file = contents_fault command (contents_of file)
+
+-- the fault that the command finds first in what it works on: of a file of items that of the assembler, of words what an audit
+-- finds first
+abbrev pub IsFaultOf : Command → Input → Fault → Type 0
+IsFaultOf command (inputs.Items file) (faults.Assembly error) = file_fault command file ≡ Some error
+IsFaultOf commands.Audit (inputs.Words file) (faults.Audit verdict) = IsVerdict (Audit.contents_of file) verdict × (verdict ≢ Clean)
+IsFaultOf command input fault = ⊥
+
+-- it finds none
+abbrev pub IsFaultless : Command → Input → Type 0
+IsFaultless command (inputs.Items file) = file_fault command file ≡ None
+IsFaultless commands.Audit (inputs.Words file) = IsClean (Audit.contents_of file)
+IsFaultless command input = ⊤
 
 -- each item of a file is right by itself: none has a fault that stands in it alone
 abbrev pub HasRightItems : File → Type 0
 HasRightItems file = own_fault file.frame file.info file.constants file.items.items ≡ None
 
--- the command finds no fault that stands in one item of a file alone
-abbrev pub HasNoItemFault : Command → File → Type 0
-HasNoItemFault (Asm force) file = HasRightItems file
-HasNoItemFault (Gen count force) file = HasRightItems file
-HasNoItemFault commands.List file = file_fault commands.List file ≡ None
-HasNoItemFault commands.Roles file = ⊤
+-- the command finds no fault that stands in one item of a file alone, and none in words
+abbrev pub HasNoItemFault : Command → Input → Type 0
+HasNoItemFault (Asm force) (inputs.Items file) = HasRightItems file
+HasNoItemFault (Gen count force) (inputs.Items file) = HasRightItems file
+HasNoItemFault command input = IsFaultless command input
+
+-- ---- what a command makes
 
 -- the code is that of the file
 abbrev pub IsCodeOf : Command → File → Code → Type 0
 IsCodeOf command file code = IsAssembled file.frame file.info file.constants (force_of command) file.items.items code
 
--- the most bytes that a file may have
+-- the most bytes that a source may hold
 abbrev pub limit : ℕ
 limit = 16777216
 
--- what a source held is a file, and nothing of it is left
-pub record WasRead (left left' : Option (List ℕ)) (file : File) : Type 0 where
-  pub bytes : IfSome left (λ text. IsFile text file)
+-- what a source held is this, and nothing of it is left
+pub record WasRead (format : Format) (left left' : Option (List ℕ)) (input : Input) : Type 0 where
+  pub kind : format_of input ≡ format
+  pub bytes : IfSome left (λ text. IsText text input)
   pub short : IfSome left (λ text. length text ≤ limit)
   pub nothing_left : IfSome left (λ text. left' ≡ Some [])
 
--- the file on which the command works, for what the source had left before and after
-abbrev pub IsInput : Command → Option (List ℕ) → Option (List ℕ) → File → Type 0
-IsInput (Asm force) left left' file = WasRead left left' file
-IsInput (Gen count force) left left' file = contents_of file ≡ gen_file count
-IsInput commands.List left left' file = WasRead left left' file
-IsInput commands.Roles left left' file = WasRead left left' file
+-- the file that `gen` makes
+abbrev pub IsGenFile : ℕ → Input → Type 0
+IsGenFile count (inputs.Items file) = contents_of file ≡ gen_file count
+IsGenFile count input = ⊥
 
--- what the command makes of a file: the code that is kept, if any, and the bytes that are written
-abbrev pub IsOutput : Command → File → Option Code → List ℕ → Type 0
-IsOutput (Asm force) file code output = IsSomeAnd code (λ c. IsCodeOf (Asm force) file c × (output ≡ report_of c))
-IsOutput (Gen count force) file code output = IsSomeAnd code (λ c. IsCodeOf (Gen count force) file c × (output ≡ summary_of (length file.items.items) c))
-IsOutput commands.List file code output = (code ≡ None) × (output ≡ listing_of file.frame file.items.items)
-IsOutput commands.Roles file code output = (code ≡ None) × (output ≡ role_listing_of file.items.items)
+-- what the command works on, for what the source had left before and after
+abbrev pub IsInput : Command → Option (List ℕ) → Option (List ℕ) → Input → Type 0
+IsInput (Gen count force) left left' input = IsGenFile count input
+IsInput command left left' input = WasRead (works_on command) left left' input
 
--- the same, for a file in which the command finds no fault
-pub record IsMade (command : Command) (file : File) (code : Option Code) (output : List ℕ) : Type 0 where
-  pub no_fault : file_fault command file ≡ None
-  pub output_is : IsOutput command file code output
+-- what the command makes of it: the code that is kept, if any, and the bytes that are written
+abbrev pub IsOutput : Command → Input → Option Code → List ℕ → Type 0
+IsOutput (Asm force) (inputs.Items file) code output = IsSomeAnd code (λ c. IsCodeOf (Asm force) file c × (output ≡ report_of c))
+IsOutput (Gen count force) (inputs.Items file) code output = IsSomeAnd code (λ c. IsCodeOf (Gen count force) file c × (output ≡ summary_of (length file.items.items) c))
+IsOutput commands.List (inputs.Items file) code output = (code ≡ None) × (output ≡ listing_of file.frame file.items.items)
+IsOutput commands.Roles (inputs.Items file) code output = (code ≡ None) × (output ≡ role_listing_of file.items.items)
+IsOutput commands.Audit (inputs.Words file) code output = (code ≡ None) × (output ≡ codes "clean\n")
+IsOutput commands.Dis (inputs.Words file) code output = (code ≡ None) × Shown.IsListing file.words.items output
+IsOutput commands.Undis (inputs.Listing file) code output = (code ≡ None) × (output ≡ words_text file.words.items)
+IsOutput command input code output = ⊥
+
+-- the same, where the command finds no fault
+pub record IsMade (command : Command) (input : Input) (code : Option Code) (output : List ℕ) : Type 0 where
+  pub no_fault : IsFaultless command input
+  pub output_is : IsOutput command input code output

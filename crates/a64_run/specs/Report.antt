@@ -49,6 +49,10 @@ pool_line place = line_of_one (codes "pool") place
 abbrev pub word_line : ℕ × ℕ → List ℕ
 word_line (index, word) = codes "word " ++ decimal (4 * index) ++ codes " " ++ hex_word word ++ codes "\n"
 
+-- the lines of words, from the first on
+abbrev pub words_text : List ℕ → List ℕ
+words_text words = flat_map word_line (enumerate_from 0 words)
+
 abbrev pub reloc_line : ℕ × Reloc × ExternalName × ℤ → List ℕ
 reloc_line (place, kind, name, addend) =
     codes "reloc " ++ decimal place ++ codes " " ++ reloc_text kind ++ codes " userextname" ++ decimal name.0 ++ codes " " ++ signed_decimal addend ++ codes "\n"
@@ -72,7 +76,7 @@ report_of code =
     ++ flat_map label_line code.labels.items
     ++ flat_map island_line code.islands.items
     ++ pool_line code.pool
-    ++ flat_map word_line (enumerate_from 0 (words_in code.bytes.items))
+    ++ words_text (words_in code.bytes.items)
     ++ flat_map reloc_line code.relocs.items
     ++ flat_map trap_line code.traps.items
     ++ flat_map call_line code.calls.items

@@ -5,13 +5,19 @@ use Rattle.a64_emit.specs.declared.code.Code.{Code}
 use Rattle.a64_emit.specs.declared.error.EmitError.{EmitError}
 use Rattle.a64_emit.specs.declared.error.EmitError.TheVariants as errors
 use Rattle.a64_run.specs.declared.command.Command.{Command}
-use Rattle.a64_run.specs.declared.command.Command.TheVariants.{Asm, Gen}
-use Rattle.a64_run.specs.declared.command.Command.TheVariants as commands
+use Rattle.a64_run.specs.declared.command.Command.TheVariants.{Gen}
+use Rattle.a64_run.specs.declared.command.Format.{Format}
+use Rattle.a64_run.specs.declared.input.Input.{Input}
+use Rattle.a64_run.specs.declared.input.Input.TheVariants as inputs
+use Rattle.a64_run.specs.declared.ran.Ran.{Ran}
 use Rattle.a64_text.specs.declared.file.File.{File}
+use Rattle.a64_audit.specs.declared.file.AuditFile.{AuditFile}
+use Rattle.a64_audit.specs.declared.verdict.Verdict.{Verdict}
+use Rattle.a64_audit.specs.declared.verdict.Verdict.TheVariants as verdicts
+use Rattle.a64_formtext.specs.declared.file.ShownFile.{ShownFile}
 use Rattle.a64_run.specs.declared.ran.Fault.{Fault}
 use Rattle.a64_run.specs.declared.ran.Fault.TheVariants as faults
-use Rattle.a64_text.specs.FileText.{IsFile, IsFirstBad}
-use Rattle.a64_run.specs.Commands.{limit, HasNoItemFault, file_fault, IsInput, IsMade}
+use Rattle.a64_run.specs.Commands.{limit, works_on, format_of, IsText, IsFirstBad, HasNoItemFault, IsFaultOf, IsFaultless, IsInput, IsMade}
 use Rattle.a64_run.specs.Streams.{Takes, TakesPart}
 
 -- the status of each answer
@@ -20,6 +26,7 @@ status_of None = 0
 status_of (Some faults.TooLong) = 1
 status_of (Some (faults.Line n)) = 1
 status_of (Some (faults.Assembly error)) = 1
+status_of (Some (faults.Audit verdict)) = 1
 status_of (Some faults.Usage) = 2
 status_of (Some faults.Read) = 3
 status_of (Some faults.Write) = 4
@@ -37,6 +44,14 @@ error_text errors.TooLarge = codes "code too large"
 error_text (errors.OutOfReach label) = codes "label L" ++ decimal label.0 ++ codes ": out of reach"
 error_text errors.OutOfMemory = codes "out of memory"
 
+-- the line of each verdict, without its line feed
+abbrev pub verdict_text : Verdict → List ℕ
+verdict_text verdicts.Clean = codes "clean"
+verdict_text (verdicts.BadRange i) = codes "range " ++ decimal i ++ codes ": bad"
+verdict_text (verdicts.UnknownWord place) = codes "place " ++ decimal place ++ codes ": unknown word"
+verdict_text (verdicts.OutOfCode place) = codes "place " ++ decimal place ++ codes ": branch out of code"
+verdict_text (verdicts.IntoData place) = codes "place " ++ decimal place ++ codes ": branch into data"
+
 -- the line of each answer, without its line feed
 abbrev pub fault_text : Fault → List ℕ
 fault_text faults.Usage = codes "usage error"
@@ -44,6 +59,7 @@ fault_text faults.Read = codes "read fault"
 fault_text faults.TooLong = codes "input too large"
 fault_text (faults.Line n) = codes "line " ++ decimal n ++ codes ": not an entry"
 fault_text (faults.Assembly error) = error_text error
+fault_text (faults.Audit verdict) = verdict_text verdict
 fault_text faults.Write = codes "write fault"
 fault_text faults.Memory = codes "out of memory"
 
@@ -55,10 +71,10 @@ abbrev pub IsDue : Option Fault → Option Fault → Type 0
 IsDue due fault = (fault ≡ due) ⊎ ((fault ≡ Some faults.Read) ⊎ (fault ≡ Some faults.Memory))
 
 -- what the source held, at each answer that speaks of it
-abbrev pub Held : Option (List ℕ) → Option Fault → Type 0
-Held left (Some faults.TooLong) = IfSome left (λ text. limit < length text)
-Held left (Some (faults.Line n)) = IfSome left (λ text. (length text ≤ limit) × IsFirstBad text n)
-Held left _ = ⊤
+abbrev pub Held : Format → Option (List ℕ) → Option Fault → Type 0
+Held format left (Some faults.TooLong) = IfSome left (λ text. limit < length text)
+Held format left (Some (faults.Line n)) = IfSome left (λ text. (length text ≤ limit) × IsFirstBad format text n)
+Held format left _ = ⊤
 
 -- a stream's count of failures stays as it was, unless this is the answer: no call that failed is
 -- passed over, as by one more try
@@ -76,50 +92,70 @@ Untouched taken taken' (Some faults.Write) = ⊤
 Untouched taken taken' (Some _) = taken' ≡ taken
 
 module _ (command : Command) (left left' : Option (List ℕ)) (taken taken' : Option (List ℕ)) where
-  -- the headline: the file is the command's, without a fault, and what the command makes of it was
-  -- written. For `asm`, what was read is a file of items, and the report was written of code in
-  -- which the words of each item stand at its place, in order, with only islands between them that no item
-  -- runs into and one pool behind them, and each use of a label or constant leads to it. For `list`, it was the listing of such a
-  -- file, of which each item may be shown; for `roles`, the lines of the roles of any such file
-  pub record IsDone (file : File) (code : Option Code) : Type 0 where
-    pub input : IsInput command left left' file
+  -- the headline: what the command works on is right, and what it makes of it was written. For `asm`, what was read is a
+  -- file of items, and the report was written of code in which the words of each item stand at its place, in order, with only
+  -- islands between them that no item runs into and one pool behind them, and each use of a label or constant leads to it. For
+  -- `list`, it was the listing of such a file, of which each item may be shown; for `roles`, the lines of the roles of any such
+  -- file. For `audit` it was the one word `clean`, of words that are; for `dis` the texts of words, and for `undis` the words
+  -- that have such texts
+  pub record IsDone (input : Input) (code : Option Code) : Type 0 where
+    pub is_input : IsInput command left left' input
     pub output : List ℕ
-    pub made : IsMade command file code output
+    pub made : IsMade command input code output
     pub written : Takes taken taken' output
 
   -- the same, where a write failed: a proper prefix was written
-  pub record IsCutOff (file : File) (code : Option Code) : Type 0 where
-    pub input : IsInput command left left' file
+  pub record IsCutOff (input : Input) (code : Option Code) : Type 0 where
+    pub is_input : IsInput command left left' input
     pub output : List ℕ
-    pub made : IsMade command file code output
+    pub made : IsMade command input code output
     pub written : TakesPart taken taken' output
 
-  -- the command's file, which is refused
-  pub record IsRefused (error : EmitError) (file : File) : Type 0 where
-    pub input : IsInput command left left' file
-    pub fault : file_fault command file ≡ Some error
-    -- want of memory is an answer of its own
-    pub no_memory : error ≢ errors.OutOfMemory
+  -- what the command works on is refused, for the fault that it finds first; want of memory is an answer of its own
+  pub record IsRefused (fault : Fault) (input : Input) : Type 0 where
+    pub is_input : IsInput command left left' input
+    pub is_fault : IsFaultOf command input fault
+    pub no_memory : fault ≢ faults.Assembly errors.OutOfMemory
 
-  -- the command's file, for which there was no memory, though the command finds no fault in an item of it alone
-  pub record IsUndone (file : File) : Type 0 where
-    pub input : IsInput command left left' file
-    pub right : HasNoItemFault command file
+  -- there was no memory for it, though the command finds no fault in an item of it alone
+  pub record IsUndone (input : Input) : Type 0 where
+    pub is_input : IsInput command left left' input
+    pub right : HasNoItemFault command input
 
-  -- the file and the code that are kept at each answer
-  abbrev pub Keeps : Option Fault → Option File → Option Code → Type 0
-  Keeps None file code = IsSomeAnd file (λ f. IsDone f code)
-  Keeps (Some faults.Write) file code = IsSomeAnd file (λ f. IsCutOff f code)
-  Keeps (Some (faults.Assembly error)) file code = IsSomeAnd file (IsRefused error) × (code ≡ None)
-  Keeps (Some faults.Memory) file code = IfSome file IsUndone × (code ≡ None)
-  Keeps (Some _) file code = (file ≡ None) × (code ≡ None)
+  -- what is kept at each answer: what the command works on, and its code
+  abbrev pub Keeps : Option Fault → Option Input → Option Code → Type 0
+  Keeps None input code = IsSomeAnd input (λ i. IsDone i code)
+  Keeps (Some faults.Write) input code = IsSomeAnd input (λ i. IsCutOff i code)
+  Keeps (Some (faults.Assembly error)) input code = IsSomeAnd input (IsRefused (faults.Assembly error)) × (code ≡ None)
+  Keeps (Some (faults.Audit verdict)) input code = IsSomeAnd input (IsRefused (faults.Audit verdict)) × (code ≡ None)
+  Keeps (Some faults.Memory) input code = IfSome input IsUndone × (code ≡ None)
+  Keeps (Some _) input code = (input ≡ None) × (code ≡ None)
+
+-- the files in which that is kept
+pub record Files : Type 0 where
+  pub file : Option File
+  pub audit : Option AuditFile
+  pub shown : Option ShownFile
+
+abbrev pub files_of : Option Input → Files
+files_of None = record { file = None; audit = None; shown = None }
+files_of (Some (inputs.Items file)) = record { file = Some file; audit = None; shown = None }
+files_of (Some (inputs.Words file)) = record { file = None; audit = Some file; shown = None }
+files_of (Some (inputs.Listing file)) = record { file = None; audit = None; shown = Some file }
+
+-- what a run keeps
+abbrev pub kept_files : Ran → Files
+kept_files ran = record { file = ran.file; audit = ran.audit; shown = ran.shown }
+
+abbrev pub KeepsFiles : Command → Option (List ℕ) → Option (List ℕ) → Option (List ℕ) → Option (List ℕ) → Ran → Type 0
+KeepsFiles command left left' taken taken' ran = (input : Option Input) × (kept_files ran ≡ files_of input) × Keeps command left left' taken taken' ran.fault input ran.code
 
 -- which answer is due for a source that tells this text, where the command reads it
 pub record IsDueForText (command : Command) (text : List ℕ) (fault : Option Fault) : Type 0 where
   pub too_long : limit < length text → IsDue (Some faults.TooLong) fault
-  pub bad_line : (n : ℕ) → length text ≤ limit → IsFirstBad text n → IsDue (Some (faults.Line n)) fault
-  pub refused : (file : File) (error : EmitError) → length text ≤ limit → IsFile text file → file_fault command file ≡ Some error → IsDue (Some (faults.Assembly error)) fault
-  pub done : (file : File) → length text ≤ limit → IsFile text file → file_fault command file ≡ None → IsDue None fault ⊎ (fault ≡ Some faults.Write)
+  pub bad_line : (n : ℕ) → length text ≤ limit → IsFirstBad (works_on command) text n → IsDue (Some (faults.Line n)) fault
+  pub refused : (input : Input) (first : Fault) → length text ≤ limit → format_of input ≡ works_on command → IsText text input → IsFaultOf command input first → IsDue (Some first) fault
+  pub done : (input : Input) → length text ≤ limit → format_of input ≡ works_on command → IsText text input → IsFaultless command input → IsDue None fault ⊎ (fault ≡ Some faults.Write)
 
 -- nothing but a failed write or want of memory keeps a command from being done that reads nothing and has a
 -- file without a fault
@@ -128,7 +164,5 @@ IsDueAlways fault = (fault ≡ None) ⊎ ((fault ≡ Some faults.Write) ⊎ (fau
 
 -- which answer is due, for what the source tells
 abbrev pub IsDueAnswer : Command → Option (List ℕ) → Option Fault → Type 0
-IsDueAnswer (Asm force) left fault = IfSome left (λ text. IsDueForText (Asm force) text fault)
 IsDueAnswer (Gen count force) left fault = IsDueAlways fault
-IsDueAnswer commands.List left fault = IfSome left (λ text. IsDueForText commands.List text fault)
-IsDueAnswer commands.Roles left fault = IfSome left (λ text. IsDueForText commands.Roles text fault)
+IsDueAnswer command left fault = IfSome left (λ text. IsDueForText command text fault)

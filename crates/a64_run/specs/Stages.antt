@@ -1,24 +1,27 @@
 -- What the parts of a run answer.
-use Rattle.std.specs.Prelude.{ℕ, ◌≡◌, ◌≢◌, ◌<◌, ◌≤◌, ◌^◌, ◌/◌, ◌%◌, ◌++◌, ◌∷◌, List, [], take, drop, length, Option, None, Some, IfSome, Result, IfOk, IfErr, ⊤}
+use Rattle.std.specs.Prelude.{ℕ, codes, ◌≡◌, ◌≢◌, ◌<◌, ◌≤◌, ◌^◌, ◌/◌, ◌%◌, ◌++◌, ◌∷◌, List, [], take, drop, length, Option, None, Some, IfSome, Result, IfOk, IfErr, ⊤}
 use Rattle.std.specs.Fmt.{decimal}
 use Rattle.std.specs.String.{string_bytes}
 use Rattle.a64_emit.specs.declared.code.Code.{Code}
 use Rattle.a64_emit.specs.declared.error.EmitError.TheVariants as errors
 use Rattle.a64_run.specs.declared.command.Command.{Command}
-use Rattle.a64_run.specs.declared.command.Command.TheVariants.{Asm, Gen}
-use Rattle.a64_run.specs.declared.command.Command.TheVariants as commands
+use Rattle.a64_run.specs.declared.command.Command.TheVariants.{Gen}
+use Rattle.a64_run.specs.declared.command.Format.{Format}
+use Rattle.a64_run.specs.declared.input.Input.{Input}
+use Rattle.a64_run.specs.declared.input.Input.TheVariants as inputs
 use Rattle.a64_text.specs.declared.file.File.{File}
 use Rattle.a64_run.specs.declared.ran.Fault.{Fault}
 use Rattle.a64_run.specs.declared.ran.Fault.TheVariants as faults
 use Rattle.a64_read.specs.Hex.{hex_digit}
 use Rattle.a64_text.specs.States.{contents_of}
-use Rattle.a64_text.specs.FileText.{IsFile, IsFirstBad}
+use Rattle.a64_audit.specs.Entries as Audit
+use Rattle.a64_formtext.specs.Shown as Shown
 use Rattle.a64_run.specs.declared.making.Made.{Made}
-use Rattle.a64_run.specs.declared.making.Made.TheVariants.{Report, Summary, Listing}
-use Rattle.a64_run.specs.Report.{report_of}
-use Rattle.a64_run.specs.Gen.{gen_file, summary_of}
+use Rattle.a64_run.specs.declared.making.Made.TheVariants.{Report, Summary, Listing, Words, Clean}
+use Rattle.a64_run.specs.Report.{report_of, words_in, words_text}
+use Rattle.a64_run.specs.Gen.{summary_of}
 use Rattle.a64_run.specs.Streams.{HasFailed, Takes, TakesPart}
-use Rattle.a64_run.specs.Commands.{limit, IsCommand, OfCommand, HasRightItems, HasNoItemFault, assembly_fault, file_fault, IsMade}
+use Rattle.a64_run.specs.Commands.{limit, works_on, format_of, IsText, IsFirstBad, IsCommand, OfCommand, HasRightItems, HasNoItemFault, IsFaultOf, assembly_fault, IsMade}
 use Rattle.a64_run.specs.Run.{Held, IsDueForText}
 
 -- what is answered for words: Some exactly for the command that they are
@@ -73,37 +76,49 @@ IsInputFault old new faults.TooLong = new ≡ old
 IsInputFault old new (faults.Line n) = new ≡ old
 IsInputFault old new _ = ⊥
 
--- a text within the limit has no bad line, and is at most a file that says what this one says
-pub record IsFileOf (text : List ℕ) (file : File) : Type 0 where
+-- two say the same
+abbrev pub IsLike : Input → Input → Type 0
+IsLike (inputs.Items one) (inputs.Items two) = contents_of one ≡ contents_of two
+IsLike (inputs.Words one) (inputs.Words two) = Audit.contents_of one ≡ Audit.contents_of two
+IsLike (inputs.Listing one) (inputs.Listing two) = Shown.words_of one ≡ Shown.words_of two
+IsLike _ _ = ⊥
+
+-- a text within the limit has no bad line, and is at most what says what this one says
+pub record IsInputOf (format : Format) (text : List ℕ) (input : Input) : Type 0 where
   pub short : length text ≤ limit
-  pub good : (n : ℕ) → IsFirstBad text n → ⊥
-  pub same : (other : File) → IsFile text other → contents_of other ≡ contents_of file
+  pub good : (n : ℕ) → IsFirstBad format text n → ⊥
+  pub same : (other : Input) → format_of other ≡ format → IsText text other → IsLike other input
 
 -- a fault that is due for this text, whatever command reads it
-abbrev pub IsTextDue : List ℕ → Fault → Type 0
-IsTextDue text fault = (command : Command) → IsDueForText command text (Some fault)
+abbrev pub IsTextDue : Format → List ℕ → Fault → Type 0
+IsTextDue format text fault = (command : Command) → works_on command ≡ format → IsDueForText command text (Some fault)
 
--- why bytes are no file
+-- why bytes are nothing on which a command works
 abbrev pub IsLineFault : Fault → Type 0
 IsLineFault (faults.Line n) = ⊤
 IsLineFault faults.Memory = ⊤
 IsLineFault _ = ⊥
 
--- what is answered for the bytes of a file
-pub record IsParsed (bytes : List ℕ) (result : Result File Fault) : Type 0 where
-  pub ok : IfOk result (IsFile bytes)
-  pub items : IfOk result (λ file. length file.items.items < 2 ^ 32)
-  pub held : IfErr result (λ fault. Held (Some bytes) (Some fault))
-  pub cause : IfErr result IsLineFault
-  pub due_ok : IfOk result (IsFileOf bytes)
-  pub due_err : IfErr result (IsTextDue bytes)
+-- how many items or words there may be
+abbrev pub IsFew : Input → Type 0
+IsFew (inputs.Items file) = length file.items.items < 2 ^ 32
+IsFew (inputs.Words file) = length file.words.items < 2 ^ 29
+IsFew (inputs.Listing file) = ⊤
 
--- what was read of the command's file, for an answer that is due
-abbrev pub IsDueInput : Command → Option (List ℕ) → File → Type 0
-IsDueInput (Asm force) left file = IfSome left (λ text. IsFileOf text file)
-IsDueInput (Gen count force) left file = contents_of file ≡ gen_file count
-IsDueInput commands.List left file = IfSome left (λ text. IsFileOf text file)
-IsDueInput commands.Roles left file = IfSome left (λ text. IsFileOf text file)
+-- what is answered for bytes
+pub record IsParsed (format : Format) (bytes : List ℕ) (result : Result Input Fault) : Type 0 where
+  pub kind : IfOk result (λ input. format_of input ≡ format)
+  pub ok : IfOk result (IsText bytes)
+  pub few : IfOk result IsFew
+  pub held : IfErr result (λ fault. Held format (Some bytes) (Some fault))
+  pub cause : IfErr result IsLineFault
+  pub due_ok : IfOk result (IsInputOf format bytes)
+  pub due_err : IfErr result (IsTextDue format bytes)
+
+-- what was read for a command, for an answer that is due
+abbrev pub IsDueInput : Command → Option (List ℕ) → Input → Type 0
+IsDueInput (Gen count force) left input = ⊤
+IsDueInput command left input = IfSome left (λ text. IsInputOf (works_on command) text input)
 
 -- why a file has no report; want of memory is an answer only where each item is right by itself
 abbrev pub IsAssemblyFault : Command → File → Fault → Type 0
@@ -115,18 +130,21 @@ IsAssemblyFault command file _ = ⊥
 abbrev pub kept_of : Made → Option Code
 kept_of (Report code) = Some code
 kept_of (Summary items code) = Some code
-kept_of (Listing text) = None
+kept_of _ = None
 
 abbrev pub text_of : Made → List ℕ
 text_of (Report code) = report_of code
 text_of (Summary items code) = summary_of items code
 text_of (Listing text) = string_bytes text
+text_of (Words bytes) = words_text (words_in bytes.items)
+text_of Clean = codes "clean\n"
 
--- why a command makes nothing of a file; want of memory is an answer only where it finds no fault in one item alone
-abbrev pub IsFileFault : Command → File → Fault → Type 0
-IsFileFault command file (faults.Assembly error) = (file_fault command file ≡ Some error) × (error ≢ errors.OutOfMemory)
-IsFileFault command file faults.Memory = HasNoItemFault command file
-IsFileFault command file _ = ⊥
+-- why a command makes nothing of what it works on; want of memory is an answer only where it finds no fault in one item alone
+abbrev pub IsMakingFault : Command → Input → Fault → Type 0
+IsMakingFault command input faults.Memory = HasNoItemFault command input
+IsMakingFault command input (faults.Assembly error) = IsFaultOf command input (faults.Assembly error) × (error ≢ errors.OutOfMemory)
+IsMakingFault command input (faults.Audit verdict) = IsFaultOf command input (faults.Audit verdict)
+IsMakingFault command input _ = ⊥
 
 -- how the writing of what was made ends: what the sink has taken, and the code that is kept
 abbrev pub EndsWriting : Option (List ℕ) → Option (List ℕ) → Made → Option Fault → Option Code → Type 0
@@ -135,26 +153,24 @@ EndsWriting taken taken' made (Some faults.Write) code = TakesPart taken taken' 
 EndsWriting taken taken' made (Some faults.Memory) code = (taken' ≡ taken) × (code ≡ None)
 EndsWriting taken taken' made (Some _) code = ⊥
 
-module _ (command : Command) (taken taken' : Option (List ℕ)) (file : File) where
-  -- what the command makes of the file was written
+module _ (command : Command) (taken taken' : Option (List ℕ)) (input : Input) where
+  -- what the command makes was written
   pub record IsWritten (code : Option Code) : Type 0 where
     pub output : List ℕ
-    pub made : IsMade command file code output
+    pub made : IsMade command input code output
     pub written : Takes taken taken' output
 
   -- the same, in part
   pub record IsPartWritten (code : Option Code) : Type 0 where
     pub output : List ℕ
-    pub made : IsMade command file code output
+    pub made : IsMade command input code output
     pub written : TakesPart taken taken' output
 
-  -- how the run of a file ends: what the sink has taken, and the code that is kept
+  -- how a command ends, for what it works on: what the sink has taken, and the code that is kept
   abbrev pub Ends : Option Fault → Option Code → Type 0
   Ends None code = IsWritten code
   Ends (Some faults.Write) code = IsPartWritten code
-  Ends (Some (faults.Assembly error)) code = (file_fault command file ≡ Some error) × (error ≢ errors.OutOfMemory) × (code ≡ None) × (taken' ≡ taken)
-  Ends (Some faults.Memory) code = HasNoItemFault command file × (code ≡ None) × (taken' ≡ taken)
-  Ends (Some _) code = ⊥
+  Ends (Some fault) code = IsMakingFault command input fault × (code ≡ None) × (taken' ≡ taken)
 
 -- a text, a number, and a text
 abbrev pub numbered_text : List ℕ → ℕ → List ℕ → List ℕ

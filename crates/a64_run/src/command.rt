@@ -1,10 +1,10 @@
 //! The commands, and their words.
 
-ghost use Rattle.std.specs.Prelude.{◌≡◌, ◌↔◌, ◌∷◌, IsTrue, codes, map};
+ghost use Rattle.std.specs.Prelude.{◌≡◌, ◌↔◌, ◌∷◌, Some, IsTrue, codes, map};
 ghost use Rattle.std.specs.Fmt.{decimal};
 ghost use Rattle.std.specs.String.{string_bytes};
 ghost use Rattle.a64_read.specs.Reads.{Reads, Always};
-ghost use Rattle.a64_run.specs.Commands.{IsCount, force_of, force_words};
+ghost use Rattle.a64_run.specs.Commands.{IsCount, alone_name, force_of, force_words, works_on};
 ghost use Rattle.a64_run.specs.Stages.{ReadsCommand};
 
 use a64_buffer::ForceVeneers;
@@ -28,9 +28,37 @@ pub enum Command {
     List,
     /// Lists the roles of the registers in a file of items.
     Roles,
+    /// Tells what is wrong first with words of code.
+    Audit,
+    /// Shows words as the texts of their forms.
+    Dis,
+    /// Reads words from the texts of their forms.
+    Undis,
+}
+
+/// What the bytes are on which a command works.
+#[derive(Clone, Copy, Debug, PartialEq, Eq)]
+pub enum Format {
+    /// The lines of a file of items.
+    Items,
+    /// The lines of words of code, of traps and of data, as a report has them.
+    Words,
+    /// The texts of words.
+    Listing,
 }
 
 impl Command {
+    /// What the command works on.
+    pub fn works_on(self) -> Format
+        ensures { result ≡ works_on self }
+    {
+        match self {
+            Command::Asm(_) | Command::Gen { .. } | Command::List | Command::Roles => Format::Items,
+            Command::Audit | Command::Dis => Format::Words,
+            Command::Undis => Format::Listing,
+        }
+    }
+
     /// Whether the command forces islands.
     pub fn force(self) -> ForceVeneers
         ensures { result ≡ force_of self }
@@ -38,6 +66,7 @@ impl Command {
         match self {
             Command::Asm(force) | Command::Gen { force, .. } => force,
             Command::List | Command::Roles => ForceVeneers::No,
+            Command::Audit | Command::Dis | Command::Undis => ForceVeneers::No,
         }
     }
 }
@@ -94,22 +123,13 @@ fn read_gen(words: &[String]) -> Option<Command>
     }
 }
 
-/// The command `list`, behind whose name no word stands.
-fn read_list(words: &[String]) -> Option<Command>
-    ensures { ReadsCommand (codes "list" ∷ map string_bytes words.now) result }
+/// The command that is this word alone: no word stands behind it.
+fn read_alone(name: &str, words: &[String], command: Command) -> Option<Command>
+    requires { alone_name command ≡ Some name.now }
+    ensures { ReadsCommand (name.now ∷ map string_bytes words.now) result }
 {
     match words {
-        [] => Some(Command::List),
-        [_, ..] => None,
-    }
-}
-
-/// The command `roles`, behind whose name no word stands.
-fn read_roles(words: &[String]) -> Option<Command>
-    ensures { ReadsCommand (codes "roles" ∷ map string_bytes words.now) result }
-{
-    match words {
-        [] => Some(Command::Roles),
+        [] => Some(command),
         [_, ..] => None,
     }
 }
@@ -123,9 +143,15 @@ fn read_named(name: &str, words: &[String]) -> Option<Command>
     } else if is_word(name, "gen") {
         read_gen(words)
     } else if is_word(name, "list") {
-        read_list(words)
+        read_alone(name, words, Command::List)
     } else if is_word(name, "roles") {
-        read_roles(words)
+        read_alone(name, words, Command::Roles)
+    } else if is_word(name, "audit") {
+        read_alone(name, words, Command::Audit)
+    } else if is_word(name, "dis") {
+        read_alone(name, words, Command::Dis)
+    } else if is_word(name, "undis") {
+        read_alone(name, words, Command::Undis)
     } else {
         None
     }

@@ -2,10 +2,11 @@
 
 ghost use Rattle.std.specs.Prelude.{◌≡◌, ◌+◌, ◌≤◌, ◌++◌, codes, length};
 ghost use Rattle.arrayvec.specs.ArrayVec.{array_vec_len};
-ghost use Rattle.a64_run.specs.Run.{error_text, fault_text, fault_line};
+ghost use Rattle.a64_run.specs.Run.{error_text, fault_text, fault_line, verdict_text};
 ghost use Rattle.a64_run.specs.Stages.{numbered_text};
 
 use crate::ran::Fault;
+use a64_audit::Verdict;
 use a64_emit::EmitError;
 use arrayvec::ArrayVec;
 use itoa::Buffer;
@@ -68,6 +69,22 @@ fn text_of_error(error: EmitError) -> Line
     }
 }
 
+/// The text of what an audit finds.
+fn text_of_verdict(verdict: Verdict) -> Line
+    ensures text { result.items ≡ verdict_text verdict }
+    ensures short { length result.items ≤ 63 }
+{
+    match verdict {
+        Verdict::Clean => plain(b"clean"),
+        Verdict::BadRange(range) => numbered(b"range ", range as u64, b": bad"),
+        Verdict::UnknownWord(place) => numbered(b"place ", u64::from(place), b": unknown word"),
+        Verdict::OutOfCode(place) => {
+            numbered(b"place ", u64::from(place), b": branch out of code")
+        }
+        Verdict::IntoData(place) => numbered(b"place ", u64::from(place), b": branch into data"),
+    }
+}
+
 /// The text of a fault.
 fn text_of_fault(fault: Fault) -> Line
     ensures text { result.items ≡ fault_text fault }
@@ -79,6 +96,7 @@ fn text_of_fault(fault: Fault) -> Line
         Fault::TooLong => plain(b"input too large"),
         Fault::Line(number) => numbered(b"line ", number, b": not an entry"),
         Fault::Assembly(error) => text_of_error(error),
+        Fault::Audit(verdict) => text_of_verdict(verdict),
         Fault::Write => plain(b"write fault"),
         Fault::Memory => plain(b"out of memory"),
     }

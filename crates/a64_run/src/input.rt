@@ -1,17 +1,33 @@
-//! The file of items on which a command works: read from a source, or made.
+//! What a command works on: read from a source, or made.
 
-ghost use Rattle.std.specs.Prelude.{◌≡◌, ◌+◌, ◌<◌, ◌≤◌, ◌^◌, length, [], false, Some, IfSome, IfOk, IfErr, OnOk, OnErr};
+ghost use Rattle.std.specs.Prelude.{◌≡◌, ◌+◌, ◌<◌, ◌≤◌, length, [], false, Some, IfSome, IfOk, IfErr, OnOk, OnErr};
 ghost use Rattle.a64_run.specs.Streams.{HasFailed};
-ghost use Rattle.a64_run.specs.Commands.{limit, WasRead, IsInput, HasWords, reads_source};
+ghost use Rattle.a64_run.specs.declared.command.Format.TheVariants as formats;
+ghost use Rattle.a64_run.specs.declared.command.Format.{Format};
+ghost use Rattle.a64_run.specs.declared.ran.Fault.TheVariants as faults;
+ghost use Rattle.a64_run.specs.Commands.{limit, WasRead, IsCount, IsGenFile, IsInput, HasWords, reads_source, works_on};
 ghost use Rattle.a64_run.specs.Run.{Held, TakesFew, IsDueAnswer};
-ghost use Rattle.a64_run.specs.Stages.{HasRead, TakesBehind, TakesAtMost, IsWhole, IsFileOf, IsTextDue, IsParsed, IsReadFault, IsTextFault, IsInputFault, IsDueInput};
+ghost use Rattle.a64_run.specs.Stages.{HasRead, TakesBehind, TakesAtMost, IsWhole, IsFew, IsInputOf, IsTextDue, IsParsed, IsReadFault, IsTextFault, IsInputFault, IsDueInput};
 
-use crate::command::Command;
+use crate::command::{Command, Format};
 use crate::ran::Fault;
 use crate::stream::Source;
 use crate::turns::gen_file;
+use a64_audit::{AuditFile, AuditFileError, read_audit};
+use a64_formtext::{ShownFile, ShownFileError, read_shown};
 use a64_text::{File, FileError, read_file};
 use std::alloc::Global;
+
+/// What a command works on.
+#[derive(Drop)]
+pub enum Input {
+    /// A file of items.
+    Items(File),
+    /// Words of code, with traps and data.
+    Words(AuditFile),
+    /// The words of a listing.
+    Listing(ShownFile),
+}
 
 /// The most bytes that a file may have.
 const LIMIT: usize = 16_777_216;
@@ -89,7 +105,7 @@ fn read_all<S: Source>(alloc: Global, source: &mut S) -> Result<Vec<u8>, Fault>
 fn read_text<S: Source>(alloc: Global, source: &mut S) -> Result<Vec<u8>, Fault>
     ensures ok { IfOk result (λ bytes. IsWhole (S.left source.old) (S.left source.new) bytes.items) }
     ensures few { TakesFew (S.left source.old) (S.left source.new) }
-    ensures held { IfErr result (λ fault. Held (S.left source.old) (Some fault)) }
+    ensures held { IfErr result (λ fault. (format : Format) → Held format (S.left source.old) (Some fault)) }
     ensures steady { OnOk result (S.faults source.new ≡ S.faults source.old) }
     ensures cause { IfErr result (IsTextFault (S.faults source.old) (S.faults source.new)) }
 {
@@ -100,63 +116,111 @@ fn read_text<S: Source>(alloc: Global, source: &mut S) -> Result<Vec<u8>, Fault>
     }
 }
 
-/// The file that some bytes are.
-fn parse(alloc: Global, bytes: &[u8]) -> Result<File, Fault>
+/// The file of items that some bytes are.
+fn parse_items(alloc: Global, bytes: &[u8]) -> Result<Input, Fault>
     requires { length bytes.now ≤ limit }
-    ensures { IsParsed bytes.now result }
+    ensures { IsParsed formats.Items bytes.now result }
 {
     match read_file(alloc, bytes) {
-        Ok(file) => Ok(file),
+        Ok(file) => Ok(Input::Items(file)),
         Err(FileError::BadLine(number)) => Err(Fault::Line(number)),
         Err(FileError::OutOfMemory) => Err(Fault::Memory),
     }
 }
 
-/// Reads a file of items from a source, to its end.
+/// The words of code that some bytes are.
+fn parse_words(alloc: Global, bytes: &[u8]) -> Result<Input, Fault>
+    requires { length bytes.now ≤ limit }
+    ensures { IsParsed formats.Words bytes.now result }
+{
+    match read_audit(alloc, bytes) {
+        Ok(file) => Ok(Input::Words(file)),
+        Err(AuditFileError::BadLine(number)) => Err(Fault::Line(number)),
+        Err(AuditFileError::OutOfMemory) => Err(Fault::Memory),
+    }
+}
+
+/// The words of the listing that some bytes are.
+fn parse_listing(alloc: Global, bytes: &[u8]) -> Result<Input, Fault>
+    requires { length bytes.now ≤ limit }
+    ensures { IsParsed formats.Listing bytes.now result }
+{
+    match read_shown(alloc, bytes) {
+        Ok(file) => Ok(Input::Listing(file)),
+        Err(ShownFileError::BadLine(number)) => Err(Fault::Line(number)),
+        Err(ShownFileError::OutOfMemory) => Err(Fault::Memory),
+    }
+}
+
+/// What some bytes are in a format.
+fn parse(alloc: Global, format: Format, bytes: &[u8]) -> Result<Input, Fault>
+    requires { length bytes.now ≤ limit }
+    ensures { IsParsed format bytes.now result }
+{
+    match format {
+        Format::Items => parse_items(alloc, bytes),
+        Format::Words => parse_words(alloc, bytes),
+        Format::Listing => parse_listing(alloc, bytes),
+    }
+}
+
+/// Reads what a source holds, to its end.
 ///
 /// # Errors
 ///
 /// A read failed, the source holds too much, a line is no entry, or want of memory.
-fn read_input<S: Source>(alloc: Global, source: &mut S) -> Result<File, Fault>
-    ensures ok { IfOk result (WasRead (S.left source.old) (S.left source.new)) }
-    ensures items { IfOk result (λ file. length file.items.items < 2 ^ 32) }
+fn read_input<S: Source>(alloc: Global, format: Format, source: &mut S) -> Result<Input, Fault>
+    ensures ok { IfOk result (WasRead format (S.left source.old) (S.left source.new)) }
+    ensures few_items { IfOk result IsFew }
     ensures few { TakesFew (S.left source.old) (S.left source.new) }
-    ensures held { IfErr result (λ fault. Held (S.left source.old) (Some fault)) }
+    ensures held { IfErr result (λ fault. Held format (S.left source.old) (Some fault)) }
     ensures steady { OnOk result (S.faults source.new ≡ S.faults source.old) }
     ensures cause { IfErr result (IsInputFault (S.faults source.old) (S.faults source.new)) }
-    ensures due_ok { IfOk result (λ file. IfSome (S.left source.old) (λ text. IsFileOf text file)) }
-    ensures due_err { IfErr result (λ fault. IfSome (S.left source.old) (λ text. IsTextDue text fault)) }
+    ensures due_ok { IfOk result (λ input. IfSome (S.left source.old) (λ text. IsInputOf format text input)) }
+    ensures due_err { IfErr result (λ fault. IfSome (S.left source.old) (λ text. IsTextDue format text fault)) }
 {
     match read_text(alloc, source) {
-        Ok(bytes) => parse(alloc, &bytes),
+        Ok(bytes) => parse(alloc, format, &bytes),
         Err(fault) => Err(fault),
     }
 }
 
-/// The file on which the command works.
+/// The file that `gen` works on.
 ///
 /// # Errors
 ///
-/// What was read is no file, a read failed, or want of memory.
-pub fn input_of<S: Source>(alloc: Global, command: Command, source: &mut S) -> Result<File, Fault>
+/// Want of memory.
+fn make_input(alloc: Global, count: u32) -> Result<Input, Fault>
+    requires { IsCount count }
+    ensures ok { IfOk result (IsGenFile count) }
+    ensures few_items { IfOk result IsFew }
+    ensures err { IfErr result (λ fault. fault ≡ faults.Memory) }
+{
+    match gen_file(alloc, count) {
+        Ok(file) => Ok(Input::Items(file)),
+        Err(_) => Err(Fault::Memory),
+    }
+}
+
+/// What the command works on.
+///
+/// # Errors
+///
+/// What was read is nothing of the kind, a read failed, or want of memory.
+pub fn input_of<S: Source>(alloc: Global, command: Command, source: &mut S) -> Result<Input, Fault>
     requires { HasWords command }
     ensures ok { IfOk result (IsInput command (S.left source.old) (S.left source.new)) }
-    ensures items { IfOk result (λ file. length file.items.items < 2 ^ 32) }
+    ensures few_items { IfOk result IsFew }
     ensures few { TakesFew (S.left source.old) (S.left source.new) }
     ensures unread { reads_source command ≡ false → source.new ≡ source.old }
-    ensures held { IfErr result (λ fault. Held (S.left source.old) (Some fault)) }
+    ensures held { IfErr result (λ fault. Held (works_on command) (S.left source.old) (Some fault)) }
     ensures steady { OnOk result (S.faults source.new ≡ S.faults source.old) }
     ensures cause { IfErr result (IsInputFault (S.faults source.old) (S.faults source.new)) }
     ensures due_ok { IfOk result (IsDueInput command (S.left source.old)) }
     ensures due_err { IfErr result (λ fault. IsDueAnswer command (S.left source.old) (Some fault)) }
 {
     match command {
-        Command::Asm(_) => read_input(alloc, source),
-        Command::List => read_input(alloc, source),
-        Command::Roles => read_input(alloc, source),
-        Command::Gen { count, .. } => match gen_file(alloc, count) {
-            Ok(made) => Ok(made),
-            Err(_) => Err(Fault::Memory),
-        },
+        Command::Gen { count, .. } => make_input(alloc, count),
+        _ => read_input(alloc, command.works_on(), source),
     }
 }

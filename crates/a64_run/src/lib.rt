@@ -6,6 +6,7 @@
 
 mod adapter;
 mod assembling;
+mod code_words;
 mod command;
 mod fault_lines;
 mod hundred;

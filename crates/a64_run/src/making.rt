@@ -1,25 +1,31 @@
-//! What each command makes of its file, and how that is written.
+//! What each command makes of what it works on, and how that is written.
 
 ghost use Rattle.std.specs.Prelude.{◌≡◌, ◌^◌, ◌<◌, [], length, IfOk, IfErr, OnOk, OnErr};
+ghost use Rattle.a64_run.specs.declared.command.Format.TheVariants as formats;
+ghost use Rattle.a64_run.specs.declared.input.Input.TheVariants as inputs;
 ghost use Rattle.a64_run.specs.Streams.{HasFailed, Takes, TakesPart};
-ghost use Rattle.a64_run.specs.Commands.{IsMade};
-ghost use Rattle.a64_run.specs.Stages.{IsFileFault, kept_of, text_of};
+ghost use Rattle.a64_run.specs.Commands.{IsMade, format_of, works_on};
+ghost use Rattle.a64_run.specs.Stages.{IsFew, IsMakingFault, kept_of, text_of};
 
 use crate::assembling::assemble_file;
+use crate::code_words::{audit_words, bytes_of, show_words};
 use crate::command::Command;
+use crate::input::Input;
 use crate::listing::list_file;
 use crate::output::write_all;
 use crate::piece::Piece;
 use crate::ran::Fault;
-use crate::report::write_report;
+use crate::report::{write_report, write_words};
 use crate::roles::list_roles;
 use crate::stream::{Failed, Sink};
 use crate::summary::write_summary;
+use a64_audit::AuditFile;
 use a64_emit::Code;
+use a64_formtext::ShownFile;
 use a64_text::File;
 use std::alloc::Global;
 
-/// What a command makes of its file.
+/// What a command makes.
 #[derive(Drop)]
 pub enum Made {
     /// Code, of which the report is written.
@@ -31,8 +37,12 @@ pub enum Made {
         /// The code.
         code: Code,
     },
-    /// A listing, of items or of the roles of their registers.
+    /// A listing, of items, of the roles of their registers, or of words.
     Listing(String),
+    /// The bytes of words, each with its least byte first, of which the lines are written.
+    Words(Vec<u8>),
+    /// That words are clean.
+    Clean,
 }
 
 impl Made {
@@ -52,6 +62,8 @@ impl Made {
             Made::Report(code) => write_report(sink, piece, code),
             Made::Summary { items, code } => write_summary(sink, piece, *items, code),
             Made::Listing(text) => write_all(sink, text.as_bytes()),
+            Made::Words(bytes) => write_words(sink, piece, bytes),
+            Made::Clean => write_all(sink, b"clean\n"),
         }
     }
 
@@ -62,19 +74,22 @@ impl Made {
         match self {
             Made::Report(code) | Made::Summary { code, .. } => Some(code),
             Made::Listing(_) => None,
+            Made::Words(_) => None,
+            Made::Clean => None,
         }
     }
 }
 
-/// What the command makes of the file.
+/// What the command makes of a file of items.
 ///
 /// # Errors
 ///
 /// The first fault that the command finds in the file, or want of memory.
-pub fn make(alloc: Global, command: Command, file: &File) -> Result<Made, Fault>
-    requires { length file.now.items.items < 2 ^ 32 }
-    ensures ok { IfOk result (λ made. IsMade command file.now (kept_of made) (text_of made)) }
-    ensures err { IfErr result (IsFileFault command file.now) }
+fn make_of_items(alloc: Global, command: Command, file: &File) -> Result<Made, Fault>
+    requires kind { works_on command ≡ formats.Items }
+    requires few { length file.now.items.items < 2 ^ 32 }
+    ensures ok { IfOk result (λ made. IsMade command (inputs.Items file.now) (kept_of made) (text_of made)) }
+    ensures err { IfErr result (IsMakingFault command (inputs.Items file.now)) }
 {
     match command {
         Command::Asm(_) => match assemble_file(alloc, command, file) {
@@ -96,5 +111,67 @@ pub fn make(alloc: Global, command: Command, file: &File) -> Result<Made, Fault>
             Ok(text) => Ok(Made::Listing(text)),
             Err(fault) => Err(fault),
         },
+        Command::Audit | Command::Dis | Command::Undis => unreachable!(),
+    }
+}
+
+/// What the command makes of words of code.
+///
+/// # Errors
+///
+/// What an audit finds first, or want of memory.
+fn make_of_words(alloc: Global, command: Command, file: &AuditFile) -> Result<Made, Fault>
+    requires kind { works_on command ≡ formats.Words }
+    requires few { length file.now.words.items < 2 ^ 29 }
+    ensures ok { IfOk result (λ made. IsMade command (inputs.Words file.now) (kept_of made) (text_of made)) }
+    ensures err { IfErr result (IsMakingFault command (inputs.Words file.now)) }
+{
+    match command {
+        Command::Audit => match audit_words(file) {
+            Ok(()) => Ok(Made::Clean),
+            Err(fault) => Err(fault),
+        },
+        Command::Dis => match show_words(alloc, file) {
+            Ok(text) => Ok(Made::Listing(text)),
+            Err(fault) => Err(fault),
+        },
+        _ => unreachable!(),
+    }
+}
+
+/// What `undis` makes of a listing of words.
+///
+/// # Errors
+///
+/// Want of memory.
+fn make_of_listing(alloc: Global, command: Command, file: &ShownFile) -> Result<Made, Fault>
+    requires kind { works_on command ≡ formats.Listing }
+    ensures ok { IfOk result (λ made. IsMade command (inputs.Listing file.now) (kept_of made) (text_of made)) }
+    ensures err { IfErr result (IsMakingFault command (inputs.Listing file.now)) }
+{
+    match command {
+        Command::Undis => match bytes_of(alloc, &file.words) {
+            Ok(bytes) => Ok(Made::Words(bytes)),
+            Err(_) => Err(Fault::Memory),
+        },
+        _ => unreachable!(),
+    }
+}
+
+/// What the command makes of what it works on.
+///
+/// # Errors
+///
+/// The fault that the command finds first, or want of memory.
+pub fn make(alloc: Global, command: Command, input: &Input) -> Result<Made, Fault>
+    requires kind { format_of input.now ≡ works_on command }
+    requires few { IsFew input.now }
+    ensures ok { IfOk result (λ made. IsMade command input.now (kept_of made) (text_of made)) }
+    ensures err { IfErr result (IsMakingFault command input.now) }
+{
+    match input {
+        Input::Items(file) => make_of_items(alloc, command, file),
+        Input::Words(file) => make_of_words(alloc, command, file),
+        Input::Listing(file) => make_of_listing(alloc, command, file),
     }
 }

@@ -3,7 +3,7 @@
 ghost use Rattle.std.specs.Prelude.{◌≡◌, ◌+◌, [], ◌∷◌, length, IfSome, IfNone, OnOk, OnErr};
 ghost use Rattle.std.specs.List.{flat_map, enumerate_from};
 ghost use Rattle.a64_run.specs.Streams.{HasFailed, Takes, TakesPart, Puts, IsCut};
-ghost use Rattle.a64_run.specs.Report.{item_line, pool_line, word_line, words_in, report_of};
+ghost use Rattle.a64_run.specs.Report.{item_line, pool_line, words_in, words_text, report_of};
 ghost use Rattle.a64_run.specs.Sections.{section_text};
 
 use crate::kept::{ItemLine, WordLine};
@@ -76,8 +76,8 @@ pub fn first_word(bytes: &[u8]) -> Option<(u32, &[u8])>
 /// Puts the lines of the words.
 #[inline(never)]
 fn put_words<K: Sink>(sink: &mut K, piece: &mut Piece, bytes: &[u8]) -> Result<(), Failed>
-    ensures ok { OnOk result (Puts (K.taken sink.old) (K.faults sink.old) piece.old (K.taken sink.new) (K.faults sink.new) piece.new (flat_map word_line (enumerate_from 0 (words_in bytes.now)))) }
-    ensures err { OnErr result (IsCut (K.taken sink.old) (K.faults sink.old) piece.old (K.taken sink.new) (K.faults sink.new) (flat_map word_line (enumerate_from 0 (words_in bytes.now)))) }
+    ensures ok { OnOk result (Puts (K.taken sink.old) (K.faults sink.old) piece.old (K.taken sink.new) (K.faults sink.new) piece.new (words_text (words_in bytes.now))) }
+    ensures err { OnErr result (IsCut (K.taken sink.old) (K.faults sink.old) piece.old (K.taken sink.new) (K.faults sink.new) (words_text (words_in bytes.now))) }
 {
     let mut line = WordLine::of(0, 0);
     let mut place = 0;
@@ -173,5 +173,21 @@ pub fn write_report<K: Sink>(sink: &mut K, piece: &mut Piece, code: &Code) -> Re
     ensures cause { OnErr result (HasFailed (K.faults sink.old) (K.faults sink.new)) }
 {
     put_sections(sink, piece, code, &SECTIONS)?;
+    piece.flush(sink)
+}
+
+/// Writes the lines of words, by way of an empty piece. No memory is asked for.
+///
+/// # Errors
+///
+/// A write failed; some first bytes may have been taken, but not all.
+pub fn write_words<K: Sink>(sink: &mut K, piece: &mut Piece, bytes: &[u8]) -> Result<(), Failed>
+    requires { piece.old ≡ [] }
+    ensures all { OnOk result (Takes (K.taken sink.old) (K.taken sink.new) (words_text (words_in bytes.now))) }
+    ensures part { OnErr result (TakesPart (K.taken sink.old) (K.taken sink.new) (words_text (words_in bytes.now))) }
+    ensures steady { OnOk result (K.faults sink.new ≡ K.faults sink.old) }
+    ensures cause { OnErr result (HasFailed (K.faults sink.old) (K.faults sink.new)) }
+{
+    put_words(sink, piece, bytes)?;
     piece.flush(sink)
 }

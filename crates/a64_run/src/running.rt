@@ -4,77 +4,73 @@ ghost use Rattle.std.specs.Prelude.{◌≡◌, ◌≢◌, ◌⊎◌, ◌^◌, �
 ghost use Rattle.std.specs.String.{string_bytes};
 ghost use Rattle.a64_run.specs.declared.ran.Fault.TheVariants as faults;
 ghost use Rattle.a64_run.specs.Streams.{HasFailed, Takes, TakesPart};
-ghost use Rattle.a64_run.specs.Commands.{IsNoCommand, OfCommand, HasWords, reads_source};
-ghost use Rattle.a64_run.specs.Run.{status_of, fault_line, Keeps, Held, FailsOnlyAt, Untouched, TakesFew, IsDueAnswer};
-ghost use Rattle.a64_run.specs.Stages.{Ends, EndsWriting};
+ghost use Rattle.a64_run.specs.Commands.{IsNoCommand, OfCommand, HasWords, format_of, reads_source, works_on};
+ghost use Rattle.a64_run.specs.Run.{status_of, fault_line, files_of, kept_files, Keeps, KeepsFiles, Held, FailsOnlyAt, Untouched, TakesFew, IsDueAnswer};
+ghost use Rattle.a64_run.specs.Stages.{IsFew, Ends, EndsWriting};
 
 use crate::command::{Command, command_of};
 use crate::fault_lines::line_of_fault;
-use crate::input::input_of;
+use crate::input::{Input, input_of};
 use crate::making::{Made, make};
 use crate::output::write_all;
 use crate::piece::Piece;
-use crate::ran::{Fault, Ran};
+use crate::ran::{Ended, Fault, Ran};
 use crate::stream::{Failed, Sink, Source};
-use a64_text::File;
 use std::alloc::Global;
 
-/// Writes what was made of a file. The memory for that is taken before the first write.
-fn write_made<K: Sink>(alloc: Global, sink: &mut K, file: File, made: Made) -> Ran
-    ensures status { result.status ≡ status_of result.fault }
-    ensures file { result.file ≡ Some file }
+/// Writes what was made. The memory for that is taken before the first write.
+fn write_made<K: Sink>(alloc: Global, sink: &mut K, input: Input, made: Made) -> Ended
+    ensures input { result.input ≡ Some input }
     ensures ends { EndsWriting (K.taken sink.old) (K.taken sink.new) made result.fault result.code }
     ensures write { result.fault ≡ Some faults.Write → HasFailed (K.faults sink.old) (K.faults sink.new) }
     ensures writes { FailsOnlyAt faults.Write result.fault
         (K.faults sink.old) (K.faults sink.new) }
 {
     let Ok(mut piece) = Piece::new(alloc) else {
-        return Ran::refused(Some(file), Fault::Memory);
+        return Ended::refused(Some(input), Fault::Memory);
     };
-    let (status, fault) = match made.write(sink, &mut piece) {
-        Ok(()) => (0, None),
-        Err(Failed) => (4, Some(Fault::Write)),
+    let fault = match made.write(sink, &mut piece) {
+        Ok(()) => None,
+        Err(Failed) => Some(Fault::Write),
     };
-    Ran {
-        status,
-        file: Some(file),
+    Ended {
+        input: Some(input),
         code: made.into_code(),
         fault,
     }
 }
 
-/// Makes of a file what the command does, and writes it.
-fn run_file<K: Sink>(alloc: Global, command: Command, sink: &mut K, file: File) -> Ran
-    requires { length file.items.items < 2 ^ 32 }
-    ensures status { result.status ≡ status_of result.fault }
-    ensures file { result.file ≡ Some file }
-    ensures ends { Ends command (K.taken sink.old) (K.taken sink.new) file result.fault result.code }
+/// Makes what the command does of what it works on, and writes it.
+fn run_input<K: Sink>(alloc: Global, command: Command, sink: &mut K, input: Input) -> Ended
+    requires kind { format_of input ≡ works_on command }
+    requires few { IsFew input }
+    ensures input { result.input ≡ Some input }
+    ensures ends { Ends command (K.taken sink.old) (K.taken sink.new) input result.fault result.code }
     ensures write { result.fault ≡ Some faults.Write → HasFailed (K.faults sink.old) (K.faults sink.new) }
     ensures writes { FailsOnlyAt faults.Write result.fault
         (K.faults sink.old) (K.faults sink.new) }
 {
-    match make(alloc, command, &file) {
-        Ok(made) => write_made(alloc, sink, file, made),
-        Err(fault) => Ran::refused(Some(file), fault),
+    match make(alloc, command, &input) {
+        Ok(made) => write_made(alloc, sink, input, made),
+        Err(fault) => Ended::refused(Some(input), fault),
     }
 }
 
-/// Runs a command: takes its file, and writes what it makes of it.
+/// Runs a command: takes what it works on, and writes what it makes of it.
 fn run_command<S: Source, K: Sink>(
     alloc: Global,
     command: Command,
     source: &mut S,
     sink: &mut K,
-) -> Ran
+) -> Ended
     requires { HasWords command }
-    ensures status { result.status ≡ status_of result.fault }
     ensures keeps { Keeps command (S.left source.old) (S.left source.new) (K.taken sink.old) (K.taken sink.new)
-        result.fault result.file result.code }
+        result.fault result.input result.code }
     ensures usage { result.fault ≢ Some faults.Usage }
     ensures read { result.fault ≡ Some faults.Read → HasFailed (S.faults source.old) (S.faults source.new) }
     ensures reads { FailsOnlyAt faults.Read result.fault
         (S.faults source.old) (S.faults source.new) }
-    ensures held { Held (S.left source.old) result.fault }
+    ensures held { Held (works_on command) (S.left source.old) result.fault }
     ensures write { result.fault ≡ Some faults.Write → HasFailed (K.faults sink.old) (K.faults sink.new) }
     ensures writes { FailsOnlyAt faults.Write result.fault
         (K.faults sink.old) (K.faults sink.new) }
@@ -84,8 +80,8 @@ fn run_command<S: Source, K: Sink>(
     ensures untouched { Untouched (K.taken sink.old) (K.taken sink.new) result.fault }
 {
     match input_of(alloc, command, source) {
-        Ok(file) => run_file(alloc, command, sink, file),
-        Err(fault) => Ran::refused(None, fault),
+        Ok(input) => run_input(alloc, command, sink, input),
+        Err(fault) => Ended::refused(None, fault),
     }
 }
 
@@ -95,17 +91,17 @@ fn run_words<S: Source, K: Sink>(
     words: &[String],
     source: &mut S,
     sink: &mut K,
-) -> Ran
-    ensures status { result.status ≡ status_of result.fault }
+) -> Ended
     ensures keeps { OfCommand (map string_bytes words.now) (λ command.
         Keeps command (S.left source.old) (S.left source.new) (K.taken sink.old) (K.taken sink.new)
-        result.fault result.file result.code) }
-    ensures nothing { result.fault ≡ Some faults.Usage → (result.file ≡ None) × (result.code ≡ None) }
+        result.fault result.input result.code) }
+    ensures nothing { result.fault ≡ Some faults.Usage → (result.input ≡ None) × (result.code ≡ None) }
     ensures usage { (result.fault ≡ Some faults.Usage) ↔ IsNoCommand (map string_bytes words.now) }
     ensures read { result.fault ≡ Some faults.Read → HasFailed (S.faults source.old) (S.faults source.new) }
     ensures reads { FailsOnlyAt faults.Read result.fault
         (S.faults source.old) (S.faults source.new) }
-    ensures held { Held (S.left source.old) result.fault }
+    ensures held { OfCommand (map string_bytes words.now) (λ command.
+        Held (works_on command) (S.left source.old) result.fault) }
     ensures write { result.fault ≡ Some faults.Write → HasFailed (K.faults sink.old) (K.faults sink.new) }
     ensures writes { FailsOnlyAt faults.Write result.fault
         (K.faults sink.old) (K.faults sink.new) }
@@ -116,7 +112,7 @@ fn run_words<S: Source, K: Sink>(
 {
     match command_of(words) {
         Some(command) => run_command(alloc, command, source, sink),
-        None => Ran::refused(None, Fault::Usage),
+        None => Ended::refused(None, Fault::Usage),
     }
 }
 
@@ -138,22 +134,26 @@ fn tell<E: Sink>(errs: &mut E, fault: Fault)
 /// makes a file of its own, and writes a summary of its code. `force` behind either forces islands. `list`
 /// reads a file of items, and writes each as assembly text, where registers may be virtual. `roles` reads
 /// one too, and writes for each instruction the roles of its registers and the answers to queries; it
-/// refuses no item.
+/// refuses no item. `audit` reads the words of a report, and writes `clean` where nothing is wrong with them.
+/// `dis` reads them too, and writes each as the text of its form; `undis` reads such texts, and writes the
+/// words. What `undis` writes for what `dis` wrote are the same words at the same places.
 ///
 /// The answer tells how that ended, by its fault:
 ///
-/// - None: all was written, and nothing is offered to `errs`. The file and its code are kept; `list` and
-///   `roles` make none.
+/// - None: all was written, and nothing is offered to `errs`. What the command works on is kept, and the code
+///   of `asm` and `gen`.
 /// - [`Fault::Usage`]: the words are no command. Nothing is read, and no memory is taken.
 /// - [`Fault::Read`]: a read failed. It is not tried again.
 /// - [`Fault::TooLong`]: the source holds more than 16,777,216 bytes, and no read failed before.
 /// - [`Fault::Line`]: that line is the first that is no entry.
 /// - [`Fault::Assembly`]: that is the first fault of the file's items; `roles` looks for none. The file is
 ///   kept.
+/// - [`Fault::Audit`]: that is what `audit` finds first in the words, and not that they are clean. They are
+///   kept.
 /// - [`Fault::Write`]: a write failed, and is not tried again. The sink has taken a proper prefix of what
 ///   is written of the file that is kept, and of its code where there is one.
-/// - [`Fault::Memory`]: want of memory. Where a file is kept, each item of it is right by itself, or for
-///   `list` may be shown; for `roles` it may be any.
+/// - [`Fault::Memory`]: want of memory. Where a file of items is kept, each is right by itself, or for `list`
+///   may be shown; for `roles` it may be any. Where words are kept for `audit`, they are clean.
 ///
 /// But for the first, the line of the fault is offered to `errs`. A failed write there changes nothing,
 /// and is not tried again. But for the first and [`Fault::Write`], the sink has taken nothing.
@@ -170,16 +170,16 @@ pub fn run<S: Source, K: Sink, E: Sink>(
     // The headline, at status 0, and what is kept at the others; nothing where the words are no
     // command.
     ensures keeps { OfCommand (map string_bytes words.now) (λ command.
-        Keeps command (S.left source.old) (S.left source.new) (K.taken sink.old) (K.taken sink.new)
-        result.fault result.file result.code) }
-    ensures nothing { result.fault ≡ Some faults.Usage → (result.file ≡ None) × (result.code ≡ None) }
+        KeepsFiles command (S.left source.old) (S.left source.new) (K.taken sink.old) (K.taken sink.new) result) }
+    ensures nothing { result.fault ≡ Some faults.Usage → (kept_files result ≡ files_of None) × (result.code ≡ None) }
 
     // The causes of the answers. Where a count of failures rose, the answer is that failure.
     ensures usage { (result.fault ≡ Some faults.Usage) ↔ IsNoCommand (map string_bytes words.now) }
     ensures read { result.fault ≡ Some faults.Read → HasFailed (S.faults source.old) (S.faults source.new) }
     ensures reads { FailsOnlyAt faults.Read result.fault
         (S.faults source.old) (S.faults source.new) }
-    ensures held { Held (S.left source.old) result.fault }
+    ensures held { OfCommand (map string_bytes words.now) (λ command.
+        Held (works_on command) (S.left source.old) result.fault) }
     ensures write { result.fault ≡ Some faults.Write → HasFailed (K.faults sink.old) (K.faults sink.new) }
     ensures writes { FailsOnlyAt faults.Write result.fault
         (K.faults sink.old) (K.faults sink.new) }
@@ -202,7 +202,7 @@ pub fn run<S: Source, K: Sink, E: Sink>(
         Takes (E.taken errs.old) (E.taken errs.new) (fault_line fault)
         ⊎ TakesPart (E.taken errs.old) (E.taken errs.new) (fault_line fault)) }
 {
-    let ran = run_words(alloc, words, source, sink);
+    let ran = Ran::from(run_words(alloc, words, source, sink));
     if let Some(fault) = ran.fault {
         tell(errs, fault);
     }

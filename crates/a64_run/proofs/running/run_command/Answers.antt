@@ -3,11 +3,11 @@ use Rattle.a64_run.proofs.running.run_command.Goals as goal
 
 pub returns-in-Ok-clause-due : goal.returns-in-Ok-clause-due
 returns-in-Ok-clause-due g c =
-    ends_due c.args.command (g.K.Sink.taken c.args.sink.now) (g.K.Sink.taken c.run_file.new.sink) c.in-Ok.file (g.S.Source.left c.args.source.now)
-    c.run_file.result.fault c.run_file.result.code c.requires c.in-Ok.ensures.due_ok c.run_file.ensures.ends
+    ends_due c.args.command (g.S.Source.left c.args.source.now) (g.S.Source.left c.input_of.new.source) (g.K.Sink.taken c.args.sink.now) (g.K.Sink.taken c.run_input.new.sink) c.in-Ok.input
+    c.run_input.result.fault c.run_input.result.code c.requires c.in-Ok.ensures.ok c.in-Ok.ensures.due_ok c.run_input.ensures.ends
 
 pub returns-in-Ok-clause-keeps : goal.returns-in-Ok-clause-keeps
 returns-in-Ok-clause-keeps g c =
-    let k = ends_keeps c.args.command (g.S.Source.left c.args.source.now) (g.S.Source.left c.input_of.new.source) (g.K.Sink.taken c.args.sink.now) (g.K.Sink.taken c.run_file.new.sink) c.in-Ok.file
-    c.run_file.result.fault c.run_file.result.code c.in-Ok.ensures.ok c.run_file.ensures.ends in
-    rw c.run_file.ensures.file k
+    let k = ends_keeps c.args.command (g.S.Source.left c.args.source.now) (g.S.Source.left c.input_of.new.source) (g.K.Sink.taken c.args.sink.now) (g.K.Sink.taken c.run_input.new.sink) c.in-Ok.input
+    c.run_input.result.fault c.run_input.result.code c.in-Ok.ensures.ok c.run_input.ensures.ends in
+    rw c.run_input.ensures.input k

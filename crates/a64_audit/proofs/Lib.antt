@@ -1,0 +1,10 @@
+pub mod Ranges
+pub mod Targets
+pub mod Places
+pub mod OneVerdict
+pub mod Parts
+pub mod EntryReads
+pub mod Standing
+pub mod Fronts
+pub mod Takings
+pub mod Counts

@@ -1,0 +1,6 @@
+pub mod Readings
+pub mod Names
+pub mod FormReads
+pub mod Prints
+pub mod Words
+pub mod ShownLines

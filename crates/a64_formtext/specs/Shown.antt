@@ -1,0 +1,47 @@
+-- How words are shown: as the text of their form, or as data.
+use Rattle.std.specs.Prelude.{ℕ, ◌≡◌, ◌⊎◌, List, [], ◌∷◌, ◌++◌, codes}
+use Rattle.std.specs.List.{AllByRecursion}
+use Rattle.a64_formtext.specs.declared.file.ShownFile.{ShownFile}
+use Rattle.a64_formtext.specs.Texts.{form_text}
+use Rattle.a64_lines.specs.Lines as Lines
+use Rattle.a64_read.specs.Hex.{hex_word}
+use Rattle.a64_read.specs.Reads.{IsU32}
+use Rattle.a64_rows.specs.declared.row_table.Row.{Row}
+use Rattle.a64_rows.specs.Forms.{Form, IsWordOf, Matches}
+
+-- the line is the text of the form of a word
+pub record IsShownForm (word : ℕ) (line : List ℕ) : Type 0 where
+  pub form : Form
+  pub is_word : IsWordOf form.row form.fields word
+  pub text : line ≡ form_text form
+
+-- the line is a word that matches no row
+pub record IsShownData (word : ℕ) (line : List ℕ) : Type 0 where
+  pub unmatched : (row : Row) → Matches row word → ⊥
+  pub text : line ≡ codes "Data " ++ hex_word word
+
+-- a word of 32 bits that matches no row
+abbrev pub IsData : ℕ → Type 0
+IsData word = IsU32 word × ((row : Row) → Matches row word → ⊥)
+
+-- how a word is shown
+abbrev pub IsShown : ℕ → List ℕ → Type 0
+IsShown word line = IsShownForm word line ⊎ IsShownData word line
+
+-- the lines of some words, one behind another
+abbrev pub IsListing : List ℕ → List ℕ → Type 0
+IsListing [] text = text ≡ []
+IsListing (word ∷ words) text = (line : List ℕ) × (rest : List ℕ) × IsShown word line × (text ≡ line ++ codes "\n" ++ rest) × IsListing words rest
+
+-- a line says the word as which it is shown
+abbrev pub says : List ℕ → List ℕ → List ℕ → Type 0
+says line old new = (word : ℕ) × IsU32 word × IsShown word line × (new ≡ old ++ word ∷ [])
+
+-- the words of a file
+abbrev pub words_of : ShownFile → List ℕ
+words_of file = file.words.items
+
+-- the bytes are this file: its lines say these words, and where they are the listing of some words, it is of these
+pub record IsShownFile (bytes : List ℕ) (file : ShownFile) : Type 0 where
+  pub lines : Lines.IsFile says [] bytes (words_of file)
+  pub back : (words : List ℕ) → AllByRecursion IsU32 words → IsListing words bytes → words_of file ≡ words
