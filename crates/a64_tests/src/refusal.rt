@@ -203,15 +203,25 @@ fn ends_as_with_enough_memory(rt: HostRuntime) -> Result<(), AllocError> {
     add(&mut constants, VCodeConstant(7), &[1, 2, 3, 4, 5, 6, 7, 8])?;
     let mut buffer: MachBuffer<'_, ShortUse> = MachBuffer::new(rt.alloc(), &constants);
     put(&mut buffer, 0x5800_0001)?;
-    put(&mut buffer, 0x5400_0001)?;
-    put(&mut buffer, 0x3600_0000)?;
     load(&mut buffer, 0, VCodeConstant(7), ShortUse::Middle)?;
-    trap(&mut buffer, 4, TrapCode(3), ShortUse::Middle)?;
-    branch(&mut buffer, 8, MachLabel(5), ShortUse::Near)?;
     island(&mut buffer)?;
-    // three words, the jump over the island, that of the branch, a zero word, the constant, a trap
-    // word, and the far veneer of the branch's jump
-    assert_eq!(rt; buffer.cur_offset(), 12 + 4 + 4 + 4 + 8 + 4 + 20);
+    // a word, the jump over the island, and the constant
+    assert_eq!(rt; buffer.cur_offset(), 4 + 4 + 8);
+    Ok(())
+}
+
+#[test]
+fn branches_as_with_enough_memory(rt: HostRuntime) -> Result<(), AllocError> {
+    let constants = Constants::new(rt.alloc());
+    let mut buffer: MachBuffer<'_, ShortUse> = MachBuffer::new(rt.alloc(), &constants);
+    put(&mut buffer, 0x5400_0001)?;
+    trap(&mut buffer, 0, TrapCode(3), ShortUse::Middle)?;
+    put(&mut buffer, 0x3600_0000)?;
+    branch(&mut buffer, 4, MachLabel(5), ShortUse::Near)?;
+    island(&mut buffer)?;
+    // two words, the jump over the island, that of the branch, a trap word, and the far veneer of the
+    // branch's jump
+    assert_eq!(rt; buffer.cur_offset(), 8 + 4 + 4 + 4 + 20);
     assert_eq!(rt; buffer.first_unbound(), Some(MachLabel(5)));
     Ok(())
 }
@@ -223,18 +233,26 @@ fn records_as_with_enough_memory(rt: HostRuntime) -> Result<(), AllocError> {
     relocation(&mut buffer, Reloc::Arm64Call, ExternalName(1), -3)?;
     put(&mut buffer, 0x9400_0000)?;
     call(&mut buffer)?;
-    patchable_call(&mut buffer, 4)?;
-    stack_map(&mut buffer, UserStackMap(7))?;
     // the end of the code asks for memory once more, and has no second try
     let code = buffer.finish()?;
     assert_eq!(rt; code.bytes.as_slice(), [0, 0, 0, 0x94].as_slice());
-    assert_eq!(rt; code.pool, 4);
     let [(place, Reloc::Arm64Call, name, addend)] = code.relocs.as_slice() else {
         return Err(AllocError);
     };
     assert_eq!(rt; (*place, *name, *addend), (0, ExternalName(1), -3));
     assert_eq!(rt; code.calls.as_slice(), [4].as_slice());
-    assert_eq!(rt; code.patchable.as_slice(), [(4, 4)].as_slice());
-    assert_eq!(rt; code.maps.as_slice(), [(4, UserStackMap(7))].as_slice());
+    Ok(())
+}
+
+#[test]
+fn records_calls_as_with_enough_memory(rt: HostRuntime) -> Result<(), AllocError> {
+    let constants = Constants::new(rt.alloc());
+    let mut buffer: MachBuffer<'_, ShortUse> = MachBuffer::new(rt.alloc(), &constants);
+    patchable_call(&mut buffer, 4)?;
+    stack_map(&mut buffer, UserStackMap(7))?;
+    let code = buffer.finish()?;
+    assert_eq!(rt; code.pool, 0);
+    assert_eq!(rt; code.patchable.as_slice(), [(0, 4)].as_slice());
+    assert_eq!(rt; code.maps.as_slice(), [(0, UserStackMap(7))].as_slice());
     Ok(())
 }
