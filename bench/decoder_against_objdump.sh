@@ -1,7 +1,10 @@
 #!/usr/bin/env bash
 # Holds the table of instruction words against the disassembler of GNU binutils: draws random words of each row, and says
 # where the disassembler names another class of instruction. It reads the table and the limits out of
-# crates/a64_rows/specs, so that they stand once. Usage: bench/decoder_against_objdump.sh [WORDS OF EACH ROW] [SEED]
+# crates/a64_rows/specs, so that they stand once. Where PROGRAM names a built a64_cli, its `dis` shows the same words and as
+# many that are random in all bits: each word that meets its row's limits has to be shown by that row, what is shown by a row
+# has to be of its class to the disassembler, and `undis` has to give the words back.
+# Usage: [PROGRAM=FILE] bench/decoder_against_objdump.sh [WORDS OF EACH ROW] [SEED]
 set -eu
 cd "$(dirname "$0")/.."
 command -v aarch64-linux-gnu-objdump >/dev/null || { apt-get update -q >/dev/null; apt-get install -y -q binutils-aarch64-linux-gnu >/dev/null; }
@@ -109,7 +112,7 @@ def read_limits():
 P
 
 cat > "$work/compare.py" <<'P'
-import random, re, struct, subprocess, sys
+import os, random, re, struct, subprocess, sys
 from table import read_rows, read_limits
 
 work, count, seed = sys.argv[1], int(sys.argv[2]), int(sys.argv[3])
@@ -172,26 +175,34 @@ def word_of(row, values):
     weights = ((1 << 31) + (1 << 22) if slot is None else 1 << slot[0] for slot in slots[row])
     return fixed[row] + sum(value * weight for value, weight in zip(values, weights))
 
+def disassembled(words):
+    """The texts of words by the disassembler of GNU binutils, each with its word."""
+    with open(f"{work}/words", "wb") as out:
+        out.write(b"".join(struct.pack("<I", word) for word in words))
+    listing = subprocess.run(
+        ["aarch64-linux-gnu-objdump", "-D", "-z", "-b", "binary", "-m", "aarch64", "-M", "no-aliases", f"{work}/words"],
+        check=True, capture_output=True, text=True,
+    ).stdout
+    texts = re.findall(r"^ *[0-9a-f]+:\t([0-9a-f]{8}) \t(.*)$", listing, re.M)
+    assert len(texts) == len(words), (len(texts), len(words))
+    return texts
+
+def is_unknown(text):
+    return text.split()[0] == ".inst" or "undefined" in text
+
 words = []
 for row in fixed:
     for _ in range(count):
         values = draw(row)
         words.append((row, limits.get(row, lambda fields: True)(values), word_of(row, values)))
-with open(f"{work}/words", "wb") as out:
-    out.write(b"".join(struct.pack("<I", word) for _, _, word in words))
-listing = subprocess.run(
-    ["aarch64-linux-gnu-objdump", "-D", "-z", "-b", "binary", "-m", "aarch64", "-M", "no-aliases", f"{work}/words"],
-    check=True, capture_output=True, text=True,
-).stdout
-texts = re.findall(r"^ *[0-9a-f]+:\t([0-9a-f]{8}) \t(.*)$", listing, re.M)
-assert len(texts) == len(words), (len(texts), len(words))
+texts = disassembled([word for _, _, word in words])
 
 counts = {row: [0, 0, 0, 0, 0] for row in fixed}
 differences, refused = {}, {}
 for (row, met, word), (shown, text) in zip(words, texts):
     assert int(shown, 16) == word
     name = text.split()[0]
-    unknown = name == ".inst" or "undefined" in text
+    unknown = is_unknown(text)
     same = name in CLASSES[row].split()
     count_of = counts[row]
     if met:
@@ -213,6 +224,36 @@ for row, (met, unknown, other, missed, same) in counts.items():
 print(f"{len(differences)} differences of class")
 for (row, name), example in differences.items():
     print(f"{row} {name}: {example}")
+
+def run(program, command, text):
+    """What a command of the program writes for a text."""
+    return subprocess.run([program, command], input=text, check=True, capture_output=True, text=True).stdout
+
+def hold_program(program):
+    """Holds `dis` and `undis` against the table and the disassembler."""
+    random_words = [random.getrandbits(32) for _ in words]
+    every = [word for _, _, word in words] + random_words
+    report = "".join(f"word {4 * i} {word:08x}\n" for i, word in enumerate(every))
+    listing = run(program, "dis", report)
+    shown = [line.split(" ")[0] for line in listing.splitlines()]
+    assert len(shown) == len(every)
+    assert run(program, "undis", listing) == report, "undis does not give the words back"
+    wrong = [f"{word:08x} {row} {is_shown}" for (row, met, word), is_shown in zip(words, shown) if met and row != is_shown]
+    texts_of = disassembled(random_words)
+    others = [
+        f"{shown_word} {is_shown} {text}"
+        for is_shown, (shown_word, text) in zip(shown[len(words):], texts_of)
+        if is_shown != "Data" and not is_unknown(text) and text.split()[0] not in CLASSES[is_shown].split()
+    ]
+    rows = sum(is_shown != "Data" for is_shown in shown[len(words):])
+    print(f"dis: {len(every)} words shown and read back, {len(wrong)} not by their row; of {len(random_words)} random words")
+    print(f"{rows} match a row, {len(others)} of another class")
+    for line in wrong + others:
+        print(line)
+    sys.exit(bool(wrong or others))
+
+if "PROGRAM" in os.environ:
+    hold_program(os.environ["PROGRAM"])
 P
 
 PYTHONPATH="$work" PYTHONDONTWRITEBYTECODE=1 python3 "$work/compare.py" "$work" "${1:-2000}" "${2:-1}"
