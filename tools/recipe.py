@@ -1,5 +1,5 @@
 #!/usr/bin/env python3
-"""Sees that the recipes of docs/ARCHITECTURE.md name files and items that are there.
+"""Sees that the recipes of docs/ADDING.md name files and items that are there.
 
 Usage: tools/recipe.py
 
@@ -13,7 +13,7 @@ import re
 import sys
 
 ROOT = pathlib.Path(__file__).resolve().parent.parent
-PAGE = ROOT / "docs" / "ARCHITECTURE.md"
+PAGE = ROOT / "docs" / "ADDING.md"
 HEAD = ["crate", "file", "what"]
 
 
