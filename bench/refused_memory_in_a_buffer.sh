@@ -5,12 +5,12 @@
 # other tests have no second tries, and fail where they are refused. Each run takes about a minute.
 set -eu
 cd "$(dirname "$0")/../crates/a64_tests"
-calls=${1:-16}
+calls=${1:-12}
 record_calls=3
 record_calls_of_calls=2
 for call in $(seq "$calls"); do
     said=$(rt try --test --fail-alloc "$call" 2>&1) || true
-    tests=(ends_as_with_enough_memory branches_as_with_enough_memory)
+    tests=(ends_as_with_enough_memory)
     if [ "$call" -le "$record_calls" ]; then
         tests+=(records_as_with_enough_memory)
     fi

@@ -21,6 +21,4 @@ mod refusal;
 #[cfg(test)]
 mod registers;
 #[cfg(test)]
-mod rows;
-#[cfg(test)]
 mod short_use;

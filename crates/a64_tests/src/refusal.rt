@@ -3,13 +3,13 @@
 
 ghost use Rattle.std.specs.Prelude.{◌≡◌, ◌+◌, ◌%◌, ◌^◌, ◌<◌, OnOk, [], ◌∷◌, ◌++◌, IsSomeAnd};
 ghost use Rattle.std.specs.FinMap as finmap;
-ghost use Rattle.a64_buffer.specs.declared.site.Target.TheVariants.{Constant, Label, Trap};
+ghost use Rattle.a64_buffer.specs.declared.site.Target.TheVariants.{Constant};
 ghost use Rattle.a64_buffer.specs.Constants.{IsConstant, inserted};
 ghost use Rattle.a64_buffer.specs.Classes.{owed, Fits};
 ghost use Rattle.a64_buffer.specs.Buffer.{end_of, IsFree, IsOutside, made_use};
 
 use crate::short_use::ShortUse;
-use a64_base::{ExternalName, MachLabel, Reloc, TrapCode, UserStackMap, VCodeConstant};
+use a64_base::{ExternalName, Reloc, UserStackMap, VCodeConstant};
 use a64_buffer::{Constants, ForceVeneers, MachBuffer, MachInstLabelUse};
 use std::alloc::AllocError;
 
@@ -65,55 +65,6 @@ fn load<K: MachInstLabelUse>(
         return Ok(());
     }
     buffer.use_constant(offset, constant, kind)
-}
-
-/// Makes a branch to a trap, at the second try if need be.
-fn trap<K: MachInstLabelUse>(
-    buffer: &mut MachBuffer<'_, K>,
-    offset: u32,
-    code: TrapCode,
-    kind: K,
-) -> Result<(), AllocError>
-    requires aligned { offset % 4 ≡ 0 }
-    requires inside { offset < end_of buffer.old }
-    requires free { IsFree buffer.old.uses offset }
-    requires outside { IsOutside buffer.old.islands offset }
-    requires urgency { K.kinds.urgency kind ≡ 2 }
-    requires fits { Fits K.kinds (record buffer.old {
-      uses = buffer.old.uses ++ made_use K.kinds buffer.old.labels offset (Trap code) kind ∷ [];
-    }) 0 }
-    ensures { OnOk result (buffer.new ≡ record buffer.old {
-      uses = buffer.old.uses ++ made_use K.kinds buffer.old.labels offset (Trap code) kind ∷ [];
-    }) }
-{
-    if buffer.defer_trap(offset, code, kind).is_ok() {
-        return Ok(());
-    }
-    buffer.defer_trap(offset, code, kind)
-}
-
-/// Makes a use of a label, at the second try if need be.
-fn branch<K: MachInstLabelUse>(
-    buffer: &mut MachBuffer<'_, K>,
-    offset: u32,
-    label: MachLabel,
-    kind: K,
-) -> Result<(), AllocError>
-    requires aligned { offset % 4 ≡ 0 }
-    requires inside { offset < end_of buffer.old }
-    requires free { IsFree buffer.old.uses offset }
-    requires outside { IsOutside buffer.old.islands offset }
-    requires fits { Fits K.kinds (record buffer.old {
-      uses = buffer.old.uses ++ made_use K.kinds buffer.old.labels offset (Label label) kind ∷ [];
-    }) 0 }
-    ensures { OnOk result (buffer.new ≡ record buffer.old {
-      uses = buffer.old.uses ++ made_use K.kinds buffer.old.labels offset (Label label) kind ∷ [];
-    }) }
-{
-    if buffer.use_label_at_offset(offset, label, kind).is_ok() {
-        return Ok(());
-    }
-    buffer.use_label_at_offset(offset, label, kind)
 }
 
 /// Records a relocation, at the second try if need be.
@@ -207,22 +158,6 @@ fn ends_as_with_enough_memory(rt: HostRuntime) -> Result<(), AllocError> {
     island(&mut buffer)?;
     // a word, the jump over the island, and the constant
     assert_eq!(rt; buffer.cur_offset(), 4 + 4 + 8);
-    Ok(())
-}
-
-#[test]
-fn branches_as_with_enough_memory(rt: HostRuntime) -> Result<(), AllocError> {
-    let constants = Constants::new(rt.alloc());
-    let mut buffer: MachBuffer<'_, ShortUse> = MachBuffer::new(rt.alloc(), &constants);
-    put(&mut buffer, 0x5400_0001)?;
-    trap(&mut buffer, 0, TrapCode(3), ShortUse::Middle)?;
-    put(&mut buffer, 0x3600_0000)?;
-    branch(&mut buffer, 4, MachLabel(5), ShortUse::Near)?;
-    island(&mut buffer)?;
-    // two words, the jump over the island, that of the branch, a trap word, and the far veneer of the
-    // branch's jump
-    assert_eq!(rt; buffer.cur_offset(), 8 + 4 + 4 + 4 + 20);
-    assert_eq!(rt; buffer.first_unbound(), Some(MachLabel(5)));
     Ok(())
 }
 
