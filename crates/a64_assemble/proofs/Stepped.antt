@@ -4,7 +4,7 @@ use Rattle.std.specs.Prelude.{OnOk, IsSome}
 use Rattle.std.specs.FinMap.{FinMap}
 use Rattle.std.specs.Option.{unwrap_or}
 use Rattle.std.proofs.lemmas.Bool.{false≢true}
-use Rattle.a64_inst.specs.declared.virtuals.VirtualRegisters.TheVariants.{Refused}
+use Rattle.a64_operand.specs.declared.virtuals.VirtualRegisters.TheVariants.{Refused}
 use Rattle.a64_inst.specs.Faults.{inst_fault}
 use Rattle.a64_inst.specs.State.{State}
 use Rattle.a64_emit.proofs.Asked.{asked_words}

@@ -1,7 +1,7 @@
 //! What a look at an item finds.
 
 ghost use Rattle.std.specs.Prelude.{◌≡◌, None, Some};
-ghost use Rattle.a64_inst.specs.declared.virtuals.VirtualRegisters.TheVariants.{Refused};
+ghost use Rattle.a64_operand.specs.declared.virtuals.VirtualRegisters.TheVariants.{Refused};
 ghost use Rattle.a64_inst.specs.Faults as inst_faults;
 ghost use Rattle.a64_inst.specs.Groups.{group_of};
 ghost use Rattle.a64_assemble.specs.Looks.{IsLook, IsBareOrLight};

@@ -35,12 +35,12 @@ use Rattle.a64_inst.specs.declared.mode.MemLabel.{MemLabel}
 use Rattle.a64_inst.specs.declared.mode.MemLabel.TheVariants.{PCRel, Mach, Pool}
 use Rattle.a64_inst.specs.declared.mode.PairAMode.{PairAMode}
 use Rattle.a64_inst.specs.declared.mode.PairAMode.TheVariants as pairs
-use Rattle.a64_inst.specs.declared.virtuals.VirtualRegisters.TheVariants.{Refused}
+use Rattle.a64_operand.specs.declared.virtuals.VirtualRegisters.TheVariants.{Refused}
 use Rattle.a64_inst.specs.Accesses.{access_type}
 use Rattle.a64_inst.specs.FinalModes.{FinalMode, SignedOffset, ScaledOffset, Other, held_mode, parts_of, placed_mode, final_mode, final_steps}
 use Rattle.a64_inst.specs.MemoryOperands.{are_mode_parts, are_mode_operands, has_units, has_access_mode, is_index_extend, is_data_register, are_access_operands, are_pair_parts, is_pair_offset, is_same_scale, is_simm7_of}
 use Rattle.a64_inst.specs.Modes.{BaseOffset, base_offset_of, IsAccessSize, is_offset9, is_scaled_offset, is_far, steps_to}
-use Rattle.a64_inst.specs.Operands.{is_register_or_zero, is_register_or_stack, is_vector_register}
+use Rattle.a64_operand.specs.Operands.{is_register_or_zero, is_register_or_stack, is_vector_register}
 use Rattle.a64_rows.specs.Forms.{IsFormOf}
 use Rattle.a64_rows.specs.Limits as limits
 use Rattle.a64_enc_int.specs.Registers.{IsGeneral, IsReal}

@@ -20,7 +20,7 @@ use Rattle.a64_plan.specs.declared.step.ConstStep.TheVariants as steps
 use Rattle.a64_plan.specs.Shapes.{IsShape}
 use Rattle.a64_inst.specs.declared.emission.EmitFlags.{EmitFlags}
 use Rattle.a64_inst.specs.declared.frame.FrameLayout.{FrameLayout}
-use Rattle.a64_inst.specs.declared.virtuals.VirtualRegisters.TheVariants.{Refused}
+use Rattle.a64_operand.specs.declared.virtuals.VirtualRegisters.TheVariants.{Refused}
 use Rattle.a64_inst.specs.declared.inst.Inst.{Inst}
 use Rattle.a64_inst.specs.declared.fault.OwnFault.{OwnFault}
 use Rattle.a64_inst.specs.declared.fault.OwnFault.TheVariants as own
@@ -32,8 +32,8 @@ use Rattle.a64_inst.specs.Faults.{first_of, named_constant, constant_size, has_o
 use Rattle.a64_inst.specs.FinalModes.{FinalMode, SignedOffset, ScaledOffset, Other, held_mode, parts_of, placed_mode, final_mode}
 use Rattle.a64_inst.specs.Modes.{BaseOffset, base_offset_of, is_offset9, is_scaled_offset, IsAccessSize}
 use Rattle.a64_inst.specs.MemoryOperands.{is_addend, are_mode_parts, are_mode_operands, has_units, has_access_mode}
-use Rattle.a64_inst.specs.Operands.{is_imm12, is_logic_of, is_register_or_stack, is_register_or_zero, is_same_register, is_wide_in}
-use Rattle.a64_inst.specs.IntegerOperands.{is_kept}
+use Rattle.a64_operand.specs.Operands.{is_imm12, is_logic_of, is_register_or_stack, is_register_or_zero, is_same_register, is_wide_in}
+use Rattle.a64_operand.specs.IntegerOperands.{is_kept}
 use Rattle.a64_inst.proofs.Constants.{steps_good}
 use Rattle.a64_inst.proofs.Good.{first_passed, operands_good}
 use Rattle.a64_emit.specs.MemoryForms.{addend}

@@ -9,10 +9,10 @@ use Rattle.a64_base.specs.declared.reg.Reg.{Reg}
 use Rattle.a64_base.specs.declared.reg.Reg.TheVariants.{Real, Virtual}
 use Rattle.a64_base.specs.declared.reg.RegClass.{RegClass}
 use Rattle.a64_base.specs.declared.reg.RegClass.TheVariants.{Int, Float}
-use Rattle.a64_inst.specs.declared.atomic.AtomicCAS128Args.{AtomicCAS128Args}
-use Rattle.a64_inst.specs.declared.virtuals.VirtualRegisters.TheVariants.{Refused}
-use Rattle.a64_inst.specs.AtomicOperands.{is_atomic_type, is_pair_first, is_register_pair, is_next_register, are_cas128_operands}
-use Rattle.a64_inst.specs.Operands.{is_int, is_register, is_register_or_stack, is_register_or_zero, is_same_register}
+use Rattle.a64_operand.specs.declared.atomic.AtomicCAS128Args.{AtomicCAS128Args}
+use Rattle.a64_operand.specs.declared.virtuals.VirtualRegisters.TheVariants.{Refused}
+use Rattle.a64_operand.specs.AtomicOperands.{is_atomic_type, is_pair_first, is_register_pair, is_next_register, are_cas128_operands}
+use Rattle.a64_operand.specs.Operands.{is_int, is_register, is_register_or_stack, is_register_or_zero, is_same_register}
 use Rattle.a64_ops.specs.declared.operator.AtomicRMWOp.{AtomicRMWOp}
 use Rattle.a64_ops.specs.declared.operator.AtomicRMWOp.TheVariants as atomic
 use Rattle.a64_rows.specs.Forms.{IsFormOf}

@@ -9,7 +9,7 @@ use Rattle.a64_inst.specs.declared.call.CallArgPair.{CallArgPair}
 use Rattle.a64_inst.specs.declared.call.CallRetPair.{CallRetPair}
 use Rattle.a64_inst.specs.declared.frame.FrameLayout.{FrameLayout}
 use Rattle.a64_inst.specs.declared.mode.PairAMode.TheVariants.{SPPostIndexed}
-use Rattle.a64_inst.specs.declared.virtuals.VirtualRegisters.TheVariants.{Refused}
+use Rattle.a64_operand.specs.declared.virtuals.VirtualRegisters.TheVariants.{Refused}
 use Rattle.a64_inst.specs.CallOperands.{are_call_defs, are_call_operands, are_call_uses, are_return_operands, has_return_frame}
 use Rattle.a64_inst.specs.MemoryOperands.{are_pair_operands}
 

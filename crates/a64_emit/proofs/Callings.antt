@@ -17,10 +17,10 @@ use Rattle.a64_inst.specs.declared.emission.EmitFlags.{EmitFlags}
 use Rattle.a64_inst.specs.declared.frame.FrameLayout.{FrameLayout}
 use Rattle.a64_inst.specs.declared.inst.Inst.{Inst}
 use Rattle.a64_inst.specs.declared.inst.Inst.TheVariants as insts
-use Rattle.a64_inst.specs.declared.virtuals.VirtualRegisters.TheVariants.{Refused}
+use Rattle.a64_operand.specs.declared.virtuals.VirtualRegisters.TheVariants.{Refused}
 use Rattle.a64_inst.specs.CallOperands.{are_call_uses, are_call_defs, are_call_operands, has_return_frame, are_return_operands}
 use Rattle.a64_inst.specs.Faults.{is_restorable, has_operands}
-use Rattle.a64_inst.specs.Operands.{is_register_or_zero}
+use Rattle.a64_operand.specs.Operands.{is_register_or_zero}
 use Rattle.a64_emit.specs.declared.call.Callee.TheVariants.{Symbol, Address}
 use Rattle.a64_emit.specs.Cells.{keep, kept_cells, plain, call_cells, patchable_cells, leave_forms, restored_cell, return_cell, return_cells}
 

@@ -17,7 +17,7 @@ use Rattle.a64_inst.specs.declared.mode.AMode.TheVariants as modes
 use Rattle.a64_inst.specs.FinalModes.{FinalMode, SignedOffset, ScaledOffset, Other, final_mode, final_steps}
 use Rattle.a64_inst.specs.Groups.{group_of}
 use Rattle.a64_inst.specs.MemoryOperands.{is_addend}
-use Rattle.a64_inst.specs.Operands.{is_same_register}
+use Rattle.a64_operand.specs.Operands.{is_same_register}
 use Rattle.a64_rows.specs.Forms.{Form}
 use Rattle.a64_buffer.specs.Buffer.{Buffer}
 use Rattle.a64_label_use.specs.declared.label_use.LabelUse.{LabelUse}

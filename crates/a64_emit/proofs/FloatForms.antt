@@ -23,12 +23,12 @@ use Rattle.a64_ops.specs.declared.float.FpuToIntOp.{FpuToIntOp}
 use Rattle.a64_ops.specs.declared.float.FpuToIntOp.TheVariants.{F32ToU32}
 use Rattle.a64_ops.specs.declared.float.IntToFpuOp.{IntToFpuOp}
 use Rattle.a64_ops.specs.declared.float.IntToFpuOp.TheVariants.{U32ToF32}
-use Rattle.a64_inst.specs.declared.fpu_op.FPUOpRI.{FPUOpRI}
-use Rattle.a64_inst.specs.declared.fpu_op.FPUOpRI.TheVariants.{UShr32, UShr64}
-use Rattle.a64_inst.specs.declared.fpu_op.FPUOpRIMod.{FPUOpRIMod}
-use Rattle.a64_inst.specs.declared.fpu_op.FPUOpRIMod.TheVariants.{Sli32, Sli64}
-use Rattle.a64_inst.specs.FloatOperands.{is_float_imm_of, is_float_lane, is_fpu_op1_at, is_kept_shift, is_left_shift, is_left_shift_of, is_right_shift, is_right_shift_of, is_same_scalar}
-use Rattle.a64_inst.specs.Operands.{is_lane, is_same_register, lanes_of}
+use Rattle.a64_operand.specs.declared.fpu_op.FPUOpRI.{FPUOpRI}
+use Rattle.a64_operand.specs.declared.fpu_op.FPUOpRI.TheVariants.{UShr32, UShr64}
+use Rattle.a64_operand.specs.declared.fpu_op.FPUOpRIMod.{FPUOpRIMod}
+use Rattle.a64_operand.specs.declared.fpu_op.FPUOpRIMod.TheVariants.{Sli32, Sli64}
+use Rattle.a64_operand.specs.FloatOperands.{is_float_imm_of, is_float_lane, is_fpu_op1_at, is_kept_shift, is_left_shift, is_left_shift_of, is_right_shift, is_right_shift_of, is_same_scalar}
+use Rattle.a64_operand.specs.Operands.{is_lane, is_same_register, lanes_of}
 use Rattle.a64_rows.specs.Forms.{IsFormOf}
 use Rattle.a64_rows.specs.Limits.{is_float_one, is_float_type}
 use Rattle.a64_enc_int.proofs.Registers.{field_below}

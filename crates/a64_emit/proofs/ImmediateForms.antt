@@ -17,8 +17,8 @@ use Rattle.a64_ops.specs.declared.operator.BfmOp.{BfmOp}
 use Rattle.a64_ops.specs.declared.operator.BfmOp.TheVariants.{UBfm, SBfm}
 use Rattle.a64_ops.specs.declared.operator.MoveWideOp.{MoveWideOp}
 use Rattle.a64_ops.specs.declared.operator.MoveWideOp.TheVariants.{MovZ, MovN}
-use Rattle.a64_inst.specs.Operands.{is_bit_of, is_imm12, is_same_register, is_wide_in}
-use Rattle.a64_inst.specs.IntegerOperands.{is_bitfield, is_kept_bitfield, is_shift}
+use Rattle.a64_operand.specs.Operands.{is_bit_of, is_imm12, is_same_register, is_wide_in}
+use Rattle.a64_operand.specs.IntegerOperands.{is_bitfield, is_kept_bitfield, is_shift}
 use Rattle.a64_plan.specs.Shapes.{IsWithin}
 use Rattle.a64_rows.specs.Forms.{IsFormOf}
 use Rattle.a64_rows.specs.DataProcessing.{bitfield, move_wide}

@@ -26,17 +26,17 @@ use Rattle.a64_inst.specs.declared.inst.Inst.{Inst}
 use Rattle.a64_inst.specs.declared.inst.Inst.TheVariants as insts
 use Rattle.a64_inst.specs.declared.mode.AMode.{AMode}
 use Rattle.a64_inst.specs.declared.mode.AMode.TheVariants as modes
-use Rattle.a64_inst.specs.declared.virtuals.VirtualRegisters.TheVariants.{Refused}
+use Rattle.a64_operand.specs.declared.virtuals.VirtualRegisters.TheVariants.{Refused}
 use Rattle.a64_inst.specs.Accesses.{access_of, load_op, type_has_load_form}
 use Rattle.a64_inst.specs.Addresses.{is_numbered}
 use Rattle.a64_inst.specs.CallOperands.{are_call_defs, is_result_at}
 use Rattle.a64_inst.specs.Faults.{can_restore, has_plain_operands, has_other_operands, has_operands, has_other_mode, has_mode, has_scratch, inst_fault, is_restorable}
 use Rattle.a64_inst.specs.FinalModes.{FinalMode, SignedOffset, ScaledOffset, Other, final_mode, final_steps}
 use Rattle.a64_inst.specs.ControlOperands.{are_test_bit_operands}
-use Rattle.a64_inst.specs.IntegerOperands.{is_add_sub, is_logic, is_shift}
+use Rattle.a64_operand.specs.IntegerOperands.{is_add_sub, is_logic, is_shift}
 use Rattle.a64_inst.specs.Lone.{is_lone}
 use Rattle.a64_inst.specs.MemoryOperands.{is_addend, needs_x17_beside, are_mode_parts, are_mode_operands, are_address_operands, are_access_operands, has_access_mode, is_data_register}
-use Rattle.a64_inst.specs.Operands.{is_bit_of, is_imm12, is_logic_of, is_register, is_register_or_zero, is_same_register, is_wide_in}
+use Rattle.a64_operand.specs.Operands.{is_bit_of, is_imm12, is_logic_of, is_register, is_register_or_zero, is_same_register, is_wide_in}
 use Rattle.a64_inst.specs.declared.item.Item.{Item}
 use Rattle.a64_inst.specs.declared.item.Item.TheVariants.{Bind, Emit}
 use Rattle.a64_inst.proofs.Good.{operands_good}

@@ -15,7 +15,7 @@ use Rattle.a64_imms.specs.LogicLaws.{r_fits, s_fits}
 use Rattle.a64_imms.proofs.LogicRuns.{narrow, passed, passed_run}
 use Rattle.a64_ops.specs.declared.operator.ALUOp.{ALUOp}
 use Rattle.a64_ops.specs.declared.operator.ALUOp.TheVariants as alu
-use Rattle.a64_inst.specs.Operands.{is_same_size, is_logic_of}
+use Rattle.a64_operand.specs.Operands.{is_same_size, is_logic_of}
 use Rattle.a64_rows.specs.Forms.{IsFormOf}
 use Rattle.a64_rows.specs.Limits.{is_bitmask, is_bitmask_of}
 use Rattle.a64_rows.specs.DataProcessing.{logic_imm}

@@ -18,7 +18,7 @@ use Rattle.a64_ops.specs.declared.operator.ALUOp.{ALUOp}
 use Rattle.a64_ops.specs.declared.operator.ALUOp.TheVariants as alu
 use Rattle.a64_ops.specs.declared.operator.ALUOp3.{ALUOp3}
 use Rattle.a64_ops.specs.declared.operator.ALUOp3.TheVariants.{MAdd}
-use Rattle.a64_inst.specs.IntegerOperands.{is_no_rotation, takes_shift}
+use Rattle.a64_operand.specs.IntegerOperands.{is_no_rotation, takes_shift}
 use Rattle.a64_rows.specs.Forms.{IsFormOf}
 use Rattle.a64_rows.specs.Limits.{is_bit_number}
 use Rattle.a64_rows.specs.DataProcessing.{add_sub_reg, logic_reg}

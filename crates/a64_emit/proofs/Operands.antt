@@ -21,11 +21,11 @@ use Rattle.a64_imms.specs.Logic.{is_imm_logic, IsImmLogic}
 use Rattle.a64_imms.proofs.LogicRuns.{passed}
 use Rattle.a64_ops.specs.declared.operator.ALUOp.{ALUOp}
 use Rattle.a64_ops.specs.declared.operator.ALUOp.TheVariants as alu
-use Rattle.a64_inst.specs.declared.virtuals.VirtualRegisters.TheVariants.{Refused}
+use Rattle.a64_operand.specs.declared.virtuals.VirtualRegisters.TheVariants.{Refused}
 use Rattle.a64_inst.specs.ControlOperands.{are_jump_operands, are_cond_br_operands, are_test_bit_operands, is_target, is_test}
-use Rattle.a64_inst.specs.Operands.{is_int, is_register, is_register_or_zero, is_register_or_stack, is_vector_register, is_stack_pointer, is_same_size, is_bit_of, is_logic_of, is_near}
-use Rattle.a64_inst.specs.IntegerOperands.{add_sub_class, logic_class, is_fixed_operand, is_fixed_result, are_move_registers, is_move, is_move_from, is_move_to, is_extension, is_extend_result, is_extended}
-use Rattle.a64_inst.specs.Sheets.{is_of}
+use Rattle.a64_operand.specs.Operands.{is_int, is_register, is_register_or_zero, is_register_or_stack, is_vector_register, is_stack_pointer, is_same_size, is_bit_of, is_logic_of, is_near}
+use Rattle.a64_operand.specs.IntegerOperands.{add_sub_class, logic_class, is_fixed_operand, is_fixed_result, are_move_registers, is_move, is_move_from, is_move_to, is_extension, is_extend_result, is_extended}
+use Rattle.a64_operand.specs.Operands.{is_of}
 use Rattle.a64_rows.specs.Forms.{IsFormOf}
 use Rattle.a64_rows.specs.Limits.{is_bit_number}
 use Rattle.a64_rows.specs.DataProcessing.{bitfield}

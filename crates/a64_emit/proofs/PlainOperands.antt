@@ -2,9 +2,10 @@
 use Rattle.std.proofs.Common.{◌≡◌, Bool, true, List, [], ◌∷◌}
 use Rattle.std.proofs.lemmas.Bool.{and_parts}
 use Rattle.a64_inst.specs.declared.inst.Inst.{Inst}
-use Rattle.a64_inst.specs.declared.virtuals.VirtualRegisters.TheVariants.{Refused}
+use Rattle.a64_operand.specs.declared.virtuals.VirtualRegisters.TheVariants.{Refused}
 use Rattle.a64_inst.specs.Fields.{Field, Def, Use, Is}
-use Rattle.a64_inst.specs.Sheets.{fields_fit, has_rest, is_of, sheet}
+use Rattle.a64_inst.specs.Sheets.{fields_fit, has_rest, sheet}
+use Rattle.a64_operand.specs.Operands.{is_of}
 
 rest_holds : (fields : List Field) (rest : Bool) → fields_fit Refused fields rest ≡ true → rest ≡ true
 rest_holds [] rest e = e

@@ -15,9 +15,9 @@ use Rattle.a64_ops.specs.declared.operator.ALUOp.TheVariants.{Orr}
 use Rattle.a64_ops.specs.declared.operator.ALUOp3.{ALUOp3}
 use Rattle.a64_ops.specs.declared.operator.BitOp.{BitOp}
 use Rattle.a64_ops.specs.declared.operator.BitOp.TheVariants.{Rev64}
-use Rattle.a64_inst.specs.declared.virtuals.VirtualRegisters.TheVariants.{Refused}
-use Rattle.a64_inst.specs.Operands.{is_stack_pointer, is_bit_of}
-use Rattle.a64_inst.specs.IntegerOperands.{takes_shift, is_shifted, is_bit_op_at, is_extended}
+use Rattle.a64_operand.specs.declared.virtuals.VirtualRegisters.TheVariants.{Refused}
+use Rattle.a64_operand.specs.Operands.{is_stack_pointer, is_bit_of}
+use Rattle.a64_operand.specs.IntegerOperands.{takes_shift, is_shifted, is_bit_op_at, is_extended}
 use Rattle.a64_rows.specs.Forms.{Form, IsFormOf}
 use Rattle.a64_rows.specs.DataProcessing.{add_sub_imm, logic_reg, logic_imm, bitfield, data_proc1}
 use Rattle.a64_rows.specs.Limits.{is_one_source}

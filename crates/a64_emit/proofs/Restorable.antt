@@ -29,14 +29,14 @@ use Rattle.a64_inst.specs.declared.inst.Inst.TheVariants as insts
 use Rattle.a64_inst.specs.declared.mode.AMode.{AMode}
 use Rattle.a64_inst.specs.declared.mode.AMode.TheVariants as modes
 use Rattle.a64_inst.specs.declared.mode.MemLabel.TheVariants.{PCRel, Mach, Pool}
-use Rattle.a64_inst.specs.declared.virtuals.VirtualRegisters.TheVariants.{Refused}
+use Rattle.a64_operand.specs.declared.virtuals.VirtualRegisters.TheVariants.{Refused}
 use Rattle.a64_inst.specs.Accesses.{access_of, access_type}
 use Rattle.a64_inst.specs.FinalModes.{FinalMode, SignedOffset, ScaledOffset, Other, final_mode, final_steps, needs_x16}
 use Rattle.a64_inst.specs.Lone.{is_lone, is_lone_access, is_lone_address, is_lone_other, is_lone_return, is_lone_sum, is_no_use}
 use Rattle.a64_inst.specs.MemoryOperands.{are_access_operands, are_address_operands, are_mode_operands, is_addend, is_within}
 use Rattle.a64_imms.specs.Offsets.{residue}
 use Rattle.a64_inst.specs.Modes.{BaseOffset, base_offset_of, constant_in, is_far, steps_to}
-use Rattle.a64_inst.specs.Operands.{is_register, is_register_or_stack, is_other_register, is_same_register}
+use Rattle.a64_operand.specs.Operands.{is_register, is_register_or_stack, is_other_register, is_same_register}
 use Rattle.a64_inst.specs.declared.fault.OwnFault.{OwnFault}
 use Rattle.a64_inst.specs.declared.fault.OwnFault.TheVariants as own
 use Rattle.a64_inst.specs.Faults.{can_restore, constant_size, first_of, has_constant, has_operands, has_other_operands, has_plain_operands, has_mode, has_scratch, inst_fault, is_within_constant}

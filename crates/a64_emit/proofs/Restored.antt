@@ -26,7 +26,7 @@ use Rattle.a64_inst.specs.declared.inst.Inst.TheVariants as insts
 use Rattle.a64_inst.specs.declared.mode.AMode.{AMode}
 use Rattle.a64_inst.specs.declared.mode.AMode.TheVariants as modes
 use Rattle.a64_inst.specs.declared.mode.MemLabel.TheVariants.{PCRel, Mach, Pool}
-use Rattle.a64_inst.specs.declared.virtuals.VirtualRegisters.TheVariants.{Refused}
+use Rattle.a64_operand.specs.declared.virtuals.VirtualRegisters.TheVariants.{Refused}
 use Rattle.a64_inst.specs.Accesses.{access_of, access_type}
 use Rattle.a64_inst.specs.Faults.{named_constant, has_mode, has_plain_operands, has_other_operands, has_operands, can_restore}
 use Rattle.a64_inst.specs.FinalModes.{FinalMode, SignedOffset, ScaledOffset, Other, final_mode, final_steps, needs_x16}
@@ -34,7 +34,7 @@ use Rattle.a64_inst.specs.Groups.{group_of}
 use Rattle.a64_inst.specs.Lone.{is_no_use, is_lone_access, is_lone_sum, is_lone_address, is_lone_other, is_lone_return, is_lone}
 use Rattle.a64_inst.specs.MemoryOperands.{is_addend, are_access_operands, are_mode_operands, are_address_operands}
 use Rattle.a64_inst.specs.Modes.{BaseOffset, base_offset_of, is_far, steps_to, constant_in}
-use Rattle.a64_inst.specs.Operands.{is_register, is_register_or_stack, is_same_class, is_same_register, is_other_register}
+use Rattle.a64_operand.specs.Operands.{is_register, is_register_or_stack, is_same_class, is_same_register, is_other_register}
 use Rattle.a64_ops.specs.declared.operator.ALUOp.TheVariants.{Add}
 use Rattle.a64_plan.specs.Plans.{plan_of}
 use Rattle.a64_plan.specs.declared.step.ConstStep.{ConstStep}

@@ -23,7 +23,7 @@ use Rattle.a64_inst.specs.declared.group.Group.TheVariants.{Call, Memory}
 use Rattle.a64_inst.specs.declared.inst.Inst.{Inst}
 use Rattle.a64_inst.specs.declared.mode.AMode.{AMode}
 use Rattle.a64_inst.specs.declared.mode.AMode.TheVariants as modes
-use Rattle.a64_inst.specs.declared.virtuals.VirtualRegisters.TheVariants.{Refused}
+use Rattle.a64_operand.specs.declared.virtuals.VirtualRegisters.TheVariants.{Refused}
 use Rattle.a64_inst.specs.Accesses.{access_of, inst_with, load_op, type_has_load_form}
 use Rattle.a64_inst.specs.CallOperands.{is_result_at, are_call_defs}
 use Rattle.a64_inst.specs.Faults.{named_constant, has_mode, has_other_mode, has_other_operands, has_operands}

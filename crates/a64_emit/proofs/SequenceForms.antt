@@ -37,9 +37,9 @@ use Rattle.a64_plan.specs.Plans.{alone_or, moves_size, moves_of, narrow_logic_of
 use Rattle.a64_plan.specs.Shapes.{IsShape}
 use Rattle.a64_plan.proofs.Shortest.{plan_shortest}
 use Rattle.a64_inst.specs.declared.emission.EmitFlags.{EmitFlags}
-use Rattle.a64_inst.specs.declared.virtuals.VirtualRegisters.TheVariants.{Refused}
-use Rattle.a64_inst.specs.IntegerOperands.{is_extended}
-use Rattle.a64_inst.specs.Operands.{is_imm12, is_register, is_register_or_zero}
+use Rattle.a64_operand.specs.declared.virtuals.VirtualRegisters.TheVariants.{Refused}
+use Rattle.a64_operand.specs.IntegerOperands.{is_extended}
+use Rattle.a64_operand.specs.Operands.{is_imm12, is_register, is_register_or_zero}
 use Rattle.a64_inst.specs.SequenceOperands.{are_probe_operands}
 use Rattle.a64_rows.specs.Forms.{Form, IsFormOf}
 use Rattle.a64_emit.specs.Cells.{Data, plain, last_cell, entry_site, table_labels, table_cells, barrier_forms, table_forms, table_jump, got_cells, near_cells, far_cells, probe_forms, vector_select_forms, FormOf, Cell, loop_cells, rmw_loop_cells, cas_loop_cells}

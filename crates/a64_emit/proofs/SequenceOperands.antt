@@ -6,10 +6,10 @@ use Rattle.a64_base.specs.declared.ir_type.IrType.{IrType}
 use Rattle.a64_base.specs.declared.reg.Reg.{Reg}
 use Rattle.a64_ops.specs.declared.access.AccessOp.{AccessOp}
 use Rattle.a64_ops.specs.Accesses.{moves_vector}
-use Rattle.a64_inst.specs.declared.virtuals.VirtualRegisters.TheVariants.{Refused}
-use Rattle.a64_inst.specs.AtomicOperands.{are_cas_loop_operands, are_loop_operands, is_atomic_type}
+use Rattle.a64_operand.specs.declared.virtuals.VirtualRegisters.TheVariants.{Refused}
+use Rattle.a64_operand.specs.AtomicOperands.{are_cas_loop_operands, are_loop_operands, is_atomic_type}
 use Rattle.a64_inst.specs.MemoryOperands.{is_data_register}
-use Rattle.a64_inst.specs.Operands.{is_fixed_register, is_register, is_register_or_zero, is_other_register}
+use Rattle.a64_operand.specs.Operands.{is_fixed_register, is_register, is_register_or_zero, is_other_register}
 use Rattle.a64_inst.specs.SequenceOperands.{are_table_operands}
 use Rattle.a64_enc_int.specs.Registers.{IsGeneral}
 use Rattle.a64_emit.proofs.Operands.{general, register_zero}

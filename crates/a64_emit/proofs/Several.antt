@@ -26,7 +26,7 @@ use Rattle.a64_inst.specs.FinalModes.{FinalMode, SignedOffset, ScaledOffset, Oth
 use Rattle.a64_inst.specs.Groups.{group_of}
 use Rattle.a64_inst.specs.Modes.{constant_in}
 use Rattle.a64_inst.specs.MemoryOperands.{is_addend}
-use Rattle.a64_inst.specs.Operands.{is_same_register}
+use Rattle.a64_operand.specs.Operands.{is_same_register}
 use Rattle.a64_rows.specs.Forms.{Form}
 use Rattle.a64_emit.specs.IntegerForms.{mov_form, alu_rrr_extend_form}
 use Rattle.a64_emit.specs.MemoryForms.{step_forms, addend_form, addend_register, sum_form, offset_register, access_steps, access_form}

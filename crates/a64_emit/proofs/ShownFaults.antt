@@ -8,7 +8,7 @@ use Rattle.a64_inst.specs.declared.fault.OwnFault.TheVariants as own
 use Rattle.a64_inst.specs.declared.frame.FrameLayout.{FrameLayout}
 use Rattle.a64_inst.specs.declared.inst.Inst.{Inst}
 use Rattle.a64_inst.specs.declared.item.Item.{Item}
-use Rattle.a64_inst.specs.declared.virtuals.VirtualRegisters.TheVariants.{Allowed}
+use Rattle.a64_operand.specs.declared.virtuals.VirtualRegisters.TheVariants.{Allowed}
 use Rattle.a64_inst.specs.Faults.{fault_with, first_of, has_constant, has_mode, has_operands, has_scratch, is_within_constant}
 use Rattle.a64_emit.specs.declared.shown.ShownFault.TheVariants as shown
 use Rattle.a64_emit.specs.Faults.{or_else}

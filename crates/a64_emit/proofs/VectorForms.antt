@@ -14,10 +14,10 @@ use Rattle.a64_base.specs.ScalarSizes.{has_ftype, has_operand_size, scalar_opera
 use Rattle.a64_base.specs.VectorSizes.{float_field, has_float_lanes, lane_field, lane_of, q_of}
 use Rattle.a64_imms.specs.declared.asimd_fp.ASIMDFPModImm.{ASIMDFPModImm}
 use Rattle.a64_imms.specs.declared.asimd_mov.ASIMDMovModImm.{ASIMDMovModImm}
-use Rattle.a64_inst.specs.declared.lanes.Lanes.TheVariants.{FullFloats}
-use Rattle.a64_inst.specs.FloatOperands.{is_same_scalar}
-use Rattle.a64_inst.specs.Operands.{is_lane, is_same_register, lanes_of}
-use Rattle.a64_inst.specs.VectorOperands.{are_kept_lanes, has_lanes, is_amount, is_byte_shift, is_elem, is_elem_at, is_elem_op, is_float_imm_in, is_kept_amount, is_kept_lane, is_left_amount, is_mov_imm_in, is_mov_imm_of, is_right_amount, is_scalar_lane, is_signed_lane, is_signed_size, lane_bits, lane_count}
+use Rattle.a64_operand.specs.declared.lanes.Lanes.TheVariants.{FullFloats}
+use Rattle.a64_operand.specs.FloatOperands.{is_same_scalar}
+use Rattle.a64_operand.specs.Operands.{is_lane, is_same_register, lanes_of}
+use Rattle.a64_operand.specs.VectorOperands.{are_kept_lanes, has_lanes, is_amount, is_byte_shift, is_elem, is_elem_at, is_elem_op, is_float_imm_in, is_kept_amount, is_kept_lane, is_left_amount, is_mov_imm_in, is_mov_imm_of, is_right_amount, is_scalar_lane, is_signed_lane, is_signed_size, lane_bits, lane_count}
 use Rattle.a64_ops.specs.declared.vector.VecALUModOp.{VecALUModOp}
 use Rattle.a64_ops.specs.declared.vector.VecALUModOp.TheVariants.{Bsl}
 use Rattle.a64_ops.specs.declared.vector.VecALUOp.{VecALUOp}

@@ -35,7 +35,7 @@ use Rattle.a64_inst.specs.declared.mode.AMode.TheVariants as modes
 use Rattle.a64_inst.specs.Accesses.{access_of, access_type}
 use Rattle.a64_inst.specs.FinalModes.{FinalMode, SignedOffset, ScaledOffset, Other, final_mode, final_steps}
 use Rattle.a64_inst.specs.MemoryOperands.{is_addend}
-use Rattle.a64_inst.specs.Operands.{is_same_register}
+use Rattle.a64_operand.specs.Operands.{is_same_register}
 use Rattle.a64_inst.specs.State.{State}
 use Rattle.a64_buffer.specs.Buffer.{Buffer, end_of}
 use Rattle.a64_label_use.specs.declared.label_use.LabelUse.{LabelUse}

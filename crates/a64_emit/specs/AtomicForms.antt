@@ -2,7 +2,7 @@
 -- compare and swap, compare and swap pair, load-store ordered).
 use Rattle.a64_base.specs.declared.ir_type.IrType.{IrType}
 use Rattle.a64_base.specs.declared.reg.Reg.{Reg}
-use Rattle.a64_inst.specs.declared.atomic.AtomicCAS128Args.{AtomicCAS128Args}
+use Rattle.a64_operand.specs.declared.atomic.AtomicCAS128Args.{AtomicCAS128Args}
 use Rattle.a64_ops.specs.declared.operator.AtomicRMWOp.{AtomicRMWOp}
 use Rattle.a64_rows.specs.Forms.{Form}
 use Rattle.a64_rows.specs.Memory.{atomic_op, cas, casp, load_acq, store_rel}

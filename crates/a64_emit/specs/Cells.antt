@@ -34,7 +34,7 @@ use Rattle.a64_inst.specs.declared.mode.MemLabel.TheVariants.{PCRel, Mach, Pool}
 use Rattle.a64_inst.specs.Accesses.{access_of, inst_with, load_op, type_has_load_form}
 use Rattle.a64_inst.specs.FinalModes.{FinalMode, SignedOffset, ScaledOffset, Other, final_mode, final_steps}
 use Rattle.a64_inst.specs.MemoryOperands.{is_addend}
-use Rattle.a64_inst.specs.Operands.{is_same_register}
+use Rattle.a64_operand.specs.Operands.{is_same_register}
 use Rattle.std.specs.List.{flat_map, filter_map}
 use Rattle.a64_base.specs.declared.size.OperandSize.TheVariants.{Size64}
 use Rattle.a64_base.specs.declared.target.BranchTarget.{BranchTarget}

@@ -25,10 +25,10 @@ use Rattle.a64_ops.specs.declared.float.FpuToIntOp.{FpuToIntOp}
 use Rattle.a64_ops.specs.declared.float.FpuToIntOp.TheVariants.{F32ToU32, F32ToI32, F32ToU64, F32ToI64, F64ToU32, F64ToI32, F64ToU64, F64ToI64}
 use Rattle.a64_ops.specs.declared.float.IntToFpuOp.{IntToFpuOp}
 use Rattle.a64_ops.specs.declared.float.IntToFpuOp.TheVariants.{U32ToF32, I32ToF32, U32ToF64, I32ToF64, U64ToF32, I64ToF32, U64ToF64, I64ToF64}
-use Rattle.a64_inst.specs.declared.fpu_op.FPUOpRI.{FPUOpRI}
-use Rattle.a64_inst.specs.declared.fpu_op.FPUOpRI.TheVariants.{UShr32, UShr64}
-use Rattle.a64_inst.specs.declared.fpu_op.FPUOpRIMod.{FPUOpRIMod}
-use Rattle.a64_inst.specs.declared.fpu_op.FPUOpRIMod.TheVariants.{Sli32, Sli64}
+use Rattle.a64_operand.specs.declared.fpu_op.FPUOpRI.{FPUOpRI}
+use Rattle.a64_operand.specs.declared.fpu_op.FPUOpRI.TheVariants.{UShr32, UShr64}
+use Rattle.a64_operand.specs.declared.fpu_op.FPUOpRIMod.{FPUOpRIMod}
+use Rattle.a64_operand.specs.declared.fpu_op.FPUOpRIMod.TheVariants.{Sli32, Sli64}
 use Rattle.a64_enc_int.specs.Registers.{register_field}
 use Rattle.a64_emit.specs.declared.word.plain.float.Conversion.{Conversion}
 use Rattle.a64_rows.specs.Floats.{fp_one, fp_two, fp_three, fp_compare, fp_select, fp_imm, fp_int}

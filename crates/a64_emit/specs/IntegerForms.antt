@@ -26,8 +26,8 @@ use Rattle.a64_imms.specs.declared.imm_logic.ImmLogic.{ImmLogic}
 use Rattle.a64_imms.specs.declared.move_wide.MoveWideConst.{MoveWideConst}
 use Rattle.a64_imms.specs.declared.unsigned.ImmShift.{ImmShift}
 use Rattle.a64_imms.specs.Logic.{inverted}
-use Rattle.a64_inst.specs.declared.virtuals.VirtualRegisters.TheVariants.{Refused}
-use Rattle.a64_inst.specs.Operands.{is_stack_pointer}
+use Rattle.a64_operand.specs.declared.virtuals.VirtualRegisters.TheVariants.{Refused}
+use Rattle.a64_operand.specs.Operands.{is_stack_pointer}
 use Rattle.a64_enc_int.specs.Branches.{distance_low, distance_high}
 use Rattle.a64_enc_int.specs.Operators.{bit_of, move_wide_opc}
 use Rattle.a64_enc_int.specs.Registers.{register_field}

@@ -7,7 +7,7 @@ use Rattle.a64_inst.specs.declared.frame.FrameLayout.{FrameLayout}
 use Rattle.a64_inst.specs.declared.inst.Inst.{Inst}
 use Rattle.a64_inst.specs.declared.fault.OwnFault.{OwnFault}
 use Rattle.a64_inst.specs.declared.fault.OwnFault.TheVariants as own
-use Rattle.a64_inst.specs.declared.virtuals.VirtualRegisters.TheVariants.{Allowed}
+use Rattle.a64_operand.specs.declared.virtuals.VirtualRegisters.TheVariants.{Allowed}
 use Rattle.a64_inst.specs.Faults.{constant_size, has_mode, has_operands, is_within_constant}
 use Rattle.a64_inst.specs.declared.item.Item.{Item}
 use Rattle.a64_inst.specs.declared.item.Item.TheVariants.{Bind, Emit}

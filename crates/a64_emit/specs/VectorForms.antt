@@ -12,7 +12,7 @@ use Rattle.a64_base.specs.ScalarSizes.{scalar_operand}
 use Rattle.a64_base.specs.VectorSizes.{float_field, lane_field, lane_of, q_of}
 use Rattle.a64_imms.specs.declared.asimd_fp.ASIMDFPModImm.{ASIMDFPModImm}
 use Rattle.a64_imms.specs.declared.asimd_mov.ASIMDMovModImm.{ASIMDMovModImm}
-use Rattle.a64_inst.specs.VectorOperands.{lane_bits}
+use Rattle.a64_operand.specs.VectorOperands.{lane_bits}
 use Rattle.a64_ops.specs.declared.vector.VecALUModOp.{VecALUModOp}
 use Rattle.a64_ops.specs.declared.vector.VecExtendOp.{VecExtendOp}
 use Rattle.a64_ops.specs.declared.vector.VecExtendOp.TheVariants.{Sxtl, Uxtl}

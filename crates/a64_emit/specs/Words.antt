@@ -17,13 +17,13 @@ use Rattle.a64_plan.specs.declared.step.ConstStep.TheVariants as steps
 use Rattle.a64_inst.specs.declared.emission.EmitFlags.{EmitFlags}
 use Rattle.a64_inst.specs.declared.frame.FrameLayout.{FrameLayout}
 use Rattle.a64_inst.specs.declared.inst.Inst.{Inst}
-use Rattle.a64_inst.specs.declared.virtuals.VirtualRegisters.TheVariants.{Refused}
+use Rattle.a64_operand.specs.declared.virtuals.VirtualRegisters.TheVariants.{Refused}
 use Rattle.a64_inst.specs.Accesses.{access_type}
 use Rattle.a64_inst.specs.Faults.{named_constant}
 use Rattle.a64_inst.specs.FinalModes.{FinalMode, SignedOffset, ScaledOffset, Other}
 use Rattle.a64_inst.specs.MemoryOperands as memory
 use Rattle.a64_inst.specs.Modes.{is_offset9}
-use Rattle.a64_inst.specs.Operands.{is_logic_of, is_register_or_stack, is_register_or_zero, is_wide_in}
+use Rattle.a64_operand.specs.Operands.{is_logic_of, is_register_or_stack, is_register_or_zero, is_wide_in}
 use Rattle.a64_rows.specs.Forms.{form_word}
 use Rattle.a64_buffer.specs.declared.site.Target.TheVariants.{Label, Constant, Trap, IslandEnd}
 use Rattle.a64_label_use.specs.declared.label_use.LabelUse.{LabelUse}

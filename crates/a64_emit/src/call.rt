@@ -5,7 +5,7 @@ ghost use Rattle.std.specs.List.{flat_map, list_all};
 ghost use Rattle.a64_base.specs.declared.ir_type.IrType.{IrType};
 ghost use Rattle.a64_inst.specs.declared.call.RetLocation.TheVariants.{Stack};
 ghost use Rattle.a64_inst.specs.declared.group.Group.TheVariants as groups;
-ghost use Rattle.a64_inst.specs.declared.virtuals.VirtualRegisters.TheVariants.{Refused};
+ghost use Rattle.a64_operand.specs.declared.virtuals.VirtualRegisters.TheVariants.{Refused};
 ghost use Rattle.a64_inst.specs.CallOperands.{are_call_defs, has_return_frame};
 ghost use Rattle.a64_inst.specs.Faults.{has_operands, is_restorable, can_restore};
 ghost use Rattle.a64_inst.specs.Groups.{group_of};

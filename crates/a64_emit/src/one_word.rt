@@ -1,7 +1,7 @@
 //! The words of instructions that a frame restores.
 
 ghost use Rattle.std.specs.Prelude.{◌≡◌, [], ◌∷◌, true};
-ghost use Rattle.a64_inst.specs.declared.virtuals.VirtualRegisters.TheVariants.{Refused};
+ghost use Rattle.a64_operand.specs.declared.virtuals.VirtualRegisters.TheVariants.{Refused};
 ghost use Rattle.a64_inst.specs.Faults.{can_restore};
 ghost use Rattle.a64_emit.specs.Cells.{inst_cells, restored_cell};
 

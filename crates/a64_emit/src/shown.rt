@@ -1,7 +1,7 @@
 //! What is wrong with instructions that are only shown.
 
 ghost use Rattle.std.specs.Prelude.{◌≡◌, ◌≢◌, IfSome};
-ghost use Rattle.a64_inst.specs.declared.virtuals.VirtualRegisters.TheVariants.{Allowed};
+ghost use Rattle.a64_operand.specs.declared.virtuals.VirtualRegisters.TheVariants.{Allowed};
 ghost use Rattle.a64_inst.specs.Faults as inst_faults;
 ghost use Rattle.a64_emit.specs.declared.error.EmitError.TheVariants.{OutOfMemory};
 ghost use Rattle.a64_emit.specs.ShownFaults as shown_faults;

@@ -22,10 +22,10 @@ use Rattle.a64_plan.specs.declared.step.ConstStep.TheVariants as steps
 use Rattle.a64_plan.specs.Shapes.{IsWithin, IsMovK, IsShape}
 use Rattle.a64_inst.specs.declared.emission.EmitFlags.{EmitFlags}
 use Rattle.a64_inst.specs.declared.frame.FrameLayout.{FrameLayout}
-use Rattle.a64_inst.specs.declared.virtuals.VirtualRegisters.{VirtualRegisters}
-use Rattle.a64_inst.specs.declared.virtuals.VirtualRegisters.TheVariants.{Refused}
-use Rattle.a64_inst.specs.Operands.{is_int, is_register, is_register_or_zero, is_register_or_stack, is_same_register, is_same_size, is_wide_in, is_logic_of}
-use Rattle.a64_inst.specs.IntegerOperands.{is_kept}
+use Rattle.a64_operand.specs.declared.virtuals.VirtualRegisters.{VirtualRegisters}
+use Rattle.a64_operand.specs.declared.virtuals.VirtualRegisters.TheVariants.{Refused}
+use Rattle.a64_operand.specs.Operands.{is_int, is_register, is_register_or_zero, is_register_or_stack, is_same_register, is_same_size, is_wide_in, is_logic_of}
+use Rattle.a64_operand.specs.IntegerOperands.{is_kept}
 use Rattle.a64_inst.specs.Faults.{has_operands, inst_fault}
 use Rattle.a64_inst.specs.Constants.{step_into, HaveNoFault}
 

@@ -15,11 +15,11 @@ use Rattle.a64_base.specs.declared.size.OperandSize.TheVariants.{Size32, Size64}
 use Rattle.a64_imms.specs.declared.move_wide.MoveWideConst.{MoveWideConst}
 use Rattle.a64_inst.specs.declared.emission.EmitFlags.{EmitFlags}
 use Rattle.a64_inst.specs.declared.frame.FrameLayout.{FrameLayout}
-use Rattle.a64_inst.specs.declared.virtuals.VirtualRegisters.{VirtualRegisters}
+use Rattle.a64_operand.specs.declared.virtuals.VirtualRegisters.{VirtualRegisters}
 use Rattle.a64_inst.specs.declared.inst.Inst.{Inst}
 use Rattle.a64_inst.specs.declared.fault.OwnFault.{OwnFault}
 use Rattle.a64_inst.specs.declared.fault.OwnFault.TheVariants as own
-use Rattle.a64_inst.specs.Operands.{is_wide_in, is_offset}
+use Rattle.a64_operand.specs.Operands.{is_wide_in, is_offset}
 use Rattle.a64_inst.specs.ControlOperands.{are_jump_operands, is_target}
 use Rattle.a64_inst.specs.Faults.{first_of, constant_size, has_operands, is_within_constant, has_mode, has_scratch, has_constant, inst_fault}
 

@@ -5,7 +5,7 @@ use Rattle.std.proofs.lemmas.Bool.{and_parts}
 use Rattle.a64_inst.specs.declared.access.Access.{Access}
 use Rattle.a64_inst.specs.declared.emission.EmitFlags.{EmitFlags}
 use Rattle.a64_inst.specs.declared.frame.FrameLayout.{FrameLayout}
-use Rattle.a64_inst.specs.declared.virtuals.VirtualRegisters.{VirtualRegisters}
+use Rattle.a64_operand.specs.declared.virtuals.VirtualRegisters.{VirtualRegisters}
 use Rattle.a64_inst.specs.declared.inst.Inst.{Inst}
 use Rattle.a64_inst.specs.declared.inst.Inst.TheVariants as insts
 use Rattle.a64_inst.specs.declared.fault.OwnFault.TheVariants as own

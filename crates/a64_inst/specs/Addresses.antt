@@ -14,7 +14,7 @@ use Rattle.a64_plan.specs.declared.step.ConstStep.{ConstStep}
 use Rattle.a64_plan.specs.Machine.{after_all}
 use Rattle.a64_inst.specs.declared.mode.AMode.{AMode}
 use Rattle.a64_inst.specs.declared.mode.AMode.TheVariants.{RegReg, RegScaled, RegScaledExtended, RegExtended, Unscaled, UnsignedOffset, SPPreIndexed, SPPostIndexed}
-use Rattle.a64_inst.specs.Operands.{is_int}
+use Rattle.a64_operand.specs.Operands.{is_int}
 use Rattle.a64_inst.specs.Modes.{BaseOffset}
 
 -- the integer register with a number

@@ -7,11 +7,11 @@ use Rattle.a64_inst.specs.declared.call.CallRetPair.{CallRetPair}
 use Rattle.a64_inst.specs.declared.call.RetLocation.{RetLocation}
 use Rattle.a64_inst.specs.declared.call.RetLocation.TheVariants as locations
 use Rattle.a64_inst.specs.declared.frame.FrameLayout.{FrameLayout}
-use Rattle.a64_inst.specs.declared.virtuals.VirtualRegisters.{VirtualRegisters}
+use Rattle.a64_operand.specs.declared.virtuals.VirtualRegisters.{VirtualRegisters}
 use Rattle.a64_inst.specs.Accesses.{type_has_load_form, load_op}
 use Rattle.a64_inst.specs.Addresses.{is_numbered}
 use Rattle.a64_inst.specs.MemoryOperands.{is_data_register, is_addend}
-use Rattle.a64_inst.specs.Operands.{is_any_register}
+use Rattle.a64_operand.specs.Operands.{is_any_register}
 
 -- the registers of what is passed are of either class
 abbrev pub are_call_uses : VirtualRegisters → List CallArgPair → Bool

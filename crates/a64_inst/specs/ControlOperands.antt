@@ -5,8 +5,8 @@ use Rattle.a64_base.specs.declared.cond.CondBrKind.TheVariants.{Zero, NotZero, C
 use Rattle.a64_base.specs.declared.reg.Reg.{Reg}
 use Rattle.a64_base.specs.declared.target.BranchTarget.{BranchTarget}
 use Rattle.a64_base.specs.declared.target.BranchTarget.TheVariants.{Label, ResolvedOffset}
-use Rattle.a64_inst.specs.declared.virtuals.VirtualRegisters.{VirtualRegisters}
-use Rattle.a64_inst.specs.Operands.{is_offset, is_register_or_zero}
+use Rattle.a64_operand.specs.declared.virtuals.VirtualRegisters.{VirtualRegisters}
+use Rattle.a64_operand.specs.Operands.{is_offset, is_register_or_zero}
 
 -- a target of a branch that reaches so many bytes, once a label is resolved
 abbrev pub is_target : ℕ → BranchTarget → Bool

@@ -6,17 +6,17 @@ use Rattle.a64_base.specs.declared.entity.VCodeConstant.{VCodeConstant}
 use Rattle.a64_base.specs.declared.ir_type.IrType.TheVariants.{F64, I8X16}
 use Rattle.a64_inst.specs.declared.emission.EmitFlags.{EmitFlags}
 use Rattle.a64_inst.specs.declared.frame.FrameLayout.{FrameLayout}
-use Rattle.a64_inst.specs.declared.virtuals.VirtualRegisters.{VirtualRegisters}
+use Rattle.a64_operand.specs.declared.virtuals.VirtualRegisters.{VirtualRegisters}
 use Rattle.a64_inst.specs.declared.inst.Inst.{Inst}
 use Rattle.a64_inst.specs.declared.inst.Inst.TheVariants as insts
 use Rattle.a64_inst.specs.declared.fault.OwnFault.{OwnFault}
 use Rattle.a64_inst.specs.declared.fault.OwnFault.TheVariants as own
-use Rattle.a64_inst.specs.Operands.{is_any_register, is_register, is_register_or_zero}
-use Rattle.a64_inst.specs.AtomicOperands as atomic
+use Rattle.a64_operand.specs.Operands.{is_any_register, is_register, is_register_or_zero}
+use Rattle.a64_operand.specs.AtomicOperands as atomic
 use Rattle.a64_inst.specs.ControlOperands as control
 use Rattle.a64_inst.specs.MemoryOperands as memory
 use Rattle.a64_inst.specs.SequenceOperands as sequence
-use Rattle.a64_inst.specs.VectorOperands as vector
+use Rattle.a64_operand.specs.VectorOperands as vector
 use Rattle.a64_inst.specs.CallOperands as calls
 use Rattle.a64_inst.specs.Groups.{group_of, is_plain}
 use Rattle.a64_inst.specs.Lone.{is_lone}

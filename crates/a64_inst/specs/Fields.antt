@@ -44,9 +44,9 @@ use Rattle.a64_ops.specs.declared.vector.VecRRRLongModOp as vec_long_mod_ops
 use Rattle.a64_ops.specs.declared.vector.VecRRRLongOp as vec_product_ops
 use Rattle.a64_ops.specs.declared.vector.VecShiftImmModOp as vec_shift_mod_ops
 use Rattle.a64_ops.specs.declared.vector.VecShiftImmOp as vec_shift_ops
-use Rattle.a64_inst.specs.declared.class.Class.{Class}
-use Rattle.a64_inst.specs.declared.fpu_op.FPUOpRI.{FPUOpRI}
-use Rattle.a64_inst.specs.declared.fpu_op.FPUOpRIMod.{FPUOpRIMod}
+use Rattle.a64_operand.specs.declared.class.Class.{Class}
+use Rattle.a64_operand.specs.declared.fpu_op.FPUOpRI.{FPUOpRI}
+use Rattle.a64_operand.specs.declared.fpu_op.FPUOpRIMod.{FPUOpRIMod}
 
 -- what a field that is no register of an operand's class holds
 pub data Operand : Type 0 where

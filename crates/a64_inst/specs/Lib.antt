@@ -1,11 +1,8 @@
 pub mod Constants
 pub mod State
 pub mod Groups
-pub mod Operands
 pub mod Fields
 pub mod Sheets
-pub mod IntegerOperands
-pub mod FloatOperands
 pub mod ControlOperands
 pub mod SequenceOperands
 pub mod CallOperands
@@ -17,5 +14,3 @@ pub mod Addresses
 pub mod Accesses
 pub mod FinalModes
 pub mod MemoryOperands
-pub mod AtomicOperands
-pub mod VectorOperands

@@ -19,7 +19,7 @@ use Rattle.a64_inst.specs.declared.mode.MemLabel.TheVariants.{PCRel, Mach, Pool}
 use Rattle.a64_inst.specs.Accesses.{access_of, access_type}
 use Rattle.a64_inst.specs.FinalModes.{FinalMode, SignedOffset, ScaledOffset, Other, final_mode, needs_x16}
 use Rattle.a64_inst.specs.MemoryOperands.{is_addend}
-use Rattle.a64_inst.specs.Operands.{is_other_register}
+use Rattle.a64_operand.specs.Operands.{is_other_register}
 
 -- a branch that has its offset already
 abbrev pub is_resolved : BranchTarget → Bool

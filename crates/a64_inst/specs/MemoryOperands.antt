@@ -21,8 +21,8 @@ use Rattle.a64_inst.specs.declared.mode.MemLabel.{MemLabel}
 use Rattle.a64_inst.specs.declared.mode.MemLabel.TheVariants.{PCRel, Mach, Pool}
 use Rattle.a64_inst.specs.declared.mode.PairAMode.{PairAMode}
 use Rattle.a64_inst.specs.declared.mode.PairAMode.TheVariants as pairs
-use Rattle.a64_inst.specs.declared.virtuals.VirtualRegisters.{VirtualRegisters}
-use Rattle.a64_inst.specs.Operands.{is_register, is_register_or_zero, is_register_or_stack, is_vector_register, is_offset}
+use Rattle.a64_operand.specs.declared.virtuals.VirtualRegisters.{VirtualRegisters}
+use Rattle.a64_operand.specs.Operands.{is_register, is_register_or_zero, is_register_or_stack, is_vector_register, is_offset}
 use Rattle.a64_inst.specs.Accesses.{access_type}
 use Rattle.a64_inst.specs.Modes.{frame_size, constant_in, base_offset_of, is_offset9}
 use Rattle.a64_inst.specs.Addresses.{is_numbered}

@@ -6,8 +6,8 @@ use Rattle.a64_imms.specs.declared.imm12.Imm12.{Imm12}
 use Rattle.a64_inst.specs.declared.emission.EmitFlags.{EmitFlags}
 use Rattle.a64_inst.specs.declared.pair.ArgPair.{ArgPair}
 use Rattle.a64_inst.specs.declared.pair.RetPair.{RetPair}
-use Rattle.a64_inst.specs.declared.virtuals.VirtualRegisters.{VirtualRegisters}
-use Rattle.a64_inst.specs.Operands.{is_any_register, is_imm12, is_other_register, is_register, is_register_or_zero}
+use Rattle.a64_operand.specs.declared.virtuals.VirtualRegisters.{VirtualRegisters}
+use Rattle.a64_operand.specs.Operands.{is_any_register, is_imm12, is_other_register, is_register, is_register_or_zero}
 
 -- the registers of arguments are of either class
 abbrev pub are_args : VirtualRegisters → List ArgPair → Bool

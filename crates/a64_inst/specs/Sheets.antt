@@ -3,18 +3,18 @@
 use Rattle.std.specs.Prelude.{Bool, true, ◌&&◌, List, [], ◌∷◌, nat_lt}
 use Rattle.a64_base.specs.declared.reg.Reg.{Reg}
 use Rattle.a64_base.specs.ScalarSizes.{has_ftype}
-use Rattle.a64_inst.specs.declared.class.Class.{Class}
-use Rattle.a64_inst.specs.declared.class.Class.TheVariants.{Zero, Stack, Vector, Own}
+use Rattle.a64_operand.specs.declared.class.Class.{Class}
+use Rattle.a64_operand.specs.declared.class.Class.TheVariants.{Zero, Stack, Vector, Own}
 use Rattle.a64_inst.specs.declared.inst.Inst.{Inst}
 use Rattle.a64_inst.specs.declared.inst.Inst.TheVariants as insts
-use Rattle.a64_inst.specs.declared.virtuals.VirtualRegisters.{VirtualRegisters}
+use Rattle.a64_operand.specs.declared.virtuals.VirtualRegisters.{VirtualRegisters}
 use Rattle.a64_inst.specs.Fields as fields
 use Rattle.a64_inst.specs.Fields.{Field, Def, Use, Is}
-use Rattle.a64_inst.specs.FloatOperands as float
-use Rattle.a64_inst.specs.IntegerOperands as integer
-use Rattle.a64_inst.specs.IntegerOperands.{add_sub_class, logic_class}
-use Rattle.a64_inst.specs.VectorOperands as vector
-use Rattle.a64_inst.specs.Operands.{is_lane, is_register_or_stack, is_register_or_zero, is_same_register, is_vector_register, is_wide_in, is_near}
+use Rattle.a64_operand.specs.FloatOperands as float
+use Rattle.a64_operand.specs.IntegerOperands as integer
+use Rattle.a64_operand.specs.IntegerOperands.{add_sub_class, logic_class}
+use Rattle.a64_operand.specs.VectorOperands as vector
+use Rattle.a64_operand.specs.Operands.{is_lane, is_near, is_of, is_same_register, is_wide_in}
 
 -- the fields
 abbrev pub sheet : Inst → List Field
@@ -196,13 +196,6 @@ has_rest virtuals (insts.VecTblExt rd ri rn rm) = is_same_register rd ri
 has_rest virtuals (insts.VecTbl2 rd rn rn2 rm) = vector.is_next_vector rn rn2
 has_rest virtuals (insts.VecTbl2Ext rd ri rn rn2 rm) = vector.is_kept_table rd ri rn rn2
 has_rest virtuals _ = true
-
--- a register is of a class
-abbrev pub is_of : VirtualRegisters → Class → Reg → Bool
-is_of virtuals Zero reg = is_register_or_zero virtuals reg
-is_of virtuals Stack reg = is_register_or_stack virtuals reg
-is_of virtuals Vector reg = is_vector_register virtuals reg
-is_of virtuals Own reg = true
 
 -- the registers are of their classes, and the rest holds
 abbrev pub fields_fit : VirtualRegisters → List Field → Bool → Bool

@@ -1,6 +1,8 @@
 //! Calls, and returns that call another function.
 
-ghost use Rattle.std.specs.Prelude.{◌≡◌, IfOk};
+ghost use Rattle.std.specs.Prelude.{◌≡◌, [], false, IfOk};
+ghost use Rattle.a64_base.specs.declared.reg.PReg.{PReg};
+ghost use Rattle.a64_base.specs.Sets.{has};
 
 use a64_base::{APIKey, CallConv, IrType, PRegSet, Reg, Writable};
 use a64_list::ListVec;
@@ -69,6 +71,32 @@ pub struct ReturnCallInfo<T> {
     pub key: Option<APIKey>,
     /// Whether it is authenticated in functions without a frame too.
     pub sign_return_address_all: bool,
+}
+
+impl<T: Drop> CallInfo<T> {
+    /// A call that passes nothing and gets nothing back, of one convention on both sides, which changes no register
+    /// beside, takes nothing off the stack and is not patchable (Cranelift's `CallInfo::empty`). It takes no memory.
+    pub fn new(alloc: Global, dest: T, call_conv: CallConv) -> Self
+        ensures dest { result.dest ≡ dest }
+        ensures uses { result.uses ≡ [] }
+        ensures defs { result.defs ≡ [] }
+        ensures clobbers { (reg : PReg) → has result.clobbers reg ≡ false }
+        ensures caller { result.caller_conv ≡ call_conv }
+        ensures callee { result.callee_conv ≡ call_conv }
+        ensures pop { result.callee_pop_size ≡ 0 }
+        ensures patchable { result.patchable ≡ false }
+    {
+        CallInfo {
+            dest,
+            uses: ListVec::new(alloc),
+            defs: ListVec::new(alloc),
+            clobbers: PRegSet::empty(),
+            caller_conv: call_conv,
+            callee_conv: call_conv,
+            callee_pop_size: 0,
+            patchable: false,
+        }
+    }
 }
 
 impl<T: Copy> CallInfo<T> {

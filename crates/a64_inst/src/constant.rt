@@ -3,8 +3,8 @@
 ghost use Rattle.std.specs.Prelude.{◌≡◌, ◌≤◌, true, map, length, IsOk, IfOk};
 ghost use Rattle.a64_plan.specs.Shapes.{IsShape, Leave, NoneFewer};
 ghost use Rattle.a64_plan.specs.Plans.{plan_of};
-ghost use Rattle.a64_inst.specs.declared.virtuals.VirtualRegisters.TheVariants.{Refused};
-ghost use Rattle.a64_inst.specs.Operands.{is_register};
+ghost use Rattle.a64_operand.specs.declared.virtuals.VirtualRegisters.TheVariants.{Refused};
+ghost use Rattle.a64_operand.specs.Operands.{is_register};
 ghost use Rattle.a64_inst.specs.Constants.{step_into, HaveNoFault};
 
 use crate::inst::Inst;

@@ -1,6 +1,6 @@
 //! What emission is told, and what it keeps between instructions.
 
-ghost use Rattle.std.specs.Prelude.{◌≡◌, None};
+ghost use Rattle.std.specs.Prelude.{◌≡◌, false, None};
 
 use crate::frame::FrameLayout;
 use a64_base::UserStackMap;
@@ -15,6 +15,23 @@ pub struct EmitFlags {
     pub enable_table_access_spectre_mitigation: bool,
     /// Whether a `csdb` stands behind such a mask.
     pub use_csdb: bool,
+}
+
+impl EmitFlags {
+    /// The settings of which none is on.
+    pub fn none() -> EmitFlags
+        ensures { result ≡ record {
+          enable_probestack = false;
+          enable_table_access_spectre_mitigation = false;
+          use_csdb = false;
+        } }
+    {
+        EmitFlags {
+            enable_probestack: false,
+            enable_table_access_spectre_mitigation: false,
+            use_csdb: false,
+        }
+    }
 }
 
 /// What stays the same while code is emitted (Cranelift's `EmitInfo`).

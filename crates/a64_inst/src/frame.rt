@@ -1,6 +1,6 @@
 //! The layout of a function's frame.
 
-ghost use Rattle.std.specs.Prelude.{◌≡◌, IfOk};
+ghost use Rattle.std.specs.Prelude.{◌≡◌, [], IfOk};
 
 use crate::inst::Inst;
 use a64_list::ListVec;
@@ -36,6 +36,28 @@ fn cloned_insts(alloc: Global, insts: &[Inst]) -> Result<ListVec<Inst>, AllocErr
 }
 
 impl FrameLayout {
+    /// The layout of a function without a frame: each area has 0 bytes, and nothing is restored. It takes no
+    /// memory.
+    pub fn none(alloc: Global) -> FrameLayout
+        ensures { result ≡ record {
+          setup_area_size = 0;
+          tail_args_size = 0;
+          clobber_size = 0;
+          fixed_frame_storage_size = 0;
+          outgoing_args_size = 0;
+          restore = [];
+        } }
+    {
+        FrameLayout {
+            setup_area_size: 0,
+            tail_args_size: 0,
+            clobber_size: 0,
+            fixed_frame_storage_size: 0,
+            outgoing_args_size: 0,
+            restore: ListVec::new(alloc),
+        }
+    }
+
     /// An equal layout.
     ///
     /// # Errors

@@ -2,9 +2,7 @@
 
 ghost use Rattle.std.specs.Prelude.{◌≡◌};
 
-use crate::atomic::AtomicCAS128Args;
 use crate::call::{CallInfo, ReturnCallInfo};
-use crate::fpu_op::{FPUOpRI, FPUOpRIMod};
 use crate::mode::{AMode, PairAMode};
 use crate::pair::{ArgPair, RetPair};
 use a64_base::{
@@ -16,6 +14,7 @@ use a64_imms::{
     ASIMDFPModImm, ASIMDMovModImm, Imm12, ImmLogic, ImmShift, MoveWideConst, NZCV, UImm5, UImm6,
 };
 use a64_list::ListVec;
+use a64_operand::{AtomicCAS128Args, FPUOpRI, FPUOpRIMod};
 use a64_ops::{
     ALUOp, ALUOp3, AtomicRMWLoopOp, AtomicRMWOp, BfmOp, BitOp, BranchTargetType, FPUOp1, FPUOp2,
     FPUOp3, FpuRoundMode, FpuToIntOp, IntToFpuOp, MoveWideOp, VecALUModOp, VecALUOp, VecExtendOp,

@@ -2,30 +2,25 @@
 #![tactic(auto)]
 
 mod access;
-mod atomic;
 mod call;
-mod class;
 mod constant;
 mod copied;
 mod emission;
 mod fault;
-mod fpu_op;
 mod frame;
 mod group;
 mod inst;
 mod item;
-mod lanes;
 mod lists;
 mod makers;
 mod mode;
 mod mode_text;
-mod operand;
 mod own_fault;
 mod pair;
 mod place;
-mod virtuals;
 
 pub use crate::item::Item;
+pub use a64_operand::{AtomicCAS128Args, Class, FPUOpRI, FPUOpRIMod, Lanes, VirtualRegisters};
 pub use a64_ops::{
     ALUOp, ALUOp3, AccessOp, AtomicRMWLoopOp, AtomicRMWOp, BfmOp, BitOp, BranchTargetType, FPUOp1,
     FPUOp2, FPUOp3, FpuRoundMode, FpuToIntOp, IntToFpuOp, MoveWideOp, VecALUModOp, VecALUOp,
@@ -34,17 +29,12 @@ pub use a64_ops::{
 };
 pub use a64_plan::{ConstStep, const_plan};
 pub use access::{Access, AccessRef};
-pub use atomic::AtomicCAS128Args;
 pub use call::{CallArgPair, CallInfo, CallRetPair, RetLocation, ReturnCallInfo};
-pub use class::Class;
 pub use emission::{EmitFlags, EmitInfo, EmitState};
 pub use fault::OwnFault;
-pub use fpu_op::{FPUOpRI, FPUOpRIMod};
 pub use frame::FrameLayout;
 pub use group::{Group, PlainGroup};
 pub use inst::Inst;
-pub use lanes::Lanes;
 pub use mode::{AMode, MemLabel, PairAMode};
 pub use pair::{ArgPair, RetPair};
 pub use place::{Place, is_far, place_of};
-pub use virtuals::VirtualRegisters;

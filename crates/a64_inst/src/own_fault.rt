@@ -1,6 +1,7 @@
 //! What is wrong with an instruction by itself.
 
-ghost use Rattle.std.specs.Prelude.{◌≡◌, [], ◌∷◌};
+ghost use Rattle.std.specs.Prelude.{◌≡◌, [], ◌∷◌, None, Some, OnOk, IfErr};
+ghost use Rattle.a64_operand.specs.declared.virtuals.VirtualRegisters.TheVariants.{Refused};
 ghost use Rattle.a64_inst.specs.declared.fault.OwnFault.TheVariants as own;
 ghost use Rattle.a64_inst.specs.Faults as faults;
 ghost use Rattle.a64_inst.specs.Faults.{fault_with, first_of};
@@ -17,7 +18,7 @@ use crate::fault::sequence::has_sequence_operands;
 use crate::frame::FrameLayout;
 use crate::group::Group;
 use crate::inst::Inst;
-use crate::virtuals::VirtualRegisters;
+use a64_operand::VirtualRegisters;
 
 /// What is wrong with an instruction of which only the operands can be wrong.
 fn operand_fault(is_good: bool) -> Option<OwnFault>
@@ -110,6 +111,33 @@ impl Inst {
             Group::Sequence => operand_fault(has_sequence_operands(self, frame, info, virtuals)),
             Group::Call => call_fault(self, frame, info, virtuals, restorable),
             Group::Memory => memory_fault(self, frame, info, constant, virtuals),
+        }
+    }
+
+    /// Whether nothing is wrong with the instruction by itself, where it is to be emitted under a frame and settings.
+    /// It takes no memory.
+    ///
+    /// `constant` is the size in bytes of the constant that the instruction loads, where it loads
+    /// one and that is there.
+    ///
+    /// # Errors
+    ///
+    /// What is wrong with it.
+    pub fn check(
+        &self,
+        frame: &FrameLayout,
+        info: &EmitInfo,
+        constant: Option<u32>,
+    ) -> Result<(), OwnFault>
+        ensures ok { OnOk result (fault_with frame.now info.now constant Refused self.now ≡ None) }
+        ensures err { IfErr result (λ fault.
+            fault_with frame.now info.now constant Refused self.now ≡ Some fault) }
+    {
+        let virtuals = VirtualRegisters::Refused;
+        let restorable = frame.is_restorable(info, virtuals);
+        match self.own_fault(frame, info, constant, virtuals, restorable) {
+            None => Ok(()),
+            Some(fault) => Err(fault),
         }
     }
 }

@@ -6,10 +6,10 @@ use Rattle.a64_base.specs.declared.size.OperandSize.TheVariants as sizes
 use Rattle.a64_base.specs.declared.size.ScalarSize.{ScalarSize}
 use Rattle.a64_base.specs.declared.size.ScalarSize.TheVariants.{Size32, Size64}
 use Rattle.a64_base.specs.declared.size.VectorSize.TheVariants.{Size32x2}
-use Rattle.a64_inst.specs.declared.fpu_op.FPUOpRI.{FPUOpRI}
-use Rattle.a64_inst.specs.declared.fpu_op.FPUOpRI.TheVariants.{UShr32, UShr64}
-use Rattle.a64_inst.specs.declared.fpu_op.FPUOpRIMod.{FPUOpRIMod}
-use Rattle.a64_inst.specs.declared.fpu_op.FPUOpRIMod.TheVariants.{Sli32, Sli64}
+use Rattle.a64_operand.specs.declared.fpu_op.FPUOpRI.{FPUOpRI}
+use Rattle.a64_operand.specs.declared.fpu_op.FPUOpRI.TheVariants.{UShr32, UShr64}
+use Rattle.a64_operand.specs.declared.fpu_op.FPUOpRIMod.{FPUOpRIMod}
+use Rattle.a64_operand.specs.declared.fpu_op.FPUOpRIMod.TheVariants.{Sli32, Sli64}
 use Rattle.a64_ops.specs.declared.float.FPUOp1.{FPUOp1}
 use Rattle.a64_ops.specs.declared.float.FPUOp1.TheVariants as fpu_op1s
 use Rattle.a64_ops.specs.declared.float.FpuToIntOp.{FpuToIntOp}

@@ -8,7 +8,7 @@ use Rattle.a64_inst.specs.declared.group.Group.TheVariants as groups
 use Rattle.a64_inst.specs.declared.inst.Inst.{Inst}
 use Rattle.a64_inst.specs.declared.item.Item.{Item}
 use Rattle.a64_inst.specs.declared.item.Item.TheVariants.{Bind, Emit}
-use Rattle.a64_inst.specs.declared.virtuals.VirtualRegisters.TheVariants.{Allowed}
+use Rattle.a64_operand.specs.declared.virtuals.VirtualRegisters.TheVariants.{Allowed}
 use Rattle.a64_inst.specs.Faults.{has_operands, has_mode}
 use Rattle.a64_inst.specs.Groups.{group_of}
 use Rattle.a64_print.specs.MemoryTexts.{memory_text}

@@ -58,10 +58,10 @@ use Rattle.a64_base.specs.ShiftParts.{Shift}
 use Rattle.a64_imms.specs.declared.flags.NZCV.{NZCV}
 use Rattle.a64_imms.specs.declared.unsigned.UImm5.{UImm5}
 use Rattle.a64_imms.specs.Flags.{flags_of, nzcv_bits}
-use Rattle.a64_inst.specs.declared.fpu_op.FPUOpRI.{FPUOpRI}
-use Rattle.a64_inst.specs.declared.fpu_op.FPUOpRI.TheVariants as fpu_op_ris
-use Rattle.a64_inst.specs.declared.fpu_op.FPUOpRIMod.{FPUOpRIMod}
-use Rattle.a64_inst.specs.declared.fpu_op.FPUOpRIMod.TheVariants as fpu_op_ri_mods
+use Rattle.a64_operand.specs.declared.fpu_op.FPUOpRI.{FPUOpRI}
+use Rattle.a64_operand.specs.declared.fpu_op.FPUOpRI.TheVariants as fpu_op_ris
+use Rattle.a64_operand.specs.declared.fpu_op.FPUOpRIMod.{FPUOpRIMod}
+use Rattle.a64_operand.specs.declared.fpu_op.FPUOpRIMod.TheVariants as fpu_op_ri_mods
 use Rattle.a64_read.specs.declared.emit_flag.EmitFlag.{EmitFlag}
 use Rattle.a64_read.specs.declared.emit_flag.EmitFlag.TheVariants.{EnableProbestack}
 use Rattle.a64_read.specs.declared.frame_field.FrameField.{FrameField}

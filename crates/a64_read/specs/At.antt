@@ -48,10 +48,10 @@ use Rattle.a64_base.specs.declared.key.APIKey.{APIKey}
 use Rattle.a64_base.specs.declared.ir_type.IrType.{IrType}
 use Rattle.a64_base.specs.declared.ir_type.IrType.TheVariants.{I64}
 use Rattle.a64_imms.specs.declared.offset.SImm9.{SImm9}
-use Rattle.a64_inst.specs.declared.fpu_op.FPUOpRI.{FPUOpRI}
-use Rattle.a64_inst.specs.declared.fpu_op.FPUOpRI.TheVariants as fpu_op_ris
-use Rattle.a64_inst.specs.declared.fpu_op.FPUOpRIMod.{FPUOpRIMod}
-use Rattle.a64_inst.specs.declared.fpu_op.FPUOpRIMod.TheVariants as fpu_op_ri_mods
+use Rattle.a64_operand.specs.declared.fpu_op.FPUOpRI.{FPUOpRI}
+use Rattle.a64_operand.specs.declared.fpu_op.FPUOpRI.TheVariants as fpu_op_ris
+use Rattle.a64_operand.specs.declared.fpu_op.FPUOpRIMod.{FPUOpRIMod}
+use Rattle.a64_operand.specs.declared.fpu_op.FPUOpRIMod.TheVariants as fpu_op_ri_mods
 use Rattle.a64_inst.specs.declared.mode.AMode.{AMode}
 use Rattle.a64_inst.specs.declared.mode.AMode.TheVariants as modes
 use Rattle.a64_read.specs.declared.mov_imm.WrittenMovImm.{WrittenMovImm}

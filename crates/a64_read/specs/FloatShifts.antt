@@ -5,10 +5,10 @@ use Rattle.std.specs.Fmt.{decimal}
 use Rattle.a64_imms.specs.FpuShifts.{IsLeftShift, IsRightShift}
 use Rattle.a64_imms.specs.declared.fpu_shift.FPULeftShiftImm.{FPULeftShiftImm}
 use Rattle.a64_imms.specs.declared.fpu_shift.FPURightShiftImm.{FPURightShiftImm}
-use Rattle.a64_inst.specs.declared.fpu_op.FPUOpRI.{FPUOpRI}
-use Rattle.a64_inst.specs.declared.fpu_op.FPUOpRI.TheVariants as fpu_op_ris
-use Rattle.a64_inst.specs.declared.fpu_op.FPUOpRIMod.{FPUOpRIMod}
-use Rattle.a64_inst.specs.declared.fpu_op.FPUOpRIMod.TheVariants as fpu_op_ri_mods
+use Rattle.a64_operand.specs.declared.fpu_op.FPUOpRI.{FPUOpRI}
+use Rattle.a64_operand.specs.declared.fpu_op.FPUOpRI.TheVariants as fpu_op_ris
+use Rattle.a64_operand.specs.declared.fpu_op.FPUOpRIMod.{FPUOpRIMod}
+use Rattle.a64_operand.specs.declared.fpu_op.FPUOpRIMod.TheVariants as fpu_op_ri_mods
 use Rattle.a64_read.specs.Fields.{call_text}
 
 abbrev pub right_amount_text : FPURightShiftImm → List ℕ

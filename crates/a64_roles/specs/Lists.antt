@@ -6,7 +6,7 @@ use Rattle.a64_base.specs.declared.reg.Reg.{Reg}
 use Rattle.a64_base.specs.declared.set.PRegSet.{PRegSet}
 use Rattle.a64_base.specs.Registers.{integer_register}
 use Rattle.a64_inst.specs.declared.access.Access.{Access}
-use Rattle.a64_inst.specs.declared.atomic.AtomicCAS128Args.{AtomicCAS128Args}
+use Rattle.a64_operand.specs.declared.atomic.AtomicCAS128Args.{AtomicCAS128Args}
 use Rattle.a64_inst.specs.declared.call.CallArgPair.{CallArgPair}
 use Rattle.a64_inst.specs.declared.call.CallRetPair.{CallRetPair}
 use Rattle.a64_inst.specs.declared.call.RetLocation.{RetLocation}

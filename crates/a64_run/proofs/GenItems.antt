@@ -15,7 +15,7 @@ use Rattle.a64_inst.specs.declared.frame.FrameLayout.{FrameLayout}
 use Rattle.a64_inst.specs.declared.inst.Inst.TheVariants as insts
 use Rattle.a64_inst.specs.declared.item.Item.{Item}
 use Rattle.a64_inst.specs.declared.item.Item.TheVariants.{Bind, Emit}
-use Rattle.a64_inst.specs.declared.virtuals.VirtualRegisters.TheVariants.{Refused}
+use Rattle.a64_operand.specs.declared.virtuals.VirtualRegisters.TheVariants.{Refused}
 use Rattle.a64_inst.specs.ControlOperands.{are_jump_operands, are_test_bit_operands}
 use Rattle.a64_inst.specs.Faults.{first_of, fault_with, inst_fault}
 use Rattle.a64_inst.specs.MemoryOperands.{are_access_operands, are_mode_operands, has_access_scratch}

@@ -2,11 +2,11 @@
 
 ghost use Rattle.std.specs.Prelude.{◌≡◌, ◌<◌, ◌^◌, length, map, true};
 ghost use Rattle.a64_inst.specs.declared.group.Group.TheVariants.{Control};
-ghost use Rattle.a64_inst.specs.declared.virtuals.VirtualRegisters.TheVariants.{Refused};
+ghost use Rattle.a64_operand.specs.declared.virtuals.VirtualRegisters.TheVariants.{Refused};
 ghost use Rattle.a64_inst.specs.Groups.{group_of};
 ghost use Rattle.a64_inst.specs.Faults.{has_operands};
 ghost use Rattle.a64_inst.specs.ControlOperands.{are_jump_operands, is_target, is_test};
-ghost use Rattle.a64_inst.specs.Operands.{is_register_or_zero};
+ghost use Rattle.a64_operand.specs.Operands.{is_register_or_zero};
 ghost use Rattle.a64_rows.specs.Forms.{form_word};
 ghost use Rattle.a64_emit.specs.Cells.{plain, shape_of, only_word};
 ghost use Rattle.a64_emit.specs.ControlForms as forms;

@@ -1,9 +1,9 @@
 //! The words of loops of atomic accesses: an exclusive load, words between, an exclusive store, and a branch back.
 
 ghost use Rattle.std.specs.Prelude.{◌≡◌, ◌≤◌, List, ◌++◌, length, map, true};
-ghost use Rattle.a64_inst.specs.declared.virtuals.VirtualRegisters.TheVariants.{Refused};
-ghost use Rattle.a64_inst.specs.AtomicOperands.{is_atomic_type};
-ghost use Rattle.a64_inst.specs.Operands.{is_register_or_zero};
+ghost use Rattle.a64_operand.specs.declared.virtuals.VirtualRegisters.TheVariants.{Refused};
+ghost use Rattle.a64_operand.specs.AtomicOperands.{is_atomic_type};
+ghost use Rattle.a64_operand.specs.Operands.{is_register_or_zero};
 ghost use Rattle.a64_rows.specs.Forms.{Form, form_word};
 ghost use Rattle.a64_emit.specs.Cells.{cas_loop_cells, loop_cells, rmw_loop_cells};
 ghost use Rattle.a64_emit.specs.LoopForms as forms;

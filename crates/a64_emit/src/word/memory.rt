@@ -8,7 +8,7 @@ pub mod step;
 
 ghost use Rattle.std.specs.Prelude.{◌≡◌, [], length, true, false, is_some, option_map, IfSome, MatchOption};
 ghost use Rattle.a64_inst.specs.declared.group.Group.TheVariants.{Memory};
-ghost use Rattle.a64_inst.specs.declared.virtuals.VirtualRegisters.TheVariants.{Refused};
+ghost use Rattle.a64_operand.specs.declared.virtuals.VirtualRegisters.TheVariants.{Refused};
 ghost use Rattle.a64_inst.specs.Groups.{group_of};
 ghost use Rattle.a64_inst.specs.Faults.{has_operands, has_mode};
 ghost use Rattle.a64_inst.specs.MemoryOperands as memory;

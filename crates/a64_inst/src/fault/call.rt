@@ -14,10 +14,9 @@ use crate::fault::memory::operand::is_data_register;
 use crate::fault::memory::scratch::is_addend;
 use crate::frame::FrameLayout;
 use crate::inst::Inst;
-use crate::operand::{is_any_register, is_register_or_zero};
 use crate::place::is_numbered;
-use crate::virtuals::VirtualRegisters;
 use a64_base::Reg;
+use a64_operand::{VirtualRegisters, is_any_register, is_register_or_zero};
 
 /// Of what a call passes.
 fn uses(virtuals: VirtualRegisters, pairs: &[CallArgPair]) -> bool

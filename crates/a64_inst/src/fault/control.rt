@@ -10,9 +10,8 @@ ghost use Rattle.a64_inst.specs.ControlOperands as sets;
 use crate::emission::EmitInfo;
 use crate::frame::FrameLayout;
 use crate::inst::Inst;
-use crate::operand::{is_offset, is_register_or_zero};
-use crate::virtuals::VirtualRegisters;
 use a64_base::{BranchTarget, CondBrKind, Reg};
+use a64_operand::{VirtualRegisters, is_offset, is_register_or_zero};
 
 /// Whether a branch that reaches so many bytes can go to a target.
 fn is_target(reach: u32, dest: BranchTarget) -> bool

@@ -14,9 +14,9 @@ use crate::frame::FrameLayout;
 use crate::group::Group;
 use crate::inst::Inst;
 use crate::mode::{AMode, MemLabel};
-use crate::operand::is_other_register;
 use crate::place::{Place, is_far, needs_x16, place_of};
 use a64_base::{APIKey, BranchTarget, IrType, Reg};
+use a64_operand::is_other_register;
 
 /// Whether the word of an access in a mode is no use of a label or of a constant.
 fn is_no_use(mem: &AMode) -> bool

@@ -1,6 +1,5 @@
 //! What is wrong with loads and stores by themselves.
 
-pub mod atomic;
 mod constant;
 mod mode;
 pub mod operand;
@@ -22,8 +21,10 @@ use crate::fault::OwnFault;
 use crate::frame::FrameLayout;
 use crate::inst::Inst;
 use crate::mode::AMode;
-use crate::virtuals::VirtualRegisters;
 use a64_base::IrType;
+use a64_operand::{
+    VirtualRegisters, are_cas_operands, are_cas128_operands, are_ordered_operands, are_rmw_operands,
+};
 
 /// What is wrong by itself with a load in the mode of a constant of such a size.
 #[inline(always)]
@@ -135,7 +136,7 @@ fn has_operands(
             rt,
             rn,
             flags: _,
-        } => atomic::rmw(virtuals, *ty, *rs, rt.to_reg(), *rn),
+        } => are_rmw_operands(virtuals, *ty, *rs, rt.to_reg(), *rn),
         Inst::AtomicCAS {
             rd,
             rs,
@@ -143,20 +144,20 @@ fn has_operands(
             rn,
             ty,
             flags: _,
-        } => atomic::cas(virtuals, rd.to_reg(), *rs, *rt, *rn, *ty),
-        Inst::AtomicCAS128 { args } => atomic::cas128(virtuals, args),
+        } => are_cas_operands(virtuals, rd.to_reg(), *rs, *rt, *rn, *ty),
+        Inst::AtomicCAS128 { args } => are_cas128_operands(virtuals, args),
         Inst::LoadAcquire {
             access_ty,
             rt,
             rn,
             flags: _,
-        } => atomic::ordered(virtuals, *access_ty, rt.to_reg(), *rn),
+        } => are_ordered_operands(virtuals, *access_ty, rt.to_reg(), *rn),
         Inst::StoreRelease {
             access_ty,
             rt,
             rn,
             flags: _,
-        } => atomic::ordered(virtuals, *access_ty, *rt, *rn),
+        } => are_ordered_operands(virtuals, *access_ty, *rt, *rn),
         Inst::VecLoadReplicate { rd, rn, .. } => operand::replicate(virtuals, rd.to_reg(), *rn),
         _ => unreachable!(),
     }

@@ -1,45 +1,27 @@
 //! Whether the operands of instructions that are one plain word are in their sets.
 
-mod float;
-mod immediate;
-mod lane;
-mod register;
-mod vector;
-
 ghost use Rattle.std.specs.Prelude.{◌≡◌};
 ghost use Rattle.a64_inst.specs.declared.group.Group.TheVariants.{Plain};
 ghost use Rattle.a64_inst.specs.declared.group.PlainGroup.TheVariants.{Float, Immediate, Register, System, Vector, VectorMove};
 ghost use Rattle.a64_inst.specs.Groups.{group_of};
 ghost use Rattle.a64_inst.specs.Faults.{has_operands};
 
-use crate::class::{Class, is_of};
 use crate::emission::EmitInfo;
-use crate::fault::plain::float::{
-    is_float_imm_of, is_float_lane, is_float_size, is_fpu_op1_at, is_kept_shift, is_right_shift,
-};
-use crate::fault::plain::immediate::{
-    is_add_sub_imm12, is_bitfield, is_extended, is_kept, is_kept_bitfield, is_logic_imm,
-    is_shift_by, logic_class,
-};
-use crate::fault::plain::lane::{
-    are_kept_lanes, is_float_imm_in, is_kept_lane, is_kept_table, is_mov_imm_in, is_next_vector,
-    is_scalar_lane, is_signed_lane,
-};
-use crate::fault::plain::register::{
-    add_sub_class, is_add_sub, is_bit_op_at, is_long_product_at, is_move, is_move_from, is_move_to,
-    is_product_at, is_shifted,
-};
-use crate::fault::plain::vector::{
-    is_across, is_alu_at, is_amount, is_elem_at, is_kept_amount, is_kept_narrow, is_misc_at,
-    is_mod_at, is_narrow_at,
-};
 use crate::frame::FrameLayout;
 use crate::group::PlainGroup;
 use crate::inst::Inst;
-use crate::operand::{is_lane, is_near, is_same_register, is_wide_in};
-use crate::virtuals::VirtualRegisters;
 use crate::{
     float_list, immediate_list, register_list, system_list, vector_list, vector_move_list,
+};
+use a64_operand::{
+    Class, VirtualRegisters, add_sub_class, are_kept_lanes, is_across, is_add_sub,
+    is_add_sub_imm12, is_alu_at, is_amount, is_bit_op_at, is_bitfield, is_elem_at, is_extended,
+    is_float_imm_in, is_float_imm_of, is_float_lane, is_float_size, is_fpu_op1_at, is_kept,
+    is_kept_amount, is_kept_bitfield, is_kept_lane, is_kept_narrow, is_kept_shift, is_kept_table,
+    is_lane, is_logic_imm, is_long_product_at, is_misc_at, is_mod_at, is_mov_imm_in, is_move,
+    is_move_from, is_move_to, is_narrow_at, is_near, is_next_vector, is_of, is_product_at,
+    is_right_shift, is_same_register, is_scalar_lane, is_shift_by, is_shifted, is_signed_lane,
+    is_wide_in, logic_class,
 };
 
 /// Whether the registers among the fields are of their classes, and the rest holds.

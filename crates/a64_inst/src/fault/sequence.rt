@@ -6,20 +6,18 @@ ghost use Rattle.a64_inst.specs.declared.group.Group.TheVariants.{Sequence};
 ghost use Rattle.a64_inst.specs.Groups.{group_of};
 ghost use Rattle.a64_inst.specs.Faults.{has_operands};
 ghost use Rattle.a64_inst.specs.SequenceOperands as sets;
-ghost use Rattle.a64_inst.specs.VectorOperands as vectors;
+ghost use Rattle.a64_operand.specs.VectorOperands as vectors;
 
 use crate::emission::EmitInfo;
-use crate::fault::memory::atomic::{are_loop_operands, is_loop_result};
 use crate::frame::FrameLayout;
 use crate::inst::Inst;
-use crate::operand::{
-    is_any_register, is_fixed_register, is_imm12, is_other_register, is_register,
-    is_register_or_zero, is_vector_register,
-};
 use crate::pair::{ArgPair, RetPair};
-use crate::virtuals::VirtualRegisters;
 use a64_base::Reg;
 use a64_imms::Imm12;
+use a64_operand::{
+    VirtualRegisters, are_loop_operands, is_any_register, is_fixed_register, is_imm12,
+    is_loop_result, is_other_register, is_register, is_register_or_zero, is_vector_register,
+};
 
 /// Of an `Args`.
 fn args(virtuals: VirtualRegisters, pairs: &[ArgPair]) -> bool

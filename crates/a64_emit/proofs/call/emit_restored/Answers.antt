@@ -1,6 +1,6 @@
 use Rattle.std.proofs.Common.{◌≡◌, true, [], ◌∷◌, map, refl, sym, ap, subst, ◌∙◌}
 use Rattle.a64_inst.specs.declared.inst.Inst.{Inst}
-use Rattle.a64_inst.specs.declared.virtuals.VirtualRegisters.TheVariants.{Refused}
+use Rattle.a64_operand.specs.declared.virtuals.VirtualRegisters.TheVariants.{Refused}
 use Rattle.a64_inst.specs.Faults.{can_restore}
 use Rattle.a64_emit.specs.Cells.{restored_cell}
 use Rattle.a64_emit.specs.Emission.{appended, IsAppendedInPart, CanPut}

@@ -1,7 +1,7 @@
 use Rattle.std.proofs.Common.{◌≡◌, true, [], ◌∷◌, map, refl, sym, subst}
 use Rattle.std.specs.List.{flat_map}
 use Rattle.a64_inst.specs.declared.call.CallRetPair.{CallRetPair}
-use Rattle.a64_inst.specs.declared.virtuals.VirtualRegisters.TheVariants.{Refused}
+use Rattle.a64_operand.specs.declared.virtuals.VirtualRegisters.TheVariants.{Refused}
 use Rattle.a64_inst.specs.CallOperands.{are_call_defs}
 use Rattle.a64_emit.specs.Cells.{result_cells}
 use Rattle.a64_emit.specs.Emission.{appended, IsAppendedInPart, CanPut}

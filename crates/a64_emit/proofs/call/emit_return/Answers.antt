@@ -1,6 +1,6 @@
 use Rattle.std.proofs.Common.{◌≡◌, true, [], ◌∷◌, ◌++◌, map, ap, sym, subst, ◌∙◌}
 use Rattle.std.specs.List.{list_all}
-use Rattle.a64_inst.specs.declared.virtuals.VirtualRegisters.TheVariants.{Refused}
+use Rattle.a64_operand.specs.declared.virtuals.VirtualRegisters.TheVariants.{Refused}
 use Rattle.a64_inst.specs.Faults.{can_restore}
 use Rattle.a64_emit.specs.Cells.{plain, restored_cell, leave_forms, return_cell, return_cells}
 use Rattle.a64_emit.specs.Words.{as_put}

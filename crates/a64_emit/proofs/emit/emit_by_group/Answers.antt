@@ -1,6 +1,6 @@
 use Rattle.std.proofs.Common.{sym, ◌∙◌}
 use Rattle.std.proofs.lemmas.Result.{on_ok_weaker, on_err_weaker}
-use Rattle.a64_inst.specs.declared.virtuals.VirtualRegisters.TheVariants.{Refused}
+use Rattle.a64_operand.specs.declared.virtuals.VirtualRegisters.TheVariants.{Refused}
 use Rattle.a64_inst.proofs.Good.{operands_good}
 use Rattle.a64_emit.specs.Cells.{kept_cells}
 use Rattle.a64_emit.proofs.Accesses.{mode_good, constant_there}

@@ -3,11 +3,11 @@
 ghost use Rattle.std.specs.Prelude.{◌≡◌, ◌≤◌, [], length, true, false, None, Some, MatchOption};
 ghost use Rattle.std.specs.Int.RustNames.{unsigned_abs};
 ghost use Rattle.a64_base.specs.declared.ir_type.IrType.TheVariants.{I8};
-ghost use Rattle.a64_inst.specs.declared.virtuals.VirtualRegisters.TheVariants.{Refused};
+ghost use Rattle.a64_operand.specs.declared.virtuals.VirtualRegisters.TheVariants.{Refused};
 ghost use Rattle.a64_inst.specs.Addresses.{is_numbered};
 ghost use Rattle.a64_inst.specs.FinalModes as finals;
 ghost use Rattle.a64_inst.specs.MemoryOperands as memory;
-ghost use Rattle.a64_inst.specs.Operands as operands;
+ghost use Rattle.a64_operand.specs.Operands as operands;
 ghost use Rattle.a64_plan.specs.Plans.{plan_of};
 ghost use Rattle.a64_emit.specs.Cells.{Words, quiet, sum_shape, address_shape, shape_cells};
 ghost use Rattle.a64_emit.specs.MemoryForms as forms;

@@ -1,8 +1,8 @@
 //! The words of loads of vectors.
 
 ghost use Rattle.std.specs.Prelude.{◌≡◌, true};
-ghost use Rattle.a64_inst.specs.declared.virtuals.VirtualRegisters.TheVariants.{Refused};
-ghost use Rattle.a64_inst.specs.VectorOperands.{are_replicate_operands};
+ghost use Rattle.a64_operand.specs.declared.virtuals.VirtualRegisters.TheVariants.{Refused};
+ghost use Rattle.a64_operand.specs.VectorOperands.{are_replicate_operands};
 ghost use Rattle.a64_rows.specs.Forms.{form_word};
 ghost use Rattle.a64_emit.specs.VectorForms.{replicate_form};
 

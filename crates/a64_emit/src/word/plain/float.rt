@@ -2,7 +2,7 @@
 
 ghost use Rattle.std.specs.Prelude.{◌≡◌, ◌<◌, ◌≤◌, true};
 ghost use Rattle.a64_base.specs.ScalarSizes.{has_ftype};
-ghost use Rattle.a64_inst.specs.FloatOperands as sets;
+ghost use Rattle.a64_operand.specs.FloatOperands as sets;
 ghost use Rattle.a64_enc_int.specs.Registers.{IsReal};
 ghost use Rattle.a64_rows.specs.Forms.{form_word, IsFormOf};
 ghost use Rattle.a64_emit.specs.FloatForms as forms;

@@ -3,9 +3,9 @@
 
 ghost use Rattle.std.specs.Prelude.{◌≡◌, ◌<◌, ◌&&◌, nat_lt, if◌then◌else◌, true};
 ghost use Rattle.a64_base.specs.OperandSizes.{operand_bits, sf_of};
-ghost use Rattle.a64_inst.specs.declared.virtuals.VirtualRegisters.TheVariants.{Refused};
-ghost use Rattle.a64_inst.specs.Operands.{is_imm12, is_logic_of, is_near, is_register_or_zero, is_wide_in};
-ghost use Rattle.a64_inst.specs.IntegerOperands.{is_extended, is_shift_by};
+ghost use Rattle.a64_operand.specs.declared.virtuals.VirtualRegisters.TheVariants.{Refused};
+ghost use Rattle.a64_operand.specs.Operands.{is_imm12, is_logic_of, is_near, is_register_or_zero, is_wide_in};
+ghost use Rattle.a64_operand.specs.IntegerOperands.{is_extended, is_shift_by};
 ghost use Rattle.a64_imms.specs.Logic.{IsImmLogic};
 ghost use Rattle.a64_rows.specs.Forms.{form_word};
 ghost use Rattle.a64_enc_int.specs.Registers.{IsReal};

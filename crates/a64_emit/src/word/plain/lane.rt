@@ -2,8 +2,8 @@
 //! Floating-Point and Advanced SIMD".
 
 ghost use Rattle.std.specs.Prelude.{◌≡◌, ◌<◌, true};
-ghost use Rattle.a64_inst.specs.Operands as operands;
-ghost use Rattle.a64_inst.specs.VectorOperands as sets;
+ghost use Rattle.a64_operand.specs.Operands as operands;
+ghost use Rattle.a64_operand.specs.VectorOperands as sets;
 ghost use Rattle.a64_enc_int.specs.Registers.{IsReal};
 ghost use Rattle.a64_rows.specs.Forms.{form_word};
 ghost use Rattle.a64_emit.specs.VectorForms as forms;

@@ -1,9 +1,9 @@
 //! The words of "Data Processing -- Register": operations on registers, and moves of them.
 
 ghost use Rattle.std.specs.Prelude.{◌≡◌, ◌<◌, true};
-ghost use Rattle.a64_inst.specs.declared.virtuals.VirtualRegisters.TheVariants.{Refused};
-ghost use Rattle.a64_inst.specs.Operands as operands;
-ghost use Rattle.a64_inst.specs.Operands.{is_register_or_zero};
+ghost use Rattle.a64_operand.specs.declared.virtuals.VirtualRegisters.TheVariants.{Refused};
+ghost use Rattle.a64_operand.specs.Operands as operands;
+ghost use Rattle.a64_operand.specs.Operands.{is_register_or_zero};
 ghost use Rattle.a64_enc_int.specs.Registers.{IsReal};
 ghost use Rattle.a64_rows.specs.Forms.{form_word};
 ghost use Rattle.a64_emit.specs.IntegerForms as forms;

@@ -3,7 +3,7 @@
 ghost use Rattle.std.specs.Prelude.{◌≡◌, ◌<◌, true};
 ghost use Rattle.a64_base.specs.ScalarSizes.{has_ftype};
 ghost use Rattle.a64_base.specs.VectorSizes.{float_field};
-ghost use Rattle.a64_inst.specs.VectorOperands as sets;
+ghost use Rattle.a64_operand.specs.VectorOperands as sets;
 ghost use Rattle.a64_enc_int.specs.Registers.{IsReal};
 ghost use Rattle.a64_rows.specs.Forms.{form_word, IsFormOf};
 ghost use Rattle.a64_emit.specs.VectorForms as forms;

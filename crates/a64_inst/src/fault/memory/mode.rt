@@ -6,11 +6,10 @@ ghost use Rattle.a64_inst.specs.MemoryOperands as sets;
 
 use crate::frame::FrameLayout;
 use crate::mode::{AMode, MemLabel, PairAMode};
-use crate::operand::{is_offset, is_register_or_stack, is_register_or_zero};
 use crate::place::{frame_bytes, has_offset};
-use crate::virtuals::VirtualRegisters;
 use a64_base::{ExtendOp, IrType};
 use a64_imms::{SImm7Scaled, SImm9, UImm12Scaled};
+use a64_operand::{VirtualRegisters, is_offset, is_register_or_stack, is_register_or_zero};
 use a64_ops::AccessOp;
 
 /// Whether the frame has fewer than 2^32 bytes where a mode is counted from its upper end.

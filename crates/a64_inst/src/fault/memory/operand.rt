@@ -2,16 +2,17 @@
 
 ghost use Rattle.std.specs.Prelude.{◌≡◌};
 ghost use Rattle.a64_inst.specs.MemoryOperands as sets;
-ghost use Rattle.a64_inst.specs.VectorOperands as vectors;
+ghost use Rattle.a64_operand.specs.VectorOperands as vectors;
 
 use crate::access::AccessRef;
 use crate::fault::memory::mode::{are_operands, are_pair_parts, has_units};
 use crate::fault::memory::scratch::needs_x17_beside;
 use crate::frame::FrameLayout;
 use crate::mode::{AMode, PairAMode};
-use crate::operand::{is_register, is_register_or_stack, is_register_or_zero, is_vector_register};
-use crate::virtuals::VirtualRegisters;
 use a64_base::{IrType, Reg};
+use a64_operand::{
+    VirtualRegisters, is_register, is_register_or_stack, is_register_or_zero, is_vector_register,
+};
 use a64_ops::AccessOp;
 
 /// Whether a load or a store of this kind has such a register.

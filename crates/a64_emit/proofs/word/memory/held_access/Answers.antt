@@ -2,7 +2,7 @@ use Rattle.std.proofs.Common.{◌≡◌, ◌∙◌, [], map, true, sym, ap, subs
 use Rattle.std.specs.Prelude.{◌&&◌, is_some, option_map}
 use Rattle.std.proofs.lemmas.Bool.{and_parts}
 use Rattle.a64_imms.specs.Scales.{type_bytes}
-use Rattle.a64_inst.specs.declared.virtuals.VirtualRegisters.TheVariants.{Refused}
+use Rattle.a64_operand.specs.declared.virtuals.VirtualRegisters.TheVariants.{Refused}
 use Rattle.a64_inst.specs.declared.access.Access.{Access}
 use Rattle.a64_inst.specs.Accesses.{access_type}
 use Rattle.a64_inst.specs.MemoryOperands.{are_access_operands, are_mode_operands, has_access_mode, is_data_register, has_units}

@@ -4,10 +4,10 @@ use Rattle.std.proofs.lemmas.Bool.{and_parts}
 use Rattle.a64_base.specs.declared.ir_type.IrType.TheVariants.{I8}
 use Rattle.a64_plan.specs.declared.step.ConstStep.{ConstStep}
 use Rattle.a64_inst.specs.declared.mode.AMode.{AMode}
-use Rattle.a64_inst.specs.declared.virtuals.VirtualRegisters.TheVariants.{Refused}
+use Rattle.a64_operand.specs.declared.virtuals.VirtualRegisters.TheVariants.{Refused}
 use Rattle.a64_inst.specs.FinalModes.{parts_of, final_mode, final_steps}
 use Rattle.a64_inst.specs.MemoryOperands.{are_address_operands, are_mode_operands, needs_x17_beside}
-use Rattle.a64_inst.specs.Operands.{is_register, is_register_or_stack, is_register_or_zero}
+use Rattle.a64_operand.specs.Operands.{is_register, is_register_or_stack, is_register_or_zero}
 use Rattle.a64_rows.specs.Forms.{form_word}
 use Rattle.a64_emit.specs.Cells.{address_shape}
 use Rattle.a64_emit.specs.MemoryForms.{step_forms, offset_register}

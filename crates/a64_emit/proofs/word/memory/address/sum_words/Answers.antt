@@ -1,5 +1,5 @@
 use Rattle.std.proofs.Common.{◌∙◌, ap}
-use Rattle.a64_inst.specs.Operands.{is_imm12}
+use Rattle.a64_operand.specs.Operands.{is_imm12}
 use Rattle.a64_emit.proofs.Accesses.{addend_good}
 use Rattle.a64_emit.proofs.word.memory.address.sum_words.Goals as goal
 

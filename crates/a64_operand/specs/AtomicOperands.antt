@@ -5,11 +5,11 @@ use Rattle.a64_base.specs.declared.ir_type.IrType.{IrType}
 use Rattle.a64_base.specs.declared.ir_type.IrType.TheVariants.{I8, I16, I32, I64}
 use Rattle.a64_base.specs.declared.reg.Reg.{Reg}
 use Rattle.a64_base.specs.declared.reg.Reg.TheVariants.{Real, Virtual}
-use Rattle.a64_inst.specs.declared.atomic.AtomicCAS128Args.{AtomicCAS128Args}
-use Rattle.a64_inst.specs.declared.virtuals.VirtualRegisters.{VirtualRegisters}
+use Rattle.a64_operand.specs.declared.atomic.AtomicCAS128Args.{AtomicCAS128Args}
+use Rattle.a64_operand.specs.declared.virtuals.VirtualRegisters.{VirtualRegisters}
 use Rattle.a64_ops.specs.declared.operator.AtomicRMWLoopOp.{AtomicRMWLoopOp}
 use Rattle.a64_ops.specs.declared.operator.AtomicRMWLoopOp.TheVariants.{Xchg}
-use Rattle.a64_inst.specs.Operands.{are_allowed, is_fixed_register, is_int, is_register, is_register_or_stack, is_register_or_zero, is_same_class, is_same_register}
+use Rattle.a64_operand.specs.Operands.{are_allowed, is_fixed_register, is_int, is_register, is_register_or_stack, is_register_or_zero, is_same_class, is_same_register}
 
 -- the types of the values: integers of 8, 16, 32 and 64 bits
 abbrev pub is_atomic_type : IrType → Bool

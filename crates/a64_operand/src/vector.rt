@@ -1,7 +1,7 @@
 //! What must hold of operations on vectors, beside the classes of their registers.
 
 ghost use Rattle.std.specs.Prelude.{◌≡◌};
-ghost use Rattle.a64_inst.specs.VectorOperands as sets;
+ghost use Rattle.a64_operand.specs.VectorOperands as sets;
 
 use crate::lanes::Lanes;
 use crate::operand::is_same_register;

@@ -1,7 +1,7 @@
 //! What must hold of operations on registers, and moves of them, beside the classes of their registers.
 
 ghost use Rattle.std.specs.Prelude.{◌≡◌};
-ghost use Rattle.a64_inst.specs.IntegerOperands as sets;
+ghost use Rattle.a64_operand.specs.IntegerOperands as sets;
 
 use crate::class::Class;
 use crate::operand::{is_bit_of, is_register, is_register_or_zero, is_stack_pointer};

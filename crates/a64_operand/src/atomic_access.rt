@@ -1,7 +1,7 @@
 //! Of the operands of atomic accesses.
 
 ghost use Rattle.std.specs.Prelude.{◌≡◌};
-ghost use Rattle.a64_inst.specs.AtomicOperands as sets;
+ghost use Rattle.a64_operand.specs.AtomicOperands as sets;
 
 use crate::atomic::AtomicCAS128Args;
 use crate::operand::{
@@ -20,7 +20,7 @@ fn is_atomic_type(ty: IrType) -> bool
 
 /// Of an `AtomicRMW`.
 #[tactic(auto, unfolding(crate::specs::AtomicOperands::are_rmw_operands))]
-pub fn rmw(virtuals: VirtualRegisters, ty: IrType, rs: Reg, rt: Reg, rn: Reg) -> bool
+pub fn are_rmw_operands(virtuals: VirtualRegisters, ty: IrType, rs: Reg, rt: Reg, rn: Reg) -> bool
     ensures { result ≡ sets.are_rmw_operands virtuals ty rs rt rn }
 {
     is_atomic_type(ty)
@@ -31,7 +31,14 @@ pub fn rmw(virtuals: VirtualRegisters, ty: IrType, rs: Reg, rt: Reg, rn: Reg) ->
 
 /// Of an `AtomicCAS`.
 #[tactic(auto, unfolding(crate::specs::AtomicOperands::are_cas_operands))]
-pub fn cas(virtuals: VirtualRegisters, rd: Reg, rs: Reg, rt: Reg, rn: Reg, ty: IrType) -> bool
+pub fn are_cas_operands(
+    virtuals: VirtualRegisters,
+    rd: Reg,
+    rs: Reg,
+    rt: Reg,
+    rn: Reg,
+    ty: IrType,
+) -> bool
     ensures { result ≡ sets.are_cas_operands virtuals rd rs rt rn ty }
 {
     is_atomic_type(ty)
@@ -76,7 +83,7 @@ fn is_register_pair(virtuals: VirtualRegisters, lo: Reg, hi: Reg) -> bool
 
 /// Of an `AtomicCAS128`.
 #[tactic(auto, unfolding(crate::specs::AtomicOperands::are_cas128_operands))]
-pub fn cas128(virtuals: VirtualRegisters, args: &AtomicCAS128Args) -> bool
+pub fn are_cas128_operands(virtuals: VirtualRegisters, args: &AtomicCAS128Args) -> bool
     ensures { result ≡ sets.are_cas128_operands virtuals args.now }
 {
     let (rd_lo, rd_hi) = (args.rd_lo.to_reg(), args.rd_hi.to_reg());
@@ -118,7 +125,7 @@ pub fn is_loop_result(virtuals: VirtualRegisters, op: AtomicRMWLoopOp, reg: &Reg
 
 /// Of a `LoadAcquire` or a `StoreRelease`.
 #[tactic(auto, unfolding(crate::specs::AtomicOperands::are_ordered_operands))]
-pub fn ordered(virtuals: VirtualRegisters, ty: IrType, rt: Reg, rn: Reg) -> bool
+pub fn are_ordered_operands(virtuals: VirtualRegisters, ty: IrType, rt: Reg, rn: Reg) -> bool
     ensures { result ≡ sets.are_ordered_operands virtuals ty rt rn }
 {
     is_atomic_type(ty) && is_register_or_zero(virtuals, rt) && is_register_or_stack(virtuals, rn)

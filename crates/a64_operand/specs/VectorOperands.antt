@@ -2,7 +2,7 @@
 -- Manual, C7.2).
 use Rattle.std.specs.Prelude.{ℕ, ◌+◌, ◌%◌, Bool, true, false, not, ◌&&◌, ◌||◌, if◌then◌else◌, nat_lt, nat_le, nat_eq}
 use Rattle.a64_base.specs.declared.reg.Reg.{Reg}
-use Rattle.a64_base.specs.declared.reg.Reg.TheVariants.{Real, Virtual}
+use Rattle.a64_base.specs.declared.reg.Reg.TheVariants.{Real}
 use Rattle.a64_base.specs.declared.size.OperandSize.{OperandSize}
 use Rattle.a64_base.specs.declared.size.OperandSize.TheVariants as operands
 use Rattle.a64_base.specs.declared.size.ScalarSize.{ScalarSize}
@@ -20,14 +20,14 @@ use Rattle.a64_ops.specs.declared.vector.VecALUOp.TheVariants as alu_ops
 use Rattle.a64_ops.specs.declared.vector.VecMisc2.{VecMisc2}
 use Rattle.a64_ops.specs.declared.vector.VecMisc2.TheVariants as misc_ops
 use Rattle.a64_ops.specs.declared.vector.VecRRNarrowOp.{VecRRNarrowOp}
-use Rattle.a64_ops.specs.declared.vector.VecRRNarrowOp.TheVariants.{Xtn, Sqxtn, Sqxtun, Uqxtn, Fcvtn}
+use Rattle.a64_ops.specs.declared.vector.VecRRNarrowOp.TheVariants.{Fcvtn}
 use Rattle.a64_ops.specs.declared.vector.VecShiftImmOp.{VecShiftImmOp}
 use Rattle.a64_ops.specs.declared.vector.VecShiftImmOp.TheVariants.{Shl, Ushr, Sshr}
-use Rattle.a64_inst.specs.declared.lanes.Lanes.{Lanes}
-use Rattle.a64_inst.specs.declared.lanes.Lanes.TheVariants as lanes
-use Rattle.a64_inst.specs.declared.virtuals.VirtualRegisters.{VirtualRegisters}
-use Rattle.a64_inst.specs.FloatOperands.{is_same_scalar}
-use Rattle.a64_inst.specs.Operands.{is_lane, is_register_or_stack, is_same_class, is_same_register, is_vector_register, lanes_of}
+use Rattle.a64_operand.specs.declared.lanes.Lanes.{Lanes}
+use Rattle.a64_operand.specs.declared.lanes.Lanes.TheVariants as lanes
+use Rattle.a64_operand.specs.declared.virtuals.VirtualRegisters.{VirtualRegisters}
+use Rattle.a64_operand.specs.FloatOperands.{is_same_scalar}
+use Rattle.a64_operand.specs.Operands.{is_lane, is_register_or_stack, is_same_class, is_same_register, is_vector_register, lanes_of}
 
 -- ---- the lanes that operators have
 

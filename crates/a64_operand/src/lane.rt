@@ -1,10 +1,10 @@
 //! What must hold of moves of lanes and tables of bytes, beside the classes of their registers.
 
 ghost use Rattle.std.specs.Prelude.{◌≡◌};
-ghost use Rattle.a64_inst.specs.VectorOperands as sets;
+ghost use Rattle.a64_operand.specs.VectorOperands as sets;
 
-use crate::fault::plain::vector::lane_count;
 use crate::operand::{is_lane, is_same_register};
+use crate::vector::lane_count;
 use a64_base::{OperandSize, Reg, ScalarSize, VectorSize};
 use a64_imms::{ASIMDFPModImm, ASIMDMovModImm};
 

@@ -1,7 +1,7 @@
 //! The lanes that an operator on vectors has.
 
 ghost use Rattle.std.specs.Prelude.{◌≡◌};
-ghost use Rattle.a64_inst.specs.VectorOperands as sets;
+ghost use Rattle.a64_operand.specs.VectorOperands as sets;
 
 use a64_base::VectorSize;
 

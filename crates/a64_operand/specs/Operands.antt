@@ -16,8 +16,10 @@ use Rattle.a64_imms.specs.declared.imm12.Imm12.{Imm12}
 use Rattle.a64_imms.specs.declared.imm_logic.ImmLogic.{ImmLogic}
 use Rattle.a64_imms.specs.declared.move_wide.MoveWideConst.{MoveWideConst}
 use Rattle.a64_imms.specs.Logic.{is_imm_logic}
-use Rattle.a64_inst.specs.declared.virtuals.VirtualRegisters.{VirtualRegisters}
-use Rattle.a64_inst.specs.declared.virtuals.VirtualRegisters.TheVariants.{Refused, Allowed}
+use Rattle.a64_operand.specs.declared.class.Class.{Class}
+use Rattle.a64_operand.specs.declared.class.Class.TheVariants.{Zero, Stack, Vector, Own}
+use Rattle.a64_operand.specs.declared.virtuals.VirtualRegisters.{VirtualRegisters}
+use Rattle.a64_operand.specs.declared.virtuals.VirtualRegisters.TheVariants.{Refused, Allowed}
 
 -- ---- registers
 
@@ -48,6 +50,13 @@ is_register virtuals (Virtual index class) = are_allowed virtuals && is_int clas
 abbrev pub is_vector_register : VirtualRegisters → Reg → Bool
 is_vector_register virtuals (Real p) = not (is_int p.class) && nat_lt p.number 32
 is_vector_register virtuals (Virtual index class) = are_allowed virtuals && not (is_int class)
+
+-- one of a class
+abbrev pub is_of : VirtualRegisters → Class → Reg → Bool
+is_of virtuals Zero reg = is_register_or_zero virtuals reg
+is_of virtuals Stack reg = is_register_or_stack virtuals reg
+is_of virtuals Vector reg = is_vector_register virtuals reg
+is_of virtuals Own reg = true
 
 -- the integer register with this number
 abbrev pub is_fixed_register : VirtualRegisters → ℕ → Reg → Bool

@@ -1,7 +1,7 @@
 //! Whether virtual registers may be operands.
 
 ghost use Rattle.std.specs.Prelude.{◌≡◌};
-ghost use Rattle.a64_inst.specs.Operands.{are_allowed};
+ghost use Rattle.a64_operand.specs.Operands.{are_allowed};
 
 /// Whether the operands of an instruction may be virtual registers.
 #[derive(Clone, Copy, Debug)]

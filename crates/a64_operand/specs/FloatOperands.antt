@@ -12,11 +12,11 @@ use Rattle.a64_imms.specs.declared.fpu_shift.FPULeftShiftImm.{FPULeftShiftImm}
 use Rattle.a64_imms.specs.declared.fpu_shift.FPURightShiftImm.{FPURightShiftImm}
 use Rattle.a64_ops.specs.declared.float.FPUOp1.{FPUOp1}
 use Rattle.a64_ops.specs.declared.float.FPUOp1.TheVariants.{Abs, Neg, Sqrt, Cvt32To64, Cvt64To32}
-use Rattle.a64_inst.specs.declared.fpu_op.FPUOpRI.{FPUOpRI}
-use Rattle.a64_inst.specs.declared.fpu_op.FPUOpRI.TheVariants.{UShr32, UShr64}
-use Rattle.a64_inst.specs.declared.fpu_op.FPUOpRIMod.{FPUOpRIMod}
-use Rattle.a64_inst.specs.declared.fpu_op.FPUOpRIMod.TheVariants.{Sli32, Sli64}
-use Rattle.a64_inst.specs.Operands.{is_lane, is_same_register}
+use Rattle.a64_operand.specs.declared.fpu_op.FPUOpRI.{FPUOpRI}
+use Rattle.a64_operand.specs.declared.fpu_op.FPUOpRI.TheVariants.{UShr32, UShr64}
+use Rattle.a64_operand.specs.declared.fpu_op.FPUOpRIMod.{FPUOpRIMod}
+use Rattle.a64_operand.specs.declared.fpu_op.FPUOpRIMod.TheVariants.{Sli32, Sli64}
+use Rattle.a64_operand.specs.Operands.{is_lane, is_same_register}
 
 -- ---- sizes
 

@@ -1,7 +1,7 @@
 //! Which registers an operand may be.
 
 ghost use Rattle.std.specs.Prelude.{◌≡◌};
-ghost use Rattle.a64_inst.specs.Sheets as sheets;
+ghost use Rattle.a64_operand.specs.Operands as operands;
 
 use crate::operand::{is_register_or_stack, is_register_or_zero, is_vector_register};
 use crate::virtuals::VirtualRegisters;
@@ -23,7 +23,7 @@ pub enum Class {
 /// Whether a register is of a class.
 #[inline(always)]
 pub fn is_of(virtuals: VirtualRegisters, class: Class, reg: Reg) -> bool
-    ensures { result ≡ sheets.is_of virtuals class reg }
+    ensures { result ≡ operands.is_of virtuals class reg }
 {
     match class {
         Class::Zero => is_register_or_zero(virtuals, reg),

@@ -20,10 +20,10 @@ use Rattle.a64_ops.specs.declared.operator.ALUOp3.{ALUOp3}
 use Rattle.a64_ops.specs.declared.operator.ALUOp3.TheVariants.{UMAddL, SMAddL}
 use Rattle.a64_ops.specs.declared.operator.BitOp.{BitOp}
 use Rattle.a64_ops.specs.declared.operator.BitOp.TheVariants.{Rev64}
-use Rattle.a64_inst.specs.declared.class.Class.{Class}
-use Rattle.a64_inst.specs.declared.class.Class.TheVariants.{Zero, Stack}
-use Rattle.a64_inst.specs.declared.virtuals.VirtualRegisters.{VirtualRegisters}
-use Rattle.a64_inst.specs.Operands.{is_int, is_register, is_register_or_zero, is_register_or_stack, is_stack_pointer, is_same_register, is_bit_of, is_imm12, is_logic_of, is_wide_in}
+use Rattle.a64_operand.specs.declared.class.Class.{Class}
+use Rattle.a64_operand.specs.declared.class.Class.TheVariants.{Zero, Stack}
+use Rattle.a64_operand.specs.declared.virtuals.VirtualRegisters.{VirtualRegisters}
+use Rattle.a64_operand.specs.Operands.{is_int, is_register, is_register_or_zero, is_register_or_stack, is_stack_pointer, is_same_register, is_bit_of, is_imm12, is_logic_of, is_wide_in}
 
 -- ---- operations on registers
 

@@ -2,7 +2,7 @@
 
 ghost use Rattle.std.specs.Prelude.{◌≡◌};
 ghost use Rattle.a64_base.specs.ScalarSizes.{has_ftype};
-ghost use Rattle.a64_inst.specs.FloatOperands as sets;
+ghost use Rattle.a64_operand.specs.FloatOperands as sets;
 
 use crate::fpu_op::{FPUOpRI, FPUOpRIMod};
 use crate::operand::{is_lane, is_same_register};

@@ -1,7 +1,7 @@
 //! Tests of single operands.
 
 ghost use Rattle.std.specs.Prelude.{◌≡◌};
-ghost use Rattle.a64_inst.specs.Operands as operands;
+ghost use Rattle.a64_operand.specs.Operands as operands;
 
 use crate::virtuals::VirtualRegisters;
 use a64_base::{OperandSize, Reg, RegClass, ScalarSize, VectorSize};

@@ -1,14 +1,14 @@
 //! What must hold of operations with immediates and of bitfields, beside the classes of their registers.
 
 ghost use Rattle.std.specs.Prelude.{◌≡◌};
-ghost use Rattle.a64_inst.specs.IntegerOperands as sets;
+ghost use Rattle.a64_operand.specs.IntegerOperands as sets;
 
 use crate::class::Class;
-use crate::fault::plain::register::is_add_sub;
 use crate::operand::{
     is_bit_of, is_imm12, is_logic_of, is_register, is_register_or_stack, is_register_or_zero,
     is_same_register, is_wide_in,
 };
+use crate::register::is_add_sub;
 use crate::virtuals::VirtualRegisters;
 use a64_base::{OperandSize, Reg};
 use a64_imms::{Imm12, ImmLogic, ImmShift, MoveWideConst, UImm6};

@@ -1,0 +1,5 @@
+pub mod Operands
+pub mod IntegerOperands
+pub mod FloatOperands
+pub mod VectorOperands
+pub mod AtomicOperands
