@@ -3,7 +3,7 @@ use Rattle.std.proofs.Common.{ℕ, ◌≡◌, List, [], ◌∷◌, ◌++◌, map
 use Rattle.std.specs.List.{flat_map, join_with_byte}
 use Rattle.std.proofs.lemmas.Grind.{flat_map-append}
 use Rattle.std.proofs.lemmas.List.Folds.{flat_map-map}
-use Rattle.a64_roles.specs.declared.role.Role.{Role}
+use Rattle.a64_role.specs.declared.role.Role.{Role}
 use Rattle.a64_role_lines.specs.RoleLines.{role_text}
 use Rattle.a64_role_lines.specs.Words.{behind}
 

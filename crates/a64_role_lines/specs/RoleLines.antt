@@ -9,13 +9,13 @@ use Rattle.a64_inst.specs.declared.item.Item.TheVariants.{Bind, Emit}
 use Rattle.a64_read.specs.Clobbers.{clobbers_text}
 use Rattle.a64_read.specs.Fields.{preg_text, reg_text}
 use Rattle.a64_read.specs.Operators.{bool_text}
-use Rattle.a64_roles.specs.declared.query.CallType.{CallType}
-use Rattle.a64_roles.specs.declared.query.CallType.TheVariants as calls
-use Rattle.a64_roles.specs.declared.query.MachTerminator.{MachTerminator}
-use Rattle.a64_roles.specs.declared.query.MachTerminator.TheVariants as terms
-use Rattle.a64_roles.specs.declared.role.Role.{Role}
-use Rattle.a64_roles.specs.declared.role.Role.TheVariants.{RegUse, RegDef, RegEarlyDef, AnyDef, RegReuseDef, RegFixedUse, RegFixedDef, RegFixedNonallocatable, RegClobbers}
-use Rattle.a64_roles.specs.Queries.{call_type_of, is_args, is_mem_access, is_safepoint, is_trap, move_of, term_of}
+use Rattle.a64_role.specs.declared.query.CallType.{CallType}
+use Rattle.a64_role.specs.declared.query.CallType.TheVariants as calls
+use Rattle.a64_role.specs.declared.query.MachTerminator.{MachTerminator}
+use Rattle.a64_role.specs.declared.query.MachTerminator.TheVariants as terms
+use Rattle.a64_role.specs.declared.role.Role.{Role}
+use Rattle.a64_role.specs.declared.role.Role.TheVariants.{RegUse, RegDef, RegEarlyDef, AnyDef, RegReuseDef, RegFixedUse, RegFixedDef, RegFixedNonallocatable, RegClobbers}
+use Rattle.a64_role.specs.Queries.{call_type_of, is_args, is_mem_access, is_safepoint, is_trap, move_of, term_of}
 use Rattle.a64_roles.specs.Roles.{roles_of}
 
 -- a role, with its registers as files have them

@@ -9,9 +9,9 @@ use Rattle.a64_inst.specs.Accesses.{access_of}
 use Rattle.a64_inst.specs.Sheets.{sheet}
 use Rattle.a64_ops.specs.declared.operator.AtomicRMWLoopOp.{AtomicRMWLoopOp}
 use Rattle.a64_ops.specs.declared.operator.AtomicRMWLoopOp.TheVariants as loop_ops
-use Rattle.a64_roles.specs.declared.role.Role.{Role}
-use Rattle.a64_roles.specs.declared.role.Role.TheVariants.{RegUse, RegDef, RegEarlyDef, RegReuseDef, RegFixedUse}
-use Rattle.a64_roles.specs.Lists.{access_roles, arg_role, call_roles, defined_in, field_roles, kind_roles, mode_roles, pair_mode_roles, pair_swap_roles, ret_role, return_call_roles, used_in}
+use Rattle.a64_role.specs.declared.role.Role.{Role}
+use Rattle.a64_role.specs.declared.role.Role.TheVariants.{RegUse, RegDef, RegEarlyDef, RegReuseDef, RegFixedUse}
+use Rattle.a64_role.specs.Lists.{access_roles, arg_role, call_roles, defined_in, field_roles, kind_roles, mode_roles, pair_mode_roles, pair_swap_roles, ret_role, return_call_roles, used_in}
 
 -- whether the result is the register of the operand that is read behind it
 abbrev pub is_tied : Inst → Bool

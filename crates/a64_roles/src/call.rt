@@ -4,13 +4,12 @@ ghost use Rattle.std.specs.Prelude.{◌≡◌};
 ghost use Rattle.a64_inst.specs.declared.group.Group.TheVariants.{Call};
 ghost use Rattle.a64_inst.specs.Groups.{group_of};
 ghost use Rattle.a64_roles.specs.Roles.{roles_of};
-ghost use Rattle.a64_roles.specs.Visits.{Tells};
+ghost use Rattle.a64_role.specs.Visits.{Tells};
 
-use crate::hand::{hand_call, hand_return_call};
-use crate::role::Role::{RegFixedUse, RegUse};
-use crate::visitor::OperandVisitor;
 use a64_base::xreg;
 use a64_inst::Inst;
+use a64_role::Role::{RegFixedUse, RegUse};
+use a64_role::{OperandVisitor, hand_call, hand_return_call};
 use std::alloc::AllocError;
 
 /// Tells a visitor the roles of a call, or of a return that calls.

@@ -4,14 +4,13 @@ ghost use Rattle.std.specs.Prelude.{◌≡◌};
 ghost use Rattle.a64_inst.specs.declared.group.Group.TheVariants.{Control};
 ghost use Rattle.a64_inst.specs.Groups.{group_of};
 ghost use Rattle.a64_roles.specs.Roles.{roles_of};
-ghost use Rattle.a64_roles.specs.Lists.{kind_roles};
-ghost use Rattle.a64_roles.specs.Visits.{Tells};
+ghost use Rattle.a64_role.specs.Lists.{kind_roles};
+ghost use Rattle.a64_role.specs.Visits.{Tells};
 
-use crate::hand::hand;
-use crate::role::Role::{RegDef, RegUse};
-use crate::visitor::OperandVisitor;
 use a64_base::CondBrKind;
 use a64_inst::Inst;
+use a64_role::Role::{RegDef, RegUse};
+use a64_role::{OperandVisitor, hand};
 use std::alloc::AllocError;
 
 /// Tells a visitor the register that a condition tests, where it tests one.

@@ -2,22 +2,15 @@
 #![tactic(auto)]
 
 mod call;
-mod clobbers;
 mod control;
-mod hand;
-mod list;
 mod mach_inst;
 mod memory;
 mod operands;
 mod plain;
-mod query;
-mod role;
 mod sequence;
-mod visitor;
 
-pub use clobbers::ClobberTable;
-pub use list::RoleList;
+pub use a64_role::{
+    CallType, ClobberTable, FunctionAlignment, MachTerminator, OperandVisitor, Role, RoleList,
+    Unsupported,
+};
 pub use mach_inst::MachInst;
-pub use query::{CallType, FunctionAlignment, MachTerminator, Unsupported};
-pub use role::Role;
-pub use visitor::OperandVisitor;

@@ -9,21 +9,22 @@ ghost use Rattle.a64_base.specs.Registers.{class_of};
 ghost use Rattle.a64_base.specs.Types.{type_bits};
 ghost use Rattle.a64_inst.specs.declared.inst.Inst.{Inst};
 ghost use Rattle.a64_inst.specs.declared.inst.Inst.TheVariants as insts;
-ghost use Rattle.a64_roles.specs.declared.clobbers.ClobberTable.{ClobberTable};
-ghost use Rattle.a64_roles.specs.declared.query.CallType.{CallType};
-ghost use Rattle.a64_roles.specs.declared.query.MachTerminator.{MachTerminator};
-ghost use Rattle.a64_roles.specs.declared.role.Role.{Role};
-ghost use Rattle.a64_roles.specs.Queries as queries;
-ghost use Rattle.a64_roles.specs.Queries.{IsIncludedInClobbers};
+ghost use Rattle.a64_role.specs.declared.clobbers.ClobberTable.{ClobberTable};
+ghost use Rattle.a64_role.specs.declared.query.CallType.{CallType};
+ghost use Rattle.a64_role.specs.declared.query.MachTerminator.{MachTerminator};
+ghost use Rattle.a64_role.specs.declared.role.Role.{Role};
+ghost use Rattle.a64_role.specs.Queries as queries;
+ghost use Rattle.a64_role.specs.Queries.{IsIncludedInClobbers};
 ghost use Rattle.a64_roles.specs.Roles.{roles_of};
-ghost use Rattle.a64_roles.specs.Visits.{HasRefused, HasPart};
+ghost use Rattle.a64_role.specs.Visits.{HasRefused, HasPart};
 
-use crate::clobbers::{ClobberTable, has_more};
 use crate::operands::hand_operands;
-use crate::query::{CallType, FunctionAlignment, MachTerminator, Unsupported};
-use crate::visitor::OperandVisitor;
 use a64_base::{BranchTarget, IrType, MachLabel, OperandSize, Reg, RegClass, Writable};
 use a64_inst::{BranchTargetType, Inst};
+use a64_role::{
+    CallType, ClobberTable, FunctionAlignment, MachTerminator, OperandVisitor, Unsupported,
+    has_more, move_of,
+};
 use std::alloc::{AllocError, Global};
 
 /// What register allocation and code generators ask of an instruction (Cranelift's `MachInst`).
@@ -220,15 +221,7 @@ impl MachInst for Inst {
     }
 
     fn is_move(&self) -> Option<(Writable<Reg>, Reg)> {
-        match self {
-            Inst::Mov {
-                size: OperandSize::Size64,
-                rd,
-                rm,
-            } => Some((*rd, *rm)),
-            Inst::FpuMove64 { rd, rn } | Inst::FpuMove128 { rd, rn } => Some((*rd, *rn)),
-            _ => None,
-        }
+        move_of(self)
     }
 
     fn is_included_in_clobbers(&self, table: &ClobberTable) -> bool {

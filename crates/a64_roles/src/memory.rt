@@ -4,16 +4,14 @@ ghost use Rattle.std.specs.Prelude.{◌≡◌};
 ghost use Rattle.a64_inst.specs.declared.group.Group.TheVariants.{Memory};
 ghost use Rattle.a64_inst.specs.Groups.{group_of};
 ghost use Rattle.a64_roles.specs.Roles.{roles_of};
-ghost use Rattle.a64_roles.specs.Lists as lists;
+ghost use Rattle.a64_role.specs.Lists as lists;
 ghost use Rattle.a64_ops.specs.Accesses.{loads};
-ghost use Rattle.a64_roles.specs.Visits.{Tells};
+ghost use Rattle.a64_role.specs.Visits.{Tells};
 
-use crate::hand::{hand, hand_mode, hand_pair_mode};
-use crate::role::Role;
-use crate::role::Role::{RegDef, RegFixedDef, RegFixedUse, RegReuseDef, RegUse};
-use crate::visitor::OperandVisitor;
 use a64_base::{Reg, xreg};
 use a64_inst::{AccessOp, AccessRef, AtomicCAS128Args, Inst};
+use a64_role::Role::{RegDef, RegFixedDef, RegFixedUse, RegReuseDef, RegUse};
+use a64_role::{OperandVisitor, Role, hand, hand_mode, hand_pair_mode};
 use std::alloc::AllocError;
 
 /// The role of the register of a load or a store.

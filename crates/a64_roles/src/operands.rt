@@ -2,15 +2,15 @@
 
 ghost use Rattle.std.specs.Prelude.{◌≡◌};
 ghost use Rattle.a64_roles.specs.Roles.{roles_of};
-ghost use Rattle.a64_roles.specs.Visits.{Tells};
+ghost use Rattle.a64_role.specs.Visits.{Tells};
 
 use crate::call::hand_calling;
 use crate::control::hand_control;
 use crate::memory::hand_memory;
 use crate::plain::hand_plain;
 use crate::sequence::hand_sequence;
-use crate::visitor::OperandVisitor;
 use a64_inst::{Group, Inst};
+use a64_role::OperandVisitor;
 use std::alloc::AllocError;
 
 /// Tells a visitor the roles of an instruction.

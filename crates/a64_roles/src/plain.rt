@@ -5,19 +5,16 @@ ghost use Rattle.a64_inst.specs.declared.group.Group.TheVariants.{Plain};
 ghost use Rattle.a64_inst.specs.declared.group.PlainGroup.TheVariants.{Float, Immediate, Register, System, Vector, VectorMove};
 ghost use Rattle.a64_inst.specs.Groups.{group_of};
 ghost use Rattle.a64_roles.specs.Roles as roles;
-ghost use Rattle.a64_roles.specs.Lists as lists;
 ghost use Rattle.a64_roles.specs.Roles.{roles_of};
-ghost use Rattle.a64_roles.specs.Visits.{Tells};
+ghost use Rattle.a64_role.specs.Visits.{Tells};
 
-use crate::hand::hand;
-use crate::role::Role;
-use crate::role::Role::{RegDef, RegFixedNonallocatable, RegFixedUse, RegReuseDef, RegUse};
-use crate::visitor::OperandVisitor;
-use a64_base::{Reg, vreg};
+use a64_base::vreg;
 use a64_inst::{
     Inst, PlainGroup, float_list, immediate_list, register_list, system_list, vector_list,
     vector_move_list,
 };
+use a64_role::Role::{RegDef, RegFixedNonallocatable, RegFixedUse, RegReuseDef, RegUse};
+use a64_role::{OperandVisitor, hand, result_role};
 use std::alloc::AllocError;
 
 /// The roles of the fields, which are registers that are written or read, or are no registers.
@@ -66,17 +63,6 @@ fn is_tied(inst: &Inst) -> bool
             | Inst::MovToVec { .. }
             | Inst::VecMovElement { .. }
     )
-}
-
-/// The role of a register that is written: the register of the operand behind it, or any.
-fn result_role(tied: bool, reg: Reg) -> Role
-    ensures { result ≡ lists.result_role tied reg }
-{
-    if tied {
-        RegReuseDef(reg, 1)
-    } else {
-        RegDef(reg)
-    }
 }
 
 /// Tells a visitor the roles of an integer operation with an immediate.

@@ -4,13 +4,12 @@ ghost use Rattle.std.specs.Prelude.{◌≡◌};
 ghost use Rattle.a64_inst.specs.declared.group.Group.TheVariants.{Sequence};
 ghost use Rattle.a64_inst.specs.Groups.{group_of};
 ghost use Rattle.a64_roles.specs.Roles.{rmw_loop_roles, roles_of};
-ghost use Rattle.a64_roles.specs.Visits.{Tells};
+ghost use Rattle.a64_role.specs.Visits.{Tells};
 
-use crate::hand::{hand, hand_each};
-use crate::role::Role::{RegDef, RegEarlyDef, RegFixedDef, RegFixedUse, RegUse};
-use crate::visitor::OperandVisitor;
 use a64_base::{Reg, xreg};
 use a64_inst::{AtomicRMWLoopOp, Inst};
+use a64_role::Role::{RegDef, RegEarlyDef, RegFixedDef, RegFixedUse, RegUse};
+use a64_role::{OperandVisitor, hand, hand_each};
 use std::alloc::AllocError;
 
 /// Tells a visitor the roles of a loop that updates memory by an operation, each in the register in which

@@ -1,8 +1,8 @@
 //! A visitor that refuses, and what queries give.
 
 ghost use Rattle.std.specs.Prelude.{ℕ, ◌≡◌, ◌≤◌, ◌<◌, ◌⊎◌, ◌^◌, ◌-◌, List, [], ◌∷◌, ◌++◌, OnOk, OnErr};
-ghost use Rattle.a64_roles.specs.declared.role.Role.TheVariants as role;
-ghost use Rattle.a64_roles.specs.Visits.{HasRefused};
+ghost use Rattle.a64_role.specs.declared.role.Role.TheVariants as role;
+ghost use Rattle.a64_role.specs.Visits.{HasRefused};
 
 use a64_base::{IrType, OperandSize, PReg, PRegSet, Reg, RegClass, writable_xreg, xreg};
 use a64_imms::MoveWideConst;

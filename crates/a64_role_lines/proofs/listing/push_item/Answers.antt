@@ -1,5 +1,5 @@
 use Rattle.std.proofs.Common.{◌≡◌, ◌++◌, ◌∙◌, ap, List}
-use Rattle.a64_roles.specs.declared.role.Role.{Role}
+use Rattle.a64_role.specs.declared.role.Role.{Role}
 use Rattle.a64_roles.specs.Roles.{roles_of}
 use Rattle.a64_role_lines.proofs.listing.push_item.Goals as goal
 

@@ -7,7 +7,7 @@ use Rattle.a64_base.specs.declared.reg.RegClass.TheVariants.{Int, Float}
 use Rattle.a64_base.specs.declared.set.PRegSet.{PRegSet}
 use Rattle.a64_base.specs.RegisterNumbers.{IsRegisterNumber}
 use Rattle.a64_base.specs.Sets.{has, has_number}
-use Rattle.a64_roles.specs.Queries.{HasMore}
+use Rattle.a64_role.specs.Queries.{HasMore}
 
 -- a register that one set has and the other lacks
 pub more_by : (set other : PRegSet) (register : PReg) → IsRegisterNumber register.class register.number

@@ -1,6 +1,6 @@
 -- What visitors are told.
 use Rattle.std.specs.Prelude.{ℕ, ◌≡◌, ◌⊎◌, ◌-◌, ◌^◌, ◌<◌, ◌≤◌, List, ◌++◌, take, length, Result, OnOk, OnErr}
-use Rattle.a64_roles.specs.declared.role.Role.{Role}
+use Rattle.a64_role.specs.declared.role.Role.{Role}
 
 -- a count of refusals rose, or stands at its last value
 abbrev pub HasRefused : ℕ → ℕ → Type 0

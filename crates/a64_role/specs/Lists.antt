@@ -20,8 +20,8 @@ use Rattle.a64_inst.specs.declared.pair.RetPair.{RetPair}
 use Rattle.a64_inst.specs.Fields as fields
 use Rattle.a64_inst.specs.Fields.{Field, Def, Use, Is}
 use Rattle.a64_ops.specs.Accesses.{loads}
-use Rattle.a64_roles.specs.declared.role.Role.{Role}
-use Rattle.a64_roles.specs.declared.role.Role.TheVariants.{RegUse, RegDef, RegReuseDef, RegFixedUse, RegFixedDef, AnyDef, RegFixedNonallocatable, RegClobbers}
+use Rattle.a64_role.specs.declared.role.Role.{Role}
+use Rattle.a64_role.specs.declared.role.Role.TheVariants.{RegUse, RegDef, RegReuseDef, RegFixedUse, RegFixedDef, AnyDef, RegFixedNonallocatable, RegClobbers}
 
 -- a register that is written: the one that the operand with index 1 is read from, or any
 abbrev pub result_role : Bool → Reg → Role

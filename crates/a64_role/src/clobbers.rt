@@ -2,8 +2,8 @@
 
 ghost use Rattle.std.specs.Prelude.{ℕ, ◌≡◌, ◌<◌, ◌↔◌, true, IsTrue, MatchBool};
 ghost use Rattle.a64_base.specs.Sets.{has_number};
-ghost use Rattle.a64_roles.specs.Queries as queries;
-ghost use Rattle.a64_roles.specs.Queries.{HasMore};
+ghost use Rattle.a64_role.specs.Queries as queries;
+ghost use Rattle.a64_role.specs.Queries.{HasMore};
 
 use a64_base::{CallConv, PReg, PRegSet, RegClass};
 

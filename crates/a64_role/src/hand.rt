@@ -1,10 +1,10 @@
 //! Roles that are told to a visitor one after the other.
 
 ghost use Rattle.std.specs.Prelude.{◌≡◌, ◌≤◌, [], ◌∷◌, ◌++◌, map, OnOk, OnErr};
-ghost use Rattle.a64_roles.specs.declared.role.Role.{Role};
-ghost use Rattle.a64_roles.specs.Lists as lists;
-ghost use Rattle.a64_roles.specs.Lists.{call_roles, mode_roles, pair_mode_roles, return_call_roles};
-ghost use Rattle.a64_roles.specs.Visits.{HasRefused, HasPart};
+ghost use Rattle.a64_role.specs.declared.role.Role.{Role};
+ghost use Rattle.a64_role.specs.Lists as lists;
+ghost use Rattle.a64_role.specs.Lists.{call_roles, mode_roles, pair_mode_roles, return_call_roles};
+ghost use Rattle.a64_role.specs.Visits.{HasRefused, HasPart};
 
 use crate::role::Role;
 use crate::visitor::OperandVisitor;

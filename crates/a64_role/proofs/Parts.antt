@@ -2,8 +2,8 @@
 use Rattle.std.proofs.Common.{ℕ, ◌≡◌, ◌+◌, ◌<◌, ◌≤◌, List, ◌∷◌, [], ◌++◌, take, map, length, get_or, arith, ap, ◌∙◌}
 use Rattle.std.proofs.lemmas.List.{map_more, take_all, append_assoc, length-append, take-map, length-map, take-append-le}
 use Rattle.std.proofs.Math.Seq.{take-append-add}
-use Rattle.a64_roles.specs.declared.role.Role.{Role}
-use Rattle.a64_roles.specs.Visits.{HasPart}
+use Rattle.a64_role.specs.declared.role.Role.{Role}
+use Rattle.a64_role.specs.Visits.{HasPart}
 
 -- the roles of one pair more
 pub each_more : {P : Type 0} (role : P → Role) (pairs : List P) (i : ℕ) (d : P) → i < length pairs → map role (take (i + 1) pairs) ≡ map role (take i pairs) ++ role (get_or pairs i d) ∷ []

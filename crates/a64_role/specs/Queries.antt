@@ -20,11 +20,11 @@ use Rattle.a64_inst.specs.declared.inst.Inst.{Inst}
 use Rattle.a64_inst.specs.declared.inst.Inst.TheVariants as insts
 use Rattle.a64_inst.specs.Accesses.{access_of}
 use Rattle.a64_ops.specs.declared.system.BranchTargetType.TheVariants.{J}
-use Rattle.a64_roles.specs.declared.clobbers.ClobberTable.{ClobberTable}
-use Rattle.a64_roles.specs.declared.query.CallType.{CallType}
-use Rattle.a64_roles.specs.declared.query.CallType.TheVariants as calls
-use Rattle.a64_roles.specs.declared.query.MachTerminator.{MachTerminator}
-use Rattle.a64_roles.specs.declared.query.MachTerminator.TheVariants as terms
+use Rattle.a64_role.specs.declared.clobbers.ClobberTable.{ClobberTable}
+use Rattle.a64_role.specs.declared.query.CallType.{CallType}
+use Rattle.a64_role.specs.declared.query.CallType.TheVariants as calls
+use Rattle.a64_role.specs.declared.query.MachTerminator.{MachTerminator}
+use Rattle.a64_role.specs.declared.query.MachTerminator.TheVariants as terms
 
 -- the register that a move writes, and the one that it reads, of a whole register
 abbrev pub move_of : Inst → Option (Reg × Reg)

@@ -1,7 +1,7 @@
 //! A list of roles.
 
 ghost use Rattle.std.specs.Prelude.{◌≡◌, [], ◌∷◌, ◌++◌, ◌≤◌, OnOk, OnErr};
-ghost use Rattle.a64_roles.specs.Visits.{HasRefused};
+ghost use Rattle.a64_role.specs.Visits.{HasRefused};
 
 use crate::role::Role;
 use crate::visitor::OperandVisitor;

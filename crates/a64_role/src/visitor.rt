@@ -1,9 +1,9 @@
 //! Visitors of roles.
 
 ghost use Rattle.std.specs.Prelude.{◌≡◌, ℕ, ◌≤◌, List, [], ◌∷◌, ◌++◌, OnOk, OnErr};
-ghost use Rattle.a64_roles.specs.declared.role.Role.{Role};
-ghost use Rattle.a64_roles.specs.declared.role.Role.TheVariants as role;
-ghost use Rattle.a64_roles.specs.Visits.{HasRefused};
+ghost use Rattle.a64_role.specs.declared.role.Role.{Role};
+ghost use Rattle.a64_role.specs.declared.role.Role.TheVariants as role;
+ghost use Rattle.a64_role.specs.Visits.{HasRefused};
 
 use a64_base::{PReg, PRegSet, Reg};
 use std::alloc::AllocError;

@@ -1,5 +1,8 @@
 //! What an instruction does with a register.
 
+ghost use Rattle.std.specs.Prelude.{◌≡◌};
+ghost use Rattle.a64_role.specs.Lists as lists;
+
 use a64_base::{PReg, PRegSet, Reg};
 
 /// One call of an [`OperandVisitor`](crate::OperandVisitor), as data.
@@ -23,4 +26,15 @@ pub enum Role {
     RegFixedNonallocatable(PReg),
     /// It may change any of these.
     RegClobbers(PRegSet),
+}
+
+/// The role of a register that is written: the register of the operand behind it, or any.
+pub fn result_role(tied: bool, reg: Reg) -> Role
+    ensures { result ≡ lists.result_role tied reg }
+{
+    if tied {
+        Role::RegReuseDef(reg, 1)
+    } else {
+        Role::RegDef(reg)
+    }
 }

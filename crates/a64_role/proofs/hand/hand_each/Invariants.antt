@@ -1,5 +1,5 @@
 use Rattle.std.proofs.Common.{◌≡◌, ◌≤◌, ◌++◌, map, take}
-use Rattle.a64_roles.proofs.hand.hand_each.Given as goal
+use Rattle.a64_role.proofs.hand.hand_each.Given as goal
 
 -- the visitor was told the roles of the pairs so far
 abbrev pub invariant-loop-pair : goal.invariant-loop-pair

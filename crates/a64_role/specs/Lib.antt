@@ -1,0 +1,3 @@
+pub mod Visits
+pub mod Lists
+pub mod Queries
