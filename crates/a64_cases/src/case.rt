@@ -79,14 +79,18 @@ pub struct Case<'a> {
 
 /// A number.
 fn number(text: &str) -> Result<u64, Problem> {
-    text.parse::<u64>()
-        .map_err(|_| Problem::Unreadable("a number that is none"))
+    match text.parse::<u64>() {
+        Ok(number) => Ok(number),
+        Err(_) => Err(Problem::Unreadable("a number that is none")),
+    }
 }
 
 /// A number of bytes.
 fn size(text: &str) -> Result<usize, Problem> {
-    let number = number(text)?;
-    usize::try_from(number).map_err(|_| Problem::Unreadable("a number that is too large"))
+    match usize::try_from(number(text)?) {
+        Ok(size) => Ok(size),
+        Err(_) => Err(Problem::Unreadable("a number that is too large")),
+    }
 }
 
 /// A number, and what stands behind it.
@@ -116,28 +120,29 @@ fn command(alloc: Global, text: &str) -> Result<Vec<String>, AllocError> {
     Ok(words)
 }
 
-/// A range of lengths, and what is to come.
-fn read_cut<'a>(alloc: Global, text: &'a str) -> Result<Cut<'a>, Problem> {
-    let unreadable = Problem::Unreadable("a range of lengths that is none");
+/// The two numbers of a range of lengths, and what stands behind them.
+fn range(text: &str) -> Result<(usize, usize, &str), Problem> {
     let Some((first, rest)) = text.split_once(' ') else {
-        return Err(unreadable);
+        return Err(Problem::Unreadable("a range of lengths that is none"));
     };
     let Some((last, rest)) = rest.split_once(' ') else {
-        return Err(unreadable);
+        return Err(Problem::Unreadable("a range of lengths that is none"));
     };
+    Ok((size(first)?, size(last)?, rest))
+}
+
+/// A range of lengths, and what is to come.
+fn read_cut<'a>(alloc: Global, text: &'a str) -> Result<Cut<'a>, Problem> {
+    let (first, last, rest) = range(text)?;
     let (mark, rest) = rest.split_once(' ').unwrap_or((rest, ""));
-    let mut words = Words::new(alloc);
-    let fault = match mark {
-        "!" => Some(rest),
-        "=" => {
-            words.append(alloc, rest)?;
-            None
-        }
-        _ => return Err(unreadable),
+    let (fault, words) = match mark {
+        "!" => (Some(rest), Words::new(alloc)),
+        "=" => (None, Words::of_text(alloc, rest)?),
+        _ => return Err(Problem::Unreadable("a range of lengths that is none")),
     };
     Ok(Cut {
-        first: size(first)?,
-        last: size(last)?,
+        first,
+        last,
         fault,
         words,
     })

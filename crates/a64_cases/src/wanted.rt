@@ -40,6 +40,13 @@ impl Words {
         Ok(words)
     }
 
+    /// The words that a text gives, as [`append`](Words::append) reads it.
+    pub fn of_text(alloc: Global, text: &str) -> Result<Words, Problem> {
+        let mut words = Words::new(alloc);
+        words.append(alloc, text)?;
+        Ok(words)
+    }
+
     /// Appends words that are given in eight hexadecimal digits each, with a space between.
     pub fn append(&mut self, alloc: Global, text: &str) -> Result<(), Problem> {
         for digits in text.split_whitespace() {
