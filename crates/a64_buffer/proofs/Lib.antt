@@ -29,6 +29,7 @@ pub mod Reaching
 pub mod Burdens
 pub mod Loads
 pub mod Unbound
+pub mod Unreached
 pub mod Listed
 pub mod Final
 pub mod Known

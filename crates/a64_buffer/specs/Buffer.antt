@@ -1,5 +1,5 @@
 -- What a buffer of code is to its callers.
-use Rattle.std.specs.Prelude.{ℕ, ℤ, ◌≡◌, ◌≢◌, ◌⊎◌, ◌*◌, ◌+◌, ◌<◌, ◌≤◌, ◌&&◌, Bool, nat_eq, nat_le, if◌then◌else◌, List, [], All, length, Option, None, Some, is_none, option_and_then, IsSome, IfSome, IsSomeAnd, MatchOption, Any}
+use Rattle.std.specs.Prelude.{ℕ, ℤ, ◌≡◌, ◌≢◌, ◌⊎◌, ◌*◌, ◌+◌, ◌<◌, ◌≤◌, ◌&&◌, Bool, false, nat_eq, nat_le, if◌then◌else◌, List, [], ◌∷◌, ◌++◌, All, length, Option, None, Some, is_none, option_and_then, IsSome, IfSome, IsSomeAnd, MatchOption, Any}
 use Rattle.std.specs.Option.{option_eq}
 use Rattle.std.specs.Ordering.{nat_cmp}
 use Rattle.std.specs.FinMap.{FinMap, get, empty}
@@ -120,3 +120,28 @@ module _ {K : Type 0} (r : Kinds K) where
   -- the label of a use is bound in its range; a use of something else asks for none
   abbrev pub IsReached : FinMap nat_cmp ℕ → Use K → Type 0
   IsReached labels u = IfSome (label_of u.target) (λ label. IsSomeAnd (get labels label) (λ place. IsWithin (r.forward u.kind) (r.backward u.kind) u.offset place))
+
+  -- a use that can have no veneer reaches its label
+  abbrev pub IsDirect : FinMap nat_cmp ℕ → Use K → Type 0
+  IsDirect labels u = r.veneers u.kind ≡ false → IsReached labels u
+
+  -- the label of a use that can have no veneer and does not reach it, where the use is such a one
+  abbrev pub IsUnreachedOf : FinMap nat_cmp ℕ → Use K → Option MachLabel → Type 0
+  IsUnreachedOf labels u result =
+      MatchOption result
+      (IsDirect labels u)
+      (λ label. (label_of u.target ≡ Some label.0) × (IsDirect labels u → ⊥))
+
+  -- this use is the first that can have no veneer and does not reach its label
+  pub record IsFirstUnreachedAt (labels : FinMap nat_cmp ℕ) (uses : List (Use K)) (label : ℕ) : Type 0 where
+    pub before : List (Use K)
+    pub site : Use K
+    pub after : List (Use K)
+    pub split : uses ≡ before ++ site ∷ after
+    pub direct : All (IsDirect labels) before
+    pub leads : label_of site.target ≡ Some label
+    pub unreached : IsDirect labels site → ⊥
+
+  -- the label of that use
+  abbrev pub IsFirstUnreached : Buffer K → Option MachLabel → Type 0
+  IsFirstUnreached b result = MatchOption result (All (IsDirect b.labels) b.uses) (λ label. IsFirstUnreachedAt b.labels b.uses label.0)

@@ -42,7 +42,7 @@ impl<'c, K: MachInstLabelUse> Model for MachBuffer<'c, K> {
 }
 
 impl<'c, K: MachInstLabelUse> MachBuffer<'c, K> {
-    ghost use Rattle.a64_buffer.specs.Buffer.{new_buffer, end_of, IsFree, IsOutside, IsBound, IsFirstUnbound, made_use, closed_at, IsReached};
+    ghost use Rattle.a64_buffer.specs.Buffer.{new_buffer, end_of, IsFree, IsOutside, IsBound, IsFirstUnbound, IsFirstUnreached, made_use, closed_at, IsReached};
     ghost use Rattle.a64_buffer.specs.Sound.{IsWhole};
     ghost use Rattle.a64_buffer.specs.Islands.{HasIsland};
     ghost use Rattle.a64_buffer.specs.Later.{IsLaterFrom, IsLater, HasStopBelow};
@@ -360,6 +360,22 @@ impl<'c, K: MachInstLabelUse> MachBuffer<'c, K> {
         ensures { IsFirstUnbound self.now result }
     {
         self.parts.first_unbound()
+    }
+
+    /// The label of the first use that can have no veneer and does not reach it; `None` where each such use
+    /// reaches its label, as [`finish`](MachBuffer::finish) asks.
+    pub fn first_unreached(&self) -> Option<MachLabel>
+        ensures { IsFirstUnreached K.kinds self.now result }
+    {
+        self.parts.first_unreached()
+    }
+
+    /// How many bytes the open uses may put into an island, without the jump over it, or into the pool behind the
+    /// code.
+    pub fn owed(&self) -> u64
+        ensures { result ≡ owed K.kinds self.now }
+    {
+        self.parts.owed()
     }
 
     /// The finished code: each word stands where it was put, and each use leads to its target, if need be

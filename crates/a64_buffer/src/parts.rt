@@ -1,6 +1,6 @@
 //! The parts of a buffer of code, and what changes them.
 
-ghost use Rattle.std.specs.Prelude.{◌≡◌, ◌+◌, ◌/◌, ◌%◌, ◌^◌, ◌<◌, ◌≤◌, All, IfOk, OnOk, OnErr, [], ◌∷◌, ◌++◌, None, Some, MatchOption, MatchBool, IfSome, false, option_map, length, map, min, vec_len, vec_capacity};
+ghost use Rattle.std.specs.Prelude.{◌≡◌, ◌+◌, ◌/◌, ◌%◌, ◌^◌, ◌<◌, ◌≤◌, All, IfOk, OnOk, OnErr, [], ◌∷◌, ◌++◌, None, Some, MatchOption, MatchBool, IfSome, IsSomeAnd, false, option_map, length, map, min, vec_len, vec_capacity};
 ghost use Rattle.std.specs.Option.{unwrap_or};
 ghost use Rattle.std.specs.FinMap as finmap;
 ghost use Rattle.a64_base.specs.declared.entity.MachLabel.{MachLabel};
@@ -88,7 +88,8 @@ fn reserve_one<T>(list: &mut Vec<T>) -> Result<(), AllocError>
 }
 
 impl<'c, K: MachInstLabelUse> Parts<'c, K> {
-    ghost use Rattle.a64_buffer.specs.Buffer.{new_buffer, end_of, stop_of, IsFree, IsOutside, IsBound, IsUnboundOf, IsFirstUnbound, made_use, closed_at, IsReached};
+    ghost use Rattle.a64_buffer.specs.Buffer.{new_buffer, end_of, stop_of, IsFree, IsOutside, IsBound, IsUnboundOf, IsFirstUnbound, IsUnreachedOf, IsFirstUnreached, made_use, closed_at, IsReached};
+    ghost use Rattle.a64_buffer.specs.Kinds.{IsWithin};
     ghost use Rattle.a64_buffer.specs.Classes.{owed, Fits};
     ghost use Rattle.a64_buffer.specs.Chain.{constant_of};
     ghost use Rattle.a64_buffer.specs.Settled.{MayLead, IsCode};
@@ -325,6 +326,57 @@ impl<'c, K: MachInstLabelUse> Parts<'c, K> {
             first = Some(lesser(first, label));
         }
         first
+    }
+
+    /// Whether a use at a place reaches a label.
+    fn reaches(&self, site: &Use<K>, label: MachLabel) -> bool
+        ensures { MatchBool result
+            (IsSomeAnd (finmap.get (seen self.now).labels label.0) (λ place.
+            IsWithin (K.kinds.forward site.now.kind) (K.kinds.backward site.now.kind) site.now.offset place))
+            (IsSomeAnd (finmap.get (seen self.now).labels label.0) (λ place.
+            IsWithin (K.kinds.forward site.now.kind) (K.kinds.backward site.now.kind) site.now.offset place) → ⊥) }
+    {
+        match self.labels.get(label.0) {
+            Some(place) => reached(site.kind, site.offset, place).is_some(),
+            None => false,
+        }
+    }
+
+    /// The label of a use, where the use can have no veneer and does not reach it.
+    fn unreached_label(&self, site: &Use<K>) -> Option<MachLabel>
+        ensures { IsUnreachedOf K.kinds (seen self.now).labels site.now result }
+    {
+        if site.kind.supports_veneer() {
+            return None;
+        }
+        let label = target_label(site.target)?;
+        if self.reaches(site, label) {
+            None
+        } else {
+            Some(label)
+        }
+    }
+
+    /// The label of the first use that can have no veneer and does not reach it.
+    pub fn first_unreached(&self) -> Option<MachLabel>
+        ensures { IsFirstUnreached K.kinds (seen self.now) result }
+    {
+        for site in &self.uses {
+            let label = self.unreached_label(site);
+            if label.is_some() {
+                return label;
+            }
+        }
+        None
+    }
+
+    /// How many bytes the open uses may put into an island or a pool.
+    #[inline(always)]
+    pub fn owed(&self) -> u64
+        requires { AreSound K.kinds self.now }
+        ensures { result ≡ owed K.kinds (seen self.now) }
+    {
+        self.burdens.third
     }
 
     /// Whether an island is needed before so many bytes more.

@@ -145,7 +145,7 @@ fn complement_word(ty: IrType) -> u32
 }
 
 /// Adds the word that extends the loaded 8 or 16 bits with their sign.
-#[tactic(auto, unfolding(a64_inst::specs::IntegerOperands::is_extended))]
+#[tactic(auto, unfolding(a64_operand::specs::IntegerOperands::is_extended))]
 fn push_sign(words: &mut ArrayVec<u32, 4>, ty: IrType)
     requires { length words.old.items ≤ 1 }
     ensures { words.new.items ≡ words.old.items ++ map form_word (forms.sign_forms ty) }

@@ -222,7 +222,7 @@ pub fn probe_words(info: &EmitInfo, start: Writable<Reg>, end: Reg, step: Imm12)
 }
 
 /// The words of a select of one of two vectors.
-#[tactic(auto, using(crate::proofs::Operands::vector_real), unfolding(a64_inst::specs::ControlOperands::are_jump_operands, a64_inst::specs::VectorOperands::are_select_operands))]
+#[tactic(auto, using(crate::proofs::Operands::vector_real), unfolding(a64_inst::specs::ControlOperands::are_jump_operands, a64_operand::specs::VectorOperands::are_select_operands))]
 pub fn vector_select_words(rd: Writable<Reg>, rn: Reg, rm: Reg, cond: Cond) -> [u32; 4]
     requires { are_select_operands Refused rd rn rm ≡ true }
     ensures { result ≡ map form_word (vector_select_forms rd rn rm cond) }

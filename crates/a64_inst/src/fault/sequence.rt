@@ -61,7 +61,7 @@ fn probe(info: &EmitInfo, virtuals: VirtualRegisters, start: &Reg, end: Reg, ste
 }
 
 /// Of a `VecCSel`.
-#[tactic(auto, unfolding(crate::specs::VectorOperands::are_select_operands))]
+#[tactic(auto, unfolding(a64_operand::specs::VectorOperands::are_select_operands))]
 fn select(virtuals: VirtualRegisters, rd: Reg, rn: Reg, rm: Reg) -> bool
     ensures { result ≡ vectors.are_select_operands virtuals rd rn rm }
 {

@@ -10,7 +10,7 @@ use a64_base::{Reg, VectorSize, Writable};
 use a64_enc_vec::enc_ldst_vec;
 
 /// The word of a `VecLoadReplicate`.
-#[tactic(auto, using(crate::proofs::Operands::vector, crate::proofs::Operands::stack_general), unfolding(a64_inst::specs::VectorOperands::are_replicate_operands))]
+#[tactic(auto, using(crate::proofs::Operands::vector, crate::proofs::Operands::stack_general), unfolding(a64_operand::specs::VectorOperands::are_replicate_operands))]
 pub fn replicate_word(size: VectorSize, rd: Writable<Reg>, rn: Reg) -> u32
     requires { are_replicate_operands Refused rd rn ≡ true }
     ensures { result ≡ form_word (replicate_form size rd rn) }

@@ -158,7 +158,7 @@ fn extend_opc(signed: bool) -> u8
 }
 
 /// The word of an `Extend`.
-#[tactic(auto, using(crate::proofs::Operands::general, crate::proofs::Operands::extended_general), unfolding(crate::specs::IntegerForms::extend_form, a64_inst::specs::IntegerOperands::is_extended))]
+#[tactic(auto, using(crate::proofs::Operands::general, crate::proofs::Operands::extended_general), unfolding(crate::specs::IntegerForms::extend_form, a64_operand::specs::IntegerOperands::is_extended))]
 pub fn extend_word(rd: Writable<Reg>, rn: Reg, signed: bool, from_bits: u8, to_bits: u8) -> u32
     requires rd { is_extended Refused rd signed from_bits to_bits ≡ true }
     requires rn { is_register_or_zero Refused rn ≡ true }

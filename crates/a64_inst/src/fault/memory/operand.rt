@@ -49,7 +49,7 @@ pub fn pair(virtuals: VirtualRegisters, rt: Reg, rt2: Reg, mem: &PairAMode) -> b
 }
 
 /// Of a `VecLoadReplicate`.
-#[tactic(auto, unfolding(crate::specs::VectorOperands::are_replicate_operands))]
+#[tactic(auto, unfolding(a64_operand::specs::VectorOperands::are_replicate_operands))]
 pub fn replicate(virtuals: VirtualRegisters, rd: Reg, rn: Reg) -> bool
     ensures { result ≡ vectors.are_replicate_operands virtuals rd rn }
 {
