@@ -112,7 +112,8 @@ pub fn audit(file: &AuditFile) -> Verdict
     requires { length file.now.words.items < 2 ^ 29 }
     ensures verdict { IsVerdict (contents_of file.now) result }
     ensures clean { result ≡ Clean → IsClean (contents_of file.now) }
-    ensures only { (other : Verdict) → IsVerdict (contents_of file.now) other → other ≡ result }
+    ensures only { (other : Verdict) → IsVerdict (contents_of file.now) other
+        → other ≡ result }
 {
     if let Some(index) = first_bad_range(file) {
         return Verdict::BadRange(index);

@@ -24,7 +24,8 @@ fn signed(value: u32, half: u32) -> i64
 /// direct branches.
 fn branch_offset(row: Row, word: u32) -> Option<i64>
     ensures is { result ≡ offset_of row word }
-    ensures near { IfSome result (λ words. (negsuc (2 ^ 25) ≤ℤ words) × (words <ℤ pos (2 ^ 25))) }
+    ensures near { IfSome result (λ words. (negsuc (2 ^ 25) ≤ℤ words)
+        × (words <ℤ pos (2 ^ 25))) }
 {
     match row {
         Row::Branch26 => Some(signed(Slot::Bits(0, 26).value_in(word), 1 << 25)),
@@ -39,7 +40,8 @@ fn branch_offset(row: Row, word: u32) -> Option<i64>
 /// The target, in bytes, of the direct branch of this row at a place. None: it is none.
 pub(crate) fn branch_target(row: Row, word: u32, place: u32) -> Option<i64>
     ensures is { IsTarget row word place result }
-    ensures near { IfSome result (λ place. (negsuc (2 ^ 32) ≤ℤ place) × (place <ℤ pos (2 ^ 33))) }
+    ensures near { IfSome result (λ place. (negsuc (2 ^ 32) ≤ℤ place)
+        × (place <ℤ pos (2 ^ 33))) }
 {
     let offset = branch_offset(row, word)?;
     Some(i64::from(place) + 4 * offset)

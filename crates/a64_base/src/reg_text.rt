@@ -45,7 +45,8 @@ fn zero_name<'a>(size: OperandSize) -> &'a str
 
 /// Appends the name of an integer register of the machine.
 fn push_integer(out: &mut String, size: OperandSize, number: u8) -> Result<(), AllocError>
-    ensures { OnOk result (string_bytes out.new ≡ string_bytes out.old ++ integer_name size number) }
+    ensures { OnOk result (string_bytes out.new
+        ≡ string_bytes out.old ++ integer_name size number) }
 {
     match number {
         29 => out.push_str("fp"),
@@ -58,7 +59,8 @@ fn push_integer(out: &mut String, size: OperandSize, number: u8) -> Result<(), A
 
 /// Appends the name of a virtual register.
 fn push_virtual(out: &mut String, index: u32, class: RegClass) -> Result<(), AllocError>
-    ensures { OnOk result (string_bytes out.new ≡ string_bytes out.old ++ virtual_name class index) }
+    ensures { OnOk result (string_bytes out.new
+        ≡ string_bytes out.old ++ virtual_name class index) }
 {
     match class {
         RegClass::Int => push_numbered(out, "%i", index),
@@ -258,7 +260,8 @@ fn element_suffix<'a>(size: ScalarSize) -> &'a str
 ///
 /// Want of memory.
 pub fn push_element(out: &mut String, idx: u8, size: ScalarSize, reg: Reg) -> Result<(), AllocError>
-    ensures { OnOk result (string_bytes out.new ≡ string_bytes out.old ++ element_text idx size reg) }
+    ensures { OnOk result (string_bytes out.new
+        ≡ string_bytes out.old ++ element_text idx size reg) }
 {
     push_register(out, OperandSize::Size64, reg)?;
     push_numbered(out, element_suffix(size), idx)?;

@@ -140,7 +140,8 @@ impl ShiftOpAndAmt {
     ///
     /// Want of memory.
     pub fn push_text(&self, out: &mut String) -> Result<(), AllocError>
-        ensures { OnOk result (string_bytes out.new ≡ string_bytes out.old ++ shift_text self.now) }
+        ensures { OnOk result (string_bytes out.new
+            ≡ string_bytes out.old ++ shift_text self.now) }
     {
         out.push_str(self.op.name())?;
         push_numbered(out, " ", self.shift.value())

@@ -83,7 +83,8 @@ impl BranchTarget {
     ///
     /// Want of memory.
     pub fn push_text(&self, out: &mut String) -> Result<(), AllocError>
-        ensures { OnOk result (string_bytes out.new ≡ string_bytes out.old ++ target_text self.now) }
+        ensures { OnOk result (string_bytes out.new
+            ≡ string_bytes out.old ++ target_text self.now) }
     {
         match *self {
             BranchTarget::Label(label) => push_numbered(out, "label", label.0),

@@ -15,7 +15,8 @@ pub type Text = Result<String, AllocError>;
 ///
 /// Want of memory.
 pub fn push_numbered<I: Integer>(out: &mut String, text: &str, number: I) -> Result<(), AllocError>
-    ensures { OnOk result (string_bytes out.new ≡ string_bytes out.old ++ text.now ++ I.text number) }
+    ensures { OnOk result (string_bytes out.new
+        ≡ string_bytes out.old ++ text.now ++ I.text number) }
 {
     let mut buffer = Buffer::new();
     out.push_str(text)?;

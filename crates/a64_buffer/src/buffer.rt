@@ -94,7 +94,9 @@ impl<'c, K: MachInstLabelUse> MachBuffer<'c, K> {
     pub fn put4(&mut self, word: u32) -> Result<(), AllocError>
         requires short { end_of self.old + 4 < 2 ^ 31 }
         requires fits { Fits K.kinds self.old 4 }
-        ensures ok { OnOk result (self.new ≡ record self.old { words = self.old.words ++ word ∷ [] }) }
+        ensures ok { OnOk result (self.new ≡ record self.old {
+          words = self.old.words ++ word ∷ [];
+        }) }
         ensures err { OnErr result (self.new ≡ self.old) }
         ensures later { OnOk result (IsLater self.old self.new) }
     {
@@ -109,7 +111,9 @@ impl<'c, K: MachInstLabelUse> MachBuffer<'c, K> {
     pub fn put8(&mut self, value: u64) -> Result<(), AllocError>
         requires short { end_of self.old + 8 < 2 ^ 31 }
         requires fits { Fits K.kinds self.old 8 }
-        ensures ok { OnOk result (self.new ≡ record self.old { words = self.old.words ++ value % 2 ^ 32 ∷ value / 2 ^ 32 ∷ [] }) }
+        ensures ok { OnOk result (self.new ≡ record self.old {
+          words = self.old.words ++ value % 2 ^ 32 ∷ value / 2 ^ 32 ∷ [];
+        }) }
         ensures err { OnErr result (self.new ≡ self.old) }
         ensures later { OnOk result (IsLater self.old self.new) }
     {
@@ -125,7 +129,9 @@ impl<'c, K: MachInstLabelUse> MachBuffer<'c, K> {
         requires whole { length bytes.now % 4 ≡ 0 }
         requires short { end_of self.old + length bytes.now < 2 ^ 31 }
         requires fits { Fits K.kinds self.old (length bytes.now) }
-        ensures ok { OnOk result (self.new ≡ record self.old { words = self.old.words ++ words_of bytes.now }) }
+        ensures ok { OnOk result (self.new ≡ record self.old {
+          words = self.old.words ++ words_of bytes.now;
+        }) }
         ensures err { OnErr result (self.new ≡ self.old) }
         ensures later { OnOk result (IsLater self.old self.new) }
     {
@@ -162,7 +168,9 @@ impl<'c, K: MachInstLabelUse> MachBuffer<'c, K> {
     /// Want of memory, and then nothing has changed.
     #[inline(always)]
     pub fn add_trap(&mut self, code: TrapCode) -> Result<(), AllocError>
-        ensures ok { OnOk result (self.new ≡ record self.old { traps = self.old.traps ++ (end_of self.old, code) ∷ [] }) }
+        ensures ok { OnOk result (self.new ≡ record self.old {
+          traps = self.old.traps ++ (end_of self.old, code) ∷ [];
+        }) }
         ensures err { OnErr result (self.new ≡ self.old) }
         ensures later { OnOk result (IsLater self.old self.new) }
     {
@@ -271,10 +279,12 @@ impl<'c, K: MachInstLabelUse> MachBuffer<'c, K> {
         requires urgency { K.kinds.urgency kind ≡ 2 }
         requires known { IsSomeAnd (finmap.get self.old.constants constant.0) IsConstant }
         requires fits { Fits K.kinds (record self.old {
-          uses = self.old.uses ++ made_use K.kinds self.old.labels offset (Constant constant) kind ∷ [];
+          uses = self.old.uses ++ made_use K.kinds self.old.labels offset (Constant constant) kind
+              ∷ [];
         }) 0 }
         ensures ok { OnOk result (self.new ≡ record self.old {
-          uses = self.old.uses ++ made_use K.kinds self.old.labels offset (Constant constant) kind ∷ [];
+          uses = self.old.uses ++ made_use K.kinds self.old.labels offset (Constant constant) kind
+              ∷ [];
         }) }
         ensures err { OnErr result (self.new ≡ self.old) }
         ensures later { OnOk result (IsLaterFrom offset self.old self.new) }
@@ -328,7 +338,8 @@ impl<'c, K: MachInstLabelUse> MachBuffer<'c, K> {
     /// reach what it gets there.
     #[inline(always)]
     pub fn island_needed(&self, distance: u32) -> bool
-        ensures { MatchBool result (Fits K.kinds self.now distance → ⊥) (Fits K.kinds self.now distance) }
+        ensures { MatchBool result (Fits K.kinds self.now distance
+            → ⊥) (Fits K.kinds self.now distance) }
     {
         self.parts.island_needed(distance)
     }
@@ -387,7 +398,8 @@ impl<'c, K: MachInstLabelUse> MachBuffer<'c, K> {
     pub fn finish(self) -> Result<Finished, AllocError>
         requires short { end_of self + owed K.kinds self < 2 ^ 31 }
         requires bound { All (IsBound self.labels) self.uses }
-        requires direct { All (λ u. K.kinds.veneers u.kind ≡ false → IsReached K.kinds self.labels u) self.uses }
+        requires direct { All (λ u. K.kinds.veneers u.kind ≡ false
+            → IsReached K.kinds self.labels u) self.uses }
         ensures { IfOk result (λ code. IsFinished K.kinds self.entry code) }
     {
         self.parts.finish()

@@ -54,7 +54,8 @@ fn close_use<K: MachInstLabelUse>(
 )
     requires index { index < length uses.old }
     requires waiting { AreWaiting K.kinds uses.old queues.old burdens.old }
-    ensures uses { (d : _) → uses.new ≡ slice_set uses.old index (with_stop K.kinds place (slice_index_or uses.old index d)) }
+    ensures uses { (d : _) → uses.new ≡ slice_set uses.old index
+        (with_stop K.kinds place (slice_index_or uses.old index d)) }
     ensures hold { AllHold K.kinds uses.new queues.new }
     ensures limits { AllLimits K.kinds uses.new queues.new }
     ensures burdens { AreBurdens K.kinds uses.new burdens.new }
@@ -89,7 +90,8 @@ fn close_as<K: MachInstLabelUse>(
     requires waiting { AreWaiting K.kinds uses.old queues.old burdens.old }
     requires stop { (d : _) → is_some (slice_index_or uses.old index d).stop ≡ false }
     requires class { (d : _) → classes.class K.kinds (slice_index_or uses.old index d) ≡ class }
-    ensures uses { (d : _) → uses.new ≡ slice_set uses.old index (with_stop K.kinds place (slice_index_or uses.old index d)) }
+    ensures uses { (d : _) → uses.new ≡ slice_set uses.old index
+        (with_stop K.kinds place (slice_index_or uses.old index d)) }
     ensures hold { AllHold K.kinds uses.new queues.new }
     ensures limits { AllLimits K.kinds uses.new queues.new }
     ensures burdens { AreBurdens K.kinds uses.new burdens.new }

@@ -63,7 +63,8 @@ impl<K: MachInstLabelUse> Use<K> {
     #[inline(always)]
     pub fn waits_in(&self, rank: u64) -> bool
         requires { rank < 5 }
-        ensures { IsTrue result ↔ (classes.is_open K.kinds self.now ≡ true × rank_of (classes.class K.kinds self.now) ≡ rank) }
+        ensures { IsTrue result ↔ (classes.is_open K.kinds self.now ≡ true
+            × rank_of (classes.class K.kinds self.now) ≡ rank) }
     {
         self.stop.is_none() && self.class().rank() == rank
     }

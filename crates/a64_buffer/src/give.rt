@@ -44,17 +44,27 @@ impl<'c, K: MachInstLabelUse> Parts<'c, K> {
     #[inline(always)]
     pub fn stop_at(&mut self, index: usize, place: u32, class: Class)
         requires index { index < length self.old.uses.items }
-        requires target { (d : _) → constant_of (slice_index_or self.old.uses.items index d).target ≡ None }
-        requires class { (d : _) → IsWaitingClass K.kinds (slice_index_or self.old.uses.items index d) class }
-        requires chained { AreChained self.old.uses.items self.old.earlier.items self.old.heads self.old.loads }
+        requires target { (d : _) → constant_of
+            (slice_index_or self.old.uses.items index d).target ≡ None }
+        requires class { (d : _) → IsWaitingClass K.kinds
+            (slice_index_or self.old.uses.items index d) class }
+        requires chained { AreChained self.old.uses.items self.old.earlier.items self.old.heads
+            self.old.loads }
         requires burdens { AreBurdens K.kinds self.old.uses.items self.old.burdens }
-        ensures uses { (d : _) → AreApart self.old.uses.items → self.new.uses.items ≡ map (stopped (stands_at (slice_index_or self.old.uses.items index d).offset) place) self.old.uses.items }
-        ensures chained { AreChained self.new.uses.items self.new.earlier.items self.new.heads self.new.loads }
+        ensures uses { (d : _) → AreApart self.old.uses.items
+            → self.new.uses.items ≡ map (stopped
+            (stands_at
+            (slice_index_or self.old.uses.items index d).offset) place) self.old.uses.items }
+        ensures chained { AreChained self.new.uses.items self.new.earlier.items self.new.heads
+            self.new.loads }
         ensures capacity { vec_capacity self.new.uses ≡ vec_capacity self.old.uses }
         ensures len { vec_len self.new.uses ≡ vec_len self.old.uses }
         ensures burdens { AreBurdens K.kinds self.new.uses.items self.new.burdens }
         ensures less { self.new.burdens.third ≤ self.old.burdens.third }
-        ensures rest { self.new ≡ record self.old { uses = self.new.uses; burdens = self.new.burdens } }
+        ensures rest { self.new ≡ record self.old {
+          uses = self.new.uses;
+          burdens = self.new.burdens;
+        } }
     {
         self.uses[index].stop = Some(place);
         self.burdens.lose(class);
@@ -66,17 +76,25 @@ impl<'c, K: MachInstLabelUse> Parts<'c, K> {
     pub fn push_use(&mut self, site: Use<K>)
         requires uses { vec_len self.old.uses < vec_capacity self.old.uses }
         requires earlier { vec_len self.old.earlier < vec_capacity self.old.earlier }
-        requires chained { AreChained self.old.uses.items self.old.earlier.items self.old.heads self.old.loads }
-        requires known { IfSome (label_of site.target) (λ label. IsSome (finmap.get self.old.heads label)) }
+        requires chained { AreChained self.old.uses.items self.old.earlier.items self.old.heads
+            self.old.loads }
+        requires known { IfSome (label_of site.target)
+            (λ label. IsSome (finmap.get self.old.heads label)) }
         requires target { constant_of site.target ≡ None }
         requires burdens { AreBurdens K.kinds self.old.uses.items self.old.burdens }
         requires few { self.old.burdens.third < 2 ^ 32 }
         ensures uses { self.new.uses.items ≡ self.old.uses.items ++ site ∷ [] }
-        ensures chained { AreChained self.new.uses.items self.new.earlier.items self.new.heads self.new.loads }
+        ensures chained { AreChained self.new.uses.items self.new.earlier.items self.new.heads
+            self.new.loads }
         ensures uses_capacity { vec_capacity self.new.uses ≡ vec_capacity self.old.uses }
         ensures earlier_capacity { vec_capacity self.new.earlier ≡ vec_capacity self.old.earlier }
         ensures burdens { AreBurdens K.kinds self.new.uses.items self.new.burdens }
-        ensures rest { self.new ≡ record self.old { uses = self.new.uses; earlier = self.new.earlier; heads = self.new.heads; burdens = self.new.burdens } }
+        ensures rest { self.new ≡ record self.old {
+          uses = self.new.uses;
+          earlier = self.new.earlier;
+          heads = self.new.heads;
+          burdens = self.new.burdens;
+        } }
     {
         let class = site.waiting_class();
         let earlier = self.link(site);
@@ -89,9 +107,14 @@ impl<'c, K: MachInstLabelUse> Parts<'c, K> {
     #[inline(always)]
     fn link(&mut self, site: Use<K>) -> usize
         requires len { vec_len self.old.uses < 2 ^ 63 }
-        requires known { IfSome (label_of site.target) (λ label. IsSome (finmap.get self.old.heads label)) }
-        ensures earlier { IfSome (label_of site.target) (λ label. result ≡ unwrap_or (finmap.get self.old.heads label) 0) }
-        ensures heads { self.new.heads ≡ (elim (label_of site.target) [ None ↦ self.old.heads | Some label ↦ finmap.insert self.old.heads label (length self.old.uses.items + 1) ]) }
+        requires known { IfSome (label_of site.target)
+            (λ label. IsSome (finmap.get self.old.heads label)) }
+        ensures earlier { IfSome (label_of site.target) (λ label. result
+            ≡ unwrap_or (finmap.get self.old.heads label) 0) }
+        ensures heads { self.new.heads ≡ (elim (label_of site.target) [
+          | None ↦ self.old.heads
+          | Some label ↦ finmap.insert self.old.heads label (length self.old.uses.items + 1)
+        ]) }
         ensures rest { self.new ≡ record self.old { heads = self.new.heads } }
     {
         let Some(label) = target_label(site.target) else {
@@ -107,18 +130,24 @@ impl<'c, K: MachInstLabelUse> Parts<'c, K> {
     #[inline(always)]
     pub fn give_jump(&mut self, index: usize, label: MachLabel, class: Class) -> Use<K>
         requires within { index < length self.old.uses.items }
-        requires label { (d : _) → (slice_index_or self.old.uses.items index d).target ≡ Label label }
-        requires class { (d : _) → IsWaitingClass K.kinds (slice_index_or self.old.uses.items index d) class }
+        requires label { (d : _) → (slice_index_or self.old.uses.items index d).target
+            ≡ Label label }
+        requires class { (d : _) → IsWaitingClass K.kinds
+            (slice_index_or self.old.uses.items index d) class }
         requires short { end_of (seen self.old) + 4 < 2 ^ 31 }
         requires words { length self.old.words.items < self.old.words.capacity }
         requires uses { vec_len self.old.uses < vec_capacity self.old.uses }
         requires earlier { vec_len self.old.earlier < vec_capacity self.old.earlier }
-        requires chained { AreChained self.old.uses.items self.old.earlier.items self.old.heads self.old.loads }
+        requires chained { AreChained self.old.uses.items self.old.earlier.items self.old.heads
+            self.old.loads }
         requires burdens { AreBurdens K.kinds self.old.uses.items self.old.burdens }
         requires few { self.old.burdens.third < 2 ^ 32 }
-        ensures gives { (d : _) → AreApart self.old.uses.items → GivesJump K.kinds (slice_index_or self.old.uses.items index d) (seen self.old) (seen self.new) }
+        ensures gives { (d : _) → AreApart self.old.uses.items
+            → GivesJump K.kinds (slice_index_or self.old.uses.items index d) (seen self.old)
+            (seen self.new) }
         ensures added { AddsUse self.old.uses.items self.new.uses.items result }
-        ensures chained { AreChained self.new.uses.items self.new.earlier.items self.new.heads self.new.loads }
+        ensures chained { AreChained self.new.uses.items self.new.earlier.items self.new.heads
+            self.new.loads }
         ensures room { SameRoom self.old self.new }
         ensures queues { self.new.queues ≡ self.old.queues }
         ensures burdens { AreBurdens K.kinds self.new.uses.items self.new.burdens }
@@ -143,21 +172,29 @@ impl<'c, K: MachInstLabelUse> Parts<'c, K> {
     #[inline(never)]
     pub fn give_far(&mut self, index: usize, label: MachLabel) -> Use<K>
         requires within { index < length self.old.uses.items }
-        requires label { (d : _) → (slice_index_or self.old.uses.items index d).target ≡ Label label }
-        requires class { (d : _) → IsWaitingClass K.kinds (slice_index_or self.old.uses.items index d) Far }
-        requires veneers { (d : _) → IsTrue (K.kinds.veneers (slice_index_or self.old.uses.items index d).kind) }
-        requires urgency { (d : _) → K.kinds.urgency (slice_index_or self.old.uses.items index d).kind ≡ 3 }
+        requires label { (d : _) → (slice_index_or self.old.uses.items index d).target
+            ≡ Label label }
+        requires class { (d : _) → IsWaitingClass K.kinds
+            (slice_index_or self.old.uses.items index d) Far }
+        requires veneers { (d : _) → IsTrue (K.kinds.veneers
+            (slice_index_or self.old.uses.items index d).kind) }
+        requires urgency { (d : _) → K.kinds.urgency
+            (slice_index_or self.old.uses.items index d).kind ≡ 3 }
         requires short { end_of (seen self.old) + 20 < 2 ^ 31 }
         requires words { length self.old.words.items + length K.kinds.far_words + 1
             ≤ self.old.words.capacity }
         requires uses { vec_len self.old.uses < vec_capacity self.old.uses }
         requires earlier { vec_len self.old.earlier < vec_capacity self.old.earlier }
-        requires chained { AreChained self.old.uses.items self.old.earlier.items self.old.heads self.old.loads }
+        requires chained { AreChained self.old.uses.items self.old.earlier.items self.old.heads
+            self.old.loads }
         requires burdens { AreBurdens K.kinds self.old.uses.items self.old.burdens }
         requires few { self.old.burdens.third < 2 ^ 32 }
-        ensures gives { (d : _) → AreApart self.old.uses.items → GivesFar K.kinds (slice_index_or self.old.uses.items index d) (seen self.old) (seen self.new) }
+        ensures gives { (d : _) → AreApart self.old.uses.items
+            → GivesFar K.kinds (slice_index_or self.old.uses.items index d) (seen self.old)
+            (seen self.new) }
         ensures added { AddsUse self.old.uses.items self.new.uses.items result }
-        ensures chained { AreChained self.new.uses.items self.new.earlier.items self.new.heads self.new.loads }
+        ensures chained { AreChained self.new.uses.items self.new.earlier.items self.new.heads
+            self.new.loads }
         ensures room { SameRoom self.old self.new }
         ensures queues { self.new.queues ≡ self.old.queues }
         ensures burdens { AreBurdens K.kinds self.new.uses.items self.new.burdens }
@@ -182,16 +219,22 @@ impl<'c, K: MachInstLabelUse> Parts<'c, K> {
     #[inline(never)]
     pub fn give_trap(&mut self, index: usize, code: TrapCode)
         requires within { index < length self.old.uses.items }
-        requires target { (d : _) → constant_of (slice_index_or self.old.uses.items index d).target ≡ None }
-        requires class { (d : _) → IsWaitingClass K.kinds (slice_index_or self.old.uses.items index d) Trapping }
+        requires target { (d : _) → constant_of
+            (slice_index_or self.old.uses.items index d).target ≡ None }
+        requires class { (d : _) → IsWaitingClass K.kinds
+            (slice_index_or self.old.uses.items index d) Trapping }
         requires short { end_of (seen self.old) + 4 < 2 ^ 31 }
         requires words { length self.old.words.items < self.old.words.capacity }
         requires traps { vec_len self.old.traps < vec_capacity self.old.traps }
-        requires chained { AreChained self.old.uses.items self.old.earlier.items self.old.heads self.old.loads }
+        requires chained { AreChained self.old.uses.items self.old.earlier.items self.old.heads
+            self.old.loads }
         requires burdens { AreBurdens K.kinds self.old.uses.items self.old.burdens }
         requires few { self.old.burdens.third < 2 ^ 32 }
-        ensures gives { (d : _) → AreApart self.old.uses.items → GivesTrap K.kinds (slice_index_or self.old.uses.items index d) code (seen self.old) (seen self.new) }
-        ensures chained { AreChained self.new.uses.items self.new.earlier.items self.new.heads self.new.loads }
+        ensures gives { (d : _) → AreApart self.old.uses.items
+            → GivesTrap K.kinds (slice_index_or self.old.uses.items index d) code (seen self.old)
+            (seen self.new) }
+        ensures chained { AreChained self.new.uses.items self.new.earlier.items self.new.heads
+            self.new.loads }
         ensures room { SameRoom self.old self.new }
         ensures queues { self.new.queues ≡ self.old.queues }
         ensures burdens { AreBurdens K.kinds self.new.uses.items self.new.burdens }

@@ -35,13 +35,17 @@ pub trait MachInstLabelUse: Copy + Eq {
     /// Makes the word of a use lead to its label: a patch keeps all other bits.
     fn patch(self, buffer: &mut [u8], use_offset: u32, label_offset: u32)
         requires word { length buffer.old ≡ 4 }
-        requires aligned { IsTrue (kinds.counts_words self) → label_offset % 4 ≡ use_offset % 4 }
-        requires within { IsWithin (kinds.forward self) (kinds.backward self) use_offset label_offset }
+        requires aligned { IsTrue (kinds.counts_words self)
+            → label_offset % 4 ≡ use_offset % 4 }
+        requires within { IsWithin (kinds.forward self)
+            (kinds.backward self) use_offset label_offset }
         ensures rest { outside (kinds.mask self) (from_le_bytes w32 buffer.new)
             ≡ outside (kinds.mask self) (from_le_bytes w32 buffer.old) }
-        ensures leads { GoesTo kinds self (from_le_bytes w32 buffer.old) (from_le_bytes w32 buffer.new)
+        ensures leads { GoesTo kinds self (from_le_bytes w32 buffer.old)
+            (from_le_bytes w32 buffer.new)
             use_offset label_offset }
-        ensures says { SaysDistance kinds self (from_le_bytes w32 buffer.old) (from_le_bytes w32 buffer.new)
+        ensures says { SaysDistance kinds self (from_le_bytes w32 buffer.old)
+            (from_le_bytes w32 buffer.new)
             use_offset label_offset };
 
     /// The signed distance that a word says: after a patch the distance to the label, and for a kind

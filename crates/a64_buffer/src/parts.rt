@@ -152,7 +152,9 @@ impl<'c, K: MachInstLabelUse> Parts<'c, K> {
         requires short { end_of (seen self.old) + 4 < 2 ^ 31 }
         requires fits { Fits K.kinds (seen self.old) 4 }
         ensures sound { AreSound K.kinds self.new }
-        ensures ok { OnOk result (seen self.new ≡ record (seen self.old) { words = self.old.words.items ++ word ∷ [] }) }
+        ensures ok { OnOk result (seen self.new ≡ record (seen self.old) {
+          words = self.old.words.items ++ word ∷ [];
+        }) }
         ensures err { OnErr result (seen self.new ≡ seen self.old) }
         ensures later { OnOk result (IsLater (seen self.old) (seen self.new)) }
     {
@@ -166,7 +168,9 @@ impl<'c, K: MachInstLabelUse> Parts<'c, K> {
         requires short { end_of (seen self.old) + 8 < 2 ^ 31 }
         requires fits { Fits K.kinds (seen self.old) 8 }
         ensures sound { AreSound K.kinds self.new }
-        ensures ok { OnOk result (seen self.new ≡ record (seen self.old) { words = self.old.words.items ++ value % 2 ^ 32 ∷ value / 2 ^ 32 ∷ [] }) }
+        ensures ok { OnOk result (seen self.new ≡ record (seen self.old) {
+          words = self.old.words.items ++ value % 2 ^ 32 ∷ value / 2 ^ 32 ∷ [];
+        }) }
         ensures err { OnErr result (seen self.new ≡ seen self.old) }
         ensures later { OnOk result (IsLater (seen self.old) (seen self.new)) }
     {
@@ -183,7 +187,9 @@ impl<'c, K: MachInstLabelUse> Parts<'c, K> {
         requires short { end_of (seen self.old) + length bytes.now < 2 ^ 31 }
         requires fits { Fits K.kinds (seen self.old) (length bytes.now) }
         ensures sound { AreSound K.kinds self.new }
-        ensures ok { OnOk result (seen self.new ≡ record (seen self.old) { words = self.old.words.items ++ words_of bytes.now }) }
+        ensures ok { OnOk result (seen self.new ≡ record (seen self.old) {
+          words = self.old.words.items ++ words_of bytes.now;
+        }) }
         ensures err { OnErr result (seen self.new ≡ seen self.old) }
         ensures later { OnOk result (IsLater (seen self.old) (seen self.new)) }
     {
@@ -196,7 +202,9 @@ impl<'c, K: MachInstLabelUse> Parts<'c, K> {
     pub fn add_trap(&mut self, code: TrapCode) -> Result<(), AllocError>
         requires sound { AreSound K.kinds self.old }
         ensures sound { AreSound K.kinds self.new }
-        ensures ok { OnOk result (seen self.new ≡ record (seen self.old) { traps = self.old.traps.items ++ (end_of (seen self.old), code) ∷ [] }) }
+        ensures ok { OnOk result (seen self.new ≡ record (seen self.old) {
+          traps = self.old.traps.items ++ (end_of (seen self.old), code) ∷ [];
+        }) }
         ensures err { OnErr result (seen self.new ≡ seen self.old) }
         ensures later { OnOk result (IsLater (seen self.old) (seen self.new)) }
     {
@@ -219,13 +227,24 @@ impl<'c, K: MachInstLabelUse> Parts<'c, K> {
     /// last before.
     #[inline(always)]
     fn link_new(&mut self, target: Target) -> Result<usize, AllocError>
-        ensures label { IfOk result (λ earlier. IfSome (label_of target) (λ label. earlier ≡ unwrap_or (finmap.get self.old.heads label) 0)) }
-        ensures constant { IfOk result (λ earlier. IfSome (constant_of target) (λ constant. earlier ≡ unwrap_or (finmap.get self.old.loads constant) 0)) }
-        ensures heads { OnOk result (self.new.heads ≡ (elim (label_of target) [ None ↦ self.old.heads | Some label ↦ finmap.insert self.old.heads label (length self.old.uses.items + 1) ])) }
-        ensures loads { OnOk result (self.new.loads ≡ (elim (constant_of target) [ None ↦ self.old.loads | Some constant ↦ finmap.insert self.old.loads constant (length self.old.uses.items + 1) ])) }
+        ensures label { IfOk result (λ earlier. IfSome (label_of target) (λ label. earlier
+            ≡ unwrap_or (finmap.get self.old.heads label) 0)) }
+        ensures constant { IfOk result (λ earlier. IfSome (constant_of target)
+            (λ constant. earlier ≡ unwrap_or (finmap.get self.old.loads constant) 0)) }
+        ensures heads { OnOk result (self.new.heads ≡ (elim (label_of target) [
+          | None ↦ self.old.heads
+          | Some label ↦ finmap.insert self.old.heads label (length self.old.uses.items + 1)
+        ])) }
+        ensures loads { OnOk result (self.new.loads ≡ (elim (constant_of target) [
+          | None ↦ self.old.loads
+          | Some constant ↦ finmap.insert self.old.loads constant (length self.old.uses.items + 1)
+        ])) }
         ensures err_heads { OnErr result (self.new.heads ≡ self.old.heads) }
         ensures err_loads { OnErr result (self.new.loads ≡ self.old.loads) }
-        ensures rest { self.new ≡ record self.old { heads = self.new.heads; loads = self.new.loads } }
+        ensures rest { self.new ≡ record self.old {
+          heads = self.new.heads;
+          loads = self.new.loads;
+        } }
     {
         let number = self.uses.len() + 1;
         let before = match target {
@@ -247,11 +266,13 @@ impl<'c, K: MachInstLabelUse> Parts<'c, K> {
         requires kinded { IsKinded K.kinds target kind }
         requires known { IsKnown (seen self.old).constants target }
         requires fits { Fits K.kinds (record (seen self.old) {
-          uses = self.old.uses.items ++ made_use K.kinds (seen self.old).labels offset target kind ∷ [];
+          uses = self.old.uses.items ++ made_use K.kinds (seen self.old).labels offset target kind
+              ∷ [];
         }) 0 }
         ensures sound { AreSound K.kinds self.new }
         ensures ok { OnOk result (seen self.new ≡ record (seen self.old) {
-          uses = self.old.uses.items ++ made_use K.kinds (seen self.old).labels offset target kind ∷ [];
+          uses = self.old.uses.items ++ made_use K.kinds (seen self.old).labels offset target kind
+              ∷ [];
         }) }
         ensures err { OnErr result (seen self.new ≡ seen self.old) }
         ensures later { OnOk result (IsLaterFrom offset (seen self.old) (seen self.new)) }
@@ -332,9 +353,11 @@ impl<'c, K: MachInstLabelUse> Parts<'c, K> {
     fn reaches(&self, site: &Use<K>, label: MachLabel) -> bool
         ensures { MatchBool result
             (IsSomeAnd (finmap.get (seen self.now).labels label.0) (λ place.
-            IsWithin (K.kinds.forward site.now.kind) (K.kinds.backward site.now.kind) site.now.offset place))
+            IsWithin (K.kinds.forward site.now.kind)
+            (K.kinds.backward site.now.kind) site.now.offset place))
             (IsSomeAnd (finmap.get (seen self.now).labels label.0) (λ place.
-            IsWithin (K.kinds.forward site.now.kind) (K.kinds.backward site.now.kind) site.now.offset place) → ⊥) }
+            IsWithin (K.kinds.forward site.now.kind)
+            (K.kinds.backward site.now.kind) site.now.offset place) → ⊥) }
     {
         match self.labels.get(label.0) {
             Some(place) => reached(site.kind, site.offset, place).is_some(),
@@ -383,7 +406,8 @@ impl<'c, K: MachInstLabelUse> Parts<'c, K> {
     #[inline(always)]
     pub fn island_needed(&self, distance: u32) -> bool
         requires { AreSound K.kinds self.now }
-        ensures { MatchBool result (Fits K.kinds (seen self.now) distance → ⊥) (Fits K.kinds (seen self.now) distance) }
+        ensures { MatchBool result (Fits K.kinds (seen self.now) distance
+            → ⊥) (Fits K.kinds (seen self.now) distance) }
     {
         !self.has_room(distance)
     }
@@ -393,7 +417,8 @@ impl<'c, K: MachInstLabelUse> Parts<'c, K> {
         requires sound { AreSound K.kinds self }
         requires short { end_of (seen self) + owed K.kinds (seen self) < 2 ^ 31 }
         requires bound { All (IsBound (seen self).labels) self.uses.items }
-        requires direct { All (λ u. K.kinds.veneers u.kind ≡ false → IsReached K.kinds (seen self).labels u) self.uses.items }
+        requires direct { All (λ u. K.kinds.veneers u.kind ≡ false
+            → IsReached K.kinds (seen self).labels u) self.uses.items }
         ensures { IfOk result (λ code. IsFinished K.kinds (seen self.entry) code) }
     {
         let pool = self.end();

@@ -72,7 +72,8 @@ impl Queue {
     /// Takes the memory for so many uses more.
     pub fn reserve(&mut self, more: usize) -> Result<(), AllocError>
         ensures kept { IsSameQueue self.old self.new }
-        ensures ok { OnOk result (heap_len self.new.strays + more ≤ heap_capacity self.new.strays) }
+        ensures ok { OnOk result (heap_len self.new.strays + more
+            ≤ heap_capacity self.new.strays) }
     {
         self.strays.reserve(more)
     }
@@ -93,10 +94,18 @@ impl Queue {
     #[inline(always)]
     pub fn add(&mut self, limit: u64, index: usize)
         requires room { HasRoomFor limit self.old }
-        ensures rising { self.old.most ≤ limit → (self.new.most ≡ limit) × (MatchOption self.old.next (self.new.next ≡ Some index) (λ n. self.new.next ≡ Some n)) × (entries self.new ≡ entries self.old) }
-        ensures stray { limit < self.old.most → (self.new.most ≡ self.old.most) × (self.new.next ≡ self.old.next) × IsPermutation (entry_of limit index ∷ entries self.old) (entries self.new) × (IsHeap entry_cmp (entries self.old) → IsHeap entry_cmp (entries self.new)) }
-        ensures first { limit < self.old.limit → (self.new.limit ≡ limit) × (self.new.first ≡ index) }
-        ensures kept { self.old.limit ≤ limit → (self.new.limit ≡ self.old.limit) × (self.new.first ≡ self.old.first) }
+        ensures rising { self.old.most ≤ limit
+            → (self.new.most ≡ limit) × (MatchOption self.old.next (self.new.next
+            ≡ Some index) (λ n. self.new.next ≡ Some n))
+            × (entries self.new ≡ entries self.old) }
+        ensures stray { limit < self.old.most
+            → (self.new.most ≡ self.old.most) × (self.new.next ≡ self.old.next)
+            × IsPermutation (entry_of limit index ∷ entries self.old) (entries self.new)
+            × (IsHeap entry_cmp (entries self.old) → IsHeap entry_cmp (entries self.new)) }
+        ensures first { limit < self.old.limit
+            → (self.new.limit ≡ limit) × (self.new.first ≡ index) }
+        ensures kept { self.old.limit ≤ limit
+            → (self.new.limit ≡ self.old.limit) × (self.new.first ≡ self.old.first) }
         ensures room { LosesRoom 1 self.old self.new }
     {
         if limit < self.most {
@@ -117,8 +126,10 @@ impl Queue {
     #[inline(never)]
     fn push_stray(&mut self, limit: u64, index: usize)
         requires room { heap_len self.old.strays < heap_capacity self.old.strays }
-        ensures added { IsPermutation (entry_of limit index ∷ entries self.old) (entries self.new) }
-        ensures order { IsHeap entry_cmp (entries self.old) → IsHeap entry_cmp (entries self.new) }
+        ensures added { IsPermutation (entry_of limit index
+            ∷ entries self.old) (entries self.new) }
+        ensures order { IsHeap entry_cmp (entries self.old)
+            → IsHeap entry_cmp (entries self.new) }
         ensures len { heap_len self.new.strays ≡ heap_len self.old.strays + 1 }
         ensures capacity { heap_capacity self.old.strays ≤ heap_capacity self.new.strays }
         ensures rest { self.new ≡ record self.old { strays = self.new.strays } }
@@ -133,7 +144,9 @@ impl Queue {
     #[inline(always)]
     fn first_stray(&self) -> Option<usize>
         ensures is { IsFirstStray (entries self.now) result }
-        ensures greatest { IfSome result (λ i. IsHeap entry_cmp (entries self.now) → All (λ e. e.0 ≤ (slice_index_or (entries self.now) 0 (0, 0)).0) (entries self.now)) }
+        ensures greatest { IfSome result (λ i. IsHeap entry_cmp (entries self.now)
+            → All (λ e. e.0 ≤ (slice_index_or (entries self.now) 0 (0, 0)).0)
+            (entries self.now)) }
     {
         match self.strays.peek() {
             Some(&(_, index)) => Some(index),
@@ -147,7 +160,8 @@ impl Queue {
         requires rank { rank < 5 }
         requires holds { HoldsIn K.kinds rank uses.now self.old }
         requires none { none ≡ true → NoneWaits K.kinds rank uses.now 0 (length uses.now) }
-        requires limit { limit ≢ self.old.limit → IsLimit K.kinds rank uses.now self.old.limit self.old.first }
+        requires limit { limit ≢ self.old.limit
+            → IsLimit K.kinds rank uses.now self.old.limit self.old.first }
         ensures holds { HoldsIn K.kinds rank uses.now self.new }
         ensures limit { IsLimit K.kinds rank uses.now self.new.limit self.new.first }
     {
@@ -204,7 +218,8 @@ impl Queue {
     fn least<K: MachInstLabelUse>(&self, uses: &[Use<K>], rank: u64) -> Option<usize>
         requires holds { HoldsIn K.kinds rank uses.now self.now }
         requires next { WaitsAt K.kinds rank uses.now self.now.next }
-        requires stray { (i : ℕ) → IsFirstStray (entries self.now) (Some i) → WaitsAt K.kinds rank uses.now (Some i) }
+        requires stray { (i : ℕ) → IsFirstStray (entries self.now) (Some i)
+            → WaitsAt K.kinds rank uses.now (Some i) }
         ensures { IsFirstOf K.kinds rank uses.now result }
     {
         let Some(stray) = self.first_stray() else {
@@ -240,7 +255,8 @@ impl Queue {
     fn drop_closed<K: MachInstLabelUse>(&mut self, uses: &[Use<K>], rank: u64)
         requires holds { HoldsIn K.kinds rank uses.now self.old }
         ensures holds { HoldsIn K.kinds rank uses.now self.new }
-        ensures open { (i : ℕ) → IsFirstStray (entries self.new) (Some i) → WaitsAt K.kinds rank uses.now (Some i) }
+        ensures open { (i : ℕ) → IsFirstStray (entries self.new) (Some i)
+            → WaitsAt K.kinds rank uses.now (Some i) }
         ensures next { self.new.next ≡ self.old.next }
         ensures room { LosesRoom 0 self.old self.new }
     {
@@ -256,8 +272,10 @@ impl Queue {
     #[inline(never)]
     fn drop_first(&mut self)
         requires some { 0 < length (entries self.old) }
-        ensures dropped { IsPermutation (entries self.old) (slice_index_or (entries self.old) 0 (0, 0) ∷ entries self.new) }
-        ensures order { IsHeap entry_cmp (entries self.old) → IsHeap entry_cmp (entries self.new) }
+        ensures dropped { IsPermutation (entries self.old)
+            (slice_index_or (entries self.old) 0 (0, 0) ∷ entries self.new) }
+        ensures order { IsHeap entry_cmp (entries self.old)
+            → IsHeap entry_cmp (entries self.new) }
         ensures len { heap_len self.new.strays < heap_len self.old.strays }
         ensures room { LosesRoom 0 self.old self.new }
         ensures rest { self.new ≡ record self.old { strays = self.new.strays } }

@@ -15,10 +15,14 @@ use std::alloc::{AllocError, Global};
 
 /// Queues without uses, one for each rank. They take no memory.
 pub fn no_queues(alloc: Global) -> [Queue; 5]
-    ensures none { (rank : ℕ) (q : Queue) → rank < 5 → entries (slice_index_or result rank q) ≡ [] }
-    ensures order { (rank : ℕ) (q : Queue) → rank < 5 → IsHeap entry_cmp (entries (slice_index_or result rank q)) }
-    ensures next { (rank : ℕ) (q : Queue) → rank < 5 → (slice_index_or result rank q).next ≡ None }
-    ensures limit { (rank : ℕ) (q : Queue) → rank < 5 → (slice_index_or result rank q).limit ≡ 2 ^ 64 - 1 }
+    ensures none { (rank : ℕ) (q : Queue) → rank < 5
+        → entries (slice_index_or result rank q) ≡ [] }
+    ensures order { (rank : ℕ) (q : Queue) → rank < 5
+        → IsHeap entry_cmp (entries (slice_index_or result rank q)) }
+    ensures next { (rank : ℕ) (q : Queue) → rank < 5
+        → (slice_index_or result rank q).next ≡ None }
+    ensures limit { (rank : ℕ) (q : Queue) → rank < 5
+        → (slice_index_or result rank q).limit ≡ 2 ^ 64 - 1 }
 {
     [
         Queue::new(alloc),
@@ -32,7 +36,8 @@ pub fn no_queues(alloc: Global) -> [Queue; 5]
 /// Takes the memory for a use with a limit in the queue of its class, where that wants anything.
 #[inline(always)]
 pub fn reserve_queue(queues: &mut [Queue; 5], class: Class, limit: u64) -> Result<(), AllocError>
-    ensures kept { (rank : ℕ) (q : Queue) → IsSameQueue (slice_index_or queues.old rank q) (slice_index_or queues.new rank q) }
+    ensures kept { (rank : ℕ) (q : Queue) → IsSameQueue (slice_index_or queues.old rank q)
+        (slice_index_or queues.new rank q) }
     ensures ok { OnOk result (HaveRoomForOne class limit queues.new) }
 {
     if class.wants() {
@@ -43,7 +48,8 @@ pub fn reserve_queue(queues: &mut [Queue; 5], class: Class, limit: u64) -> Resul
 
 /// Takes the memory for so many uses in the queue of the longest range, to which alone islands add.
 pub fn reserve_veneers(queues: &mut [Queue; 5], more: usize) -> Result<(), AllocError>
-    ensures kept { (rank : ℕ) (q : Queue) → IsSameQueue (slice_index_or queues.old rank q) (slice_index_or queues.new rank q) }
+    ensures kept { (rank : ℕ) (q : Queue) → IsSameQueue (slice_index_or queues.old rank q)
+        (slice_index_or queues.new rank q) }
     ensures ok { OnOk result (HaveRoomFor more queues.new) }
 {
     queues[4].reserve(more)
@@ -62,8 +68,10 @@ pub fn queue_use<K: MachInstLabelUse>(
     requires limit { limit ≡ limit_of K.kinds site.now }
     requires low { limit < 2 ^ 33 }
     requires room { HaveRoomForOne class limit queues.old }
-    ensures hold { (uses : _) → length uses ≡ index → AllHold K.kinds uses queues.old → AllHold K.kinds (uses ++ site.now ∷ []) queues.new }
-    ensures limits { (uses : _) → length uses ≡ index → AllLimits K.kinds uses queues.old → AllLimits K.kinds (uses ++ site.now ∷ []) queues.new }
+    ensures hold { (uses : _) → length uses ≡ index → AllHold K.kinds uses queues.old
+        → AllHold K.kinds (uses ++ site.now ∷ []) queues.new }
+    ensures limits { (uses : _) → length uses ≡ index → AllLimits K.kinds uses queues.old
+        → AllLimits K.kinds (uses ++ site.now ∷ []) queues.new }
     ensures room { LoseRoom 1 queues.old queues.new }
 {
     if class.wants() {
@@ -81,9 +89,13 @@ pub fn close_queued<K: MachInstLabelUse>(
     none: bool,
 )
     requires wants { IsTrue (wants class) }
-    requires none { none ≡ true → NoneWaits K.kinds (rank_of class) uses.now 0 (length uses.now) }
+    requires none { none ≡ true → NoneWaits K.kinds (rank_of class) uses.now 0
+        (length uses.now) }
     requires hold { AllHold K.kinds uses.now queues.old }
-    requires limits { (rank : ℕ) (q : Queue) → rank < 5 → (rank_of class ≢ rank) ⊎ (limit ≢ (slice_index_or queues.old rank q).limit) → IsLimit K.kinds rank uses.now (slice_index_or queues.old rank q).limit (slice_index_or queues.old rank q).first }
+    requires limits { (rank : ℕ) (q : Queue) → rank < 5
+        → (rank_of class ≢ rank) ⊎ (limit ≢ (slice_index_or queues.old rank q).limit)
+        → IsLimit K.kinds rank uses.now (slice_index_or queues.old rank q).limit
+        (slice_index_or queues.old rank q).first }
     ensures hold { AllHold K.kinds uses.now queues.new }
     ensures limits { AllLimits K.kinds uses.now queues.new }
 {
@@ -100,9 +112,12 @@ pub fn settle_queue<K: MachInstLabelUse>(
     none: bool,
 )
     requires wants { IsTrue (wants class) }
-    requires none { none ≡ true → NoneWaits K.kinds (rank_of class) uses.now 0 (length uses.now) }
+    requires none { none ≡ true → NoneWaits K.kinds (rank_of class) uses.now 0
+        (length uses.now) }
     requires hold { AllHold K.kinds uses.now queues.old }
-    requires limits { (rank : ℕ) (q : Queue) → rank < 5 → rank_of class ≢ rank → IsLimit K.kinds rank uses.now (slice_index_or queues.old rank q).limit (slice_index_or queues.old rank q).first }
+    requires limits { (rank : ℕ) (q : Queue) → rank < 5 → rank_of class ≢ rank
+        → IsLimit K.kinds rank uses.now (slice_index_or queues.old rank q).limit
+        (slice_index_or queues.old rank q).first }
     ensures hold { AllHold K.kinds uses.now queues.new }
     ensures limits { AllLimits K.kinds uses.now queues.new }
     ensures room { LoseRoom 0 queues.old queues.new }
@@ -135,7 +150,8 @@ pub fn have_room(queues: &[Queue; 5], from: u64, burdens: Burdens) -> bool
     requires second { burdens.second < 2 ^ 40 }
     requires third { burdens.third < 2 ^ 40 }
     ensures ranks { length queues.now ≡ 5 }
-    ensures reach { IsTrue result ↔ ReachLimits from burdens.first burdens.second burdens.third queues.now }
+    ensures reach { IsTrue result
+        ↔ ReachLimits from burdens.first burdens.second burdens.third queues.now }
 {
     let second = from + burdens.second;
     from + burdens.first <= queues[0].limit

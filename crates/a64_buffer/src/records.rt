@@ -54,7 +54,8 @@ impl<'c, K: MachInstLabelUse> Parts<'c, K> {
         ensures sound { AreSound K.kinds self.new }
         ensures ok { OnOk result (seen self.new ≡ record (seen self.old) {
           records = record (seen self.old).records {
-            relocs = (seen self.old).records.relocs ++ (end_of (seen self.old), kind, name, addend) ∷ [];
+            relocs = (seen self.old).records.relocs ++ (end_of (seen self.old), kind, name, addend)
+                ∷ [];
           };
         }) }
         ensures err { OnErr result (seen self.new ≡ seen self.old) }

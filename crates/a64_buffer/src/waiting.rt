@@ -26,9 +26,14 @@ impl<'c, K: MachInstLabelUse> Parts<'c, K> {
         requires waiting { AreWaiting K.kinds self.old.uses.items self.old.queues self.old.burdens }
         requires few { burden K.kinds third self.old.uses.items < 2 ^ 32 }
         ensures hold { AllHold K.kinds (self.old.uses.items ++ site.now ∷ []) self.new.queues }
-        ensures limits { AllLimits K.kinds (self.old.uses.items ++ site.now ∷ []) self.new.queues }
-        ensures burdens { AreBurdens K.kinds (self.old.uses.items ++ site.now ∷ []) self.new.burdens }
-        ensures rest { self.new ≡ record self.old { queues = self.new.queues; burdens = self.new.burdens } }
+        ensures limits { AllLimits K.kinds (self.old.uses.items ++ site.now
+            ∷ []) self.new.queues }
+        ensures burdens { AreBurdens K.kinds (self.old.uses.items ++ site.now
+            ∷ []) self.new.burdens }
+        ensures rest { self.new ≡ record self.old {
+          queues = self.new.queues;
+          burdens = self.new.burdens;
+        } }
     {
         let index = self.uses.len();
         queue_use(&mut self.queues, site, class, limit, index);
@@ -40,8 +45,11 @@ impl<'c, K: MachInstLabelUse> Parts<'c, K> {
     /// Takes the memory for the uses that an island may add, in the queue of the longest range.
     pub fn reserve_veneers(&mut self) -> Result<(), AllocError>
         requires burdens { AreBurdens K.kinds self.old.uses.items self.old.burdens }
-        ensures kept { (rank : ℕ) (q : Queue) → IsSameQueue (slice_index_or self.old.queues rank q) (slice_index_or self.new.queues rank q) }
-        ensures ok { OnOk result (HaveRoomFor (weight_of K.kinds veneer_uses self.old.uses.items + 1) self.new.queues) }
+        ensures kept { (rank : ℕ) (q : Queue)
+            → IsSameQueue (slice_index_or self.old.queues rank q)
+            (slice_index_or self.new.queues rank q) }
+        ensures ok { OnOk result (HaveRoomFor (weight_of K.kinds veneer_uses self.old.uses.items
+            + 1) self.new.queues) }
         ensures rest { self.new ≡ record self.old { queues = self.new.queues } }
     {
         let more = self.burdens.third as usize / 12 + 1;
@@ -56,7 +64,10 @@ impl<'c, K: MachInstLabelUse> Parts<'c, K> {
         requires wants { IsTrue (wants class) }
         requires burdens { AreBurdens K.kinds self.old.uses.items self.old.burdens }
         requires hold { AllHold K.kinds (take from self.old.uses.items) self.old.queues }
-        requires limits { (rank : ℕ) (q : Queue) → rank < 5 → rank_of class ≢ rank → IsLimit K.kinds rank (take from self.old.uses.items) (slice_index_or self.old.queues rank q).limit (slice_index_or self.old.queues rank q).first }
+        requires limits { (rank : ℕ) (q : Queue) → rank < 5 → rank_of class ≢ rank
+            → IsLimit K.kinds rank (take from self.old.uses.items)
+            (slice_index_or self.old.queues rank q).limit
+            (slice_index_or self.old.queues rank q).first }
         ensures hold { AllHold K.kinds (take from self.old.uses.items) self.new.queues }
         ensures limits { AllLimits K.kinds (take from self.old.uses.items) self.new.queues }
         ensures room { LoseRoom 0 self.old.queues self.new.queues }

@@ -38,7 +38,8 @@ impl Model for Words {
 fn fill(bytes: &mut Vec<u8>, end: usize)
     requires { end ≤ vec_capacity bytes.old }
     ensures end { end ≤ length bytes.new.items }
-    ensures kept { (n : ℕ) → n ≤ length bytes.old.items → take n bytes.new.items ≡ take n bytes.old.items }
+    ensures kept { (n : ℕ) → n ≤ length bytes.old.items
+        → take n bytes.new.items ≡ take n bytes.old.items }
     ensures capacity { vec_capacity bytes.old ≤ vec_capacity bytes.new }
 {
     let ahead = bytes.len().saturating_add(FILLED_AHEAD);
@@ -54,7 +55,8 @@ fn fill(bytes: &mut Vec<u8>, end: usize)
 fn reach(bytes: &mut Vec<u8>, end: usize)
     requires { end ≤ vec_capacity bytes.old }
     ensures end { end ≤ length bytes.new.items }
-    ensures kept { (n : ℕ) → n ≤ length bytes.old.items → take n bytes.new.items ≡ take n bytes.old.items }
+    ensures kept { (n : ℕ) → n ≤ length bytes.old.items
+        → take n bytes.new.items ≡ take n bytes.old.items }
     ensures capacity { vec_capacity bytes.old ≤ vec_capacity bytes.new }
 {
     if bytes.len() < end {

@@ -98,7 +98,8 @@ fn is_offset(_off: i64)
 /// That the offset of a result on the stack has 64 bits. The call does nothing else.
 #[inline(always)]
 fn has_offset(pair: &CallRetPair)
-    ensures { (off : ℤ) (ty : IrType) → pair.now.location ≡ Stack off ty → is_signed_64 off ≡ true }
+    ensures { (off : ℤ) (ty : IrType) → pair.now.location ≡ Stack off ty
+        → is_signed_64 off ≡ true }
 {
     match pair.location {
         RetLocation::Stack(off, _) => is_offset(off),

@@ -17,7 +17,8 @@ use a64_inst::{CallInfo, CallRetPair, EmitInfo, FrameLayout, Inst, ReturnCallInf
 /// How many words move the stack pointer by an amount.
 #[tactic(auto, using(crate::proofs::Adjustments::none_count, crate::proofs::Adjustments::near_count, crate::proofs::Adjustments::far_count))]
 fn adjust_count(amount: u32) -> u64
-    ensures count { (by : ℤ) → unsigned_abs by ≡ amount → result ≡ length (adjust_forms by) }
+    ensures count { (by : ℤ) → unsigned_abs by ≡ amount
+        → result ≡ length (adjust_forms by) }
     ensures few { result ≤ 5 }
 {
     if amount == 0 {
@@ -54,7 +55,8 @@ fn result_counts(frame: &FrameLayout, info: &EmitInfo, defs: &[CallRetPair]) -> 
 
 /// How many words a call has.
 fn calling_count<T>(frame: &FrameLayout, info: &EmitInfo, call: &CallInfo<T>) -> u64
-    ensures { (callee : Callee) → result ≡ length (call_cells frame.now callee call.now.defs call.now.callee_pop_size) }
+    ensures { (callee : Callee) → result ≡ length
+        (call_cells frame.now callee call.now.defs call.now.callee_pop_size) }
 {
     1 + adjust_count(call.callee_pop_size) + result_counts(frame, info, call.defs.as_slice())
 }
@@ -91,7 +93,9 @@ fn leave_count(frame: &FrameLayout, size: u32, key: Option<APIKey>, all: bool) -
 
 /// How many words a return that calls has.
 fn return_count<T>(frame: &FrameLayout, _info: &EmitInfo, call: &ReturnCallInfo<T>) -> u64
-    ensures { (callee : Callee) → result ≡ length (return_cells frame.now _info.now callee call.now.new_stack_arg_size call.now.key call.now.sign_return_address_all) }
+    ensures { (callee : Callee) → result ≡ length
+        (return_cells frame.now _info.now callee call.now.new_stack_arg_size call.now.key
+        call.now.sign_return_address_all) }
 {
     let size = call.new_stack_arg_size;
     let leave = leave_count(frame, size, call.key, call.sign_return_address_all);

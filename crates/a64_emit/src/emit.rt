@@ -79,7 +79,8 @@ pub trait MachInstEmit {
     /// no jump through a table and no place for an island.
     fn worst_case_size() -> u32
         ensures number { result ≡ 44 }
-        ensures size { (item : Self) (flags : EmitFlags) (state : State) → is_bounded item ≡ true
+        ensures size { (item : Self) (flags : EmitFlags) (state : State)
+            → is_bounded item ≡ true
             → size_of (item_cells item flags state) ≤ result }
         ensures growth { (item : Self) (flags : EmitFlags) (state : State)
             (before after : Buffer LabelUse) → is_bounded item ≡ true
@@ -89,7 +90,8 @@ pub trait MachInstEmit {
     /// its uses may want there. It bounds the instructions that [`MachInstEmit::worst_case_size`] does.
     fn worst_case_island_growth() -> u32
         ensures number { result ≡ 128 }
-        ensures charge { (item : Self) (flags : EmitFlags) (state : State) → is_bounded item ≡ true
+        ensures charge { (item : Self) (flags : EmitFlags) (state : State)
+            → is_bounded item ≡ true
             → charge_of (item_cells item flags state) ≤ result };
 }
 
@@ -106,7 +108,9 @@ fn emit_plain(sink: &mut MachBuffer<'_, LabelUse>, word: u32) -> Result<(), Allo
 pub fn put_words(sink: &mut MachBuffer<'_, LabelUse>, words: &[u32]) -> Result<(), AllocError>
     requires short { end_of sink.old + 4 * length words.now < 2 ^ 31 }
     requires fits { Fits label_kinds sink.old (4 * length words.now) }
-    ensures ok { OnOk result (sink.new ≡ record sink.old { words = sink.old.words ++ words.now }) }
+    ensures ok { OnOk result (sink.new ≡ record sink.old {
+      words = sink.old.words ++ words.now;
+    }) }
     ensures err { OnErr result (PutsInPart sink.old sink.new words.now) }
 {
     for word in words {
@@ -124,8 +128,11 @@ fn put_trapping(
 ) -> Result<(), AllocError>
     requires short { end_of sink.old + 4 < 2 ^ 31 }
     requires fits { Fits label_kinds sink.old 4 }
-    ensures ok { OnOk result (sink.new ≡ trapped trap (record sink.old { words = sink.old.words ++ word ∷ [] }) (end_of sink.old)) }
-    ensures err { OnErr result ((sink.new ≡ sink.old) ⊎ (sink.new ≡ trapped trap sink.old (end_of sink.old))) }
+    ensures ok { OnOk result (sink.new ≡ trapped trap (record sink.old {
+      words = sink.old.words ++ word ∷ [];
+    }) (end_of sink.old)) }
+    ensures err { OnErr result ((sink.new ≡ sink.old)
+        ⊎ (sink.new ≡ trapped trap sink.old (end_of sink.old))) }
 {
     if let Some(code) = trap {
         sink.add_trap(code)?;
@@ -527,8 +534,10 @@ fn emit_by_group(
     kept: Option<UserStackMap>,
 ) -> Result<(), AllocError>
     requires { IsReady sink.old frame.now info.now inst.now }
-    ensures ok { OnOk result (Puts (asked_of inst.now) (kept_cells frame.now info.now inst.now kept) sink.old sink.new) }
-    ensures err { OnErr result (IsAppendedInPart sink.old sink.new (kept_cells frame.now info.now inst.now kept)) }
+    ensures ok { OnOk result (Puts (asked_of inst.now)
+        (kept_cells frame.now info.now inst.now kept) sink.old sink.new) }
+    ensures err { OnErr result (IsAppendedInPart sink.old sink.new
+        (kept_cells frame.now info.now inst.now kept)) }
 {
     match inst.group() {
         Group::Call => emit_calling(inst, sink, info, frame, kept),

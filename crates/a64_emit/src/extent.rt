@@ -122,8 +122,10 @@ fn count_of(first: Option<u32>, second: Option<u32>) -> u64
 /// Which of these uses may want veneers.
 #[inline(always)]
 fn wanting_in(uses: Uses) -> Wanting
-    ensures count { (cells : _) → uses_of 0 cells ≡ listed_uses uses.entry → result.count ≡ length (ranges_in cells) }
-    ensures range { (cells : _) → uses_of 0 cells ≡ listed_uses uses.entry → result.range ≡ least (ranges_in cells) }
+    ensures count { (cells : _) → uses_of 0 cells ≡ listed_uses uses.entry
+        → result.count ≡ length (ranges_in cells) }
+    ensures range { (cells : _) → uses_of 0 cells ≡ listed_uses uses.entry
+        → result.range ≡ least (ranges_in cells) }
 {
     let first = range_of(uses.first);
     let second = range_of(uses.second);
@@ -180,7 +182,8 @@ fn sequence_count(inst: &Inst, _frame: &FrameLayout, info: &EmitInfo) -> u64
 /// How much an instruction of so many words may add to code, beside these.
 #[inline(always)]
 fn charge(words: u64, wanting: u64) -> u64
-    ensures { (cells : _) → words ≡ length cells → wanting ≡ length (ranges_in cells) → result ≡ saturated (charge_of cells) }
+    ensures { (cells : _) → words ≡ length cells → wanting ≡ length (ranges_in cells)
+        → result ≡ saturated (charge_of cells) }
 {
     if words == 0 {
         0
@@ -194,7 +197,8 @@ fn charge(words: u64, wanting: u64) -> u64
 /// How much an instruction of so many words may add to code, whose uses want no veneers.
 #[inline(always)]
 fn quiet_extent(words: u64) -> Extent
-    ensures { (cells : _) → words ≡ length cells → ranges_in cells ≡ [] → AreExtent cells result.size result.charge result.range }
+    ensures { (cells : _) → words ≡ length cells → ranges_in cells ≡ []
+        → AreExtent cells result.size result.charge result.range }
 {
     Extent {
         size: words.saturating_mul(WORD_BYTES),
@@ -206,7 +210,8 @@ fn quiet_extent(words: u64) -> Extent
 /// How much an instruction of so many words may add to code, which have these uses.
 #[inline(always)]
 fn using_extent(words: u64, uses: Uses) -> Extent
-    ensures { (cells : _) → words ≡ length cells → uses_of 0 cells ≡ listed_uses uses.entry → AreExtent cells result.size result.charge result.range }
+    ensures { (cells : _) → words ≡ length cells → uses_of 0 cells ≡ listed_uses uses.entry
+        → AreExtent cells result.size result.charge result.range }
 {
     let wanting = wanting_in(uses);
     Extent {
@@ -219,7 +224,9 @@ fn using_extent(words: u64, uses: Uses) -> Extent
 /// How much the words of an instruction may add to code, and their uses.
 #[inline(always)]
 fn words_burden<'a>(inst: &'a Inst, frame: &FrameLayout, info: &EmitInfo) -> Burden<'a>
-    ensures extent { AreExtent (inst_cells frame.now info.now inst.now) result.extent.size result.extent.charge result.extent.range }
+    ensures extent { AreExtent
+        (inst_cells frame.now info.now inst.now) result.extent.size result.extent.charge
+        result.extent.range }
     ensures uses { inst_uses frame.now info.now inst.now ≡ listed_uses result.uses }
 {
     match inst.group() {
@@ -258,7 +265,8 @@ fn words_burden<'a>(inst: &'a Inst, frame: &FrameLayout, info: &EmitInfo) -> Bur
 /// How much an instruction may add to code, and its uses.
 #[inline(always)]
 fn inst_burden<'a>(inst: &'a Inst, frame: &FrameLayout, info: &EmitInfo) -> Burden<'a>
-    ensures extent { (kept : _) → IsExtent frame.now info.now (Emit inst.now kept) result.extent.size result.extent.charge result.extent.range }
+    ensures extent { (kept : _) → IsExtent frame.now info.now
+        (Emit inst.now kept) result.extent.size result.extent.charge result.extent.range }
     ensures uses { inst_uses frame.now info.now inst.now ≡ listed_uses result.uses }
 {
     match asked_space(inst) {
@@ -304,7 +312,9 @@ fn without_use(growth: u64) -> Light
 /// What a jump adds: its word, and what an island may give it where it goes to a label.
 #[inline(always)]
 fn jump_light(dest: BranchTarget) -> Light
-    ensures { (form : Form) → IsLight (branch form uses.Branch26 dest ∷ []) (size_of (branch form uses.Branch26 dest ∷ []) + charge_of (branch form uses.Branch26 dest ∷ [])) result }
+    ensures { (form : Form) → IsLight (branch form uses.Branch26 dest
+        ∷ []) (size_of (branch form uses.Branch26 dest ∷ [])
+        + charge_of (branch form uses.Branch26 dest ∷ [])) result }
 {
     match dest {
         BranchTarget::Label(label) => Light {
@@ -324,7 +334,10 @@ fn jump_light(dest: BranchTarget) -> Light
 #[inline(always)]
 fn branches_light(kind: LabelUse, taken: BranchTarget, not_taken: BranchTarget) -> Option<Light>
     requires { has_veneer kind ≡ true }
-    ensures { IfSome result (λ light. (form : Form) → IsLight (branches form kind taken not_taken) (size_of (branches form kind taken not_taken) + charge_of (branches form kind taken not_taken)) light) }
+    ensures { IfSome result (λ light. (form : Form)
+        → IsLight (branches form kind taken not_taken)
+        (size_of (branches form kind taken not_taken)
+        + charge_of (branches form kind taken not_taken)) light) }
 {
     match (taken, not_taken) {
         (BranchTarget::Label(near), BranchTarget::Label(far)) => Some(Light {
@@ -347,7 +360,10 @@ fn branches_light(kind: LabelUse, taken: BranchTarget, not_taken: BranchTarget) 
 #[inline(always)]
 fn control_light(inst: &Inst, _frame: &FrameLayout, _info: &EmitInfo) -> Option<Light>
     requires { group_of inst.now ≡ Control }
-    ensures { IfSome result (λ light. (asked_of inst.now ≡ None) × IsLight (inst_cells _frame.now _info.now inst.now) (size_of (inst_cells _frame.now _info.now inst.now) + charge_of (inst_cells _frame.now _info.now inst.now)) light) }
+    ensures { IfSome result (λ light. (asked_of inst.now ≡ None)
+        × IsLight (inst_cells _frame.now _info.now inst.now)
+        (size_of (inst_cells _frame.now _info.now inst.now)
+        + charge_of (inst_cells _frame.now _info.now inst.now)) light) }
 {
     match inst {
         Inst::Nop4
@@ -402,7 +418,10 @@ fn mode_light(mem: &AMode) -> Option<Light>
 /// What a load or a store of one register adds, in a mode that an instruction holds.
 #[inline(always)]
 fn memory_light(inst: &Inst, _frame: &FrameLayout, _info: &EmitInfo) -> Option<Light>
-    ensures { IfSome result (λ light. (asked_of inst.now ≡ None) × IsLight (inst_cells _frame.now _info.now inst.now) (size_of (inst_cells _frame.now _info.now inst.now) + charge_of (inst_cells _frame.now _info.now inst.now)) light) }
+    ensures { IfSome result (λ light. (asked_of inst.now ≡ None)
+        × IsLight (inst_cells _frame.now _info.now inst.now)
+        (size_of (inst_cells _frame.now _info.now inst.now)
+        + charge_of (inst_cells _frame.now _info.now inst.now)) light) }
 {
     match inst.access_ref() {
         Some(access) => mode_light(access.mem),
@@ -416,7 +435,9 @@ fn memory_light(inst: &Inst, _frame: &FrameLayout, _info: &EmitInfo) -> Option<L
 #[inline(always)]
 pub fn inst_light(inst: &Inst, group: Group, frame: &FrameLayout, info: &EmitInfo) -> Option<Light>
     requires { group ≡ group_of inst.now }
-    ensures light { IfSome result (λ light. (map : Option UserStackMap) → IsLight (cells_of frame.now info.now (Emit inst.now map)) (growth_of frame.now info.now (Emit inst.now map)) light) }
+    ensures light { IfSome result (λ light. (map : Option UserStackMap)
+        → IsLight (cells_of frame.now info.now (Emit inst.now map))
+        (growth_of frame.now info.now (Emit inst.now map)) light) }
     ensures place { IfSome result (λ _. asked_of inst.now ≡ None) }
 {
     match group {
@@ -430,7 +451,8 @@ pub fn inst_light(inst: &Inst, group: Group, frame: &FrameLayout, info: &EmitInf
 /// What an item adds, where a look at it says that it is no place for an island and needs no label near.
 #[inline(always)]
 pub fn light_of(item: &Item, frame: &FrameLayout, info: &EmitInfo) -> Option<Light>
-    ensures light { IfSome result (IsLight (cells_of frame.now info.now item.now) (growth_of frame.now info.now item.now)) }
+    ensures light { IfSome result (IsLight (cells_of frame.now info.now item.now)
+        (growth_of frame.now info.now item.now)) }
     ensures place { IfSome result (λ _. asked item.now ≡ None) }
 {
     match item {
@@ -442,7 +464,8 @@ pub fn light_of(item: &Item, frame: &FrameLayout, info: &EmitInfo) -> Option<Lig
 /// How much an item may add to code, and its uses.
 #[inline(always)]
 pub fn burden_of<'a>(item: &'a Item, frame: &FrameLayout, info: &EmitInfo) -> Burden<'a>
-    ensures extent { IsExtent frame.now info.now item.now result.extent.size result.extent.charge result.extent.range }
+    ensures extent { IsExtent frame.now info.now item.now result.extent.size result.extent.charge
+        result.extent.range }
     ensures uses { uses_of 0 (cells_of frame.now info.now item.now) ≡ listed_uses result.uses }
 {
     match item {

@@ -11,5 +11,6 @@ use a64_inst::{EmitInfo, FrameLayout, Inst};
 #[inline(always)]
 pub fn is_one_word(_inst: &Inst, _frame: &FrameLayout, _info: &EmitInfo)
     requires { can_restore _frame.now _info.now Refused _inst.now ≡ true }
-    ensures { inst_cells _frame.now _info.now _inst.now ≡ restored_cell _frame.now _info.now _inst.now ∷ [] }
+    ensures { inst_cells _frame.now _info.now _inst.now
+        ≡ restored_cell _frame.now _info.now _inst.now ∷ [] }
 {}

@@ -55,7 +55,8 @@ pub fn only_use<'a>(first: Option<Site>) -> Uses<'a>
 /// The uses of a conditional branch with a jump behind it.
 #[inline(always)]
 fn branches_uses<'a>(kind: LabelUse, taken: BranchTarget, not_taken: BranchTarget) -> Uses<'a>
-    ensures { (form : Form) → uses_of 0 (branches form kind taken not_taken) ≡ listed_uses result }
+    ensures { (form : Form) → uses_of 0 (branches form kind taken not_taken)
+        ≡ listed_uses result }
 {
     Uses {
         first: branch_site(kind, taken),
@@ -178,7 +179,8 @@ pub fn memory_uses<'a>(inst: &'a Inst, _frame: &FrameLayout, _info: &EmitInfo) -
 /// How many words stand before the table of a jump through so many targets: the steps of their number, the
 /// choice of an index, a barrier where the settings ask for one, and the jump to the entry.
 pub fn table_start(targets: usize, info: &EmitInfo) -> usize
-    ensures start { (ridx rtmp1 rtmp2 : Reg) → result ≡ length (table_forms info.now targets ridx rtmp1 rtmp2) }
+    ensures start { (ridx rtmp1 rtmp2 : Reg)
+        → result ≡ length (table_forms info.now targets ridx rtmp1 rtmp2) }
     ensures few { result ≤ 10 }
 {
     const_plan(targets as u64).len() + 5 + usize::from(has_barrier(info))

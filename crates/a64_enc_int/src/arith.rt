@@ -55,8 +55,11 @@ pub fn enc_arith_rrr(bits_31_21: u32, bits_15_10: u32, rd: Writable<Reg>, rn: Re
     requires rd { IsGeneral rd }
     requires rn { IsGeneral rn }
     requires rm { IsGeneral rm }
-    requires form { NamedForm rows_of_rrr (rrr_number bits_31_21 bits_15_10 (register_field rd) (register_field rn) (register_field rm)) }
-    ensures { (named : NamedForm rows_of_rrr (rrr_number bits_31_21 bits_15_10 (register_field rd) (register_field rn) (register_field rm))) → result ≡ form_word named.form }
+    requires form { NamedForm rows_of_rrr (rrr_number bits_31_21 bits_15_10 (register_field rd)
+        (register_field rn) (register_field rm)) }
+    ensures { (named : NamedForm rows_of_rrr
+        (rrr_number bits_31_21 bits_15_10 (register_field rd) (register_field rn)
+        (register_field rm))) → result ≡ form_word named.form }
 {
     let (rm, rn, rd) = (
         general_field(rm),
@@ -75,11 +78,26 @@ pub fn enc_arith_rr_imm12(
     rn: Reg,
     rd: Writable<Reg>,
 ) -> u32
-    requires bits_31_24 { bits_31_24 * 2 ^ 24 ≡ form_word (add_sub_imm_of bits_31_24 (record { sh = 0; imm12 = 0; rn = 0; rd = 0 })) }
+    requires bits_31_24 { bits_31_24 * 2 ^ 24 ≡ form_word (add_sub_imm_of bits_31_24 (record {
+      sh = 0;
+      imm12 = 0;
+      rn = 0;
+      rd = 0;
+    })) }
     requires rn { IsGeneral rn }
     requires rd { IsGeneral rd }
-    requires form { IsFormOf (add_sub_imm_of bits_31_24 (record { sh = immshift; imm12 = imm12; rn = register_field rn; rd = register_field rd })) }
-    ensures { result ≡ form_word (add_sub_imm_of bits_31_24 (record { sh = immshift; imm12 = imm12; rn = register_field rn; rd = register_field rd })) }
+    requires form { IsFormOf (add_sub_imm_of bits_31_24 (record {
+      sh = immshift;
+      imm12 = imm12;
+      rn = register_field rn;
+      rd = register_field rd;
+    })) }
+    ensures { result ≡ form_word (add_sub_imm_of bits_31_24 (record {
+      sh = immshift;
+      imm12 = imm12;
+      rn = register_field rn;
+      rd = register_field rd;
+    })) }
 {
     let (sf, op, s) = (
         bits_31_24 >> 7,
@@ -93,11 +111,23 @@ pub fn enc_arith_rr_imm12(
 /// Encodes a logical operation with a bitmask immediate: `bits_31_23` is the word's bits 31 to 23, and `imm_bits` the
 /// fields N, immr and imms in one (row `LogicImm`).
 pub fn enc_arith_rr_imml(bits_31_23: u32, imm_bits: u32, rn: Reg, rd: Writable<Reg>) -> u32
-    requires bits_31_23 { bits_31_23 * 2 ^ 23 ≡ form_word (logic_imm_of bits_31_23 (record { imm_bits = 0; rn = 0; rd = 0 })) }
+    requires bits_31_23 { bits_31_23 * 2 ^ 23 ≡ form_word (logic_imm_of bits_31_23 (record {
+      imm_bits = 0;
+      rn = 0;
+      rd = 0;
+    })) }
     requires rn { IsGeneral rn }
     requires rd { IsGeneral rd }
-    requires form { IsFormOf (logic_imm_of bits_31_23 (record { imm_bits = imm_bits; rn = register_field rn; rd = register_field rd })) }
-    ensures { result ≡ form_word (logic_imm_of bits_31_23 (record { imm_bits = imm_bits; rn = register_field rn; rd = register_field rd })) }
+    requires form { IsFormOf (logic_imm_of bits_31_23 (record {
+      imm_bits = imm_bits;
+      rn = register_field rn;
+      rd = register_field rd;
+    })) }
+    ensures { result ≡ form_word (logic_imm_of bits_31_23 (record {
+      imm_bits = imm_bits;
+      rn = register_field rn;
+      rd = register_field rd;
+    })) }
 {
     let (sf, opc) = (bits_31_23 >> 8, (bits_31_23 >> 6) % 4);
     let (n, immr, imms) = (imm_bits >> 12, (imm_bits >> 6) % 64, imm_bits % 64);
@@ -128,8 +158,11 @@ pub fn enc_arith_rrrr(top11: u32, rm: Reg, bit15: u32, ra: Reg, rn: Reg, rd: Wri
     requires ra { IsGeneral ra }
     requires rn { IsGeneral rn }
     requires rd { IsGeneral rd }
-    requires form { NamedForm rows_of_rrrr (rrrr_number top11 bit15 (register_field rd) (register_field rn) (register_field ra) (register_field rm)) }
-    ensures { (named : NamedForm rows_of_rrrr (rrrr_number top11 bit15 (register_field rd) (register_field rn) (register_field ra) (register_field rm))) → result ≡ form_word named.form }
+    requires form { NamedForm rows_of_rrrr (rrrr_number top11 bit15 (register_field rd)
+        (register_field rn) (register_field ra) (register_field rm)) }
+    ensures { (named : NamedForm rows_of_rrrr
+        (rrrr_number top11 bit15 (register_field rd) (register_field rn) (register_field ra)
+        (register_field rm))) → result ≡ form_word named.form }
 {
     let (rm, ra) = (general_field(rm), general_field(ra));
     let (rn, rd) = (general_field(rn), general_field(rd.to_reg()));
@@ -142,8 +175,18 @@ pub fn enc_bit_rr(size: u32, opcode2: u32, opcode1: u32, rn: Reg, rd: Writable<R
     requires opcode2 { opcode2 ≡ 0 }
     requires rn { IsGeneral rn }
     requires rd { IsGeneral rd }
-    requires form { IsFormOf (data_proc1 (record { sf = size; op6 = opcode1; rn = register_field rn; rd = register_field rd })) }
-    ensures { result ≡ form_word (data_proc1 (record { sf = size; op6 = opcode1; rn = register_field rn; rd = register_field rd })) }
+    requires form { IsFormOf (data_proc1 (record {
+      sf = size;
+      op6 = opcode1;
+      rn = register_field rn;
+      rd = register_field rd;
+    })) }
+    ensures { result ≡ form_word (data_proc1 (record {
+      sf = size;
+      op6 = opcode1;
+      rn = register_field rn;
+      rd = register_field rd;
+    })) }
 {
     prove!(opcode2 == 0);
     pack(

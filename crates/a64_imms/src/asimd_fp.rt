@@ -43,7 +43,8 @@ fn pattern_of(size: ScalarSize, imm: u8) -> u64
 fn bits_in(size: ScalarSize, pattern: u64) -> u8
     requires size { IsFloatSize size }
     requires pattern { pattern_at size pattern ≡ pattern }
-    ensures { (bits : ℕ) → bits < 256 → float_pattern size bits ≡ pattern → result ≡ bits }
+    ensures { (bits : ℕ) → bits < 256 → float_pattern size bits ≡ pattern
+        → result ≡ bits }
 {
     match size {
         ScalarSize::Size16 => (((pattern >> 15) << 7) + (pattern >> 6) % 128) as u8,
@@ -55,7 +56,8 @@ fn bits_in(size: ScalarSize, pattern: u64) -> u8
 impl ASIMDFPModImm {
     /// The immediate of a float of this size with these bits; higher bits do not count.
     pub fn maybe_from_u64(value: u64, size: ScalarSize) -> Option<ASIMDFPModImm>
-        ensures { MatchOption result (¬ IsFloatValue size (pattern_at size value)) (IsFloatImm size value) }
+        ensures { MatchOption result (¬ IsFloatValue size (pattern_at size value))
+            (IsFloatImm size value) }
     {
         let pattern = match size {
             ScalarSize::Size16 => value % (1 << 16),
@@ -86,7 +88,8 @@ impl ASIMDFPModImm {
     /// Want of memory.
     pub fn push_text(&self, out: &mut String) -> Result<(), AllocError>
         requires { IsFloatSize self.now.size }
-        ensures { OnOk result (string_bytes out.new ≡ string_bytes out.old ++ float_text self.now) }
+        ensures { OnOk result (string_bytes out.new
+            ≡ string_bytes out.old ++ float_text self.now) }
     {
         let digits = match self.size {
             ScalarSize::Size16 => 4,

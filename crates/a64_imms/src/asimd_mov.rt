@@ -138,7 +138,8 @@ impl ASIMDMovModImm {
     /// digits in which MM are the bits, 00MMffff, 0000MMff, 000000MM, 0000MM00, 00MM0000 and
     /// MM000000; for 16 bits 00MM and MM00; for 64 bits each byte is 00 or ff.
     pub fn maybe_from_u64(value: u64, size: ScalarSize) -> Option<ASIMDMovModImm>
-        ensures first { MatchOption result (¬ IsMovValue size (looked_at size value)) (IsMovImm size value) }
+        ensures first { MatchOption result (¬ IsMovValue size (looked_at size value))
+            (IsMovImm size value) }
         ensures lawful { IfSome result (λ imm. IsMovLawful size imm) }
         ensures fields { IfSome result HasMovFields }
         ensures value { IfSome result (λ imm. mov_value imm ≡ looked_at size value) }
@@ -154,7 +155,12 @@ impl ASIMDMovModImm {
 
     /// The immediate 0 in lanes of this size.
     pub fn zero(size: ScalarSize) -> ASIMDMovModImm
-        ensures value { result ≡ record { imm = 0; shift = 0; is_64bit = is_64 size; shift_ones = false } }
+        ensures value { result ≡ record {
+          imm = 0;
+          shift = 0;
+          is_64bit = is_64 size;
+          shift_ones = false;
+        } }
         ensures lawful { size ≢ Size128 → IsMovLawful size result }
     {
         ASIMDMovModImm {

@@ -40,7 +40,8 @@ impl NZCV {
     ///
     /// Want of memory.
     pub fn push_text(&self, out: &mut String) -> Result<(), AllocError>
-        ensures { OnOk result (string_bytes out.new ≡ string_bytes out.old ++ nzcv_text (flags_of self.now)) }
+        ensures { OnOk result (string_bytes out.new
+            ≡ string_bytes out.old ++ nzcv_text (flags_of self.now)) }
     {
         out.push_str("#")?;
         out.push_str(if self.n { "N" } else { "n" })?;

@@ -21,8 +21,10 @@ pub struct MoveWideConst {
 /// The bits of a value of which only this halfword is not zero.
 fn halfword(value: u64, shift: u8) -> Option<MoveWideConst>
     requires { shift ≤ 3 }
-    ensures { MatchOption result ((bits : ℕ) → bits < 2 ^ 16 → bits * 2 ^ (16 * shift) ≡ value → ⊥)
-        (λ imm. (imm.shift ≡ shift) × (imm.bits < 2 ^ 16) × (imm.bits * 2 ^ (16 * shift) ≡ value)) }
+    ensures { MatchOption result ((bits : ℕ) → bits < 2 ^ 16
+        → bits * 2 ^ (16 * shift) ≡ value → ⊥)
+        (λ imm. (imm.shift ≡ shift) × (imm.bits < 2 ^ 16)
+        × (imm.bits * 2 ^ (16 * shift) ≡ value)) }
 {
     let bits = value >> (16 * shift);
     if bits < 1 << 16 && bits << (16 * shift) == value {
@@ -80,7 +82,8 @@ impl MoveWideConst {
     ///
     /// Want of memory.
     pub fn push_text(&self, out: &mut String) -> Result<(), AllocError>
-        ensures { OnOk result (string_bytes out.new ≡ string_bytes out.old ++ wide_text self.now) }
+        ensures { OnOk result (string_bytes out.new
+            ≡ string_bytes out.old ++ wide_text self.now) }
     {
         push_numbered(out, "#", self.bits)?;
         if self.shift == 0 {

@@ -20,7 +20,8 @@ pub struct SImm9 {
 impl SImm9 {
     /// The offset of a value from -256 to 255.
     pub fn maybe_from_i64(value: i64) -> Option<SImm9>
-        ensures { MatchOption result (¬ IsOffset9 value) (λ imm. IsOffset9 value × (imm.value ≡ value)) }
+        ensures { MatchOption result (¬ IsOffset9 value) (λ imm. IsOffset9 value
+            × (imm.value ≡ value)) }
     {
         if value >= -256 && value <= 255 {
             Some(SImm9 {
@@ -95,7 +96,8 @@ impl SImm7Scaled {
     pub fn maybe_from_i64(value: i64, scale_ty: IrType) -> Option<SImm7Scaled>
         requires { IsPairScale scale_ty }
         ensures { MatchOption result (¬ IsPairOffset scale_ty value)
-            (λ imm. IsPairOffset scale_ty value × (imm.value ≡ value) × (imm.scale_ty ≡ scale_ty)) }
+            (λ imm. IsPairOffset scale_ty value × (imm.value ≡ value)
+            × (imm.scale_ty ≡ scale_ty)) }
     {
         let bytes = scale_ty.bytes();
         let scale = i64::from(bytes);
@@ -115,7 +117,8 @@ impl SImm7Scaled {
     /// The field's seven bits: the offset in units of the scale, modulo 128.
     pub fn bits(&self) -> u32
         requires { IsPairOffset self.now.scale_ty self.now.value }
-        ensures value { result ≡ residue 128 (floor_div self.now.value (type_bytes self.now.scale_ty)) }
+        ensures value { result ≡ residue 128
+            (floor_div self.now.value (type_bytes self.now.scale_ty)) }
         ensures below { result < 128 }
         ensures back { self.now.value ≡ signed 7 result *ℤ pos (type_bytes self.now.scale_ty) }
     {

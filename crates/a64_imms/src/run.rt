@@ -24,7 +24,8 @@ pub enum Period {
 impl Period {
     /// The period of so many bits.
     pub fn from_bits(bits: u32) -> Option<Period>
-        ensures { MatchOption result ((period : Period) → width period ≢ bits) (λ period. width period ≡ bits) }
+        ensures { MatchOption result ((period : Period)
+            → width period ≢ bits) (λ period. width period ≡ bits) }
     {
         match bits {
             2 => Some(Period::Two),
@@ -112,7 +113,8 @@ fn lowest_stretch(value: u64) -> Stretch
     requires even { value % 2 ≡ 0 }
     ensures start { result.start ≡ trailing_zeros w64 value }
     ensures length { result.length ≡ trailing_ones w64 (value / 2 ^ result.start) }
-    ensures spacing { result.spacing ≡ (if value / 2 ^ result.start / 2 ^ result.length == 0 then 64
+    ensures spacing { result.spacing
+        ≡ (if value / 2 ^ result.start / 2 ^ result.length == 0 then 64
         else result.length + trailing_zeros w64 (value / 2 ^ result.start / 2 ^ result.length)) }
     ensures ones { 0 < result.length }
     ensures within { result.length < result.spacing }
@@ -139,7 +141,8 @@ fn run_at(stretch: Stretch, period: Period, odd: bool) -> Run
     requires length { stretch.length ≤ stretch.spacing }
     requires start { stretch.start ≤ 64 }
     ensures period { result.period ≡ period }
-    ensures ones { result.ones ≡ (if odd then stretch.spacing - stretch.length else stretch.length) }
+    ensures ones { result.ones
+        ≡ (if odd then stretch.spacing - stretch.length else stretch.length) }
     ensures turn { result.turn ≡ turn_to stretch.spacing
         (if odd then stretch.start + stretch.length else stretch.start) }
 {

@@ -49,7 +49,8 @@ fn hex_digit(digit: u8) -> u8
 
 /// Appends the lowest hexadecimal digits of a number, so many of them.
 fn push_hex(text: &mut String, number: u64, digits: u32) -> Result<(), AllocError>
-    ensures { OnOk result (string_bytes text.new ≡ string_bytes text.old ++ hex_text digits number) }
+    ensures { OnOk result (string_bytes text.new
+        ≡ string_bytes text.old ++ hex_text digits number) }
 {
     if digits == 0 {
         return Ok(());
@@ -65,7 +66,8 @@ fn push_hex(text: &mut String, number: u64, digits: u32) -> Result<(), AllocErro
 ///
 /// Want of memory.
 pub fn push_pattern(text: &mut String, number: u64, digits: u32) -> Result<(), AllocError>
-    ensures { OnOk result (string_bytes text.new ≡ string_bytes text.old ++ pattern_text digits number) }
+    ensures { OnOk result (string_bytes text.new
+        ≡ string_bytes text.old ++ pattern_text digits number) }
 {
     text.push_str("#0x")?;
     push_hex(text, number, digits)

@@ -20,7 +20,8 @@ impl UImm5 {
 
     /// The immediate of a value below 32.
     pub fn maybe_from_u8(value: u8) -> Option<UImm5>
-        ensures { MatchOption result (32 ≤ value) (λ imm. (value < 32) × (uimm5_value imm ≡ value)) }
+        ensures { MatchOption result (32 ≤ value) (λ imm. (value < 32)
+            × (uimm5_value imm ≡ value)) }
     {
         if value < 32 {
             Some(UImm5 { value })
@@ -79,7 +80,8 @@ pub struct UImm6 {
 impl UImm6 {
     /// The immediate of a value below 64.
     pub fn maybe_from_u8(value: u8) -> Option<UImm6>
-        ensures { MatchOption result (64 ≤ value) (λ made. (value < 64) × (made.imm ≡ value)) }
+        ensures { MatchOption result (64 ≤ value) (λ made. (value < 64)
+            × (made.imm ≡ value)) }
     {
         if value < 64 {
             Some(UImm6 { imm: value })
@@ -136,7 +138,8 @@ pub struct ImmShift {
 impl ImmShift {
     /// The shift by an amount below 64.
     pub fn maybe_from_u64(amount: u64) -> Option<ImmShift>
-        ensures { MatchOption result (64 ≤ amount) (λ made. (amount < 64) × (made.imm ≡ amount)) }
+        ensures { MatchOption result (64 ≤ amount) (λ made. (amount < 64)
+            × (made.imm ≡ amount)) }
     {
         if amount < 64 {
             Some(ImmShift { imm: amount as u8 })

@@ -129,7 +129,8 @@ impl Inst {
         info: &EmitInfo,
         constant: Option<u32>,
     ) -> Result<(), OwnFault>
-        ensures ok { OnOk result (fault_with frame.now info.now constant Refused self.now ≡ None) }
+        ensures ok { OnOk result (fault_with frame.now info.now constant Refused self.now
+            ≡ None) }
         ensures err { IfErr result (λ fault.
             fault_with frame.now info.now constant Refused self.now ≡ Some fault) }
     {

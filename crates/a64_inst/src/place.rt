@@ -42,7 +42,10 @@ pub fn frame_bytes(frame: &FrameLayout) -> u64
 #[inline(always)]
 pub fn place_of(frame: &FrameLayout, mem: &AMode) -> Option<Place>
     ensures { MatchOption result (sets.base_offset_of frame.now mem.now ≡ None)
-        (λ place. sets.base_offset_of frame.now mem.now ≡ Some (record { base = place.base; offset = place.offset })) }
+        (λ place. sets.base_offset_of frame.now mem.now ≡ Some (record {
+          base = place.base;
+          offset = place.offset;
+        })) }
 {
     let outgoing = frame.outgoing_args_size;
     let (base, offset) = match *mem {

@@ -42,7 +42,8 @@ pub fn place_of<'m, V>(
 /// Lengthens a table that has room, by numbers without a value.
 fn pad<V: Copy>(table: &mut Vec<Option<V>>, end: usize)
     requires room { end ≤ vec_capacity table.old }
-    ensures values { (n : ℕ) → slice_index_or table.new.items n None ≡ slice_index_or table.old.items n None }
+    ensures values { (n : ℕ) → slice_index_or table.new.items n None
+        ≡ slice_index_or table.old.items n None }
     ensures length { length table.new.items ≡ max (length table.old.items) end }
 {
     if end <= table.len() {
@@ -84,7 +85,8 @@ pub fn put<V: Copy>(
     requires { AreShared table.old others.old }
     ensures shared { AreShared table.new others.new }
     ensures old { IfOk result (λ old. old ≡ map.get (whole table.old others.old) number) }
-    ensures ok { OnOk result (whole table.new others.new ≡ map.insert (whole table.old others.old) number value) }
+    ensures ok { OnOk result (whole table.new others.new
+        ≡ map.insert (whole table.old others.old) number value) }
     ensures err { OnErr result (whole table.new others.new ≡ whole table.old others.old) }
     ensures absent { OnErr result (map.get (whole table.old others.old) number ≡ None) }
 {

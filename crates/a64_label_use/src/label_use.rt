@@ -37,7 +37,8 @@ const FAR_BYTES: [u8; 16] = [
 /// Writes the instructions of a far veneer in front of its last word, which stays.
 fn write_far(buffer: &mut [u8])
     requires { length buffer.old ≡ 20 }
-    ensures words { StandAt buffer.new 0 (0x98000090 ∷ 0x10000071 ∷ 0x8b110210 ∷ 0xd61f0200 ∷ []) }
+    ensures words { StandAt buffer.new 0 (0x98000090 ∷ 0x10000071 ∷ 0x8b110210 ∷ 0xd61f0200
+        ∷ []) }
     ensures last { word_at buffer.new 16 ≡ word_at buffer.old 16 }
 {
     buffer[..16].copy_from_slice(&FAR_BYTES);
@@ -47,7 +48,8 @@ fn write_far(buffer: &mut [u8])
 fn scaled(count: u32, half: u32) -> i64
     requires count { count < 2 * half }
     requires half { half < 2 ^ 26 }
-    ensures { result ≡ (if nat_lt count half then pos count else negsuc (2 * half - suc count)) *ℤ pos 4 }
+    ensures { result ≡ (if nat_lt count half then pos count else negsuc
+        (2 * half - suc count)) *ℤ pos 4 }
 {
     if count < half {
         i64::from(count) * 4
@@ -127,13 +129,17 @@ impl MachInstLabelUse for LabelUse {
 
     fn patch(self, buffer: &mut [u8], use_offset: u32, label_offset: u32)
         requires word { length buffer.old ≡ 4 }
-        requires aligned { IsTrue (label_kinds.counts_words self) → label_offset % 4 ≡ use_offset % 4 }
-        requires within { IsWithin (label_kinds.forward self) (label_kinds.backward self) use_offset label_offset }
+        requires aligned { IsTrue (label_kinds.counts_words self)
+            → label_offset % 4 ≡ use_offset % 4 }
+        requires within { IsWithin (label_kinds.forward self)
+            (label_kinds.backward self) use_offset label_offset }
         ensures rest { outside (label_kinds.mask self) (from_le_bytes w32 buffer.new)
             ≡ outside (label_kinds.mask self) (from_le_bytes w32 buffer.old) }
-        ensures leads { GoesTo label_kinds self (from_le_bytes w32 buffer.old) (from_le_bytes w32 buffer.new)
+        ensures leads { GoesTo label_kinds self (from_le_bytes w32 buffer.old)
+            (from_le_bytes w32 buffer.new)
             use_offset label_offset }
-        ensures says { SaysDistance label_kinds self (from_le_bytes w32 buffer.old) (from_le_bytes w32 buffer.new)
+        ensures says { SaysDistance label_kinds self (from_le_bytes w32 buffer.old)
+            (from_le_bytes w32 buffer.new)
             use_offset label_offset }
         ensures far { self ≡ PCRel32 → from_le_bytes w32 buffer.old ≡ 0
             → LeadFar use_offset (from_le_bytes w32 buffer.new) label_offset }

@@ -47,7 +47,8 @@ fn take<L: Lines>(lines: &mut L, text: &[u8], line: &[u8]) -> Result<bool, Alloc
 /// The number of the first line that is no entry which may stand there, or want of memory. Then what was
 /// taken is not told.
 pub fn read_lines<L: Lines>(lines: &mut L, bytes: &[u8]) -> Result<(), LinesError>
-    ensures { Answers L.says bytes.now (L.told lines.old) (told_by (λ _. L.told lines.new) result) }
+    ensures { Answers L.says bytes.now (L.told lines.old)
+        (told_by (λ _. L.told lines.new) result) }
 {
     let mut number: u64 = 0;
     let mut rest = Some(bytes);

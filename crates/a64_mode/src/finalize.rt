@@ -53,10 +53,12 @@ pub fn mem_finalize(
         (λ place. FitsSigned w64 place.offset) }
     ensures succeeds { IsOk result }
     ensures others { base_offset_of state.now.frame mem.now ≡ None
-        → IfOk result (λ final. (final.0.items ≡ []) × (final.1 ≡ held_mode for_code mem.now)) }
+        → IfOk result (λ final. (final.0.items ≡ [])
+        × (final.1 ≡ held_mode for_code mem.now)) }
     ensures insts { IfSome (base_offset_of state.now.frame mem.now)
         (λ place. IfOk result (λ final.
-        final.0.items ≡ map (step_into (integer_register 16)) (steps_to access_ty place.offset))) }
+        final.0.items ≡ map (step_into (integer_register 16))
+        (steps_to access_ty place.offset))) }
     ensures mode { IfSome (base_offset_of state.now.frame mem.now)
         (λ place. IfOk result (λ final. StandsFor access_ty place final.1)) }
     // Once the steps of these instructions have run, the final mode's address is base plus offset.

@@ -105,7 +105,8 @@ pub fn are_loop_operands(
     oldval: &Reg,
     failed: &Reg,
 ) -> bool
-    ensures { result ≡ sets.are_loop_operands virtuals ty addr.now operand.now oldval.now failed.now }
+    ensures { result
+        ≡ sets.are_loop_operands virtuals ty addr.now operand.now oldval.now failed.now }
 {
     is_atomic_type(ty)
         && (is_fixed_register(virtuals, 25, addr) && is_fixed_register(virtuals, 26, operand))

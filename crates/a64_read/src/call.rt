@@ -71,7 +71,11 @@ pub trait Call: Named {
 /// What the name and the fields in parentheses are.
 pub fn read_made<N: Call>(token: &[u8]) -> Option<N::Made>
     ensures { Reads (λ made. AllByRecursion IsPart (N.fields_of made) × N.own made)
-        (λ made. call_text (N.text (N.name_of made), join_with_byte 44 (part_texts (N.fields_of made))))
+        (λ made. call_text (
+          N.text (N.name_of made),
+          join_with_byte 44
+              (part_texts (N.fields_of made)),
+        ))
         token.now result }
 {
     let (name, inside) = read_call(token)?;

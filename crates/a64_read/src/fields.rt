@@ -60,8 +60,10 @@ pub fn read_fields<'t, L: FieldRow, const N: usize>(
     values: &mut ArrayVec<Value<'t>, N>,
 ) -> Option<Option<&'t [u8]>>
     requires { length kinds.now ≤ N }
-    ensures read { Reads (AreFields L.fits kinds.now) texts (of_text L.tokens text.entry) (option_map (λ _. values.new.items) result) }
-    ensures lines { IfSome result (λ left. of_text lines_of left ≡ behind_text L.behind text.entry lines.entry) }
+    ensures read { Reads (AreFields L.fits kinds.now) texts (of_text L.tokens text.entry)
+        (option_map (λ _. values.new.items) result) }
+    ensures lines { IfSome result (λ left. of_text lines_of left
+        ≡ behind_text L.behind text.entry lines.entry) }
 {
     let mut more = text;
     let mut left = lines;
@@ -84,7 +86,8 @@ pub fn read_fields<'t, L: FieldRow, const N: usize>(
 /// Puts the value, where there is one, into `slot`, and answers whether there is one.
 #[inline(always)]
 pub fn put_read<'t>(slot: &mut Value<'t>, value: Option<Value<'t>>) -> bool
-    ensures { MatchOption value.entry ((result ≡ false) × (slot.new ≡ slot.old)) (λ v. (result ≡ true) × (slot.new ≡ v)) }
+    ensures { MatchOption value.entry ((result ≡ false)
+        × (slot.new ≡ slot.old)) (λ v. (result ≡ true) × (slot.new ≡ v)) }
 {
     match value {
         Some(value) => {

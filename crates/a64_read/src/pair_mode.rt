@@ -56,7 +56,8 @@ impl WrittenPairMode {
     /// The offset that the constructor gives for it at the scale.
     fn scaled(&self, scale: IrType) -> Option<SImm7Scaled>
         requires { IsPairScale scale }
-        ensures { Reads (pairs.IsOffsetAt scale) (λ imm. imm.value) (pairs.written_offset self.now) result }
+        ensures { Reads (pairs.IsOffsetAt scale) (λ imm. imm.value)
+            (pairs.written_offset self.now) result }
     {
         offset_at(self.offset(), scale)
     }

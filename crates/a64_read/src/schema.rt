@@ -20,9 +20,12 @@ pub fn read_schema<'t, N: Named, L: FieldRow, const M: usize>(
     values: &mut ArrayVec<Value<'t>, M>,
 ) -> Option<(N, Option<&'t [u8]>)>
     requires few { (name : N) → length (N.kinds_of name) ≤ M }
-    ensures read { Reads {X = N × List Value} (λ p. AreFields L.fits (N.kinds_of p.0) p.1) (λ p. N.text p.0 ∷ texts p.1)
-        (name.now ∷ of_text L.tokens text.entry) (option_map (λ r. (r.0, values.new.items)) result) }
-    ensures lines { IfSome result (λ r. of_text lines_of r.1 ≡ behind_text L.behind text.entry lines.entry) }
+    ensures read { Reads {X = N × List Value} (λ p. AreFields L.fits (N.kinds_of p.0) p.1)
+        (λ p. N.text p.0 ∷ texts p.1)
+        (name.now ∷ of_text L.tokens text.entry)
+        (option_map (λ r. (r.0, values.new.items)) result) }
+    ensures lines { IfSome result (λ r. of_text lines_of r.1
+        ≡ behind_text L.behind text.entry lines.entry) }
 {
     let (kinds, name) = read_heading::<N>(name)?;
     let left = read_fields::<L, M>(kinds, text, lines, values)?;

@@ -37,7 +37,8 @@ pub fn is_blank(text: &[u8]) -> bool
 pub fn cut(text: &[u8], separator: u8) -> (&[u8], Option<&[u8]>)
     ensures { MatchOption result.1
         (slice_split (λ b. b == separator) text.now ≡ result.0.now ∷ [])
-        (λ rest. (slice_split (λ b. b == separator) text.now ≡ result.0.now ∷ slice_split (λ b. b == separator) rest.now)
+        (λ rest. (slice_split (λ b. b == separator) text.now
+        ≡ result.0.now ∷ slice_split (λ b. b == separator) rest.now)
         × (length rest.now < length text.now)) }
 {
     for (i, byte) in text.iter().enumerate() {

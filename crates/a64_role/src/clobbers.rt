@@ -35,7 +35,8 @@ impl ClobberTable {
 #[tactic(auto, using(crate::proofs::Sets::more_by, crate::proofs::Sets::held_more))]
 fn has_more_of(set: &PRegSet, other: &PRegSet, class: RegClass) -> bool
     ensures { MatchBool result (HasMore set.now other.now)
-        ((n : ℕ) → n < 32 → has_number set.now class n ≡ true → has_number other.now class n ≡ true) }
+        ((n : ℕ) → n < 32 → has_number set.now class n ≡ true
+        → has_number other.now class n ≡ true) }
 {
     for number in 0..32 {
         let register = PReg::new(number, class);
@@ -50,7 +51,8 @@ fn has_more_of(set: &PRegSet, other: &PRegSet, class: RegClass) -> bool
 #[tactic(auto, using(crate::proofs::Sets::more_by))]
 fn has_more_stack(set: &PRegSet, other: &PRegSet) -> bool
     ensures { MatchBool result (HasMore set.now other.now)
-        (has_number set.now RegClass.Int 63 ≡ true → has_number other.now RegClass.Int 63 ≡ true) }
+        (has_number set.now RegClass.Int 63 ≡ true
+        → has_number other.now RegClass.Int 63 ≡ true) }
 {
     let register = PReg::new(63, RegClass::Int);
     set.contains(register) && !other.contains(register)

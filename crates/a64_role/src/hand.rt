@@ -105,7 +105,8 @@ pub fn hand_each<V: OperandVisitor, P: HasRole>(
     pairs: &[P],
 ) -> Result<(), AllocError>
     ensures ok { OnOk result (V.told visitor.new ≡ V.told visitor.old ++ map P.role pairs.now) }
-    ensures err { OnErr result (HasPart (V.told visitor.old) (V.told visitor.new) (map P.role pairs.now)) }
+    ensures err { OnErr result (HasPart (V.told visitor.old) (V.told visitor.new)
+        (map P.role pairs.now)) }
     ensures rises { V.refusals visitor.old ≤ V.refusals visitor.new }
     ensures cause { OnErr result (HasRefused (V.refusals visitor.old) (V.refusals visitor.new)) }
 {
@@ -126,8 +127,10 @@ fn hand_two<V: OperandVisitor>(
     first: &[Role],
     last: &[Role],
 ) -> Result<(), AllocError>
-    ensures ok { OnOk result (V.told visitor.new ≡ V.told visitor.old ++ (first.now ++ last.now)) }
-    ensures err { OnErr result (HasPart (V.told visitor.old) (V.told visitor.new) (first.now ++ last.now)) }
+    ensures ok { OnOk result (V.told visitor.new
+        ≡ V.told visitor.old ++ (first.now ++ last.now)) }
+    ensures err { OnErr result (HasPart (V.told visitor.old) (V.told visitor.new) (first.now
+        ++ last.now)) }
     ensures rises { V.refusals visitor.old ≤ V.refusals visitor.new }
     ensures cause { OnErr result (HasRefused (V.refusals visitor.old) (V.refusals visitor.new)) }
 {
@@ -145,8 +148,10 @@ pub fn hand_mode<V: OperandVisitor>(
     first: &[Role],
     mode: &AMode,
 ) -> Result<(), AllocError>
-    ensures ok { OnOk result (V.told visitor.new ≡ V.told visitor.old ++ (first.now ++ mode_roles mode.now)) }
-    ensures err { OnErr result (HasPart (V.told visitor.old) (V.told visitor.new) (first.now ++ mode_roles mode.now)) }
+    ensures ok { OnOk result (V.told visitor.new
+        ≡ V.told visitor.old ++ (first.now ++ mode_roles mode.now)) }
+    ensures err { OnErr result (HasPart (V.told visitor.old) (V.told visitor.new) (first.now
+        ++ mode_roles mode.now)) }
     ensures rises { V.refusals visitor.old ≤ V.refusals visitor.new }
     ensures cause { OnErr result (HasRefused (V.refusals visitor.old) (V.refusals visitor.new)) }
 {
@@ -181,8 +186,10 @@ pub fn hand_pair_mode<V: OperandVisitor>(
     first: &[Role],
     mode: &PairAMode,
 ) -> Result<(), AllocError>
-    ensures ok { OnOk result (V.told visitor.new ≡ V.told visitor.old ++ (first.now ++ pair_mode_roles mode.now)) }
-    ensures err { OnErr result (HasPart (V.told visitor.old) (V.told visitor.new) (first.now ++ pair_mode_roles mode.now)) }
+    ensures ok { OnOk result (V.told visitor.new
+        ≡ V.told visitor.old ++ (first.now ++ pair_mode_roles mode.now)) }
+    ensures err { OnErr result (HasPart (V.told visitor.old) (V.told visitor.new) (first.now
+        ++ pair_mode_roles mode.now)) }
     ensures rises { V.refusals visitor.old ≤ V.refusals visitor.new }
     ensures cause { OnErr result (HasRefused (V.refusals visitor.old) (V.refusals visitor.new)) }
 {
@@ -208,8 +215,10 @@ pub fn hand_call<V: OperandVisitor>(
     defs: &[CallRetPair],
     clobbers: PRegSet,
 ) -> Result<(), AllocError>
-    ensures ok { OnOk result (V.told visitor.new ≡ V.told visitor.old ++ call_roles first.now uses.now defs.now clobbers) }
-    ensures err { OnErr result (HasPart (V.told visitor.old) (V.told visitor.new) (call_roles first.now uses.now defs.now clobbers)) }
+    ensures ok { OnOk result (V.told visitor.new
+        ≡ V.told visitor.old ++ call_roles first.now uses.now defs.now clobbers) }
+    ensures err { OnErr result (HasPart (V.told visitor.old) (V.told visitor.new)
+        (call_roles first.now uses.now defs.now clobbers)) }
     ensures rises { V.refusals visitor.old ≤ V.refusals visitor.new }
     ensures cause { OnErr result (HasRefused (V.refusals visitor.old) (V.refusals visitor.new)) }
 {
@@ -230,8 +239,10 @@ pub fn hand_return_call<V: OperandVisitor>(
     first: &[Role],
     uses: &[CallArgPair],
 ) -> Result<(), AllocError>
-    ensures ok { OnOk result (V.told visitor.new ≡ V.told visitor.old ++ return_call_roles first.now uses.now) }
-    ensures err { OnErr result (HasPart (V.told visitor.old) (V.told visitor.new) (return_call_roles first.now uses.now)) }
+    ensures ok { OnOk result (V.told visitor.new
+        ≡ V.told visitor.old ++ return_call_roles first.now uses.now) }
+    ensures err { OnErr result (HasPart (V.told visitor.old) (V.told visitor.new)
+        (return_call_roles first.now uses.now)) }
     ensures rises { V.refusals visitor.old ≤ V.refusals visitor.new }
     ensures cause { OnErr result (HasRefused (V.refusals visitor.old) (V.refusals visitor.new)) }
 {

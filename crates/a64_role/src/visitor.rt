@@ -66,7 +66,8 @@ pub trait OperandVisitor {
     ///
     /// Want of memory; the role was not told.
     fn reg_reuse_def(&mut self, reg: Reg, index: usize) -> Result<(), AllocError>
-        ensures ok { OnOk result (told self.new ≡ told self.old ++ role.RegReuseDef reg index ∷ []) }
+        ensures ok { OnOk result (told self.new
+            ≡ told self.old ++ role.RegReuseDef reg index ∷ []) }
         ensures err { OnErr result (told self.new ≡ told self.old) }
         ensures rises { refusals self.old ≤ refusals self.new }
         ensures cause { OnErr result (HasRefused (refusals self.old) (refusals self.new)) };
@@ -77,7 +78,8 @@ pub trait OperandVisitor {
     ///
     /// Want of memory; the role was not told.
     fn reg_fixed_use(&mut self, reg: Reg, preg: Reg) -> Result<(), AllocError>
-        ensures ok { OnOk result (told self.new ≡ told self.old ++ role.RegFixedUse reg preg ∷ []) }
+        ensures ok { OnOk result (told self.new
+            ≡ told self.old ++ role.RegFixedUse reg preg ∷ []) }
         ensures err { OnErr result (told self.new ≡ told self.old) }
         ensures rises { refusals self.old ≤ refusals self.new }
         ensures cause { OnErr result (HasRefused (refusals self.old) (refusals self.new)) };
@@ -88,7 +90,8 @@ pub trait OperandVisitor {
     ///
     /// Want of memory; the role was not told.
     fn reg_fixed_def(&mut self, reg: Reg, preg: Reg) -> Result<(), AllocError>
-        ensures ok { OnOk result (told self.new ≡ told self.old ++ role.RegFixedDef reg preg ∷ []) }
+        ensures ok { OnOk result (told self.new
+            ≡ told self.old ++ role.RegFixedDef reg preg ∷ []) }
         ensures err { OnErr result (told self.new ≡ told self.old) }
         ensures rises { refusals self.old ≤ refusals self.new }
         ensures cause { OnErr result (HasRefused (refusals self.old) (refusals self.new)) };
@@ -99,7 +102,8 @@ pub trait OperandVisitor {
     ///
     /// Want of memory; the role was not told.
     fn reg_fixed_nonallocatable(&mut self, preg: PReg) -> Result<(), AllocError>
-        ensures ok { OnOk result (told self.new ≡ told self.old ++ role.RegFixedNonallocatable preg ∷ []) }
+        ensures ok { OnOk result (told self.new
+            ≡ told self.old ++ role.RegFixedNonallocatable preg ∷ []) }
         ensures err { OnErr result (told self.new ≡ told self.old) }
         ensures rises { refusals self.old ≤ refusals self.new }
         ensures cause { OnErr result (HasRefused (refusals self.old) (refusals self.new)) };

@@ -81,9 +81,11 @@ pub trait MachInst: Sized {
     /// The visitor refused a role; it was told those before.
     fn get_operands<V: OperandVisitor>(&self, collector: &mut V) -> Result<(), AllocError>
         ensures ok { OnOk result (V.told collector.new ≡ V.told collector.old ++ roles self.now) }
-        ensures err { OnErr result (HasPart (V.told collector.old) (V.told collector.new) (roles self.now)) }
+        ensures err { OnErr result (HasPart (V.told collector.old) (V.told collector.new)
+            (roles self.now)) }
         ensures rises { V.refusals collector.old ≤ V.refusals collector.new }
-        ensures cause { OnErr result (HasRefused (V.refusals collector.old) (V.refusals collector.new)) };
+        ensures cause { OnErr result (HasRefused (V.refusals collector.old)
+            (V.refusals collector.new)) };
 
     /// The register that it writes and the one that it reads, where it moves a whole register.
     fn is_move(&self) -> Option<(Writable<Reg>, Reg)>
@@ -144,7 +146,8 @@ pub trait MachInst: Sized {
     ///
     /// Want of memory.
     fn gen_nop_units(alloc: Global) -> Result<Vec<Vec<u8>>, AllocError>
-        ensures { IfOk result (λ units. map (λ unit. unit.items) units.items ≡ (31 ∷ 32 ∷ 3 ∷ 213 ∷ []) ∷ []) };
+        ensures { IfOk result (λ units. map (λ unit. unit.items) units.items
+            ≡ (31 ∷ 32 ∷ 3 ∷ 213 ∷ []) ∷ []) };
 
     /// What has to stand at the start of a block, where something has to: where the block is jumped to by an
     /// address, and the settings have such jumps checked.
@@ -164,7 +167,8 @@ pub trait MachInst: Sized {
     ///
     /// There are no registers for the type.
     fn rc_for_type(ty: &IrType) -> Result<(&'static [RegClass], &'static [IrType]), Unsupported>
-        ensures ok { IfOk result (λ parts. queries.classes_of ty.now ≡ Some (parts.0.now, parts.1.now)) }
+        ensures ok { IfOk result (λ parts. queries.classes_of ty.now
+            ≡ Some (parts.0.now, parts.1.now)) }
         ensures err { OnErr result (queries.classes_of ty.now ≡ None) };
 
     /// The type of a whole register of a class.

@@ -50,7 +50,8 @@ fn hand_pair_swap<V: OperandVisitor>(
     visitor: &mut V,
     args: &AtomicCAS128Args,
 ) -> Result<(), AllocError>
-    ensures { Tells V.told V.refusals visitor.old visitor.new (lists.pair_swap_roles args.now) result }
+    ensures { Tells V.told V.refusals visitor.old visitor.new
+        (lists.pair_swap_roles args.now) result }
 {
     hand(
         visitor,
@@ -72,7 +73,8 @@ fn hand_pair_swap<V: OperandVisitor>(
 ///
 /// The visitor refused one; it was told those before.
 fn hand_access<V: OperandVisitor>(visitor: &mut V, access: &AccessRef<'_>) -> Result<(), AllocError>
-    ensures { Tells V.told V.refusals visitor.old visitor.new (lists.access_roles access.now) result }
+    ensures { Tells V.told V.refusals visitor.old visitor.new
+        (lists.access_roles access.now) result }
 {
     hand_mode(visitor, &[moved_role(access.op, access.reg)], access.mem)
 }

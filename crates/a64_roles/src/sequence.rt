@@ -27,7 +27,8 @@ fn hand_rmw_loop<V: OperandVisitor>(
     scratch1: Reg,
     scratch2: Reg,
 ) -> Result<(), AllocError>
-    ensures { Tells V.told V.refusals visitor.old visitor.new (rmw_loop_roles op addr operand oldval scratch1 scratch2) result }
+    ensures { Tells V.told V.refusals visitor.old visitor.new
+        (rmw_loop_roles op addr operand oldval scratch1 scratch2) result }
 {
     let (addr, operand) = (RegFixedUse(addr, xreg(25)), RegFixedUse(operand, xreg(26)));
     let (oldval, scratch1) = (

@@ -39,9 +39,11 @@ impl<R: Read> Source for ReadSource<R> {
         ensures cause { OnErr result (HasFailed self.old.faults self.new.faults) }
 
         // What the reader gives is passed on.
-        ensures passes { IfOk result (λ n. Consumes (R.remaining self.old.reader) (R.remaining self.new.reader) (take n buf.new)) }
+        ensures passes { IfOk result (λ n. Consumes (R.remaining self.old.reader)
+            (R.remaining self.new.reader) (take n buf.new)) }
         ensures ends { IfOk result (λ n. n ≡ 0 → IsAtEnd (R.remaining self.new.reader)) }
-        ensures kept { OnErr result (Keeps (R.remaining self.old.reader) (R.remaining self.new.reader)) }
+        ensures kept { OnErr result (Keeps (R.remaining self.old.reader)
+            (R.remaining self.new.reader)) }
     {
         match self.reader.read(buf) {
             Ok(n) => Ok(n),
@@ -85,8 +87,10 @@ impl<W: Write> Sink for WriteSink<W> {
         ensures cause { OnErr result (HasFailed self.old.faults self.new.faults) }
 
         // What the writer takes is all that was taken.
-        ensures passes { IfOk result (λ n. Appends (W.contents self.old.writer) (W.contents self.new.writer) (take n bytes.now)) }
-        ensures kept { OnErr result (Keeps (W.contents self.old.writer) (W.contents self.new.writer)) }
+        ensures passes { IfOk result (λ n. Appends (W.contents self.old.writer)
+            (W.contents self.new.writer) (take n bytes.now)) }
+        ensures kept { OnErr result (Keeps (W.contents self.old.writer)
+            (W.contents self.new.writer)) }
     {
         match self.writer.write(bytes) {
             Ok(n) if n > 0 => Ok(n),

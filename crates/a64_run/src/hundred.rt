@@ -43,8 +43,10 @@ impl Hundred {
     #[inline(always)]
     pub fn count_from(self, number: u64) -> u64
         requires { self.first + self.span < 2 ^ 64 }
-        ensures some { 0 < result → (self.first ≤ number) × (number + result ≡ self.first + self.span) }
-        ensures all { self.first ≤ number → number ≤ self.first + self.span → number + result ≡ self.first + self.span }
+        ensures some { 0 < result → (self.first ≤ number)
+            × (number + result ≡ self.first + self.span) }
+        ensures all { self.first ≤ number → number ≤ self.first + self.span
+            → number + result ≡ self.first + self.span }
     {
         self.span.saturating_sub(number.wrapping_sub(self.first))
     }
@@ -53,7 +55,8 @@ impl Hundred {
     #[inline(always)]
     pub fn offset_of(self, number: u64) -> Option<u64>
         requires { self.first + self.span < 2 ^ 64 }
-        ensures { IfSome result (λ offset. (number ≡ self.first + offset) × (offset < self.span)) }
+        ensures { IfSome result (λ offset. (number ≡ self.first + offset)
+            × (offset < self.span)) }
     {
         let offset = number.wrapping_sub(self.first);
         if offset < self.span {

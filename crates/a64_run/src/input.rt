@@ -45,8 +45,10 @@ fn read_piece<S: Source>(
     requires { 0 < length piece.old }
     ensures few { IfOk result (λ n. n ≤ length piece.old) }
     ensures len { IfOk result (λ n. length bytes.new.items ≡ length bytes.old.items + n) }
-    ensures takes { IfOk result (λ n. IfSome (S.left source.old) (λ text. TakesBehind text n bytes.old.items bytes.new.items (S.left source.new))) }
-    ensures taken { OnErr result (TakesAtMost (length piece.old) (S.left source.old) (S.left source.new)) }
+    ensures takes { IfOk result (λ n. IfSome (S.left source.old)
+        (λ text. TakesBehind text n bytes.old.items bytes.new.items (S.left source.new))) }
+    ensures taken { OnErr result (TakesAtMost (length piece.old) (S.left source.old)
+        (S.left source.new)) }
     ensures rises { S.faults source.old ≤ S.faults source.new }
     ensures steady { OnOk result (S.faults source.new ≡ S.faults source.old) }
     ensures cause { IfErr result (IsReadFault (S.faults source.old) (S.faults source.new)) }
@@ -68,7 +70,8 @@ fn read_pieces<S: Source>(
 ) -> Result<(), Fault>
     requires some { 0 < length piece.old }
     requires empty { bytes.old.items ≡ [] }
-    ensures ok { OnOk result (IfSome (S.left source.old) (λ text. HasRead text bytes.new.items (S.left source.new))) }
+    ensures ok { OnOk result (IfSome (S.left source.old)
+        (λ text. HasRead text bytes.new.items (S.left source.new))) }
     ensures few { TakesFew (S.left source.old) (S.left source.new) }
     ensures steady { OnOk result (S.faults source.new ≡ S.faults source.old) }
     ensures cause { IfErr result (IsReadFault (S.faults source.old) (S.faults source.new)) }
@@ -86,7 +89,8 @@ fn read_pieces<S: Source>(
 
 /// Reads a source to its end, but no more than one byte past the limit.
 fn read_all<S: Source>(alloc: Global, source: &mut S) -> Result<Vec<u8>, Fault>
-    ensures ok { IfOk result (λ bytes. IfSome (S.left source.old) (λ text. HasRead text bytes.items (S.left source.new))) }
+    ensures ok { IfOk result (λ bytes. IfSome (S.left source.old)
+        (λ text. HasRead text bytes.items (S.left source.new))) }
     ensures few { TakesFew (S.left source.old) (S.left source.new) }
     ensures steady { OnOk result (S.faults source.new ≡ S.faults source.old) }
     ensures cause { IfErr result (IsReadFault (S.faults source.old) (S.faults source.new)) }
@@ -103,9 +107,11 @@ fn read_all<S: Source>(alloc: Global, source: &mut S) -> Result<Vec<u8>, Fault>
 
 /// Reads all bytes of a source that has no more than the limit.
 fn read_text<S: Source>(alloc: Global, source: &mut S) -> Result<Vec<u8>, Fault>
-    ensures ok { IfOk result (λ bytes. IsWhole (S.left source.old) (S.left source.new) bytes.items) }
+    ensures ok { IfOk result (λ bytes. IsWhole (S.left source.old)
+        (S.left source.new) bytes.items) }
     ensures few { TakesFew (S.left source.old) (S.left source.new) }
-    ensures held { IfErr result (λ fault. (format : Format) → Held format (S.left source.old) (Some fault)) }
+    ensures held { IfErr result (λ fault. (format : Format)
+        → Held format (S.left source.old) (Some fault)) }
     ensures steady { OnOk result (S.faults source.new ≡ S.faults source.old) }
     ensures cause { IfErr result (IsTextFault (S.faults source.old) (S.faults source.new)) }
 {
@@ -176,8 +182,10 @@ fn read_input<S: Source>(alloc: Global, format: Format, source: &mut S) -> Resul
     ensures held { IfErr result (λ fault. Held format (S.left source.old) (Some fault)) }
     ensures steady { OnOk result (S.faults source.new ≡ S.faults source.old) }
     ensures cause { IfErr result (IsInputFault (S.faults source.old) (S.faults source.new)) }
-    ensures due_ok { IfOk result (λ input. IfSome (S.left source.old) (λ text. IsInputOf format text input)) }
-    ensures due_err { IfErr result (λ fault. IfSome (S.left source.old) (λ text. IsTextDue format text fault)) }
+    ensures due_ok { IfOk result (λ input. IfSome (S.left source.old)
+        (λ text. IsInputOf format text input)) }
+    ensures due_err { IfErr result (λ fault. IfSome (S.left source.old)
+        (λ text. IsTextDue format text fault)) }
 {
     match read_text(alloc, source) {
         Ok(bytes) => parse(alloc, format, &bytes),
@@ -213,11 +221,13 @@ pub fn input_of<S: Source>(alloc: Global, command: Command, source: &mut S) -> R
     ensures few_items { IfOk result IsFew }
     ensures few { TakesFew (S.left source.old) (S.left source.new) }
     ensures unread { reads_source command ≡ false → source.new ≡ source.old }
-    ensures held { IfErr result (λ fault. Held (works_on command) (S.left source.old) (Some fault)) }
+    ensures held { IfErr result (λ fault. Held (works_on command) (S.left source.old)
+        (Some fault)) }
     ensures steady { OnOk result (S.faults source.new ≡ S.faults source.old) }
     ensures cause { IfErr result (IsInputFault (S.faults source.old) (S.faults source.new)) }
     ensures due_ok { IfOk result (IsDueInput command (S.left source.old)) }
-    ensures due_err { IfErr result (λ fault. IsDueAnswer command (S.left source.old) (Some fault)) }
+    ensures due_err { IfErr result (λ fault. IsDueAnswer command (S.left source.old)
+        (Some fault)) }
 {
     match command {
         Command::Gen { count, .. } => make_input(alloc, count),

@@ -30,7 +30,8 @@ fn copy_kept(line: &LineBuffer, start: usize, text: &mut [u8], at: usize) -> usi
     requires room { at + 48 ≤ length text.old }
     ensures long { length text.new ≡ length text.old }
     ensures few { result ≤ at + 48 }
-    ensures copied { take result text.new ≡ take at text.old ++ take (64 - start) (drop start line.now) }
+    ensures copied { take result text.new ≡ take at text.old
+        ++ take (64 - start) (drop start line.now) }
 {
     text[at..at + SHORT].copy_from_slice(&line[start..start + SHORT]);
     at + (END - start)
@@ -111,7 +112,9 @@ impl ItemLine {
         ensures long { length text.new ≡ length text.old }
         ensures few { result.1 ≤ length text.old }
         ensures within { (1 ≤ result.0) × (result.0 ≤ length places.now) }
-        ensures copied { take result.1 text.new ≡ take at text.old ++ flat_map item_line (enumerate_from index (take result.0 places.now)) }
+        ensures copied { take result.1 text.new
+            ≡ take at text.old ++ flat_map item_line
+            (enumerate_from index (take result.0 places.now)) }
     {
         let like = self.index.count_from(index) as usize;
         let room = (text.len() - at) / SHORT;
@@ -153,12 +156,14 @@ fn copy_items(
     at: usize,
 ) -> (usize, usize)
     requires kept { KeepsItemOf line.old start index_end like hundred }
-    requires near { (like.first ≤ index) × (index + length places.now ≤ like.first + like.span) }
+    requires near { (like.first ≤ index) × (index + length places.now
+        ≤ like.first + like.span) }
     requires room { at + 48 * length places.now ≤ length text.old }
     ensures kept { KeepsItemOf line.new start index_end like hundred }
     ensures long { length text.new ≡ length text.old }
     ensures few { (result.0 ≤ length places.now) × (result.1 ≤ length text.old) }
-    ensures copied { take result.1 text.new ≡ take at text.old ++ flat_map item_line (enumerate_from index (take result.0 places.now)) }
+    ensures copied { take result.1 text.new ≡ take at text.old
+        ++ flat_map item_line (enumerate_from index (take result.0 places.now)) }
 {
     let offset = index - like.first();
     let mut at = at;
@@ -189,12 +194,14 @@ fn copy_words(
 ) -> (u32, usize)
     requires kept { KeepsWordOf line.old start like word }
     requires whole { place % 4 ≡ 0 }
-    requires near { (like.first ≤ place) × (place + 4 * length words.now < like.first + like.span + 4) }
+    requires near { (like.first ≤ place) × (place + 4 * length words.now
+        < like.first + like.span + 4) }
     requires room { at + 48 * length words.now ≤ length text.old }
     ensures kept { KeepsWordOf line.new start like result.0 }
     ensures long { length text.new ≡ length text.old }
     ensures few { result.1 ≤ length text.old }
-    ensures copied { take result.1 text.new ≡ take at text.old ++ flat_map word_line (enumerate_from (place / 4) (map (from_le_bytes w32) words.now)) }
+    ensures copied { take result.1 text.new ≡ take at text.old
+        ++ flat_map word_line (enumerate_from (place / 4) (map (from_le_bytes w32) words.now)) }
 {
     let offset = place - like.first();
     let mut at = at;
@@ -282,7 +289,9 @@ impl WordLine {
         ensures long { length text.new ≡ length text.old }
         ensures few { result.1 ≤ length text.old }
         ensures within { (1 ≤ result.0) × (result.0 ≤ length words.now) }
-        ensures copied { take result.1 text.new ≡ take at text.old ++ flat_map word_line (enumerate_from (place / 4) (map (from_le_bytes w32) (take result.0 words.now))) }
+        ensures copied { take result.1 text.new
+            ≡ take at text.old ++ flat_map word_line
+            (enumerate_from (place / 4) (map (from_le_bytes w32) (take result.0 words.now))) }
     {
         let like = self.place.count_from(place).div_ceil(4) as usize;
         let room = (text.len() - at) / SHORT;

@@ -54,7 +54,8 @@ impl Made {
     pub fn write<K: Sink>(&self, sink: &mut K, piece: &mut Piece) -> Result<(), Failed>
         requires { piece.old ≡ [] }
         ensures all { OnOk result (Takes (K.taken sink.old) (K.taken sink.new) (text_of self.now)) }
-        ensures part { OnErr result (TakesPart (K.taken sink.old) (K.taken sink.new) (text_of self.now)) }
+        ensures part { OnErr result (TakesPart (K.taken sink.old) (K.taken sink.new)
+            (text_of self.now)) }
         ensures steady { OnOk result (K.faults sink.new ≡ K.faults sink.old) }
         ensures cause { OnErr result (HasFailed (K.faults sink.old) (K.faults sink.new)) }
     {
@@ -88,7 +89,8 @@ impl Made {
 fn make_of_items(alloc: Global, command: Command, file: &File) -> Result<Made, Fault>
     requires kind { works_on command ≡ formats.Items }
     requires few { length file.now.items.items < 2 ^ 32 }
-    ensures ok { IfOk result (λ made. IsMade command (inputs.Items file.now) (kept_of made) (text_of made)) }
+    ensures ok { IfOk result (λ made. IsMade command (inputs.Items file.now) (kept_of made)
+        (text_of made)) }
     ensures err { IfErr result (IsMakingFault command (inputs.Items file.now)) }
 {
     match command {
@@ -123,7 +125,8 @@ fn make_of_items(alloc: Global, command: Command, file: &File) -> Result<Made, F
 fn make_of_words(alloc: Global, command: Command, file: &AuditFile) -> Result<Made, Fault>
     requires kind { works_on command ≡ formats.Words }
     requires few { length file.now.words.items < 2 ^ 29 }
-    ensures ok { IfOk result (λ made. IsMade command (inputs.Words file.now) (kept_of made) (text_of made)) }
+    ensures ok { IfOk result (λ made. IsMade command (inputs.Words file.now) (kept_of made)
+        (text_of made)) }
     ensures err { IfErr result (IsMakingFault command (inputs.Words file.now)) }
 {
     match command {
@@ -146,7 +149,8 @@ fn make_of_words(alloc: Global, command: Command, file: &AuditFile) -> Result<Ma
 /// Want of memory.
 fn make_of_listing(alloc: Global, command: Command, file: &ShownFile) -> Result<Made, Fault>
     requires kind { works_on command ≡ formats.Listing }
-    ensures ok { IfOk result (λ made. IsMade command (inputs.Listing file.now) (kept_of made) (text_of made)) }
+    ensures ok { IfOk result (λ made. IsMade command (inputs.Listing file.now) (kept_of made)
+        (text_of made)) }
     ensures err { IfErr result (IsMakingFault command (inputs.Listing file.now)) }
 {
     match command {

@@ -64,18 +64,25 @@ impl Source for MemSource {
 
         // As of each source.
         ensures few { IfOk result (λ n. n ≤ length buf.old) }
-        ensures takes { IfOk result (λ n. TakesFront (drop self.old.taken self.old.bytes.items) n buf.new (Some (drop self.new.taken self.new.bytes.items))) }
-        ensures stays { OnErr result (drop self.new.taken self.new.bytes.items ≡ drop self.old.taken self.old.bytes.items) }
+        ensures takes { IfOk result (λ n. TakesFront
+            (drop self.old.taken self.old.bytes.items) n buf.new
+            (Some (drop self.new.taken self.new.bytes.items))) }
+        ensures stays { OnErr result (drop self.new.taken self.new.bytes.items
+            ≡ drop self.old.taken self.old.bytes.items) }
         ensures rises { self.old.faults ≤ self.new.faults }
         ensures steady { OnOk result (self.new.faults ≡ self.old.faults) }
         ensures cause { OnErr result (HasFailed self.old.faults self.new.faults) }
 
         // Each call is counted, and exactly the given ones fail.
         ensures counted { self.new.calls ≡ min (self.old.calls + 1) (2 ^ 64 - 1) }
-        ensures fails { is_err result ≡ list_any (λ call. call == self.new.calls) self.old.fails.items }
-        ensures failures { self.new.faults ≡ (if is_err result then min (self.old.faults + 1) (2 ^ 64 - 1) else self.old.faults) }
-        ensures count { IfOk result (λ n. n ≡ min self.old.at_most (min (length buf.old) (length (drop self.old.taken self.old.bytes.items)))) }
-        ensures same { (self.new.at_most ≡ self.old.at_most) × (self.new.fails ≡ self.old.fails) }
+        ensures fails { is_err result ≡ list_any
+            (λ call. call == self.new.calls) self.old.fails.items }
+        ensures failures { self.new.faults ≡
+            (if is_err result then min (self.old.faults + 1) (2 ^ 64 - 1) else self.old.faults) }
+        ensures count { IfOk result (λ n. n ≡ min self.old.at_most
+            (min (length buf.old) (length (drop self.old.taken self.old.bytes.items)))) }
+        ensures same { (self.new.at_most ≡ self.old.at_most)
+            × (self.new.fails ≡ self.old.fails) }
     {
         self.calls = self.calls.saturating_add(1);
         if self.fails.contains(&self.calls) {
@@ -153,7 +160,8 @@ impl Sink for MemSink {
 
         // As of each sink.
         ensures some { IfOk result (λ n. (0 < n) × (n ≤ length bytes.now)) }
-        ensures takes { IfOk result (λ n. self.new.bytes.items ≡ self.old.bytes.items ++ take n bytes.now) }
+        ensures takes { IfOk result (λ n. self.new.bytes.items
+            ≡ self.old.bytes.items ++ take n bytes.now) }
         ensures stays { OnErr result (self.new.bytes.items ≡ self.old.bytes.items) }
         ensures rises { self.old.faults ≤ self.new.faults }
         ensures steady { OnOk result (self.new.faults ≡ self.old.faults) }
@@ -161,10 +169,15 @@ impl Sink for MemSink {
 
         // Each call is counted, and exactly the given ones fail, and those without room.
         ensures counted { self.new.calls ≡ min (self.old.calls + 1) (2 ^ 64 - 1) }
-        ensures fails { is_err result ≡ (list_any (λ call. call == self.new.calls) self.old.fails.items || (length self.old.bytes.items == self.old.room)) }
-        ensures failures { self.new.faults ≡ (if is_err result then min (self.old.faults + 1) (2 ^ 64 - 1) else self.old.faults) }
-        ensures count { IfOk result (λ n. n ≡ min self.old.at_most (min (length bytes.now) (self.old.room - length self.old.bytes.items))) }
-        ensures same { (self.new.room ≡ self.old.room) × (self.new.at_most ≡ self.old.at_most) × (self.new.fails ≡ self.old.fails) }
+        ensures fails { is_err result ≡ (list_any
+            (λ call. call == self.new.calls) self.old.fails.items
+            || (length self.old.bytes.items == self.old.room)) }
+        ensures failures { self.new.faults ≡
+            (if is_err result then min (self.old.faults + 1) (2 ^ 64 - 1) else self.old.faults) }
+        ensures count { IfOk result (λ n. n ≡ min self.old.at_most
+            (min (length bytes.now) (self.old.room - length self.old.bytes.items))) }
+        ensures same { (self.new.room ≡ self.old.room) × (self.new.at_most ≡ self.old.at_most)
+            × (self.new.fails ≡ self.old.fails) }
     {
         self.calls = self.calls.saturating_add(1);
         if self.fails.contains(&self.calls) || self.bytes.len() == self.room {
@@ -204,8 +217,11 @@ impl Source for SureSource {
 
     fn read(&mut self, buf: &mut [u8]) -> Result<usize, Failed>
         requires { 0 < length buf.old }
-        ensures count { result ≡ Ok (min (length buf.old) (length (drop self.old.taken self.old.bytes.items))) }
-        ensures takes { IfOk result (λ n. TakesFront (drop self.old.taken self.old.bytes.items) n buf.new (Some (drop self.new.taken self.new.bytes.items))) }
+        ensures count { result ≡ Ok (min (length buf.old)
+            (length (drop self.old.taken self.old.bytes.items))) }
+        ensures takes { IfOk result (λ n. TakesFront
+            (drop self.old.taken self.old.bytes.items) n buf.new
+            (Some (drop self.new.taken self.new.bytes.items))) }
     {
         let n = move_front(&self.bytes, self.taken, buf.len(), buf);
         self.taken += n;

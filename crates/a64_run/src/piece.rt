@@ -101,8 +101,10 @@ impl Piece {
     #[inline(always)]
     pub fn put<K: Sink>(&mut self, sink: &mut K, text: &[u8]) -> Result<(), Failed>
         requires { length text.now ≤ 65536 }
-        ensures ok { OnOk result (Puts (K.taken sink.old) (K.faults sink.old) self.old (K.taken sink.new) (K.faults sink.new) self.new text.now) }
-        ensures err { OnErr result (IsCut (K.taken sink.old) (K.faults sink.old) self.old (K.taken sink.new) (K.faults sink.new) text.now) }
+        ensures ok { OnOk result (Puts (K.taken sink.old) (K.faults sink.old) self.old
+            (K.taken sink.new) (K.faults sink.new) self.new text.now) }
+        ensures err { OnErr result (IsCut (K.taken sink.old) (K.faults sink.old) self.old
+            (K.taken sink.new) (K.faults sink.new) text.now) }
         ensures waits { length self.old + length text.now ≤ 65536 → sink.new ≡ sink.old }
     {
         if self.len + text.len() > SIZE {
@@ -120,8 +122,10 @@ impl Piece {
     #[inline(always)]
     pub fn make_room<K: Sink>(&mut self, sink: &mut K) -> Result<(), Failed>
         ensures room { OnOk result (length self.new + 48 ≤ 65536) }
-        ensures ok { OnOk result (Puts (K.taken sink.old) (K.faults sink.old) self.old (K.taken sink.new) (K.faults sink.new) self.new []) }
-        ensures err { OnErr result (IsCut (K.taken sink.old) (K.faults sink.old) self.old (K.taken sink.new) (K.faults sink.new) []) }
+        ensures ok { OnOk result (Puts (K.taken sink.old) (K.faults sink.old) self.old
+            (K.taken sink.new) (K.faults sink.new) self.new []) }
+        ensures err { OnErr result (IsCut (K.taken sink.old) (K.faults sink.old) self.old
+            (K.taken sink.new) (K.faults sink.new) []) }
     {
         if self.len > SIZE - SHORT {
             self.flush(sink)?;
@@ -135,8 +139,10 @@ impl Piece {
     pub fn fill_items(&mut self, line: &mut ItemLine, places: &[u32], from: usize) -> usize
         requires { from ≤ length places.now }
         ensures within { (from ≤ result) × (result ≤ length places.now) }
-        ensures next { length self.old + 48 ≤ 65536 → from < length places.now → from < result }
-        ensures filled { self.new ++ item_lines places.now result ≡ self.old ++ item_lines places.now from }
+        ensures next { length self.old + 48 ≤ 65536 → from < length places.now
+            → from < result }
+        ensures filled { self.new ++ item_lines places.now result
+            ≡ self.old ++ item_lines places.now from }
     {
         let bytes = &mut self.bytes[..];
         let (index, len) = fill_items(bytes, self.len, line, places, from);
@@ -152,8 +158,10 @@ impl Piece {
         requires { (from ≤ length code.now) × (from % 4 ≡ 0) }
         ensures within { (from ≤ result) × (result ≤ length code.now) }
         ensures whole { result % 4 ≡ 0 }
-        ensures next { length self.old + 48 ≤ 65536 → from + 4 ≤ length code.now → from < result }
-        ensures filled { self.new ++ word_lines code.now result ≡ self.old ++ word_lines code.now from }
+        ensures next { length self.old + 48 ≤ 65536 → from + 4 ≤ length code.now
+            → from < result }
+        ensures filled { self.new ++ word_lines code.now result
+            ≡ self.old ++ word_lines code.now from }
     {
         let bytes = &mut self.bytes[..];
         let (place, len) = fill_words(bytes, self.len, line, code, from);
@@ -178,7 +186,8 @@ fn fill_items(
     ensures few { result.1 ≤ 65536 }
     ensures within { (from ≤ result.0) × (result.0 ≤ length places.now) }
     ensures next { len + 48 ≤ 65536 → from < length places.now → from < result.0 }
-    ensures filled { take result.1 text.new ++ item_lines places.now result.0 ≡ take len text.old ++ item_lines places.now from }
+    ensures filled { take result.1 text.new ++ item_lines places.now result.0
+        ≡ take len text.old ++ item_lines places.now from }
 {
     let text = &mut text[..SIZE];
     let mut at = len;
@@ -209,7 +218,8 @@ fn fill_words(
     ensures within { (from ≤ result.0) × (result.0 ≤ length code.now) }
     ensures whole { result.0 % 4 ≡ 0 }
     ensures next { len + 48 ≤ 65536 → from + 4 ≤ length code.now → from < result.0 }
-    ensures filled { take result.1 text.new ++ word_lines code.now result.0 ≡ take len text.old ++ word_lines code.now from }
+    ensures filled { take result.1 text.new ++ word_lines code.now result.0
+        ≡ take len text.old ++ word_lines code.now from }
 {
     let text = &mut text[..SIZE];
     let mut at = len;

@@ -24,8 +24,10 @@ fn put_lines<L: LineKind, K: Sink>(
     piece: &mut Piece,
     subjects: &[L::Subject],
 ) -> Result<(), Failed>
-    ensures ok { OnOk result (Puts (K.taken sink.old) (K.faults sink.old) piece.old (K.taken sink.new) (K.faults sink.new) piece.new (flat_map L.line subjects.now)) }
-    ensures err { OnErr result (IsCut (K.taken sink.old) (K.faults sink.old) piece.old (K.taken sink.new) (K.faults sink.new) (flat_map L.line subjects.now)) }
+    ensures ok { OnOk result (Puts (K.taken sink.old) (K.faults sink.old) piece.old
+        (K.taken sink.new) (K.faults sink.new) piece.new (flat_map L.line subjects.now)) }
+    ensures err { OnErr result (IsCut (K.taken sink.old) (K.faults sink.old) piece.old
+        (K.taken sink.new) (K.faults sink.new) (flat_map L.line subjects.now)) }
 {
     let mut buffer = [0; SIZE];
     for subject in subjects {
@@ -38,8 +40,11 @@ fn put_lines<L: LineKind, K: Sink>(
 /// Puts the lines of the items.
 #[inline(never)]
 fn put_items<K: Sink>(sink: &mut K, piece: &mut Piece, places: &[u32]) -> Result<(), Failed>
-    ensures ok { OnOk result (Puts (K.taken sink.old) (K.faults sink.old) piece.old (K.taken sink.new) (K.faults sink.new) piece.new (flat_map item_line (enumerate_from 0 places.now))) }
-    ensures err { OnErr result (IsCut (K.taken sink.old) (K.faults sink.old) piece.old (K.taken sink.new) (K.faults sink.new) (flat_map item_line (enumerate_from 0 places.now))) }
+    ensures ok { OnOk result (Puts (K.taken sink.old) (K.faults sink.old) piece.old
+        (K.taken sink.new) (K.faults sink.new) piece.new
+        (flat_map item_line (enumerate_from 0 places.now))) }
+    ensures err { OnErr result (IsCut (K.taken sink.old) (K.faults sink.old) piece.old
+        (K.taken sink.new) (K.faults sink.new) (flat_map item_line (enumerate_from 0 places.now))) }
 {
     let mut line = ItemLine::of(0, 0);
     let mut index = 0;
@@ -52,8 +57,10 @@ fn put_items<K: Sink>(sink: &mut K, piece: &mut Piece, places: &[u32]) -> Result
 
 /// Puts the line of the pool.
 fn put_pool<K: Sink>(sink: &mut K, piece: &mut Piece, pool: u32) -> Result<(), Failed>
-    ensures ok { OnOk result (Puts (K.taken sink.old) (K.faults sink.old) piece.old (K.taken sink.new) (K.faults sink.new) piece.new (pool_line pool)) }
-    ensures err { OnErr result (IsCut (K.taken sink.old) (K.faults sink.old) piece.old (K.taken sink.new) (K.faults sink.new) (pool_line pool)) }
+    ensures ok { OnOk result (Puts (K.taken sink.old) (K.faults sink.old) piece.old
+        (K.taken sink.new) (K.faults sink.new) piece.new (pool_line pool)) }
+    ensures err { OnErr result (IsCut (K.taken sink.old) (K.faults sink.old) piece.old
+        (K.taken sink.new) (K.faults sink.new) (pool_line pool)) }
 {
     let mut buffer = [0; SIZE];
     let start = compose_one(&mut buffer, b"pool", pool);
@@ -63,7 +70,8 @@ fn put_pool<K: Sink>(sink: &mut K, piece: &mut Piece, pool: u32) -> Result<(), F
 /// The first word of code, and the bytes behind it.
 #[inline(always)]
 pub fn first_word(bytes: &[u8]) -> Option<(u32, &[u8])>
-    ensures some { IfSome result (λ first. words_in bytes.now ≡ first.0 ∷ words_in first.1.now) }
+    ensures some { IfSome result (λ first. words_in bytes.now
+        ≡ first.0 ∷ words_in first.1.now) }
     ensures shorter { IfSome result (λ first. length first.1.now + 4 ≡ length bytes.now) }
     ensures none { IfNone result (words_in bytes.now ≡ []) }
 {
@@ -76,8 +84,10 @@ pub fn first_word(bytes: &[u8]) -> Option<(u32, &[u8])>
 /// Puts the lines of the words.
 #[inline(never)]
 fn put_words<K: Sink>(sink: &mut K, piece: &mut Piece, bytes: &[u8]) -> Result<(), Failed>
-    ensures ok { OnOk result (Puts (K.taken sink.old) (K.faults sink.old) piece.old (K.taken sink.new) (K.faults sink.new) piece.new (words_text (words_in bytes.now))) }
-    ensures err { OnErr result (IsCut (K.taken sink.old) (K.faults sink.old) piece.old (K.taken sink.new) (K.faults sink.new) (words_text (words_in bytes.now))) }
+    ensures ok { OnOk result (Puts (K.taken sink.old) (K.faults sink.old) piece.old
+        (K.taken sink.new) (K.faults sink.new) piece.new (words_text (words_in bytes.now))) }
+    ensures err { OnErr result (IsCut (K.taken sink.old) (K.faults sink.old) piece.old
+        (K.taken sink.new) (K.faults sink.new) (words_text (words_in bytes.now))) }
 {
     let mut line = WordLine::of(0, 0);
     let mut place = 0;
@@ -124,8 +134,10 @@ fn put_section<K: Sink>(
     code: &Code,
     section: Section,
 ) -> Result<(), Failed>
-    ensures ok { OnOk result (Puts (K.taken sink.old) (K.faults sink.old) piece.old (K.taken sink.new) (K.faults sink.new) piece.new (section_text code.now section)) }
-    ensures err { OnErr result (IsCut (K.taken sink.old) (K.faults sink.old) piece.old (K.taken sink.new) (K.faults sink.new) (section_text code.now section)) }
+    ensures ok { OnOk result (Puts (K.taken sink.old) (K.faults sink.old) piece.old
+        (K.taken sink.new) (K.faults sink.new) piece.new (section_text code.now section)) }
+    ensures err { OnErr result (IsCut (K.taken sink.old) (K.faults sink.old) piece.old
+        (K.taken sink.new) (K.faults sink.new) (section_text code.now section)) }
 {
     match section {
         Section::Items => put_items(sink, piece, &code.places),
@@ -148,8 +160,11 @@ fn put_sections<K: Sink>(
     code: &Code,
     sections: &[Section],
 ) -> Result<(), Failed>
-    ensures ok { OnOk result (Puts (K.taken sink.old) (K.faults sink.old) piece.old (K.taken sink.new) (K.faults sink.new) piece.new (flat_map (section_text code.now) sections.now)) }
-    ensures err { OnErr result (IsCut (K.taken sink.old) (K.faults sink.old) piece.old (K.taken sink.new) (K.faults sink.new) (flat_map (section_text code.now) sections.now)) }
+    ensures ok { OnOk result (Puts (K.taken sink.old) (K.faults sink.old) piece.old
+        (K.taken sink.new) (K.faults sink.new) piece.new
+        (flat_map (section_text code.now) sections.now)) }
+    ensures err { OnErr result (IsCut (K.taken sink.old) (K.faults sink.old) piece.old
+        (K.taken sink.new) (K.faults sink.new) (flat_map (section_text code.now) sections.now)) }
 {
     for section in sections {
         put_section(sink, piece, code, *section)?;
@@ -168,7 +183,8 @@ fn put_sections<K: Sink>(
 pub fn write_report<K: Sink>(sink: &mut K, piece: &mut Piece, code: &Code) -> Result<(), Failed>
     requires { piece.old ≡ [] }
     ensures all { OnOk result (Takes (K.taken sink.old) (K.taken sink.new) (report_of code.now)) }
-    ensures part { OnErr result (TakesPart (K.taken sink.old) (K.taken sink.new) (report_of code.now)) }
+    ensures part { OnErr result (TakesPart (K.taken sink.old) (K.taken sink.new)
+        (report_of code.now)) }
     ensures steady { OnOk result (K.faults sink.new ≡ K.faults sink.old) }
     ensures cause { OnErr result (HasFailed (K.faults sink.old) (K.faults sink.new)) }
 {
@@ -183,8 +199,10 @@ pub fn write_report<K: Sink>(sink: &mut K, piece: &mut Piece, code: &Code) -> Re
 /// A write failed; some first bytes may have been taken, but not all.
 pub fn write_words<K: Sink>(sink: &mut K, piece: &mut Piece, bytes: &[u8]) -> Result<(), Failed>
     requires { piece.old ≡ [] }
-    ensures all { OnOk result (Takes (K.taken sink.old) (K.taken sink.new) (words_text (words_in bytes.now))) }
-    ensures part { OnErr result (TakesPart (K.taken sink.old) (K.taken sink.new) (words_text (words_in bytes.now))) }
+    ensures all { OnOk result (Takes (K.taken sink.old) (K.taken sink.new)
+        (words_text (words_in bytes.now))) }
+    ensures part { OnErr result (TakesPart (K.taken sink.old) (K.taken sink.new)
+        (words_text (words_in bytes.now))) }
     ensures steady { OnOk result (K.faults sink.new ≡ K.faults sink.old) }
     ensures cause { OnErr result (HasFailed (K.faults sink.old) (K.faults sink.new)) }
 {

@@ -18,7 +18,8 @@ use std::alloc::Global;
 ///
 /// Want of memory.
 pub fn list_roles(alloc: Global, file: &File) -> Result<String, Fault>
-    ensures text { IfOk result (λ text. string_bytes text ≡ role_listing_of file.now.items.items) }
+    ensures text { IfOk result (λ text. string_bytes text
+        ≡ role_listing_of file.now.items.items) }
     ensures err { IfErr result (IsMakingFault commands.Roles (inputs.Items file.now)) }
 {
     match role_listing(alloc, &file.items) {

@@ -22,7 +22,8 @@ use std::alloc::Global;
 fn write_made<K: Sink>(alloc: Global, sink: &mut K, input: Input, made: Made) -> Ended
     ensures input { result.input ≡ Some input }
     ensures ends { EndsWriting (K.taken sink.old) (K.taken sink.new) made result.fault result.code }
-    ensures write { result.fault ≡ Some faults.Write → HasFailed (K.faults sink.old) (K.faults sink.new) }
+    ensures write { result.fault ≡ Some faults.Write
+        → HasFailed (K.faults sink.old) (K.faults sink.new) }
     ensures writes { FailsOnlyAt faults.Write result.fault
         (K.faults sink.old) (K.faults sink.new) }
 {
@@ -45,8 +46,10 @@ fn run_input<K: Sink>(alloc: Global, command: Command, sink: &mut K, input: Inpu
     requires kind { format_of input ≡ works_on command }
     requires few { IsFew input }
     ensures input { result.input ≡ Some input }
-    ensures ends { Ends command (K.taken sink.old) (K.taken sink.new) input result.fault result.code }
-    ensures write { result.fault ≡ Some faults.Write → HasFailed (K.faults sink.old) (K.faults sink.new) }
+    ensures ends { Ends command (K.taken sink.old)
+        (K.taken sink.new) input result.fault result.code }
+    ensures write { result.fault ≡ Some faults.Write
+        → HasFailed (K.faults sink.old) (K.faults sink.new) }
     ensures writes { FailsOnlyAt faults.Write result.fault
         (K.faults sink.old) (K.faults sink.new) }
 {
@@ -64,14 +67,17 @@ fn run_command<S: Source, K: Sink>(
     sink: &mut K,
 ) -> Ended
     requires { HasWords command }
-    ensures keeps { Keeps command (S.left source.old) (S.left source.new) (K.taken sink.old) (K.taken sink.new)
+    ensures keeps { Keeps command (S.left source.old) (S.left source.new) (K.taken sink.old)
+        (K.taken sink.new)
         result.fault result.input result.code }
     ensures usage { result.fault ≢ Some faults.Usage }
-    ensures read { result.fault ≡ Some faults.Read → HasFailed (S.faults source.old) (S.faults source.new) }
+    ensures read { result.fault ≡ Some faults.Read
+        → HasFailed (S.faults source.old) (S.faults source.new) }
     ensures reads { FailsOnlyAt faults.Read result.fault
         (S.faults source.old) (S.faults source.new) }
     ensures held { Held (works_on command) (S.left source.old) result.fault }
-    ensures write { result.fault ≡ Some faults.Write → HasFailed (K.faults sink.old) (K.faults sink.new) }
+    ensures write { result.fault ≡ Some faults.Write
+        → HasFailed (K.faults sink.old) (K.faults sink.new) }
     ensures writes { FailsOnlyAt faults.Write result.fault
         (K.faults sink.old) (K.faults sink.new) }
     ensures due { IsDueAnswer command (S.left source.old) result.fault }
@@ -95,19 +101,25 @@ fn run_words<S: Source, K: Sink>(
     ensures keeps { OfCommand (map string_bytes words.now) (λ command.
         Keeps command (S.left source.old) (S.left source.new) (K.taken sink.old) (K.taken sink.new)
         result.fault result.input result.code) }
-    ensures nothing { result.fault ≡ Some faults.Usage → (result.input ≡ None) × (result.code ≡ None) }
-    ensures usage { (result.fault ≡ Some faults.Usage) ↔ IsNoCommand (map string_bytes words.now) }
-    ensures read { result.fault ≡ Some faults.Read → HasFailed (S.faults source.old) (S.faults source.new) }
+    ensures nothing { result.fault ≡ Some faults.Usage
+        → (result.input ≡ None) × (result.code ≡ None) }
+    ensures usage { (result.fault ≡ Some faults.Usage)
+        ↔ IsNoCommand (map string_bytes words.now) }
+    ensures read { result.fault ≡ Some faults.Read
+        → HasFailed (S.faults source.old) (S.faults source.new) }
     ensures reads { FailsOnlyAt faults.Read result.fault
         (S.faults source.old) (S.faults source.new) }
     ensures held { OfCommand (map string_bytes words.now) (λ command.
         Held (works_on command) (S.left source.old) result.fault) }
-    ensures write { result.fault ≡ Some faults.Write → HasFailed (K.faults sink.old) (K.faults sink.new) }
+    ensures write { result.fault ≡ Some faults.Write
+        → HasFailed (K.faults sink.old) (K.faults sink.new) }
     ensures writes { FailsOnlyAt faults.Write result.fault
         (K.faults sink.old) (K.faults sink.new) }
-    ensures due { OfCommand (map string_bytes words.now) (λ command. IsDueAnswer command (S.left source.old) result.fault) }
+    ensures due { OfCommand (map string_bytes words.now)
+        (λ command. IsDueAnswer command (S.left source.old) result.fault) }
     ensures few { TakesFew (S.left source.old) (S.left source.new) }
-    ensures unread { OfCommand (map string_bytes words.now) (λ command. reads_source command ≡ false) → source.new ≡ source.old }
+    ensures unread { OfCommand (map string_bytes words.now) (λ command. reads_source command
+        ≡ false) → source.new ≡ source.old }
     ensures untouched { Untouched (K.taken sink.old) (K.taken sink.new) result.fault }
 {
     match command_of(words) {
@@ -170,31 +182,39 @@ pub fn run<S: Source, K: Sink, E: Sink>(
     // The headline, at status 0, and what is kept at the others; nothing where the words are no
     // command.
     ensures keeps { OfCommand (map string_bytes words.now) (λ command.
-        KeepsFiles command (S.left source.old) (S.left source.new) (K.taken sink.old) (K.taken sink.new) result) }
-    ensures nothing { result.fault ≡ Some faults.Usage → (kept_files result ≡ files_of None) × (result.code ≡ None) }
+        KeepsFiles command (S.left source.old) (S.left source.new) (K.taken sink.old)
+        (K.taken sink.new) result) }
+    ensures nothing { result.fault ≡ Some faults.Usage
+        → (kept_files result ≡ files_of None) × (result.code ≡ None) }
 
     // The causes of the answers. Where a count of failures rose, the answer is that failure.
-    ensures usage { (result.fault ≡ Some faults.Usage) ↔ IsNoCommand (map string_bytes words.now) }
-    ensures read { result.fault ≡ Some faults.Read → HasFailed (S.faults source.old) (S.faults source.new) }
+    ensures usage { (result.fault ≡ Some faults.Usage)
+        ↔ IsNoCommand (map string_bytes words.now) }
+    ensures read { result.fault ≡ Some faults.Read
+        → HasFailed (S.faults source.old) (S.faults source.new) }
     ensures reads { FailsOnlyAt faults.Read result.fault
         (S.faults source.old) (S.faults source.new) }
     ensures held { OfCommand (map string_bytes words.now) (λ command.
         Held (works_on command) (S.left source.old) result.fault) }
-    ensures write { result.fault ≡ Some faults.Write → HasFailed (K.faults sink.old) (K.faults sink.new) }
+    ensures write { result.fault ≡ Some faults.Write
+        → HasFailed (K.faults sink.old) (K.faults sink.new) }
     ensures writes { FailsOnlyAt faults.Write result.fault
         (K.faults sink.old) (K.faults sink.new) }
 
     // Each answer comes where it is due; want of memory alone is free.
-    ensures due { OfCommand (map string_bytes words.now) (λ command. IsDueAnswer command (S.left source.old) result.fault) }
+    ensures due { OfCommand (map string_bytes words.now)
+        (λ command. IsDueAnswer command (S.left source.old) result.fault) }
 
     // What the streams gave and took. A command that does not read the source leaves it as it was,
     // and so do words that are no command. `errs` gets the whole line, or where a write to it failed a
     // proper prefix, and at status 0 nothing.
     ensures few { TakesFew (S.left source.old) (S.left source.new) }
-    ensures unread { OfCommand (map string_bytes words.now) (λ command. reads_source command ≡ false) → source.new ≡ source.old }
+    ensures unread { OfCommand (map string_bytes words.now) (λ command. reads_source command
+        ≡ false) → source.new ≡ source.old }
     ensures untouched { Untouched (K.taken sink.old) (K.taken sink.new) result.fault }
     ensures silent { result.fault ≡ None → errs.new ≡ errs.old }
-    ensures said { IfSome result.fault (λ fault. ¬ HasFailed (E.faults errs.old) (E.faults errs.new)
+    ensures said { IfSome result.fault (λ fault. ¬ HasFailed (E.faults errs.old)
+        (E.faults errs.new)
         → Takes (E.taken errs.old) (E.taken errs.new) (fault_line fault)) }
     ensures cut { IfSome result.fault (λ fault. E.faults errs.old < E.faults errs.new
         → TakesPart (E.taken errs.old) (E.taken errs.new) (fault_line fault)) }

@@ -24,7 +24,8 @@ pub trait Source {
     fn read(&mut self, buf: &mut [u8]) -> Result<usize, Failed>
         requires { 0 < length buf.old }
         ensures few { IfOk result (λ n. n ≤ length buf.old) }
-        ensures takes { IfOk result (λ n. IfSome (left self.old) (λ text. TakesFront text n buf.new (left self.new))) }
+        ensures takes { IfOk result (λ n. IfSome (left self.old)
+            (λ text. TakesFront text n buf.new (left self.new))) }
         ensures stays { OnErr result (left self.new ≡ left self.old) }
         ensures rises { faults self.old ≤ faults self.new }
         ensures steady { OnOk result (faults self.new ≡ faults self.old) }
@@ -48,7 +49,8 @@ pub trait Sink {
     fn write(&mut self, bytes: &[u8]) -> Result<usize, Failed>
         requires { 0 < length bytes.now }
         ensures some { IfOk result (λ n. (0 < n) × (n ≤ length bytes.now)) }
-        ensures takes { IfOk result (λ n. Takes (taken self.old) (taken self.new) (take n bytes.now)) }
+        ensures takes { IfOk result (λ n. Takes (taken self.old) (taken self.new)
+            (take n bytes.now)) }
         ensures stays { OnErr result (taken self.new ≡ taken self.old) }
         ensures rises { faults self.old ≤ faults self.new }
         ensures steady { OnOk result (faults self.new ≡ faults self.old) }

@@ -53,8 +53,10 @@ pub fn write_summary<K: Sink>(
     code: &Code,
 ) -> Result<(), Failed>
     requires { piece.old ≡ [] }
-    ensures all { OnOk result (Takes (K.taken sink.old) (K.taken sink.new) (summary_of items code.now)) }
-    ensures part { OnErr result (TakesPart (K.taken sink.old) (K.taken sink.new) (summary_of items code.now)) }
+    ensures all { OnOk result (Takes (K.taken sink.old) (K.taken sink.new)
+        (summary_of items code.now)) }
+    ensures part { OnErr result (TakesPart (K.taken sink.old) (K.taken sink.new)
+        (summary_of items code.now)) }
     ensures steady { OnOk result (K.faults sink.new ≡ K.faults sink.old) }
     ensures cause { OnErr result (HasFailed (K.faults sink.old) (K.faults sink.new)) }
 {

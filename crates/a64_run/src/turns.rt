@@ -68,7 +68,8 @@ fn put_turn(items: &mut Vec<Item>, count: u32, number: u32) -> Result<(), AllocE
 
 /// Puts the items of all turns.
 fn put_turns(items: &mut Vec<Item>, count: u32) -> Result<(), AllocError>
-    ensures { OnOk result (items.new.items ≡ items.old.items ++ flat_map (gen_turn count) (range_with_len 0 count)) }
+    ensures { OnOk result (items.new.items ≡ items.old.items
+        ++ flat_map (gen_turn count) (range_with_len 0 count)) }
 {
     for number in 0..count {
         put_turn(items, count, number)?;

@@ -90,7 +90,8 @@ impl Stream {
     ///
     /// Want of memory.
     pub fn push(&mut self, step: Step) -> Result<(), AllocError>
-        ensures { OnOk result (self.new.items.items ≡ self.old.items.items ++ item_of step ∷ []) }
+        ensures { OnOk result (self.new.items.items
+            ≡ self.old.items.items ++ item_of step ∷ []) }
     {
         match step {
             Step::Bind(label) => self.items.push(Item::Bind(label))?,

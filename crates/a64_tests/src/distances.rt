@@ -28,7 +28,8 @@ fn distances_that_words_say(rt: HostRuntime) -> Result<(), Fail> {
 
 /// The word that another becomes where its use is patched.
 fn patched(kind: LabelUse, word: u32, use_offset: u32, label_offset: u32) -> u32
-    requires aligned { IsTrue (label_kinds.counts_words kind) → label_offset % 4 ≡ use_offset % 4 }
+    requires aligned { IsTrue (label_kinds.counts_words kind)
+        → label_offset % 4 ≡ use_offset % 4 }
     requires within { IsWithin (label_kinds.forward kind) (label_kinds.backward kind) use_offset
         label_offset }
 {

@@ -27,7 +27,8 @@ const FAR_BYTES: [u8; 16] = [
 /// Writes the words of a far veneer in front of its last, which stays.
 fn write_far(buffer: &mut [u8])
     requires { length buffer.old ≡ 20 }
-    ensures words { StandAt buffer.new 0 (0xf0000001 ∷ 0xf0000002 ∷ 0xf0000003 ∷ 0xf0000004 ∷ []) }
+    ensures words { StandAt buffer.new 0 (0xf0000001 ∷ 0xf0000002 ∷ 0xf0000003 ∷ 0xf0000004
+        ∷ []) }
     ensures last { word_at buffer.new 16 ≡ word_at buffer.old 16 }
 {
     buffer[..16].copy_from_slice(&FAR_BYTES);

@@ -48,7 +48,8 @@ fn emit_some(items: &mut Vec<Item>, inst: Option<Inst>) -> bool
 #[inline(always)]
 fn emit_called(items: &mut Vec<Item>, inst: Option<Inst>, map: Option<UserStackMap>) -> bool
     requires { vec_len items.old < vec_capacity items.old }
-    ensures { PutsEntry (option_map (λ i. called i map) inst) items.old.items items.new.items result }
+    ensures { PutsEntry
+        (option_map (λ i. called i map) inst) items.old.items items.new.items result }
 {
     match inst {
         Some(inst) => {

@@ -87,7 +87,8 @@ fn adjust_op(down: bool) -> ALUOp
 /// The word that moves the stack pointer by an amount that an addition holds.
 fn near_adjust_word(op: ALUOp, imm12: Imm12) -> u32
     requires { is_imm12 imm12 ≡ true }
-    ensures { result ≡ form_word (alu_rr_imm12_form op Size64 (integer_register 63) (integer_register 63) imm12) }
+    ensures { result ≡ form_word (alu_rr_imm12_form op Size64 (integer_register 63)
+        (integer_register 63) imm12) }
 {
     alu_rr_imm12_word(
         op,
@@ -100,7 +101,8 @@ fn near_adjust_word(op: ALUOp, imm12: Imm12) -> u32
 
 /// The word that moves the stack pointer by the amount in x16.
 fn far_adjust_word(op: ALUOp) -> u32
-    ensures { result ≡ form_word (alu_rrr_extend_form op Size64 (integer_register 63) (integer_register 63) offset_register UXTX) }
+    ensures { result ≡ form_word (alu_rrr_extend_form op Size64 (integer_register 63)
+        (integer_register 63) offset_register UXTX) }
 {
     alu_rrr_extend_word(
         op,
@@ -126,7 +128,10 @@ fn push_all(words: &mut ArrayVec<u32, 8>, more: &[u32])
 fn push_far_adjust(words: &mut ArrayVec<u32, 8>, op: ALUOp, amount: u32)
     requires { length words.old.items ≤ 1 }
     ensures few { length words.new.items ≤ length words.old.items + 5 }
-    ensures words { words.new.items ≡ words.old.items ++ map form_word (step_forms offset_register (plan_of amount) ++ alu_rrr_extend_form op Size64 (integer_register 63) (integer_register 63) offset_register UXTX ∷ []) }
+    ensures words { words.new.items ≡ words.old.items
+        ++ map form_word (step_forms offset_register (plan_of amount)
+        ++ alu_rrr_extend_form op Size64 (integer_register 63)
+        (integer_register 63) offset_register UXTX ∷ []) }
 {
     let plan = const_plan(u64::from(amount));
     let steps = step_words(writable_spilltmp_reg(), plan.as_slice());
@@ -138,7 +143,9 @@ fn push_far_adjust(words: &mut ArrayVec<u32, 8>, op: ALUOp, amount: u32)
 fn push_adjust(words: &mut ArrayVec<u32, 8>, amount: u32, down: bool)
     requires few { length words.old.items ≤ 1 }
     ensures few { length words.new.items ≤ length words.old.items + 5 }
-    ensures words { (by : ℤ) → unsigned_abs by ≡ amount → (1 ≤ amount → is_negative by ≡ down) → words.new.items ≡ words.old.items ++ map form_word (adjust_forms by) }
+    ensures words { (by : ℤ) → unsigned_abs by ≡ amount
+        → (1 ≤ amount → is_negative by ≡ down)
+        → words.new.items ≡ words.old.items ++ map form_word (adjust_forms by) }
 {
     if amount == 0 {
         return;
@@ -164,7 +171,11 @@ pub fn pop_words(pop: u32) -> ArrayVec<u32, 8>
 fn frame_word(setup: u32) -> u32
     requires small { setup ≤ 504 }
     requires aligned { setup % 8 ≡ 0 }
-    ensures { result ≡ form_word (pair_form 1 (integer_register 29) (integer_register 30) (SPPostIndexed (record { value = pos setup; scale_ty = I64 }))) }
+    ensures { result ≡ form_word (pair_form 1 (integer_register 29) (integer_register 30)
+        (SPPostIndexed (record {
+          value = pos setup;
+          scale_ty = I64;
+        }))) }
 {
     let simm7 = SImm7Scaled {
         value: setup as i16,

@@ -50,7 +50,8 @@ pub struct SeveralWords {
 fn access_words(access: &AccessRef<'_>, frame: &FrameLayout) -> SeveralWords
     requires operands { memory.are_access_operands frame.now Refused access.now ≡ true }
     requires mode { memory.has_access_mode access.now.op access.now.mem ≡ true }
-    ensures { AreSeveral result.first.items result.last result.site result.trap (access_shape frame.now access.now) }
+    ensures { AreSeveral result.first.items result.last result.site result.trap
+        (access_shape frame.now access.now) }
 {
     let ty = access.ty();
     let steps = final_steps(frame, ty, access.mem);
@@ -131,7 +132,8 @@ pub fn memory_words(inst: &Inst, frame: &FrameLayout, info: &EmitInfo) -> Option
     requires good { has_operands frame.now info.now Refused inst.now ≡ true }
     requires mode { has_mode inst.now ≡ true }
     ensures { MatchOption result (shape_of frame.now info.now inst.now ≡ Words [])
-        (λ words. AreSeveral words.first.items words.last words.site words.trap (shape_of frame.now info.now inst.now)) }
+        (λ words. AreSeveral words.first.items words.last words.site words.trap
+        (shape_of frame.now info.now inst.now)) }
 {
     if let Some(access) = inst.access_ref() {
         return Some(access_words(&access, frame));

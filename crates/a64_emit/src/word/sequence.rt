@@ -112,7 +112,9 @@ fn push_jump(words: &mut ArrayVec<u32, 10>, rtmp1: Writable<Reg>, rtmp2: Writabl
     requires few { length words.old.items ≤ 6 }
     requires rtmp1 { is_register Refused rtmp1 ≡ true }
     requires rtmp2 { is_register Refused rtmp2 ≡ true }
-    ensures { words.new.items ≡ words.old.items ++ map form_word (adr_form rtmp1 (pos 16) ∷ indexed_form SLoad32 rtmp2 rtmp1 rtmp2 2 1 ∷ alu_rrr_form Add Size64 rtmp1 rtmp1 rtmp2 ∷ indirect_br_form rtmp1 ∷ []) }
+    ensures { words.new.items ≡ words.old.items
+        ++ map form_word (adr_form rtmp1 (pos 16) ∷ indexed_form SLoad32 rtmp2 rtmp1 rtmp2 2 1
+        ∷ alu_rrr_form Add Size64 rtmp1 rtmp1 rtmp2 ∷ indirect_br_form rtmp1 ∷ []) }
 {
     words.push(adr_word(rtmp1, 16));
     words.push(entry_word(rtmp1, rtmp2));
@@ -169,7 +171,10 @@ pub fn offset_entry_word(rd: Writable<Reg>) -> u32
 #[tactic(auto, using(crate::proofs::Operands::numbered_real))]
 pub fn place_word(rd: Writable<Reg>) -> u32
     requires { is_register Refused rd ≡ true }
-    ensures { result ≡ form_word (alu_rr_imm12_form Add Size64 rd rd (record { bits = 0; shift12 = false })) }
+    ensures { result ≡ form_word (alu_rr_imm12_form Add Size64 rd rd (record {
+      bits = 0;
+      shift12 = false;
+    })) }
 {
     alu_rr_imm12_word(
         ALUOp::Add,
@@ -184,7 +189,8 @@ pub fn place_word(rd: Writable<Reg>) -> u32
 #[tactic(auto, using(crate::proofs::SequenceOperands::data_good), unfolding(a64_inst::specs::ControlOperands::are_jump_operands))]
 pub fn far_words(rd: Writable<Reg>) -> [u32; 2]
     requires { is_register Refused rd ≡ true }
-    ensures { result ≡ form_word (literal_form ULoad64 rd 2) ∷ form_word (jump_form (ResolvedOffset (pos 12))) ∷ [] }
+    ensures { result ≡ form_word (literal_form ULoad64 rd 2)
+        ∷ form_word (jump_form (ResolvedOffset (pos 12))) ∷ [] }
 {
     [
         literal_word(AccessOp::ULoad64, rd.to_reg(), 2),

@@ -53,7 +53,8 @@ fn defs(virtuals: VirtualRegisters, pairs: &[CallRetPair]) -> bool
 /// Of a call, beside its address.
 #[tactic(auto, unfolding(crate::specs::CallOperands::are_call_operands))]
 fn call<T>(virtuals: VirtualRegisters, info: &CallInfo<T>) -> bool
-    ensures { result ≡ sets.are_call_operands virtuals info.now.uses info.now.defs info.now.callee_pop_size }
+    ensures { result
+        ≡ sets.are_call_operands virtuals info.now.uses info.now.defs info.now.callee_pop_size }
 {
     uses(virtuals, info.uses.as_slice())
         && defs(virtuals, info.defs.as_slice())
@@ -78,7 +79,9 @@ fn return_call<T>(
     restorable: bool,
     info: &ReturnCallInfo<T>,
 ) -> bool
-    ensures { result ≡ sets.are_return_operands frame.now virtuals restorable info.now.uses info.now.new_stack_arg_size }
+    ensures { result
+        ≡ sets.are_return_operands frame.now virtuals restorable info.now.uses
+        info.now.new_stack_arg_size }
 {
     uses(virtuals, info.uses.as_slice())
         && has_return_frame(frame, info.new_stack_arg_size)

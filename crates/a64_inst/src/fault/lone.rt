@@ -51,7 +51,11 @@ fn is_lone_sum(rd: &Reg, rn: &Reg, offset: i32) -> bool
 /// Whether the sum of the base and the offset of a mode that no instruction holds is one word: where an
 /// access of one byte holds the offset, an addition does.
 fn is_lone_place(rd: &Reg, place: &Place) -> bool
-    ensures { result ≡ lone.is_lone_address rd.now (is_far I8 place.now.offset) (placed_mode I8 (record { base = place.now.base; offset = place.now.offset })) }
+    ensures { result ≡ lone.is_lone_address rd.now (is_far I8 place.now.offset)
+        (placed_mode I8 (record {
+          base = place.now.base;
+          offset = place.now.offset;
+        })) }
 {
     if place.offset == 0 {
         is_other_register(rd, &place.base)
@@ -62,7 +66,8 @@ fn is_lone_place(rd: &Reg, place: &Place) -> bool
 
 /// Whether the address of a mode is one word.
 fn is_lone_address(rd: &Reg, frame: &FrameLayout, mem: &AMode) -> bool
-    ensures { result ≡ lone.is_lone_address rd.now (needs_x16 frame.now I8 mem.now) (final_mode frame.now I8 mem.now) }
+    ensures { result ≡ lone.is_lone_address rd.now (needs_x16 frame.now I8 mem.now)
+        (final_mode frame.now I8 mem.now) }
 {
     match *mem {
         AMode::Unscaled { rn, simm9 } => is_lone_sum(rd, &rn, i32::from(simm9.value)),

@@ -33,8 +33,12 @@ fn pool_fault(
     constant: Option<u32>,
     virtuals: VirtualRegisters,
 ) -> Option<OwnFault>
-    ensures { result ≡ first_of (
-        (sets.is_data_register virtuals access.now.op access.now.reg && (is_none (literal_of access.now.op) || sets.is_within_size constant access.now), own.BadOperand)
+    ensures { result ≡ first_of ((
+      sets.is_data_register virtuals access.now.op access.now.reg
+          && (is_none (literal_of access.now.op)
+          || sets.is_within_size constant access.now),
+      own.BadOperand,
+    )
         ∷ (is_some (literal_of access.now.op), own.BadMode)
         ∷ (is_some constant, own.UnknownConstant) ∷ []) }
 {
@@ -58,11 +62,15 @@ fn access_fault(
     constant: Option<u32>,
     virtuals: VirtualRegisters,
 ) -> Option<OwnFault>
-    ensures { result ≡ first_of (
-        (sets.are_access_operands frame.now virtuals access.now && sets.is_within constant access.now, own.BadOperand)
+    ensures { result ≡ first_of ((
+      sets.are_access_operands frame.now virtuals access.now
+          && sets.is_within constant access.now,
+      own.BadOperand,
+    )
         ∷ (sets.has_access_mode access.now.op access.now.mem, own.BadMode)
         ∷ (sets.has_access_scratch frame.now access.now, own.ScratchConflict)
-        ∷ (is_none (constant_in access.now.mem) || is_some constant, own.UnknownConstant) ∷ []) }
+        ∷ (is_none (constant_in access.now.mem) || is_some constant, own.UnknownConstant)
+        ∷ []) }
 {
     if !operand::access(frame, virtuals, access) || !constant::is_within(constant, access) {
         return Some(OwnFault::BadOperand);

@@ -61,7 +61,8 @@ fn call_info<T: Drop>(dest: T, values: &[Value], lists: CallLists) -> CallInfo<T
 /// The call of a symbol.
 #[tactic(auto, unfolding(crate::specs::Makes::Makes))]
 fn call(alloc: Global, values: &[Value]) -> Result<Option<Inst>, AllocError>
-    ensures { IfOk result (λ (inst : Option Inst). Makes (names.Call call.Call) values.now (option_map (λ i. called i (map_at values.now 8)) inst)) }
+    ensures { IfOk result (λ (inst : Option Inst). Makes (names.Call call.Call) values.now
+        (option_map (λ i. called i (map_at values.now 8)) inst)) }
 {
     let Some(lists) = call_lists(alloc, values)? else {
         return Ok(None);
@@ -75,7 +76,8 @@ fn call(alloc: Global, values: &[Value]) -> Result<Option<Inst>, AllocError>
 /// The call of the address in a register.
 #[tactic(auto, unfolding(crate::specs::Makes::Makes))]
 fn call_ind(alloc: Global, values: &[Value]) -> Result<Option<Inst>, AllocError>
-    ensures { IfOk result (λ (inst : Option Inst). Makes (names.Call call.CallInd) values.now (option_map (λ i. called i (map_at values.now 8)) inst)) }
+    ensures { IfOk result (λ (inst : Option Inst). Makes (names.Call call.CallInd) values.now
+        (option_map (λ i. called i (map_at values.now 8)) inst)) }
 {
     let Some(lists) = call_lists(alloc, values)? else {
         return Ok(None);
@@ -106,7 +108,8 @@ fn return_call_info<T: Drop>(
 /// The return that calls a symbol.
 #[tactic(auto, unfolding(crate::specs::Makes::Makes))]
 fn return_call(alloc: Global, values: &[Value]) -> Result<Option<Inst>, AllocError>
-    ensures { IfOk result (λ inst. Makes (names.Call call.ReturnCall) values.now (option_map emitted inst)) }
+    ensures { IfOk result (λ inst. Makes (names.Call call.ReturnCall) values.now
+        (option_map emitted inst)) }
 {
     let Some(uses) = read_list::<CallArgPair>(alloc, at::list(values, 1))? else {
         return Ok(None);
@@ -120,7 +123,8 @@ fn return_call(alloc: Global, values: &[Value]) -> Result<Option<Inst>, AllocErr
 /// The return that calls the address in a register.
 #[tactic(auto, unfolding(crate::specs::Makes::Makes))]
 fn return_call_ind(alloc: Global, values: &[Value]) -> Result<Option<Inst>, AllocError>
-    ensures { IfOk result (λ inst. Makes (names.Call call.ReturnCallInd) values.now (option_map emitted inst)) }
+    ensures { IfOk result (λ inst. Makes (names.Call call.ReturnCallInd) values.now
+        (option_map emitted inst)) }
 {
     let Some(uses) = read_list::<CallArgPair>(alloc, at::list(values, 1))? else {
         return Ok(None);

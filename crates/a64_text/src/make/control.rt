@@ -19,7 +19,8 @@ use std::alloc::{AllocError, Global};
 /// The branch to what a register holds, with its targets.
 #[tactic(auto, unfolding(crate::specs::Makes::Makes))]
 fn indirect_br(alloc: Global, values: &[Value]) -> Result<Option<Inst>, AllocError>
-    ensures { IfOk result (λ inst. Makes (names.Control control.IndirectBr) values.now (option_map emitted inst)) }
+    ensures { IfOk result (λ inst. Makes (names.Control control.IndirectBr) values.now
+        (option_map emitted inst)) }
 {
     let Some(targets) = read_list::<MachLabel>(alloc, at::list(values, 1))? else {
         return Ok(None);

@@ -19,7 +19,8 @@ use std::alloc::{AllocError, Global};
 /// The arguments with which a function is entered.
 #[tactic(auto, unfolding(crate::specs::Makes::Makes))]
 fn args(alloc: Global, values: &[Value]) -> Result<Option<Inst>, AllocError>
-    ensures { IfOk result (λ inst. Makes (names.Sequence sequence.Args) values.now (option_map emitted inst)) }
+    ensures { IfOk result (λ inst. Makes (names.Sequence sequence.Args) values.now
+        (option_map emitted inst)) }
 {
     let Some(args) = read_list::<ArgPair>(alloc, at::list(values, 0))? else {
         return Ok(None);
@@ -30,7 +31,8 @@ fn args(alloc: Global, values: &[Value]) -> Result<Option<Inst>, AllocError>
 /// The results with which a function is left.
 #[tactic(auto, unfolding(crate::specs::Makes::Makes))]
 fn rets(alloc: Global, values: &[Value]) -> Result<Option<Inst>, AllocError>
-    ensures { IfOk result (λ inst. Makes (names.Sequence sequence.Rets) values.now (option_map emitted inst)) }
+    ensures { IfOk result (λ inst. Makes (names.Sequence sequence.Rets) values.now
+        (option_map emitted inst)) }
 {
     let Some(rets) = read_list::<RetPair>(alloc, at::list(values, 0))? else {
         return Ok(None);
@@ -41,7 +43,8 @@ fn rets(alloc: Global, values: &[Value]) -> Result<Option<Inst>, AllocError>
 /// The jump through a table, with its targets.
 #[tactic(auto, unfolding(crate::specs::Makes::Makes))]
 fn jt_sequence(alloc: Global, values: &[Value]) -> Result<Option<Inst>, AllocError>
-    ensures { IfOk result (λ inst. Makes (names.Sequence sequence.JTSequence) values.now (option_map emitted inst)) }
+    ensures { IfOk result (λ inst. Makes (names.Sequence sequence.JTSequence) values.now
+        (option_map emitted inst)) }
 {
     let Some(targets) = read_list::<MachLabel>(alloc, at::list(values, 1))? else {
         return Ok(None);

@@ -46,7 +46,8 @@ fn imm9_word(op: AccessOp, rt: Reg, mode: u32, rn: Reg, simm9: SImm9) -> u32
 pub fn unsigned_word(op: AccessOp, rt: Reg, rn: Reg, uimm12: UImm12Scaled) -> u32
     requires rt { is_data_register Refused op rt ≡ true }
     requires rn { IsGeneral rn }
-    ensures { result ≡ form_word (forms.unsigned_form op rt rn (uimm12_value uimm12 / type_bytes (uimm12_scale uimm12))) }
+    ensures { result ≡ form_word (forms.unsigned_form op rt rn
+        (uimm12_value uimm12 / type_bytes (uimm12_scale uimm12))) }
 {
     let (sz, v, opc) = (op.size_field(), op.vector_field(), op.opc_field());
     let (rn, rt) = (register_field(rn), register_field(rt));
@@ -67,7 +68,8 @@ pub fn indexed_word(
     requires rn { IsGeneral rn }
     requires rm { IsGeneral rm }
     requires extendop { limits.is_index_extend (extend_bits extendop) ≡ true }
-    ensures { result ≡ form_word (forms.indexed_form op rt rn rm (extend_bits extendop) (bit_of scaled)) }
+    ensures { result ≡ form_word (forms.indexed_form op rt rn rm (extend_bits extendop)
+        (bit_of scaled)) }
 {
     let (sz, v, opc) = (op.size_field(), op.vector_field(), op.opc_field());
     let (ext, s) = (u32::from(extendop.bits()), u32::from(scaled));

@@ -87,7 +87,8 @@ fn far_sum(rd: Writable<Reg>, rn: Reg, offset: i32) -> SeveralWords
     requires rd { operands.is_register Refused rd ≡ true }
     requires rn { operands.is_register_or_zero Refused rn ≡ true }
     ensures { AreSeveral result.first.items result.last result.site result.trap
-        (quiet (forms.step_forms forms.addend_register (plan_of (unsigned_abs offset))) (forms.sum_form rd rn offset)) }
+        (quiet (forms.step_forms forms.addend_register (plan_of (unsigned_abs offset)))
+        (forms.sum_form rd rn offset)) }
 {
     let plan = const_plan(u64::from(offset.unsigned_abs()));
     SeveralWords {
@@ -103,9 +104,11 @@ fn far_sum(rd: Writable<Reg>, rn: Reg, offset: i32) -> SeveralWords
 fn sum_words(rd: Writable<Reg>, rn: Reg, offset: i32) -> Option<SeveralWords>
     requires rd { operands.is_register Refused rd ≡ true }
     requires rn { operands.is_register_or_stack Refused rn ≡ true }
-    requires far { memory.is_addend (unsigned_abs offset) ≡ false → is_numbered 63 rn ≡ false }
+    requires far { memory.is_addend (unsigned_abs offset) ≡ false
+        → is_numbered 63 rn ≡ false }
     ensures { MatchOption result (sum_shape rd rn offset ≡ Words [])
-        (λ words. AreSeveral words.first.items words.last words.site words.trap (sum_shape rd rn offset)) }
+        (λ words. AreSeveral words.first.items words.last words.site words.trap
+        (sum_shape rd rn offset)) }
 {
     if offset == 0 {
         if is_same_register(&rd.to_reg(), &rn) {
@@ -130,9 +133,12 @@ fn sum_words(rd: Writable<Reg>, rn: Reg, offset: i32) -> Option<SeveralWords>
 pub fn address_words(rd: Writable<Reg>, frame: &FrameLayout, mem: &AMode) -> Option<SeveralWords>
     requires { memory.are_address_operands frame.now Refused rd mem.now ≡ true }
     ensures { MatchOption result
-        (address_shape rd (forms.step_forms forms.offset_register (finals.final_steps frame.now I8 mem.now)) (finals.final_mode frame.now I8 mem.now) ≡ Words [])
+        (address_shape rd (forms.step_forms forms.offset_register
+        (finals.final_steps frame.now I8 mem.now)) (finals.final_mode frame.now I8 mem.now)
+        ≡ Words [])
         (λ words. AreSeveral words.first.items words.last words.site words.trap
-        (address_shape rd (forms.step_forms forms.offset_register (finals.final_steps frame.now I8 mem.now)) (finals.final_mode frame.now I8 mem.now))) }
+        (address_shape rd (forms.step_forms forms.offset_register
+        (finals.final_steps frame.now I8 mem.now)) (finals.final_mode frame.now I8 mem.now))) }
 {
     match final_mode(frame, IrType::I8, mem) {
         AMode::Unscaled { rn, simm9 } => sum_words(rd, rn, i32::from(simm9.value)),
@@ -165,7 +171,9 @@ fn sum_count(rd: &Reg, rn: &Reg, offset: i32) -> u64
 
 /// How many words the address of a mode has.
 pub fn address_count(rd: &Reg, frame: &FrameLayout, mem: &AMode) -> u64
-    ensures { result ≡ length (shape_cells (address_shape rd.now (forms.step_forms forms.offset_register (finals.final_steps frame.now I8 mem.now)) (finals.final_mode frame.now I8 mem.now))) }
+    ensures { result ≡ length (shape_cells (address_shape rd.now
+        (forms.step_forms forms.offset_register (finals.final_steps frame.now I8 mem.now))
+        (finals.final_mode frame.now I8 mem.now))) }
 {
     match final_mode(frame, IrType::I8, mem) {
         AMode::Unscaled { rn, simm9 } => sum_count(rd, &rn, i32::from(simm9.value)),

@@ -115,7 +115,10 @@ pub struct TwoRegisters {
 #[inline(always)]
 pub fn alu_word(op: ALUOp, shift: ShiftOp, amount: u8, registers: TwoRegisters) -> u32
     requires { IsFormOf (alu_form op (record { op = shift; amount = amount }) registers) }
-    ensures { result ≡ form_word (alu_form op (record { op = shift; amount = amount }) registers) }
+    ensures { result ≡ form_word (alu_form op (record {
+      op = shift;
+      amount = amount;
+    }) registers) }
 {
     let TwoRegisters { sf, rm, rn, rd } = registers;
     let sh = u32::from(shift.bits());
