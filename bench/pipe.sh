@@ -1,5 +1,5 @@
 #!/usr/bin/env bash
-# Sends each file of examples/ through the commands: the report of `asm` has to be clean by `audit`, with the ranges of data that
+# Sends each file of examples/ and examples/run/ through the commands: the report of `asm` has to be clean by `audit`, with the ranges of data that
 # a file of the same name with the ending .data has, and what `undis` reads of what `dis` writes has to be the words of the
 # report. A file that `asm` refuses, since its registers are virtual, is passed over.
 # Usage: [PROGRAM=FILE] bench/pipe.sh
@@ -9,7 +9,7 @@ program=${PROGRAM:-crates/a64_cli/out/a64_cli}
 work=$(mktemp -d)
 trap 'rm -rf "$work"' EXIT
 count=0
-for file in examples/*.txt; do
+for file in examples/*.txt examples/run/*.txt; do
     if ! "$program" asm < "$file" > "$work/report" 2> "$work/fault"; then
         echo "$file: passed over: $(cat "$work/fault")"
         continue
