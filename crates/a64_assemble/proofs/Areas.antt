@@ -18,7 +18,7 @@ use Rattle.a64_buffer.specs.declared.class.Class.TheVariants.{Near, Middle, Load
 use Rattle.a64_buffer.specs.declared.finish.Finished.{Finished}
 use Rattle.a64_buffer.specs.declared.force.ForceVeneers.{ForceVeneers}
 use Rattle.a64_buffer.specs.Constants.{AreConstants, IsConstant}
-use Rattle.a64_buffer.specs.Word.{word_at, words_of}
+use Rattle.a64_words.specs.Word.{word_at, words_of}
 use Rattle.a64_buffer.specs.Kinds.{GoesTo}
 use Rattle.a64_buffer.specs.Buffer.{Buffer, end_of, goal_of}
 use Rattle.a64_buffer.specs.Classes.{class, class_of, wants, is_open}
@@ -29,7 +29,7 @@ use Rattle.a64_buffer.specs.Pieces as pieces
 use Rattle.a64_buffer.specs.Pieces.{IsAnswered, Serves, IsServed, StopsAtPiece}
 use Rattle.a64_buffer.specs.Finished.{IsFinished}
 use Rattle.a64_buffer.proofs.Emitting.{stops_below}
-use Rattle.a64_buffer.proofs.WordLists.{words_whole}
+use Rattle.a64_words.proofs.WordLists.{words_whole}
 use Rattle.a64_emit.specs.declared.code.Code.{Code}
 use Rattle.a64_label_use.specs.declared.label_use.LabelUse.{LabelUse}
 use Rattle.a64_label_use.specs.declared.label_use.LabelUse.TheVariants as uses

@@ -8,7 +8,7 @@ use Rattle.a64_buffer.specs.declared.site.Use.{Use}
 use Rattle.a64_buffer.specs.declared.site.Target.{Target}
 use Rattle.a64_buffer.specs.declared.site.Target.TheVariants.{Label, Constant, Trap, IslandEnd}
 use Rattle.a64_buffer.specs.declared.finish.Finished.{Finished}
-use Rattle.a64_buffer.specs.Word.{outside, word_at, words_of, StandAt}
+use Rattle.a64_words.specs.Word.{outside, word_at, words_of, StandAt}
 use Rattle.a64_buffer.specs.Areas.{InArea}
 use Rattle.a64_buffer.specs.Kinds.{GoesTo}
 use Rattle.a64_buffer.specs.Buffer.{Buffer, end_of, IsFree}

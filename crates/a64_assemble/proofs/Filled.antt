@@ -13,7 +13,7 @@ use Rattle.a64_buffer.specs.declared.site.Target.{Target}
 use Rattle.a64_buffer.specs.declared.site.Target.TheVariants.{Label, Constant, Trap, IslandEnd}
 use Rattle.a64_buffer.specs.declared.class.Class.{Class}
 use Rattle.a64_buffer.specs.declared.class.Class.TheVariants.{Near, Middle, Load, Trapping, Far, Direct}
-use Rattle.a64_buffer.specs.Word.{outside, word_at, words_of, StandAt}
+use Rattle.a64_words.specs.Word.{outside, word_at, words_of, StandAt}
 use Rattle.a64_buffer.specs.Buffer.{IsFree}
 use Rattle.a64_buffer.specs.Classes.{class}
 use Rattle.a64_buffer.specs.Finished.{IsSettled}

@@ -19,7 +19,7 @@ use Rattle.a64_buffer.specs.declared.class.Class.TheVariants.{Near, Middle}
 use Rattle.a64_buffer.specs.declared.finish.Finished.{Finished}
 use Rattle.a64_buffer.specs.declared.force.ForceVeneers.{ForceVeneers}
 use Rattle.a64_buffer.specs.Constants.{AreConstants}
-use Rattle.a64_buffer.specs.Word.{outside, word_at}
+use Rattle.a64_words.specs.Word.{outside, word_at}
 use Rattle.a64_buffer.specs.Buffer.{Buffer, end_of, label_of, goal_of, is_within, IsBound}
 use Rattle.a64_buffer.specs.Classes.{class, class_of, wants}
 use Rattle.a64_buffer.specs.Islands.{IsNewUse}

@@ -13,7 +13,7 @@ use Rattle.a64_inst.specs.declared.item.Item.{Item}
 use Rattle.a64_inst.specs.declared.item.Item.TheVariants.{Bind, Emit}
 use Rattle.a64_buffer.specs.declared.finish.Finished.{Finished}
 use Rattle.a64_buffer.specs.declared.force.ForceVeneers.{ForceVeneers}
-use Rattle.a64_buffer.specs.Word.{outside, word_at}
+use Rattle.a64_words.specs.Word.{outside, word_at}
 use Rattle.a64_buffer.specs.Buffer.{Buffer, end_of}
 use Rattle.a64_buffer.specs.Finished.{IsFinished}
 use Rattle.a64_buffer.specs.Sound.{HasJump}

@@ -14,7 +14,7 @@ use Rattle.a64_buffer.specs.declared.site.Target.TheVariants.{Label, Constant, T
 use Rattle.a64_buffer.specs.declared.finish.Finished.{Finished}
 use Rattle.a64_buffer.specs.declared.force.ForceVeneers.{ForceVeneers}
 use Rattle.a64_buffer.specs.Areas.{InArea}
-use Rattle.a64_buffer.specs.Word.{outside, word_at}
+use Rattle.a64_words.specs.Word.{outside, word_at}
 use Rattle.a64_buffer.specs.Kinds.{GoesTo}
 use Rattle.a64_buffer.specs.Buffer.{Buffer, end_of, label_of, goal_of, IsFree}
 use Rattle.a64_buffer.specs.Classes.{wants, class, class_of}

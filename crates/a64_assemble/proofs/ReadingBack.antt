@@ -17,7 +17,7 @@ use Rattle.a64_rows.specs.Forms.{Form, form_word, IsFormOf, IsWordOf, Matches, H
 use Rattle.a64_rows.proofs.Masks.{under_both}
 use Rattle.a64_rows.proofs.Table.{row_sound}
 use Rattle.a64_rows.proofs.Matching.{word_values, word_fixed, one_form, match_is_word}
-use Rattle.a64_buffer.specs.Word.{outside, word_at}
+use Rattle.a64_words.specs.Word.{outside, word_at}
 use Rattle.a64_label_use.specs.declared.label_use.LabelUse.TheVariants as uses
 use Rattle.a64_emit.specs.declared.site.Site.{Site}
 use Rattle.a64_label_use.specs.LabelUses.{mask_for}

@@ -14,7 +14,7 @@ use Rattle.a64_buffer.specs.declared.site.Target.TheVariants.{Label, Constant, T
 use Rattle.a64_buffer.specs.Areas.{InArea}
 use Rattle.a64_buffer.specs.Buffer.{label_of}
 use Rattle.a64_buffer.specs.Classes.{wants}
-use Rattle.a64_buffer.specs.Word.{outside, word_at}
+use Rattle.a64_words.specs.Word.{outside, word_at}
 use Rattle.a64_emit.specs.declared.code.Code.{Code}
 use Rattle.a64_label_use.specs.declared.label_use.LabelUse.{LabelUse}
 use Rattle.a64_label_use.specs.declared.label_use.LabelUse.TheVariants as uses

@@ -3,7 +3,7 @@ use Rattle.std.specs.Prelude.{ℕ, ◌≡◌, ◌≢◌, ◌<◌, List, length, 
 use Rattle.a64_rows.specs.declared.row_table.Slot.{Slot}
 use Rattle.a64_rows.specs.Rows.{slots_of}
 use Rattle.a64_rows.specs.Forms.{Form, IsWordOf, IsOnlyFormOf, mask_of}
-use Rattle.a64_buffer.specs.Word.{word_at}
+use Rattle.a64_words.specs.Word.{word_at}
 use Rattle.a64_emit.specs.declared.site.Site.{Site}
 use Rattle.a64_emit.specs.Cells.{Body, FormOf, Data, Cell}
 use Rattle.a64_emit.specs.Layout.{site_mask}

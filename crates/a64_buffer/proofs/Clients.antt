@@ -12,7 +12,7 @@ use Rattle.a64_buffer.specs.declared.site.Target.TheVariants.{Label, Constant}
 use Rattle.a64_buffer.specs.declared.force.ForceVeneers.{ForceVeneers}
 use Rattle.a64_buffer.specs.declared.force.ForceVeneers.TheVariants.{No}
 use Rattle.a64_buffer.specs.declared.finish.Finished.{Finished}
-use Rattle.a64_buffer.specs.Word.{words_of}
+use Rattle.a64_words.specs.Word.{words_of}
 use Rattle.a64_buffer.specs.Kinds.{Kinds, IsLawful, IsWithin}
 use Rattle.a64_buffer.specs.Buffer.{Records, Buffer, end_of, new_buffer, label_of, made_use, closed_at, IsFree, IsOutside, IsBound, IsReached}
 use Rattle.a64_buffer.specs.Classes.{Level, first, second, third, level_of, cost, class, range_of, is_open, weigh, burden, HasRoom, Fits}
@@ -20,7 +20,7 @@ use Rattle.a64_buffer.specs.Sound.{IsPlaced, IsWhole}
 use Rattle.a64_buffer.specs.Islands.{IsVeneerUse, HasIsland}
 use Rattle.a64_buffer.specs.Finished.{IsFinished}
 use Rattle.a64_buffer.specs.Grown.{MakesRoom, AddsUse, GrowsBy, AreThere, IsEasy, IsGrown}
-use Rattle.a64_buffer.proofs.WordLists.{words_short}
+use Rattle.a64_words.proofs.WordLists.{words_short}
 use Rattle.a64_buffer.proofs.Labels.{get_here, get_other}
 use Rattle.a64_buffer.proofs.Costs.{weight-append, weight-cons}
 use Rattle.a64_buffer.proofs.Rooms.{few_bytes, less_room, use_room}

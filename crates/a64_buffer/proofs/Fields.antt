@@ -4,7 +4,7 @@ use Rattle.std.specs.Int.Bits.{and_self, or_zero_l, and_zero_r}
 use Rattle.std.proofs.lemmas.Nat.{and_comm, and_or_apart, and_assoc, or_shr, or_mod, and_shr, and_mod, mod_below, shl-shr, pow-add, shr_high, mod_low, pow_pos, and-not, shl_whole, and_mask, shl_below}
 use Rattle.std.proofs.lemmas.Nat.Bits.{ones_shr, and_high}
 use Rattle.std.proofs.Math.Nat.{mod-eq_of_lt, mul_comm, le-mul_of_pos_right, add-zero, pow-le-pow_right}
-use Rattle.a64_buffer.specs.Word.{outside, field_bits, mask_of}
+use Rattle.a64_words.specs.Word.{outside, field_bits, mask_of}
 
 -- the ones of a field, as the code computes them
 pub ones_are : (bits : ℕ) → 0 < bits → bits ≤ 32 → 4294967295 / 2 ^ (32 - bits) ≡ 2 ^ bits - 1

@@ -4,7 +4,7 @@ use Rattle.std.specs.Prelude.{IsSome, IsSomeAnd, MatchOption, is_none}
 use Rattle.std.specs.Option.{option_and_then}
 use Rattle.std.specs.FinMap.{get}
 use Rattle.std.proofs.lemmas.Bool.{le-leb, false≢true, cases_lt}
-use Rattle.a64_buffer.specs.Word.{outside, word_at, words_of, StandAt}
+use Rattle.a64_words.specs.Word.{outside, word_at, words_of, StandAt}
 use Rattle.a64_buffer.specs.declared.site.Use.{Use}
 use Rattle.a64_buffer.specs.declared.site.Target.{Target}
 use Rattle.a64_buffer.specs.declared.site.Target.TheVariants.{Label, Constant, Trap, IslandEnd}

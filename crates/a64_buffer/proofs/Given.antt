@@ -11,7 +11,7 @@ use Rattle.a64_base.specs.declared.entity.VCodeConstant.{VCodeConstant}
 use Rattle.a64_buffer.specs.declared.site.Use.{Use}
 use Rattle.a64_buffer.specs.declared.site.Target.{Target}
 use Rattle.a64_buffer.specs.declared.site.Target.TheVariants.{Label, Constant, Trap, IslandEnd}
-use Rattle.a64_buffer.specs.Word.{words_of}
+use Rattle.a64_words.specs.Word.{words_of}
 use Rattle.a64_buffer.specs.Kinds.{Kinds, IsLawful}
 use Rattle.a64_buffer.specs.Buffer.{Buffer, end_of, label_of, made_use}
 use Rattle.a64_buffer.specs.Constants.{IsConstant}
@@ -25,7 +25,7 @@ use Rattle.a64_buffer.specs.Steps.{stands_at, is_load_of, waits_for, GivesJump, 
 use Rattle.a64_buffer.proofs.Rooms.{open_wants, open_stop, wanting_urgency, wanting_range}
 use Rattle.a64_buffer.proofs.Adding.{added_end, added_count, new_use, all_uses}
 use Rattle.a64_buffer.proofs.Giving.{made_stop_of, made_goal, at_index, use_placed, use_kinded, end_reached, only_here, given}
-use Rattle.a64_buffer.proofs.WordLists.{words_short, words_whole}
+use Rattle.a64_words.proofs.WordLists.{words_short, words_whole}
 use Rattle.a64_buffer.proofs.ByPlace.{none_placed, one_placed}
 use Rattle.a64_buffer.proofs.Pays.{jump_pays, jump_pays_third, copy_pays, word_pays, far_pays, veneers_of, jump_class, far_class, label_is, weight_one, weight_none, label_one}
 

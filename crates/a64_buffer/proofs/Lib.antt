@@ -6,7 +6,6 @@ pub mod Growth
 pub mod Adding
 pub mod Giving
 pub mod Pays
-pub mod WordLists
 pub mod Given
 pub mod Writing
 pub mod Islands
@@ -17,6 +16,7 @@ pub mod Serving
 pub mod Pieces
 pub mod OwnStops
 pub mod Emitting
+pub mod Veneers
 pub mod Walks
 pub mod Settling
 pub mod Uses

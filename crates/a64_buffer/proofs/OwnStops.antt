@@ -12,7 +12,7 @@ use Rattle.a64_buffer.specs.declared.class.Class.{Class}
 use Rattle.a64_buffer.specs.declared.class.Class.TheVariants.{Near, Middle, Load, Trapping, Far, Direct}
 use Rattle.a64_buffer.specs.Constants.{IsConstant}
 use Rattle.a64_buffer.specs.Kinds.{Kinds}
-use Rattle.a64_buffer.specs.Word.{words_of}
+use Rattle.a64_words.specs.Word.{words_of}
 use Rattle.a64_buffer.specs.Buffer.{Buffer, end_of, goal_of}
 use Rattle.a64_buffer.specs.Classes.{class, class_of, label_class, wants, is_open}
 use Rattle.a64_buffer.specs.Later.{IsLater, HasStopBelow}
@@ -21,7 +21,7 @@ use Rattle.a64_buffer.specs.Chain.{constant_of}
 use Rattle.a64_buffer.specs.Pieces.{padding, copy_words, words_for, stop_for, piece_words, pieces, StopsWith, Serves}
 use Rattle.a64_buffer.proofs.Rooms.{label_wants}
 use Rattle.a64_buffer.proofs.Serving.{same_class}
-use Rattle.a64_buffer.proofs.WordLists.{words_long}
+use Rattle.a64_words.proofs.WordLists.{words_long}
 
 -- ---- traps
 

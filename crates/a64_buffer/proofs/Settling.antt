@@ -6,12 +6,12 @@ use Rattle.std.proofs.lemmas.Slice.{take-put_mid_below, drop-put_mid, between-pu
 use borrow.Rule.Slice.PartMut.{put_mid}
 use Rattle.std.proofs.lemmas.List.{get_or-take, length-take, take-take, get_or_default, drop-drop, drop-take, length-take-le, length-drop, length-set, get_or-set_same, get_or-set_other}
 use Rattle.std.proofs.lemmas.List.Elements.{All-nil, All-more, All-take}
-use Rattle.a64_buffer.specs.Word.{outside, word_at, words_of}
+use Rattle.a64_words.specs.Word.{outside, word_at, words_of}
 use Rattle.a64_buffer.specs.declared.site.Use.{Use}
 use Rattle.a64_buffer.specs.Kinds.{Kinds, GoesTo}
 use Rattle.a64_buffer.specs.Buffer.{IsFree}
 use Rattle.a64_buffer.specs.Sound.{IsPlaced, AreApart}
-use Rattle.a64_buffer.proofs.WordLists.{words_whole}
+use Rattle.a64_words.proofs.WordLists.{words_whole}
 use Rattle.a64_buffer.specs.Settled.{IsCodeOf, Reaches, MayLead, Patches, PatchesCode, IsLed, AreSettled, IsSettledCode}
 
 -- four bytes were written into code

@@ -3,7 +3,7 @@ use Rattle.std.specs.Prelude.{ℕ, ◌≡◌, ◌+◌, ◌*◌, ◌/◌, ◌<◌
 use Rattle.a64_buffer.specs.declared.site.Use.{Use}
 use Rattle.a64_buffer.specs.declared.site.Target.TheVariants.{IslandEnd}
 use Rattle.a64_buffer.specs.declared.finish.Finished.{Finished}
-use Rattle.a64_buffer.specs.Word.{outside, word_at}
+use Rattle.a64_words.specs.Word.{outside, word_at}
 use Rattle.a64_buffer.specs.Kinds.{Kinds, GoesTo}
 use Rattle.a64_buffer.specs.Buffer.{Buffer, end_of, IsFree}
 use Rattle.a64_buffer.specs.ByPlace.{AreRecordedByPlace}

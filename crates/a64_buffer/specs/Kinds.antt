@@ -1,7 +1,7 @@
 -- What the kinds of label uses of a machine mean.
 use Rattle.std.specs.Prelude.{ℕ, ℤ, pos, ◌+ℤ◌, Bool, IsTrue, ◌≡◌, ◌+◌, ◌-◌, ◌*◌, ◌%◌, ◌^◌, ◌<◌, ◌≤◌, nat_eq, if◌then◌else◌, MatchBool, List, length, Option}
 use Rattle.a64_base.specs.declared.entity.Reloc.{Reloc}
-use Rattle.a64_buffer.specs.Word.{signed, word_at, StandAt}
+use Rattle.a64_words.specs.Word.{signed, word_at, StandAt}
 
 -- the meanings of a type of kinds; distances and ranges are bytes
 pub record Kinds (K : Type 0) : Type 0 where

@@ -1,5 +1,3 @@
-pub mod Word
-pub mod Words
 pub mod Constants
 pub mod Kinds
 pub mod Buffer

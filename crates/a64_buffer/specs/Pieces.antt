@@ -10,7 +10,7 @@ use Rattle.a64_buffer.specs.declared.site.Target.{Target}
 use Rattle.a64_buffer.specs.declared.site.Target.TheVariants.{Label, Constant, Trap, IslandEnd}
 use Rattle.a64_buffer.specs.declared.class.Class.{Class}
 use Rattle.a64_buffer.specs.declared.class.Class.TheVariants.{Near, Middle, Load, Trapping, Far, Direct}
-use Rattle.a64_buffer.specs.Word.{words_of}
+use Rattle.a64_words.specs.Word.{words_of}
 use Rattle.a64_buffer.specs.Kinds.{Kinds}
 use Rattle.a64_buffer.specs.Buffer.{Buffer, end_of, goal_of, is_within}
 use Rattle.a64_buffer.specs.Chain.{constant_of}

@@ -7,7 +7,7 @@ use Rattle.a64_buffer.specs.declared.site.Use.{Use}
 use Rattle.a64_buffer.specs.declared.site.Target.{Target}
 use Rattle.a64_buffer.specs.declared.site.Target.TheVariants.{Label, Constant, Trap, IslandEnd}
 use Rattle.a64_buffer.specs.declared.parts.Parts.{Parts}
-use Rattle.a64_buffer.specs.Word.{words_of}
+use Rattle.a64_words.specs.Word.{words_of}
 use Rattle.a64_buffer.specs.Constants.{IsConstant}
 use Rattle.a64_buffer.specs.Kinds.{Kinds, IsWithin}
 use Rattle.a64_buffer.specs.Buffer.{Buffer, end_of, goal_of, is_within}

@@ -3,7 +3,7 @@
 ghost use Rattle.std.specs.Prelude.{◌≡◌, ◌+◌, ◌/◌, ◌%◌, ◌^◌, ◌<◌, All, IfOk, OnOk, OnErr, [], ◌∷◌, ◌++◌, None, IsSomeAnd, MatchBool, false, length, map};
 ghost use Rattle.std.specs.FinMap as finmap;
 ghost use Rattle.a64_buffer.specs.declared.site.Target.TheVariants.{Label, Constant, Trap};
-ghost use Rattle.a64_buffer.specs.Word.{words_of};
+ghost use Rattle.a64_words.specs.Word.{words_of};
 ghost use Rattle.a64_buffer.specs.Constants.{IsConstant, AreConstants};
 ghost use Rattle.a64_buffer.specs.Classes.{owed, Fits};
 

@@ -14,9 +14,9 @@ use crate::label_use::MachInstLabelUse;
 use crate::parts::Parts;
 use crate::room::Burdens;
 use crate::site::Use;
-use crate::words::Words;
 use a64_base::VCodeConstant;
 use a64_label_map::LabelMap;
+use a64_words::Words;
 
 /// How many zero words bring a place to a multiple of a size.
 fn padding(place: u32, size: u32) -> u32

@@ -2,7 +2,7 @@
 
 ghost use Rattle.std.specs.Prelude.{◌≡◌, ◌+◌, ◌%◌, ◌^◌, ◌<◌, ◌≤◌, length};
 ghost use Rattle.std.specs.Int.{w32, from_le_bytes};
-ghost use Rattle.a64_buffer.specs.Word.{outside, field_bits, mask_of};
+ghost use Rattle.a64_words.specs.Word.{outside, field_bits, mask_of};
 
 /// The word with a number in the field of so many bits from bit `low` up, and the rest as it was.
 pub fn with_field(word: u32, low: u32, bits: u32, value: u32) -> u32

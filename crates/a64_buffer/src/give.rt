@@ -11,8 +11,8 @@ use crate::class::Class;
 use crate::label_use::MachInstLabelUse;
 use crate::parts::{Parts, target_label};
 use crate::site::{Target, Use};
-use crate::words::Words;
 use a64_base::{MachLabel, TrapCode};
+use a64_words::Words;
 
 /// Adds the words of a far veneer that stands at a place to words that have room for them, and
 /// answers the place and the kind of the use that its last word is.

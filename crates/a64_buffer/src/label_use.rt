@@ -2,7 +2,7 @@
 
 ghost use Rattle.std.specs.Prelude.{ℕ, ◌≡◌, ◌≤◌, ◌^◌, IsTrue, ◌%◌, length};
 ghost use Rattle.std.specs.Int.{w32, from_le_bytes};
-ghost use Rattle.a64_buffer.specs.Word.{outside};
+ghost use Rattle.a64_words.specs.Word.{outside};
 ghost use Rattle.a64_buffer.specs.Kinds.{Kinds, IsWithin, GoesTo, SaysDistance, IsLawful, veneer_bytes, IsVeneer};
 
 use a64_base::Reloc;

@@ -22,7 +22,6 @@ mod room;
 mod settle;
 mod site;
 mod waiting;
-mod words;
 
 pub use buffer::MachBuffer;
 pub use constants::Constants;

@@ -4,7 +4,7 @@ ghost use Rattle.std.specs.Prelude.{◌≡◌, ◌+◌, ◌/◌, ◌%◌, ◌^�
 ghost use Rattle.std.specs.Option.{unwrap_or};
 ghost use Rattle.std.specs.FinMap as finmap;
 ghost use Rattle.a64_base.specs.declared.entity.MachLabel.{MachLabel};
-ghost use Rattle.a64_buffer.specs.Word.{words_of};
+ghost use Rattle.a64_words.specs.Word.{words_of};
 ghost use Rattle.a64_buffer.specs.Buffer.{label_of};
 
 use crate::chain::{close_label, reached};
@@ -17,9 +17,9 @@ use crate::records::Records;
 use crate::room::Burdens;
 use crate::settle::{labels_in_order, settle};
 use crate::site::{Target, Use};
-use crate::words::Words;
 use a64_base::{MachLabel, TrapCode};
 use a64_label_map::LabelMap;
+use a64_words::Words;
 use std::alloc::{AllocError, Global};
 
 /// The parts of a buffer of code.

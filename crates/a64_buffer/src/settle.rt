@@ -1,7 +1,7 @@
 //! Words that lead to the stops of their uses, and what finished code is made of.
 
 ghost use Rattle.std.specs.Prelude.{◌≡◌, ◌+◌, ◌%◌, ◌≤◌, length, All, IfOk};
-ghost use Rattle.a64_buffer.specs.Word.{words_of};
+ghost use Rattle.a64_words.specs.Word.{words_of};
 ghost use Rattle.a64_buffer.specs.Sound.{IsPlaced, AreApart};
 ghost use Rattle.a64_buffer.specs.Settled.{Reaches, MayLead, PatchesCode, IsSettledCode, Lists};
 

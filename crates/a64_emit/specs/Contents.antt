@@ -10,7 +10,7 @@ use Rattle.a64_buffer.specs.Buffer.{is_within}
 use Rattle.a64_buffer.specs.Classes.{class_of, rank_of}
 use Rattle.a64_buffer.specs.Chain.{constant_of}
 use Rattle.a64_buffer.specs.Pieces.{padding, content_of, copy_words, stop_for}
-use Rattle.a64_buffer.specs.Word.{outside, word_at, StandAt}
+use Rattle.a64_words.specs.Word.{outside, word_at, StandAt}
 use Rattle.a64_emit.specs.declared.code.Code.{Code}
 use Rattle.a64_label_use.specs.declared.label_use.LabelUse.TheVariants as uses
 use Rattle.a64_emit.specs.declared.site.Site.{Site}

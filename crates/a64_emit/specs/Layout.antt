@@ -10,7 +10,7 @@ use Rattle.a64_buffer.specs.Buffer.{Records}
 use Rattle.a64_base.specs.declared.entity.MachLabel.{MachLabel}
 use Rattle.a64_inst.specs.declared.emission.EmitFlags.{EmitFlags}
 use Rattle.a64_inst.specs.declared.frame.FrameLayout.{FrameLayout}
-use Rattle.a64_buffer.specs.Word.{outside, word_at}
+use Rattle.a64_words.specs.Word.{outside, word_at}
 use Rattle.a64_inst.specs.declared.item.Item.{Item}
 use Rattle.a64_inst.specs.declared.item.Item.TheVariants.{Bind}
 use Rattle.a64_emit.specs.declared.code.Code.{Code}

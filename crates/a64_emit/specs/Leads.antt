@@ -9,7 +9,7 @@ use Rattle.a64_buffer.specs.declared.site.Target.TheVariants.{Label, Constant, T
 use Rattle.a64_buffer.specs.Areas.{InArea}
 use Rattle.a64_buffer.specs.Kinds.{GoesTo}
 use Rattle.a64_buffer.specs.Sound.{IsTrap}
-use Rattle.a64_buffer.specs.Word.{outside, word_at, words_of, StandAt}
+use Rattle.a64_words.specs.Word.{outside, word_at, words_of, StandAt}
 use Rattle.a64_emit.specs.declared.code.Code.{Code}
 use Rattle.a64_label_use.specs.declared.label_use.LabelUse.{LabelUse}
 use Rattle.a64_label_use.specs.declared.label_use.LabelUse.TheVariants as uses

@@ -3,7 +3,7 @@ use Rattle.std.proofs.Common.{ℕ, suc, ℤ, pos, negsuc, ◌≡◌, ◌<◌, �
 use Rattle.std.proofs.lemmas.Int.{ints}
 use Rattle.std.proofs.lemmas.Bool.{cases_lt, ltb-true, ltb-false}
 use Rattle.a64_imms.specs.Offsets.{residue}
-use Rattle.a64_buffer.specs.Word.{signed, word_at, StandAt}
+use Rattle.a64_words.specs.Word.{signed, word_at, StandAt}
 use Rattle.a64_plan.specs.JumpMachine.{wrapped, extended, Arrives}
 use Rattle.a64_plan.proofs.Jumps.{four_arrive}
 use Rattle.a64_label_use.specs.FarJumps.{Loaded, fetched, JumpFar, LeadFar, first_words}

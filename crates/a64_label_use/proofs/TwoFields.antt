@@ -2,7 +2,7 @@
 use Rattle.std.proofs.Common.{ℕ, ◌≡◌, ◌+◌, ◌-◌, ◌/◌, ◌%◌, ◌^◌, bit_and, sym, ◌∙◌, ap}
 use Rattle.std.proofs.lemmas.Nat.{and_assoc, and_shr, and_mod, and_mask, mod_below, pow_pos}
 use Rattle.std.proofs.Math.Nat.{mod-eq_of_lt}
-use Rattle.a64_buffer.specs.Word.{outside, field_bits, mask_of}
+use Rattle.a64_words.specs.Word.{outside, field_bits, mask_of}
 
 -- what is outside of both fields stays where each in its turn is written
 pub both_outside : (a b c : ℕ) → outside (mask_of 5 19) b ≡ outside (mask_of 5 19) a → outside (mask_of 29 2) c ≡ outside (mask_of 29 2) b → outside (mask_of 5 19 + mask_of 29 2) c ≡ outside (mask_of 5 19 + mask_of 29 2) a

@@ -2,7 +2,7 @@
 use Rattle.std.specs.Prelude.{ℕ, pos, ◌≡◌, ◌<◌, ◌≤◌, ◌+◌, ◌-◌, ◌^◌, ◌+ℤ◌, List, [], ◌∷◌, ◌++◌, length}
 use Rattle.a64_imms.specs.Offsets.{residue}
 use Rattle.a64_plan.specs.JumpMachine.{Machine, wrapped, Arrives}
-use Rattle.a64_buffer.specs.Word.{signed, word_at, StandAt}
+use Rattle.a64_words.specs.Word.{signed, word_at, StandAt}
 use Rattle.a64_label_use.specs.LabelUses.{label_kinds}
 
 -- bytes that stand in memory from an address on

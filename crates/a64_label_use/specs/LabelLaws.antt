@@ -1,7 +1,7 @@
 -- The kinds of label uses of A64 code keep the laws of kinds.
 use Rattle.std.specs.Prelude.{ℕ, ◌-◌, ◌^◌, ◌≡◌, ◌<◌, ◌≤◌, IsTrue, refl}
 use Rattle.std.proofs.Common.{arith}
-use Rattle.a64_buffer.specs.Word.{signed}
+use Rattle.a64_words.specs.Word.{signed}
 use Rattle.a64_buffer.specs.Kinds.{IsLawful}
 use Rattle.a64_label_use.specs.declared.label_use.LabelUse.{LabelUse}
 use Rattle.a64_label_use.specs.declared.label_use.LabelUse.TheVariants as uses

@@ -3,7 +3,7 @@ use Rattle.std.specs.Prelude.{ℕ, ℤ, pos, ◌*ℤ◌, ◌+◌, ◌*◌, ◌-�
 use Rattle.std.specs.Ordering.{int_eq}
 use Rattle.a64_base.specs.declared.entity.Reloc.{Reloc}
 use Rattle.a64_base.specs.declared.entity.Reloc.TheVariants as relocs
-use Rattle.a64_buffer.specs.Word.{signed, field_bits, mask_of}
+use Rattle.a64_words.specs.Word.{signed, field_bits, mask_of}
 use Rattle.a64_buffer.specs.Kinds.{Kinds}
 use Rattle.a64_label_use.specs.declared.label_use.LabelUse.{LabelUse}
 use Rattle.a64_label_use.specs.declared.label_use.LabelUse.TheVariants as uses

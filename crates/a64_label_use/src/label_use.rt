@@ -2,7 +2,7 @@
 
 ghost use Rattle.std.specs.Prelude.{◌≡◌, ◌<◌, ◌≤◌, IsTrue, ◌+◌, ◌*◌, ◌/◌, ◌%◌, ◌-◌, ◌^◌, ◌*ℤ◌, pos, negsuc, suc, nat_lt, if◌then◌else◌, length, [], ◌∷◌, refl};
 ghost use Rattle.std.specs.Int.{w32, from_le_bytes};
-ghost use Rattle.a64_buffer.specs.Word.{word_at, StandAt, outside, field_bits};
+ghost use Rattle.a64_words.specs.Word.{word_at, StandAt, outside, field_bits};
 ghost use Rattle.a64_buffer.specs.Kinds.{IsWithin, GoesTo, SaysDistance, IsVeneer, veneer_bytes};
 ghost use Rattle.a64_label_use.specs.declared.label_use.LabelUse.TheVariants.{Adr21, PCRel32};
 ghost use Rattle.a64_label_use.specs.LabelUses.{label_kinds, mask_for, distance_in};

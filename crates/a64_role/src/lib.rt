@@ -2,14 +2,16 @@
 #![tactic(auto)]
 
 mod clobbers;
-mod hand;
+mod handing;
 mod list;
 mod query;
 mod role;
 mod visitor;
 
 pub use clobbers::{ClobberTable, has_more};
-pub use hand::{HasRole, hand, hand_call, hand_each, hand_mode, hand_pair_mode, hand_return_call};
+pub use handing::{
+    HasRole, hand, hand_call, hand_each, hand_mode, hand_pair_mode, hand_return_call,
+};
 pub use list::RoleList;
 pub use query::{CallType, FunctionAlignment, MachTerminator, Unsupported, move_of};
 pub use role::{Role, result_role};

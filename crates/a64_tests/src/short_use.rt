@@ -1,7 +1,7 @@
 //! Kinds of uses with short ranges, so that short programs meet islands.
 
 ghost use Rattle.std.specs.Prelude.{◌≡◌, ◌<◌, ◌*◌, ◌-◌, ◌^◌, ◌*ℤ◌, pos, negsuc, suc, nat_lt, if◌then◌else◌, length, [], ◌∷◌};
-ghost use Rattle.a64_buffer.specs.Word.{word_at, StandAt};
+ghost use Rattle.a64_words.specs.Word.{word_at, StandAt};
 
 use a64_base::Reloc;
 use a64_buffer::{MachInstLabelUse, patch_field};
@@ -52,7 +52,7 @@ impl MachInstLabelUse for ShortUse {
     ghost use Rattle.std.specs.Prelude.{true, false, None, ◌==◌, refl};
     ghost use Rattle.std.proofs.Common.{arith};
     ghost use Rattle.std.proofs.lemmas.Bool.{false≢true};
-    ghost use Rattle.a64_buffer.specs.Word.{signed, field_bits, mask_of};
+    ghost use Rattle.a64_words.specs.Word.{signed, field_bits, mask_of};
     ghost use Rattle.a64_tests.specs.declared.short_use.ShortUse.TheVariants.{Near, Middle, Far, Add32};
 
     ghost kinds = { record {

@@ -1,5 +1,6 @@
 use Rattle.std.proofs.Common.{◌≡◌, ◌++◌, ◌+◌, ◌*◌, length, ◌∙◌, ap, arith}
-use Rattle.a64_buffer.proofs.WordLists.{far_words_are, zero_word, zeros_length, far_of, far_size}
+use Rattle.a64_buffer.proofs.Veneers.{far_of, far_size}
+use Rattle.a64_words.proofs.WordLists.{far_words_are, zero_word, zeros_length}
 use Rattle.a64_buffer.proofs.give.push_far_words.Goals as goal
 
 pub returns-clause-items : goal.returns-clause-items

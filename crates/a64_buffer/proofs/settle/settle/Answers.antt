@@ -1,5 +1,5 @@
 use Rattle.std.proofs.Common.{length, refl, sym, ◌∙◌, subst, arith}
-use Rattle.a64_buffer.specs.Word.{words_of}
+use Rattle.a64_words.specs.Word.{words_of}
 use Rattle.a64_buffer.specs.Sound.{IsPlaced}
 use Rattle.a64_buffer.proofs.Settling.{placed_words, code_of_words, code_none, code_step, code_skip, next_reaches}
 use Rattle.a64_buffer.proofs.settle.settle.Goals as goal

@@ -1,7 +1,7 @@
 use Rattle.std.proofs.Common.{◌+◌, ◌*◌, ◌++◌, length, arith, subst, sym}
-use Rattle.a64_buffer.specs.Word.{words_of}
+use Rattle.a64_words.specs.Word.{words_of}
 use Rattle.a64_buffer.specs.Grown.{IsGrown}
-use Rattle.a64_buffer.proofs.WordLists.{words_short}
+use Rattle.a64_words.proofs.WordLists.{words_short}
 use Rattle.a64_buffer.proofs.Clients.{on_ok, grown_within, grown_room, grown_put, grown_bind, label_used}
 use Rattle.a64_tests.proofs.load.add_uses_and_item.Goals as goal
 

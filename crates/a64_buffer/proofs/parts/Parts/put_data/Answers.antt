@@ -1,11 +1,11 @@
 use Rattle.std.proofs.Common.{◌≡◌, ◌+◌, ◌*◌, ◌^◌, ◌<◌, ◌++◌, length, sym, ◌∙◌, ap, subst}
-use Rattle.a64_buffer.specs.Word.{words_of}
+use Rattle.a64_words.specs.Word.{words_of}
 use Rattle.a64_buffer.specs.Buffer.{end_of}
 use Rattle.a64_buffer.specs.Classes.{Fits}
 use Rattle.a64_buffer.specs.Later.{IsLater}
 use Rattle.a64_buffer.specs.Sound.{seen, IsWhole}
 use Rattle.a64_buffer.proofs.Sounds.{put_later, whole_put}
-use Rattle.a64_buffer.proofs.WordLists.{words_whole}
+use Rattle.a64_words.proofs.WordLists.{words_whole}
 use Rattle.a64_buffer.proofs.parts.Parts.put_data.Goals as goal
 
 pub returns-clause-sound : goal.returns-clause-sound

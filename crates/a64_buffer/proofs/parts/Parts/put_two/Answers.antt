@@ -2,7 +2,7 @@ use Rattle.std.proofs.Common.{sym, subst}
 use Rattle.a64_buffer.specs.Later.{IsLater}
 use Rattle.a64_buffer.specs.Sound.{seen, IsWhole}
 use Rattle.a64_buffer.proofs.Sounds.{put_later, whole_put}
-use Rattle.a64_buffer.proofs.WordLists.{two_more}
+use Rattle.a64_words.proofs.WordLists.{two_more}
 use Rattle.a64_buffer.proofs.parts.Parts.put_two.Goals as goal
 
 pub returns-clause-sound : goal.returns-clause-sound
