@@ -5,7 +5,7 @@ use Rattle.std.specs.List.{flat_map}
 use Rattle.std.proofs.Math.Seq.{drop-cons}
 use Rattle.std.proofs.lemmas.List.{drop_all, append_assoc}
 use Rattle.a64_base.specs.declared.entity.MachLabel.{MachLabel}
-use Rattle.a64_print.specs.SequenceTexts.{behind_label_text, labels_text}
+use Rattle.a64_operand_text.specs.SequenceTexts.{behind_label_text, labels_text}
 
 -- a label, and the comma before each but the first
 abbrev pub label_text : Bool → MachLabel → List ℕ

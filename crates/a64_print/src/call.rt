@@ -4,16 +4,15 @@ ghost use Rattle.std.specs.Prelude.{◌≡◌, ◌++◌, [], ◌∷◌, OnOk};
 ghost use Rattle.std.specs.String.{string_bytes};
 ghost use Rattle.a64_inst.specs.Groups.{group_of};
 ghost use Rattle.a64_inst.specs.declared.group.Group.TheVariants as groups;
-ghost use Rattle.a64_print.specs.CallTexts as texts;
-ghost use Rattle.a64_print.specs.Lines.{line_text};
-ghost use Rattle.a64_print.specs.Texts.{own_text};
+ghost use Rattle.a64_operand_text.specs.CallTexts as texts;
+ghost use Rattle.a64_operand_text.specs.Lines.{line_text};
+ghost use Rattle.a64_operand_text.specs.Texts.{own_text};
 
-use crate::line::line1;
-use crate::operand::Operand;
-use crate::operand::Operand::{Symbol, X};
 use crate::sequence::{RegisterPair, push_pair, push_pairs};
 use a64_base::push_numbered;
 use a64_inst::{CallArgPair, Inst};
+use a64_operand_text::Operand::{Symbol, X};
+use a64_operand_text::{Operand, line1};
 use std::alloc::AllocError;
 
 impl RegisterPair for CallArgPair {
@@ -25,7 +24,7 @@ impl RegisterPair for CallArgPair {
 }
 
 /// Appends what stands behind the function of a return that calls.
-#[tactic(auto, unfolding(crate::specs::CallTexts::return_part))]
+#[tactic(auto, unfolding(a64_operand_text::specs::CallTexts::return_part))]
 fn push_return_part(out: &mut String, bytes: u32, uses: &[CallArgPair]) -> Result<(), AllocError>
     ensures { OnOk result (string_bytes out.new
         ≡ string_bytes out.old ++ texts.return_part bytes uses.now) }

@@ -5,23 +5,22 @@ ghost use Rattle.std.specs.String.{string_bytes};
 ghost use Rattle.a64_base.specs.Conditions.{condition_name};
 ghost use Rattle.a64_inst.specs.Groups.{group_of};
 ghost use Rattle.a64_inst.specs.declared.group.Group.TheVariants as groups;
-ghost use Rattle.a64_print.specs.declared.operand.Operand.TheVariants as operands;
-ghost use Rattle.a64_print.specs.ControlTexts as texts;
-ghost use Rattle.a64_print.specs.Lines.{line_text, two_lines_text};
-ghost use Rattle.a64_print.specs.Texts.{own_text};
+ghost use Rattle.a64_operand_text.specs.declared.operand.Operand.TheVariants as operands;
+ghost use Rattle.a64_operand_text.specs.ControlTexts as texts;
+ghost use Rattle.a64_operand_text.specs.Lines.{line_text, two_lines_text};
+ghost use Rattle.a64_operand_text.specs.Texts.{own_text};
 
-use crate::line::{line1, line2};
-use crate::operand::Operand::{Number, Nzcv, Sized, Target, Trap, X};
-use crate::operand::push_two_lines;
 use crate::system::key_name;
 use a64_base::{
     APIKey, BranchTarget, Cond, CondBrKind, Reg, TestBitAndBranchKind, TrapCode, push_numbered,
 };
 use a64_inst::Inst;
+use a64_operand_text::Operand::{Number, Nzcv, Sized, Target, Trap, X};
+use a64_operand_text::{line1, line2, push_two_lines};
 use std::alloc::AllocError;
 
 /// Appends the text of a return whose address is authenticated.
-#[tactic(auto, unfolding(crate::specs::ControlTexts::authenticated_ret_text))]
+#[tactic(auto, unfolding(a64_operand_text::specs::ControlTexts::authenticated_ret_text))]
 fn push_authenticated_ret(out: &mut String, key: APIKey, is_hint: bool) -> Result<(), AllocError>
     ensures { OnOk result (string_bytes out.new
         ≡ string_bytes out.old ++ texts.authenticated_ret_text key is_hint) }
@@ -118,7 +117,7 @@ fn test_bit_name(kind: TestBitAndBranchKind) -> &'static str
 }
 
 /// Appends a name and a number that no `#` stands before.
-#[tactic(auto, unfolding(crate::specs::ControlTexts::bare_number_text))]
+#[tactic(auto, unfolding(a64_operand_text::specs::ControlTexts::bare_number_text))]
 fn push_bare_number(out: &mut String, name: &str, number: u64) -> Result<(), AllocError>
     ensures { OnOk result (string_bytes out.new
         ≡ string_bytes out.old ++ texts.bare_number_text name.now number) }

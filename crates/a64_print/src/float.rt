@@ -5,14 +5,15 @@ ghost use Rattle.std.specs.String.{string_bytes};
 ghost use Rattle.a64_inst.specs.Groups.{group_of};
 ghost use Rattle.a64_inst.specs.declared.group.Group.TheVariants as groups;
 ghost use Rattle.a64_inst.specs.declared.group.PlainGroup.TheVariants as plain;
-ghost use Rattle.a64_print.specs.FloatTexts as texts;
-ghost use Rattle.a64_print.specs.Texts.{own_text};
+ghost use Rattle.a64_operand_text.specs.FloatTexts as texts;
+ghost use Rattle.a64_operand_text.specs.Texts.{own_text};
 
-use crate::line::{line2, line3, line4};
-use crate::number::scalar_operand;
-use crate::operand::Operand::{Bytes, Condition, Element, FloatImm, Number, Scalar, Sized, Vector};
 use a64_base::{OperandSize, Reg, ScalarSize, VectorSize};
 use a64_inst::{FPUOpRI, FPUOpRIMod, Inst};
+use a64_operand_text::Operand::{
+    Bytes, Condition, Element, FloatImm, Number, Scalar, Sized, Vector,
+};
+use a64_operand_text::{line2, line3, line4, scalar_operand};
 use a64_ops::{FPUOp1, FpuRoundMode, FpuToIntOp, IntToFpuOp};
 use std::alloc::AllocError;
 

@@ -6,15 +6,14 @@ ghost use Rattle.std.specs.String.{string_bytes};
 ghost use Rattle.a64_inst.specs.Groups.{group_of};
 ghost use Rattle.a64_inst.specs.declared.group.Group.TheVariants as groups;
 ghost use Rattle.a64_inst.specs.declared.group.PlainGroup.TheVariants as plain;
-ghost use Rattle.a64_print.specs.IntegerTexts as texts;
-ghost use Rattle.a64_print.specs.Texts.{own_text};
+ghost use Rattle.a64_operand_text.specs.IntegerTexts as texts;
+ghost use Rattle.a64_operand_text.specs.Texts.{own_text};
 
-use crate::line::{line2, line3, line4, line5};
-use crate::number::{imm12_value, operand_of_bits};
-use crate::operand::Operand::{Near, Number, Sized, Wide, X};
 use a64_base::{OperandSize, Reg};
 use a64_imms::Imm12;
 use a64_inst::Inst;
+use a64_operand_text::Operand::{Near, Number, Sized, Wide, X};
+use a64_operand_text::{imm12_value, line2, line3, line4, line5, operand_of_bits};
 use a64_ops::ALUOp;
 use std::alloc::AllocError;
 
@@ -29,7 +28,7 @@ fn is_move(op: ALUOp, size: OperandSize, imm12: Imm12) -> bool
 }
 
 /// Appends the text of an operation on an immediate of 12 bits.
-#[tactic(auto, unfolding(crate::specs::IntegerTexts::alu_rr_imm12_text))]
+#[tactic(auto, unfolding(a64_operand_text::specs::IntegerTexts::alu_rr_imm12_text))]
 fn push_alu_rr_imm12(
     out: &mut String,
     op: ALUOp,
@@ -94,7 +93,7 @@ fn extended_size(signed: bool, to_bits: u8) -> OperandSize
 }
 
 /// Appends the text of an extension by a bitfield move.
-#[tactic(auto, unfolding(crate::specs::IntegerTexts::field_extend_text))]
+#[tactic(auto, unfolding(a64_operand_text::specs::IntegerTexts::field_extend_text))]
 fn push_field_extend(
     out: &mut String,
     rd: Reg,
@@ -126,7 +125,7 @@ fn push_field_extend(
 }
 
 /// Appends the text of an extension.
-#[tactic(auto, unfolding(crate::specs::IntegerTexts::extend_text))]
+#[tactic(auto, unfolding(a64_operand_text::specs::IntegerTexts::extend_text))]
 fn push_extend(
     out: &mut String,
     rd: Reg,

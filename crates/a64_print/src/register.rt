@@ -5,13 +5,13 @@ ghost use Rattle.std.specs.String.{string_bytes};
 ghost use Rattle.a64_inst.specs.Groups.{group_of};
 ghost use Rattle.a64_inst.specs.declared.group.Group.TheVariants as groups;
 ghost use Rattle.a64_inst.specs.declared.group.PlainGroup.TheVariants as plain;
-ghost use Rattle.a64_print.specs.IntegerTexts as texts;
-ghost use Rattle.a64_print.specs.Texts.{own_text};
+ghost use Rattle.a64_operand_text.specs.IntegerTexts as texts;
+ghost use Rattle.a64_operand_text.specs.Texts.{own_text};
 
-use crate::line::{line2, line3, line4};
-use crate::operand::Operand::{Condition, Extend, Flags, Number, Shift, Sized, X};
 use a64_base::{OperandSize, Reg};
 use a64_inst::Inst;
+use a64_operand_text::Operand::{Condition, Extend, Flags, Number, Shift, Sized, X};
+use a64_operand_text::{line2, line3, line4};
 use a64_ops::ALUOp3;
 use std::alloc::AllocError;
 

@@ -8,21 +8,20 @@ ghost use Rattle.std.specs.Prelude.{◌≡◌, ◌++◌, OnOk};
 ghost use Rattle.std.specs.String.{string_bytes};
 ghost use Rattle.a64_inst.specs.Groups.{group_of};
 ghost use Rattle.a64_inst.specs.declared.group.Group.TheVariants as groups;
-ghost use Rattle.a64_print.specs.SequenceTexts as texts;
-ghost use Rattle.a64_print.specs.Texts.{own_text};
+ghost use Rattle.a64_operand_text.specs.SequenceTexts as texts;
+ghost use Rattle.a64_operand_text.specs.Texts.{own_text};
 
-use crate::line::{line1, line2, line3, line4};
-use crate::number::imm12_value;
-use crate::operand::Operand::{Bytes, Condition, Number, Symbol, SymbolOffset, X};
 use crate::sequence::atomic_loop::{push_cas_loop, push_rmw_loop};
 use crate::sequence::table::push_jt_sequence;
 use a64_base::{Cond, Reg};
 use a64_inst::Inst;
+use a64_operand_text::Operand::{Bytes, Condition, Number, Symbol, SymbolOffset, X};
+use a64_operand_text::{imm12_value, line1, line2, line3, line4};
 pub use pair::{RegisterPair, push_pair, push_pairs};
 use std::alloc::AllocError;
 
 /// Appends the text of a choice between vectors.
-#[tactic(auto, unfolding(crate::specs::SequenceTexts::vec_csel_text))]
+#[tactic(auto, unfolding(a64_operand_text::specs::SequenceTexts::vec_csel_text))]
 fn push_vec_csel(out: &mut String, rd: Reg, rn: Reg, rm: Reg, cond: Cond) -> Result<(), AllocError>
     ensures { OnOk result (string_bytes out.new
         ≡ string_bytes out.old ++ texts.vec_csel_text rd rn rm cond) }

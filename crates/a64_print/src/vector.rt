@@ -5,18 +5,16 @@ ghost use Rattle.std.specs.String.{string_bytes};
 ghost use Rattle.a64_inst.specs.Groups.{group_of};
 ghost use Rattle.a64_inst.specs.declared.group.Group.TheVariants as groups;
 ghost use Rattle.a64_inst.specs.declared.group.PlainGroup.TheVariants as plain;
-ghost use Rattle.a64_print.specs.VectorTexts as texts;
-ghost use Rattle.a64_print.specs.Texts.{own_text};
+ghost use Rattle.a64_operand_text.specs.VectorTexts as texts;
+ghost use Rattle.a64_operand_text.specs.Texts.{own_text};
 
-use crate::lanes::{
-    added_product_lane, alu_lanes, alu_mod_lanes, long_lane, misc_lanes, narrower, pair_long_lane,
-    product_lane, vector_of, wider,
-};
-use crate::line::{line2, line3, line4};
-use crate::operand::Operand::{Element, FloatZero, Number, Scalar, Vector};
-use crate::operand::{Operand, push_line};
 use a64_base::{Reg, ScalarSize, VectorSize};
 use a64_inst::Inst;
+use a64_operand_text::Operand::{Element, FloatZero, Number, Scalar, Vector};
+use a64_operand_text::{
+    Operand, added_product_lane, alu_lanes, alu_mod_lanes, line2, line3, line4, long_lane,
+    misc_lanes, narrower, pair_long_lane, product_lane, push_line, vector_of, wider,
+};
 use a64_ops::{VecMisc2, VecRRLongOp};
 use std::alloc::AllocError;
 
@@ -28,7 +26,7 @@ fn half_suffix(high_half: bool) -> &'static str
 }
 
 /// Appends a line of an operator on a half of the lanes.
-#[tactic(auto, unfolding(crate::specs::VectorTexts::half_text))]
+#[tactic(auto, unfolding(a64_operand_text::specs::VectorTexts::half_text))]
 fn push_half(
     out: &mut String,
     name: &str,
@@ -43,7 +41,7 @@ fn push_half(
 }
 
 /// Appends the text of an operator that makes lanes wider.
-#[tactic(auto, unfolding(crate::specs::VectorTexts::vec_rr_long_text))]
+#[tactic(auto, unfolding(a64_operand_text::specs::VectorTexts::vec_rr_long_text))]
 fn push_vec_rr_long(
     out: &mut String,
     op: VecRRLongOp,
@@ -68,7 +66,7 @@ fn push_vec_rr_long(
 }
 
 /// Appends the text of an operator on one vector.
-#[tactic(auto, unfolding(crate::specs::VectorTexts::vec_misc_text))]
+#[tactic(auto, unfolding(a64_operand_text::specs::VectorTexts::vec_misc_text))]
 fn push_vec_misc(
     out: &mut String,
     op: VecMisc2,

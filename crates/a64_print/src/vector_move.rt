@@ -5,16 +5,15 @@ ghost use Rattle.std.specs.String.{string_bytes};
 ghost use Rattle.a64_inst.specs.Groups.{group_of};
 ghost use Rattle.a64_inst.specs.declared.group.Group.TheVariants as groups;
 ghost use Rattle.a64_inst.specs.declared.group.PlainGroup.TheVariants as plain;
-ghost use Rattle.a64_print.specs.VectorTexts as texts;
-ghost use Rattle.a64_print.specs.Texts.{own_text};
+ghost use Rattle.a64_operand_text.specs.VectorTexts as texts;
+ghost use Rattle.a64_operand_text.specs.Texts.{own_text};
 
-use crate::line::{line2, line3, line4};
-use crate::number::scalar_operand;
-use crate::operand::Operand::{
-    Bytes, Element, FloatImm, Number, Sized, Table, TablePair, Vector, VectorImm,
-};
 use a64_base::{ScalarSize, VectorSize};
 use a64_inst::Inst;
+use a64_operand_text::Operand::{
+    Bytes, Element, FloatImm, Number, Sized, Table, TablePair, Vector, VectorImm,
+};
+use a64_operand_text::{line2, line3, line4, scalar_operand};
 use std::alloc::AllocError;
 
 /// The name of a move of a lane to an integer register, which fills it with zeros.

@@ -2,7 +2,7 @@
 
 ghost use Rattle.std.specs.Prelude.{◌≡◌, ◌++◌, OnOk};
 ghost use Rattle.std.specs.String.{string_bytes};
-ghost use Rattle.a64_print.specs.SequenceTexts as texts;
+ghost use Rattle.a64_operand_text.specs.SequenceTexts as texts;
 
 use a64_base::{IrType, OperandSize, Reg, push_numbered, push_register};
 use a64_ops::AtomicRMWLoopOp;
@@ -18,7 +18,7 @@ fn push_named(out: &mut String, name: &str, reg: Reg) -> Result<(), AllocError>
 }
 
 /// Appends the name of a loop that changes memory by an operator.
-#[tactic(auto, unfolding(crate::specs::SequenceTexts::rmw_loop_name))]
+#[tactic(auto, unfolding(a64_operand_text::specs::SequenceTexts::rmw_loop_name))]
 fn push_rmw_loop_name(out: &mut String, op: AtomicRMWLoopOp, ty: IrType) -> Result<(), AllocError>
     ensures { OnOk result (string_bytes out.new
         ≡ string_bytes out.old ++ texts.rmw_loop_name op ty) }
@@ -29,7 +29,7 @@ fn push_rmw_loop_name(out: &mut String, op: AtomicRMWLoopOp, ty: IrType) -> Resu
 }
 
 /// Appends the registers of a loop that changes memory by an operator.
-#[tactic(auto, unfolding(crate::specs::SequenceTexts::rmw_loop_registers_text))]
+#[tactic(auto, unfolding(a64_operand_text::specs::SequenceTexts::rmw_loop_registers_text))]
 fn push_rmw_loop_registers(
     out: &mut String,
     addr: Reg,
@@ -49,7 +49,7 @@ fn push_rmw_loop_registers(
 }
 
 /// Appends the registers of a loop that compares memory and replaces it.
-#[tactic(auto, unfolding(crate::specs::SequenceTexts::cas_loop_registers_text))]
+#[tactic(auto, unfolding(a64_operand_text::specs::SequenceTexts::cas_loop_registers_text))]
 fn push_cas_loop_registers(
     out: &mut String,
     addr: Reg,
@@ -73,7 +73,7 @@ fn push_cas_loop_registers(
 /// # Errors
 ///
 /// Want of memory.
-#[tactic(auto, unfolding(crate::specs::SequenceTexts::rmw_loop_text))]
+#[tactic(auto, unfolding(a64_operand_text::specs::SequenceTexts::rmw_loop_text))]
 pub fn push_rmw_loop(
     out: &mut String,
     op: AtomicRMWLoopOp,
@@ -96,7 +96,7 @@ pub fn push_rmw_loop(
 /// # Errors
 ///
 /// Want of memory.
-#[tactic(auto, unfolding(crate::specs::SequenceTexts::cas_loop_text))]
+#[tactic(auto, unfolding(a64_operand_text::specs::SequenceTexts::cas_loop_text))]
 pub fn push_cas_loop(
     out: &mut String,
     ty: IrType,

@@ -3,7 +3,7 @@
 ghost use Rattle.std.specs.Prelude.{◌≡◌, ◌++◌, List, ℕ, OnOk};
 ghost use Rattle.std.specs.List.{flat_map};
 ghost use Rattle.std.specs.String.{string_bytes};
-ghost use Rattle.a64_print.specs.SequenceTexts as texts;
+ghost use Rattle.a64_operand_text.specs.SequenceTexts as texts;
 
 use a64_base::{OperandSize, Reg, push_register};
 use a64_inst::{ArgPair, RetPair};

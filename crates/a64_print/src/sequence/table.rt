@@ -3,12 +3,11 @@
 ghost use Rattle.std.specs.Prelude.{◌≡◌, ◌++◌, if◌then◌else◌, codes, OnOk, length};
 ghost use Rattle.std.specs.Fmt.{decimal};
 ghost use Rattle.std.specs.String.{string_bytes};
-ghost use Rattle.a64_print.specs.SequenceTexts as texts;
+ghost use Rattle.a64_operand_text.specs.SequenceTexts as texts;
 
-use crate::line::line1;
-use crate::operand::Operand::{Condition, Near, Number, TableEntry, Target, X};
-use crate::operand::push_two_lines;
 use a64_base::{BranchTarget, Cond, MachLabel, Reg, push_numbered};
+use a64_operand_text::Operand::{Condition, Near, Number, TableEntry, Target, X};
+use a64_operand_text::{line1, push_two_lines};
 use std::alloc::AllocError;
 
 /// What stands before the number of a label in a list.
@@ -40,7 +39,7 @@ fn push_labels(out: &mut String, labels: &[MachLabel]) -> Result<(), AllocError>
 }
 
 /// Appends a name and a list of labels behind it.
-#[tactic(auto, unfolding(crate::specs::SequenceTexts::label_list_text))]
+#[tactic(auto, unfolding(a64_operand_text::specs::SequenceTexts::label_list_text))]
 fn push_label_list(out: &mut String, name: &str, labels: &[MachLabel]) -> Result<(), AllocError>
     ensures { OnOk result (string_bytes out.new
         ≡ string_bytes out.old ++ texts.label_list_text name.now labels.now) }
@@ -52,7 +51,7 @@ fn push_label_list(out: &mut String, name: &str, labels: &[MachLabel]) -> Result
 }
 
 /// Appends the part that keeps the index below the number of entries.
-#[tactic(auto, unfolding(crate::specs::SequenceTexts::table_bound_text))]
+#[tactic(auto, unfolding(a64_operand_text::specs::SequenceTexts::table_bound_text))]
 fn push_bound(out: &mut String, count: u64, ridx: Reg, rtmp2: &Reg) -> Result<(), AllocError>
     ensures { OnOk result (string_bytes out.new
         ≡ string_bytes out.old ++ texts.table_bound_text count ridx rtmp2.now) }
@@ -67,7 +66,7 @@ fn push_bound(out: &mut String, count: u64, ridx: Reg, rtmp2: &Reg) -> Result<()
 }
 
 /// Appends the part that reads the entry.
-#[tactic(auto, unfolding(crate::specs::SequenceTexts::table_entry_text))]
+#[tactic(auto, unfolding(a64_operand_text::specs::SequenceTexts::table_entry_text))]
 fn push_entry(out: &mut String, rtmp1: &Reg, rtmp2: &Reg) -> Result<(), AllocError>
     ensures { OnOk result (string_bytes out.new
         ≡ string_bytes out.old ++ texts.table_entry_text rtmp1.now rtmp2.now) }
@@ -82,7 +81,7 @@ fn push_entry(out: &mut String, rtmp1: &Reg, rtmp2: &Reg) -> Result<(), AllocErr
 }
 
 /// Appends the part that adds the entry to the table's address, and jumps there.
-#[tactic(auto, unfolding(crate::specs::SequenceTexts::table_jump_text))]
+#[tactic(auto, unfolding(a64_operand_text::specs::SequenceTexts::table_jump_text))]
 fn push_jump(out: &mut String, rtmp1: &Reg, rtmp2: &Reg) -> Result<(), AllocError>
     ensures { OnOk result (string_bytes out.new
         ≡ string_bytes out.old ++ texts.table_jump_text rtmp1.now rtmp2.now) }
@@ -97,7 +96,7 @@ fn push_jump(out: &mut String, rtmp1: &Reg, rtmp2: &Reg) -> Result<(), AllocErro
 }
 
 /// Appends the entries, and where the jump goes without one.
-#[tactic(auto, unfolding(crate::specs::SequenceTexts::table_targets_text))]
+#[tactic(auto, unfolding(a64_operand_text::specs::SequenceTexts::table_targets_text))]
 fn push_targets(
     out: &mut String,
     default: MachLabel,
@@ -116,7 +115,7 @@ fn push_targets(
 /// # Errors
 ///
 /// Want of memory.
-#[tactic(auto, unfolding(crate::specs::SequenceTexts::jt_sequence_text))]
+#[tactic(auto, unfolding(a64_operand_text::specs::SequenceTexts::jt_sequence_text))]
 pub fn push_jt_sequence(
     out: &mut String,
     default: MachLabel,

@@ -1,7 +1,7 @@
 use Rattle.std.proofs.Common.{◌≡◌, ◌++◌, drop}
 use Rattle.std.specs.String.{string_bytes}
 use Rattle.a64_print.proofs.LabelSteps.{labels_left}
-use Rattle.a64_print.specs.SequenceTexts.{labels_text}
+use Rattle.a64_operand_text.specs.SequenceTexts.{labels_text}
 use Rattle.a64_print.proofs.sequence.table.push_labels.Given as goal
 
 -- the labels that are left make the text whole

@@ -17,8 +17,8 @@ use Rattle.a64_imms.specs.MovImms.{mov_text}
 use Rattle.a64_imms.specs.MoveWides.{wide_text}
 use Rattle.a64_imms.specs.Texts.{number_text}
 use Rattle.a64_inst.specs.ModeTexts.{pair_text}
-use Rattle.a64_print.specs.declared.operand.Operand.{Operand}
-use Rattle.a64_print.specs.declared.operand.Operand.TheVariants as operand
+use Rattle.a64_operand_text.specs.declared.operand.Operand.{Operand}
+use Rattle.a64_operand_text.specs.declared.operand.Operand.TheVariants as operand
 
 -- a float immediate; none at a size that has no floats
 abbrev pub sized_float_text : ScalarSize → ASIMDFPModImm → List ℕ

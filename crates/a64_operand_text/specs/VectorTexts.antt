@@ -10,10 +10,10 @@ use Rattle.a64_ops.specs.declared.vector.VecMisc2.{VecMisc2}
 use Rattle.a64_ops.specs.declared.vector.VecMisc2.TheVariants as vec_misc2s
 use Rattle.a64_ops.specs.declared.vector.VecRRLongOp.{VecRRLongOp}
 use Rattle.a64_ops.specs.declared.vector.VecRRLongOp.TheVariants as vec_rr_long_ops
-use Rattle.a64_print.specs.declared.operand.Operand.{Operand}
-use Rattle.a64_print.specs.declared.operand.Operand.TheVariants as operand
-use Rattle.a64_print.specs.LaneSizes.{long_lane, misc_lanes, vector_of}
-use Rattle.a64_print.specs.Lines.{line_text}
+use Rattle.a64_operand_text.specs.declared.operand.Operand.{Operand}
+use Rattle.a64_operand_text.specs.declared.operand.Operand.TheVariants as operand
+use Rattle.a64_operand_text.specs.LaneSizes.{long_lane, misc_lanes, vector_of}
+use Rattle.a64_operand_text.specs.Lines.{line_text}
 
 -- what stands behind the name of an operator on the upper half of the lanes
 abbrev pub half_suffix : Bool → List ℕ

@@ -15,8 +15,8 @@ use Rattle.a64_inst.specs.declared.pair.ArgPair.{ArgPair}
 use Rattle.a64_inst.specs.declared.pair.RetPair.{RetPair}
 use Rattle.a64_ops.specs.declared.operator.AtomicRMWLoopOp.{AtomicRMWLoopOp}
 use Rattle.a64_ops.specs.Names.{atomic_rmw_loop_op_name}
-use Rattle.a64_print.specs.declared.operand.Operand.TheVariants as operand
-use Rattle.a64_print.specs.Lines.{line_text, two_lines_text}
+use Rattle.a64_operand_text.specs.declared.operand.Operand.TheVariants as operand
+use Rattle.a64_operand_text.specs.Lines.{line_text, two_lines_text}
 
 -- the register that a function knows a value by, and that in which the value is passed
 abbrev pub pair_text : Reg → Reg → List ℕ

@@ -18,8 +18,8 @@ use Rattle.a64_ops.specs.declared.float.IntToFpuOp.{IntToFpuOp}
 use Rattle.a64_ops.specs.declared.float.IntToFpuOp.TheVariants as int_to_fpu_ops
 use Rattle.a64_ops.specs.declared.float.FpuRoundMode.{FpuRoundMode}
 use Rattle.a64_ops.specs.declared.float.FpuRoundMode.TheVariants as fpu_round_modes
-use Rattle.a64_print.specs.declared.operand.Operand.TheVariants as operand
-use Rattle.a64_print.specs.Lines.{line_text}
+use Rattle.a64_operand_text.specs.declared.operand.Operand.TheVariants as operand
+use Rattle.a64_operand_text.specs.Lines.{line_text}
 
 -- the size of what an operation on a float of some size gives
 abbrev pub fpu_rr_size : FPUOp1 → ScalarSize → ScalarSize

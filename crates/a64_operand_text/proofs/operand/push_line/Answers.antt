@@ -1,6 +1,6 @@
 use Rattle.std.proofs.Common.{refl, append_assoc, append-nil}
-use Rattle.a64_print.proofs.LineSteps.{from_one_on, at_end, one_more, whole_line}
-use Rattle.a64_print.proofs.operand.push_line.Goals as goal
+use Rattle.a64_operand_text.proofs.LineSteps.{from_one_on, at_end, one_more, whole_line}
+use Rattle.a64_operand_text.proofs.operand.push_line.Goals as goal
 
 pub loop-operand-init : goal.loop-operand-init
 loop-operand-init c =

@@ -13,15 +13,15 @@ use Rattle.a64_imms.specs.Imm12s.{imm12_value}
 use Rattle.a64_inst.specs.declared.inst.Inst.{Inst}
 use Rattle.a64_inst.specs.declared.inst.Inst.TheVariants as insts
 use Rattle.a64_ops.specs.Names.{alu_op_name, alu_op3_name, bfm_op_name, bit_op_name, fpu_op1_name, fpu_op2_name, fpu_op3_name, fpu_round_mode_name, fpu_to_int_op_name, int_to_fpu_op_name, move_wide_op_name, vec_alu_mod_op_name, vec_alu_op_name, vec_extend_op_name, vec_lanes_op_name, vec_pair_op_name, vec_rr_narrow_op_name, vec_rr_pair_long_op_name, vec_rrr_long_mod_op_name, vec_rrr_long_op_name, vec_shift_imm_mod_op_name, vec_shift_imm_op_name}
-use Rattle.a64_print.specs.declared.operand.Operand.TheVariants as operand
-use Rattle.a64_print.specs.ControlTexts.{authenticated_ret_text, bare_number_text, bti_text, cond_br_text, key_name, test_bit_name, trap_if_text}
-use Rattle.a64_print.specs.FloatTexts.{fpu_rr_size, fpu_rri_text, fpu_rri_mod_text, from_float_size, from_int_size, round_size, to_float_size, to_int_size}
-use Rattle.a64_print.specs.IntegerTexts.{alu_rr_imm12_text, extend_text, sum_size}
-use Rattle.a64_print.specs.Lines.{line_text, two_lines_text}
-use Rattle.a64_print.specs.LaneSizes.{added_product_lane, alu_lanes, alu_mod_lanes, pair_long_lane, product_lane, vector_of}
-use Rattle.a64_print.specs.CallTexts.{return_part}
-use Rattle.a64_print.specs.SequenceTexts.{arg_text, cas_loop_text, jt_sequence_text, ret_text, rmw_loop_text, vec_csel_text}
-use Rattle.a64_print.specs.VectorTexts.{half_text, lane_move_name, vec_misc_text, vec_rr_long_text, vector_imm_name}
+use Rattle.a64_operand_text.specs.declared.operand.Operand.TheVariants as operand
+use Rattle.a64_operand_text.specs.ControlTexts.{authenticated_ret_text, bare_number_text, bti_text, cond_br_text, key_name, test_bit_name, trap_if_text}
+use Rattle.a64_operand_text.specs.FloatTexts.{fpu_rr_size, fpu_rri_text, fpu_rri_mod_text, from_float_size, from_int_size, round_size, to_float_size, to_int_size}
+use Rattle.a64_operand_text.specs.IntegerTexts.{alu_rr_imm12_text, extend_text, sum_size}
+use Rattle.a64_operand_text.specs.Lines.{line_text, two_lines_text}
+use Rattle.a64_operand_text.specs.LaneSizes.{added_product_lane, alu_lanes, alu_mod_lanes, pair_long_lane, product_lane, vector_of}
+use Rattle.a64_operand_text.specs.CallTexts.{return_part}
+use Rattle.a64_operand_text.specs.SequenceTexts.{arg_text, cas_loop_text, jt_sequence_text, ret_text, rmw_loop_text, vec_csel_text}
+use Rattle.a64_operand_text.specs.VectorTexts.{half_text, lane_move_name, vec_misc_text, vec_rr_long_text, vector_imm_name}
 
 -- the text of an instruction, but for loads, stores and addresses of their modes, whose texts depend on the frame
 abbrev pub own_text : Inst → List ℕ

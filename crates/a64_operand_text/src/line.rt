@@ -2,7 +2,7 @@
 
 ghost use Rattle.std.specs.Prelude.{◌≡◌, [], ◌∷◌, ◌++◌, OnOk};
 ghost use Rattle.std.specs.String.{string_bytes};
-ghost use Rattle.a64_print.specs.Lines.{line_text};
+ghost use Rattle.a64_operand_text.specs.Lines.{line_text};
 
 use crate::operand::{Operand, push_line};
 use std::alloc::AllocError;

@@ -2,10 +2,10 @@
 
 ghost use Rattle.std.specs.Prelude.{◌≡◌, ◌++◌, if◌then◌else◌, codes, OnOk};
 ghost use Rattle.std.specs.String.{string_bytes};
-ghost use Rattle.a64_print.specs.declared.operand.Operand.TheVariants as operands;
-ghost use Rattle.a64_print.specs.Operands as texts;
-ghost use Rattle.a64_print.specs.Operands.{operand_text};
-ghost use Rattle.a64_print.specs.Lines.{line_text, two_lines_text};
+ghost use Rattle.a64_operand_text.specs.declared.operand.Operand.TheVariants as operands;
+ghost use Rattle.a64_operand_text.specs.Operands as texts;
+ghost use Rattle.a64_operand_text.specs.Operands.{operand_text};
+ghost use Rattle.a64_operand_text.specs.Lines.{line_text, two_lines_text};
 
 use a64_base::{
     BranchTarget, Cond, ExtendOp, ExternalName, OperandSize, Reg, ScalarSize, ShiftOpAndAmt,

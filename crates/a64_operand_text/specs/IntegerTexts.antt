@@ -11,8 +11,8 @@ use Rattle.a64_ops.specs.declared.operator.ALUOp.TheVariants as alu_ops
 use Rattle.a64_ops.specs.declared.operator.ALUOp3.{ALUOp3}
 use Rattle.a64_ops.specs.declared.operator.ALUOp3.TheVariants as alu_op3s
 use Rattle.a64_ops.specs.Names.{alu_op_name}
-use Rattle.a64_print.specs.declared.operand.Operand.TheVariants as operand
-use Rattle.a64_print.specs.Lines.{line_text}
+use Rattle.a64_operand_text.specs.declared.operand.Operand.TheVariants as operand
+use Rattle.a64_operand_text.specs.Lines.{line_text}
 
 -- an addition of 0 at 64 bits, which moves to or from the stack pointer
 abbrev pub is_move : ALUOp → OperandSize → Imm12 → Bool

@@ -2,7 +2,7 @@
 
 ghost use Rattle.std.specs.Prelude.{◌≡◌};
 ghost use Rattle.a64_base.specs.ScalarSizes as scalars;
-ghost use Rattle.a64_print.specs.LaneSizes as sizes;
+ghost use Rattle.a64_operand_text.specs.LaneSizes as sizes;
 
 use a64_base::{ScalarSize, VectorSize};
 use a64_ops::{

@@ -3,7 +3,7 @@ use Rattle.std.specs.Prelude.{ℕ, List, ◌++◌, codes}
 use Rattle.std.specs.Fmt.{decimal}
 use Rattle.std.specs.List.{flat_map}
 use Rattle.a64_inst.specs.declared.call.CallArgPair.{CallArgPair}
-use Rattle.a64_print.specs.SequenceTexts.{pair_text}
+use Rattle.a64_operand_text.specs.SequenceTexts.{pair_text}
 
 abbrev pub call_arg_text : CallArgPair → List ℕ
 call_arg_text pair = pair_text pair.vreg pair.preg

@@ -3,9 +3,9 @@ use Rattle.std.proofs.Common.{ℕ, Bool, true, false, refl, if◌then◌else◌,
 use Rattle.std.specs.List.{flat_map}
 use Rattle.std.proofs.Math.Seq.{drop-cons}
 use Rattle.std.proofs.lemmas.List.{drop_all, append_assoc, append-nil}
-use Rattle.a64_print.specs.declared.operand.Operand.{Operand}
-use Rattle.a64_print.specs.Lines.{behind_text, line_text}
-use Rattle.a64_print.specs.Operands.{operand_text}
+use Rattle.a64_operand_text.specs.declared.operand.Operand.{Operand}
+use Rattle.a64_operand_text.specs.Lines.{behind_text, line_text}
+use Rattle.a64_operand_text.specs.Operands.{operand_text}
 
 -- what stands before an operand: a comma before each but the first
 abbrev pub start_text : Bool → List ℕ

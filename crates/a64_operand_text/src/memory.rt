@@ -10,11 +10,11 @@ ghost use Rattle.a64_inst.specs.Constants.{step_into};
 ghost use Rattle.a64_inst.specs.FinalModes.{parts_of};
 ghost use Rattle.a64_inst.specs.Groups.{group_of};
 ghost use Rattle.a64_inst.specs.MemoryOperands as operands;
-ghost use Rattle.a64_print.specs.declared.operand.Operand.TheVariants as operand;
-ghost use Rattle.a64_print.specs.Lines.{line_text};
-ghost use Rattle.a64_print.specs.MemoryTexts as texts;
-ghost use Rattle.a64_print.specs.MemoryTexts.{memory_text};
-ghost use Rattle.a64_print.specs.Texts.{own_text};
+ghost use Rattle.a64_operand_text.specs.declared.operand.Operand.TheVariants as operand;
+ghost use Rattle.a64_operand_text.specs.Lines.{line_text};
+ghost use Rattle.a64_operand_text.specs.MemoryTexts as texts;
+ghost use Rattle.a64_operand_text.specs.MemoryTexts.{memory_text};
+ghost use Rattle.a64_operand_text.specs.Texts.{own_text};
 
 use crate::line::{line2, line3, line4};
 use crate::operand::Operand::{Base, Extend, Number, PairMode, Scalar, Sized, Table, Wide, X};
@@ -469,7 +469,12 @@ fn push_access_inst(out: &mut String, frame: &FrameLayout, inst: &Inst) -> Resul
     }
 }
 
-/// Appends the text of a load, a store, or the address of a mode.
+/// Appends the text of a load or a store, or of the address of a mode, in a frame: with the steps
+/// that the mode needs before it.
+///
+/// # Errors
+///
+/// Want of memory.
 pub fn push_memory(out: &mut String, frame: &FrameLayout, inst: &Inst) -> Result<(), AllocError>
     requires { group_of inst.now ≡ Memory }
     ensures { OnOk result

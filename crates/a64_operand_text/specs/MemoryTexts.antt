@@ -25,11 +25,11 @@ use Rattle.a64_inst.specs.Constants.{step_into}
 use Rattle.a64_inst.specs.FinalModes.{FinalMode, SignedOffset, ScaledOffset, Other, mode_for, final_steps}
 use Rattle.a64_inst.specs.MemoryOperands.{is_addend}
 use Rattle.a64_inst.specs.ModeTexts.{final_text}
-use Rattle.a64_print.specs.declared.operand.Operand.{Operand}
-use Rattle.a64_print.specs.declared.operand.Operand.TheVariants as operand
-use Rattle.a64_print.specs.Operands.{operand_text}
-use Rattle.a64_print.specs.Lines.{line_text}
-use Rattle.a64_print.specs.Texts.{own_text}
+use Rattle.a64_operand_text.specs.declared.operand.Operand.{Operand}
+use Rattle.a64_operand_text.specs.declared.operand.Operand.TheVariants as operand
+use Rattle.a64_operand_text.specs.Operands.{operand_text}
+use Rattle.a64_operand_text.specs.Lines.{line_text}
+use Rattle.a64_operand_text.specs.Texts.{own_text}
 
 -- ---- loads and stores of one register
 

@@ -2,9 +2,9 @@ use Rattle.std.proofs.Common.{◌≡◌, ◌++◌, drop}
 use Rattle.std.specs.String.{string_bytes}
 use Rattle.std.specs.List.{flat_map}
 use Rattle.a64_inst.specs.Constants.{step_into}
-use Rattle.a64_print.specs.Texts.{own_text}
-use Rattle.a64_print.specs.MemoryTexts.{steps_text}
-use Rattle.a64_print.proofs.memory.push_steps.Given as goal
+use Rattle.a64_operand_text.specs.Texts.{own_text}
+use Rattle.a64_operand_text.specs.MemoryTexts.{steps_text}
+use Rattle.a64_operand_text.proofs.memory.push_steps.Given as goal
 
 -- the steps that are left make the text whole
 abbrev pub invariant-loop-step : goal.invariant-loop-step

@@ -12,8 +12,8 @@ use Rattle.a64_base.specs.declared.target.BranchTarget.{BranchTarget}
 use Rattle.a64_base.specs.Conditions.{condition_name}
 use Rattle.a64_ops.specs.declared.system.BranchTargetType.{BranchTargetType}
 use Rattle.a64_ops.specs.declared.system.BranchTargetType.TheVariants as target_types
-use Rattle.a64_print.specs.declared.operand.Operand.TheVariants as operand
-use Rattle.a64_print.specs.Lines.{line_text, two_lines_text}
+use Rattle.a64_operand_text.specs.declared.operand.Operand.TheVariants as operand
+use Rattle.a64_operand_text.specs.Lines.{line_text, two_lines_text}
 
 -- the name of a key, as names of instructions end with it
 abbrev pub key_name : APIKey → List ℕ

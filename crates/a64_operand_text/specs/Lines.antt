@@ -1,8 +1,8 @@
 -- A name and its operands, and the pairs of registers behind a name.
 use Rattle.std.specs.Prelude.{ℕ, List, [], ◌∷◌, ◌++◌, codes}
 use Rattle.std.specs.List.{flat_map}
-use Rattle.a64_print.specs.declared.operand.Operand.{Operand}
-use Rattle.a64_print.specs.Operands.{operand_text}
+use Rattle.a64_operand_text.specs.declared.operand.Operand.{Operand}
+use Rattle.a64_operand_text.specs.Operands.{operand_text}
 
 -- an operand behind another
 abbrev pub behind_text : Operand → List ℕ

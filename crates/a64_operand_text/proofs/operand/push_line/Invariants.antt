@@ -1,8 +1,8 @@
 use Rattle.std.proofs.Common.{◌≡◌, ◌++◌, drop}
 use Rattle.std.specs.String.{string_bytes}
-use Rattle.a64_print.proofs.LineSteps.{operands_text}
-use Rattle.a64_print.specs.Lines.{line_text}
-use Rattle.a64_print.proofs.operand.push_line.Given as goal
+use Rattle.a64_operand_text.proofs.LineSteps.{operands_text}
+use Rattle.a64_operand_text.specs.Lines.{line_text}
+use Rattle.a64_operand_text.proofs.operand.push_line.Given as goal
 
 -- the operands that are left make the text whole
 abbrev pub invariant-loop-operand : goal.invariant-loop-operand

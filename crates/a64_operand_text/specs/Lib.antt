@@ -1,0 +1,11 @@
+pub mod Operands
+pub mod Lines
+pub mod IntegerTexts
+pub mod FloatTexts
+pub mod LaneSizes
+pub mod VectorTexts
+pub mod ControlTexts
+pub mod SequenceTexts
+pub mod CallTexts
+pub mod Texts
+pub mod MemoryTexts
