@@ -6,6 +6,7 @@ mod control;
 mod float;
 mod immediate;
 mod items;
+mod memory;
 mod print;
 mod register;
 mod sequence;

@@ -9,6 +9,7 @@ use crate::call::push_call;
 use crate::control::push_control;
 use crate::float::push_float;
 use crate::immediate::push_immediate;
+use crate::memory::push_memory;
 use crate::register::push_register;
 use crate::sequence::push_sequence;
 use crate::system::push_system;
@@ -16,7 +17,6 @@ use crate::vector::push_vector;
 use crate::vector_move::push_vector_move;
 use a64_base::Text;
 use a64_inst::{EmitState, FrameLayout, Group, Inst, PlainGroup};
-use a64_operand_text::push_memory;
 use std::alloc::{AllocError, Global};
 
 /// Room for most texts, in bytes.

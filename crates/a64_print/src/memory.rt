@@ -6,25 +6,20 @@ ghost use Rattle.std.specs.String.{string_bytes};
 ghost use Rattle.a64_imms.specs.Scales.{type_bytes};
 ghost use Rattle.a64_inst.specs.declared.group.Group.TheVariants.{Memory};
 ghost use Rattle.a64_inst.specs.Accesses.{access_of, access_type};
-ghost use Rattle.a64_inst.specs.Constants.{step_into};
 ghost use Rattle.a64_inst.specs.FinalModes.{parts_of};
 ghost use Rattle.a64_inst.specs.Groups.{group_of};
-ghost use Rattle.a64_inst.specs.MemoryOperands as operands;
 ghost use Rattle.a64_operand_text.specs.declared.operand.Operand.TheVariants as operand;
 ghost use Rattle.a64_operand_text.specs.Lines.{line_text};
 ghost use Rattle.a64_operand_text.specs.MemoryTexts as texts;
 ghost use Rattle.a64_operand_text.specs.MemoryTexts.{memory_text};
-ghost use Rattle.a64_operand_text.specs.Texts.{own_text};
 
-use crate::line::{line2, line3, line4};
-use crate::operand::Operand::{Base, Extend, Number, PairMode, Scalar, Sized, Table, Wide, X};
-use crate::operand::{Operand, push_line, push_operand};
-use a64_base::{
-    IrType, OperandSize, Reg, ScalarSize, Writable, tmp2_reg, writable_spilltmp_reg,
-    writable_tmp2_reg, zero_reg,
-};
-use a64_inst::{AMode, AccessOp, AtomicCAS128Args, ConstStep, FrameLayout, Inst, const_plan};
+use a64_base::{IrType, OperandSize, Reg, ScalarSize, writable_spilltmp_reg};
+use a64_inst::{AMode, AccessOp, AtomicCAS128Args, ConstStep, FrameLayout, Inst};
 use a64_mode::{final_steps, shown_mode};
+use a64_operand_text::Operand::{Base, Extend, PairMode, Scalar, Sized, Table, X};
+use a64_operand_text::{
+    Operand, line2, line3, line4, push_line, push_operand, push_step, push_steps, push_sum,
+};
 use std::alloc::AllocError;
 
 /// One of two names.
@@ -105,44 +100,6 @@ fn access_type(op: AccessOp) -> (IrType, u8)
     }
 }
 
-/// Appends a step of a constant into a register.
-fn push_step(out: &mut String, rd: Writable<Reg>, step: ConstStep) -> Result<(), AllocError>
-    ensures { OnOk result
-        (string_bytes out.new ≡ string_bytes out.old ++ own_text (step_into rd step)) }
-{
-    match step {
-        ConstStep::MovZ(imm, size) => line2(out, "movz", Sized(size, rd.to_reg()), Wide(imm)),
-        ConstStep::MovN(imm, size) => line2(out, "movn", Sized(size, rd.to_reg()), Wide(imm)),
-        ConstStep::MovK(imm, size) => {
-            line3(
-                out,
-                "movk",
-                Sized(size, rd.to_reg()),
-                Sized(size, rd.to_reg()),
-                Wide(imm),
-            )
-        }
-        ConstStep::Orr(imml) => line3(
-            out,
-            "orr",
-            Sized(imml.size, rd.to_reg()),
-            Sized(imml.size, zero_reg()),
-            Number(imml.value()),
-        ),
-    }
-}
-
-/// Appends the steps of a constant into a register, with nothing between them.
-fn push_steps(out: &mut String, rd: Writable<Reg>, steps: &[ConstStep]) -> Result<(), AllocError>
-    ensures { OnOk result
-        (string_bytes out.new ≡ string_bytes out.old ++ texts.steps_text rd steps.now) }
-{
-    for step in steps {
-        push_step(out, rd, *step)?;
-    }
-    Ok(())
-}
-
 /// Appends a step that a mode needs before it, and a semicolon.
 fn push_step_before(out: &mut String, step: ConstStep) -> Result<(), AllocError>
     ensures { OnOk result
@@ -183,7 +140,7 @@ fn push_held(
 }
 
 /// Appends a load or a store of one register.
-#[tactic(auto, unfolding(crate::specs::MemoryTexts::access_text))]
+#[tactic(auto, unfolding(a64_operand_text::specs::MemoryTexts::access_text))]
 fn push_access(
     out: &mut String,
     frame: &FrameLayout,
@@ -197,52 +154,6 @@ fn push_access(
     let (ty, _) = access_type(op);
     push_steps_before(out, final_steps(frame, ty, mem).as_slice())?;
     push_held(out, frame, op, reg, mem)
-}
-
-/// What adds an offset, or takes its amount away where it is negative.
-fn sum_name<'a>(offset: i32) -> &'a str
-    ensures { result.now ≡ texts.sum_name offset }
-{
-    if offset < 0 { "sub" } else { "add" }
-}
-
-/// Whether an addition holds a number.
-fn is_addend(n: u32) -> bool
-    ensures { result ≡ operands.is_addend n }
-{
-    n < 4096 || n < 1 << 24 && n % 4096 == 0
-}
-
-/// Appends a base and an offset, of which x17 gets the amount first.
-fn push_far_sum(out: &mut String, rd: Reg, rn: Reg, offset: i32) -> Result<(), AllocError>
-    ensures { OnOk result
-        (string_bytes out.new ≡ string_bytes out.old ++ texts.far_sum_text rd rn offset) }
-{
-    let plan = const_plan(u64::from(offset.unsigned_abs()));
-    push_steps(out, writable_tmp2_reg(), plan.as_slice())?;
-    line3(out, sum_name(offset), X(rd), X(rn), X(tmp2_reg()))
-}
-
-/// Appends a base and an offset.
-#[tactic(auto, unfolding(crate::specs::MemoryTexts::sum_text))]
-fn push_sum(out: &mut String, rd: Reg, rn: Reg, offset: i32) -> Result<(), AllocError>
-    ensures { OnOk result
-        (string_bytes out.new ≡ string_bytes out.old ++ texts.sum_text rd rn offset) }
-{
-    let amount = offset.unsigned_abs();
-    if offset == 0 {
-        line2(out, "mov", X(rd), X(rn))
-    } else if is_addend(amount) {
-        line3(
-            out,
-            sum_name(offset),
-            X(rd),
-            X(rn),
-            Number(u64::from(amount)),
-        )
-    } else {
-        push_far_sum(out, rd, rn, offset)
-    }
 }
 
 /// Appends the address of a mode that stands in an instruction.
@@ -261,7 +172,7 @@ fn push_final_address(out: &mut String, rd: Reg, mode: AMode) -> Result<(), Allo
 }
 
 /// Appends the address of a mode, with the steps before it.
-#[tactic(auto, unfolding(crate::specs::MemoryTexts::address_text))]
+#[tactic(auto, unfolding(a64_operand_text::specs::MemoryTexts::address_text))]
 fn push_address(
     out: &mut String,
     frame: &FrameLayout,

@@ -4,7 +4,7 @@ use Rattle.std.specs.List.{flat_map}
 use Rattle.a64_inst.specs.Constants.{step_into}
 use Rattle.a64_operand_text.specs.Texts.{own_text}
 use Rattle.a64_operand_text.specs.MemoryTexts.{steps_text}
-use Rattle.a64_operand_text.proofs.memory.push_steps.Given as goal
+use Rattle.a64_operand_text.proofs.step.push_steps.Given as goal
 
 -- the steps that are left make the text whole
 abbrev pub invariant-loop-step : goal.invariant-loop-step
