@@ -64,3 +64,7 @@ saturated_more w size charge = omega arith
 
 pub saturated_once : (w growth : ℕ) → saturated (saturated w + growth) ≡ saturated (w + growth)
 saturated_once w growth = omega arith
+
+-- nothing more leaves a sum that stops at the greatest number as it was
+pub saturated_none : (size w : ℕ) → size ≡ saturated w → size ≡ saturated (size + 0)
+saturated_none size w e = omega (arith, e)

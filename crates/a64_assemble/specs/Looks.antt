@@ -26,6 +26,7 @@ pub record IsRightAnd (frame : FrameLayout) (flags : EmitFlags) (constants : Fin
 -- what was found of an item
 abbrev pub IsLook : FrameLayout → EmitFlags → FinMap nat_cmp (List ℕ) → Item → Look → Type 0
 IsLook frame flags constants item (looks.Fault fault) = item_fault frame flags constants item ≡ Some fault
+IsLook frame flags constants item looks.Binding = IsRightAnd frame flags constants item (bare 0)
 IsLook frame flags constants item (looks.Bare growth) = IsRightAnd frame flags constants item (bare growth)
 IsLook frame flags constants item (looks.Light light) = IsRightAnd frame flags constants item light
 IsLook frame flags constants item looks.Right = item_fault frame flags constants item ≡ None
@@ -33,6 +34,7 @@ IsLook frame flags constants item looks.Right = item_fault frame flags constants
 -- a look found what is light
 abbrev pub IsBareOrLight : Light → Look → Type 0
 IsBareOrLight light (looks.Fault fault) = ⊥
+IsBareOrLight light looks.Binding = ⊥
 IsBareOrLight light (looks.Bare growth) = light ≡ bare growth
 IsBareOrLight light (looks.Light other) = light ≡ other
 IsBareOrLight light looks.Right = ⊥

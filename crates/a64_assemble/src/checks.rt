@@ -5,8 +5,8 @@ ghost use Rattle.std.specs.List.{cons_option, filter_map, list_any};
 ghost use Rattle.std.specs.Option.{option_or};
 ghost use Rattle.a64_emit.specs.declared.error.EmitError.TheVariants.{OutOfMemory, TooLarge, UnboundLabel};
 ghost use Rattle.a64_emit.specs.Bounds as bounds;
-ghost use Rattle.a64_emit.specs.Bounds.{saturated};
-ghost use Rattle.a64_emit.specs.Cells.{sites_of, table_labels, listed_uses, two_uses, uses_of};
+ghost use Rattle.a64_emit.specs.Bounds.{IsExtent, saturated};
+ghost use Rattle.a64_emit.specs.Cells.{cells_of, sites_of, table_labels, listed_uses, two_uses, uses_of};
 ghost use Rattle.a64_emit.specs.FormCells.{HoldsHalfword};
 ghost use Rattle.a64_emit.specs.Faults as Faults;
 ghost use Rattle.a64_emit.specs.Faults.{own_fault, HasLabels, bindings, second_binding, first_missing, used_label, unbound_use, or_else, too_large};
@@ -293,6 +293,17 @@ fn add_light(totals: &mut Totals, light: Light, bound: Option<&LabelMap<()>>)
     totals.missing = missing_behind(totals.missing, light, bound);
 }
 
+/// How much an item may add to code, and its uses. Stands out of line, since few items are not light, so that the
+/// loop over the items keeps more in registers.
+#[inline(never)]
+fn burden_apart<'a>(item: &'a Item, frame: &FrameLayout, info: &EmitInfo) -> Burden<'a>
+    ensures extent { IsExtent frame.now info.now item.now
+        result.extent.size result.extent.charge result.extent.range }
+    ensures uses { uses_of 0 (cells_of frame.now info.now item.now) ≡ listed_uses result.uses }
+{
+    burden_of(item, frame, info)
+}
+
 /// Adds any item.
 #[inline(always)]
 fn add_burden(totals: &mut Totals, burden: Burden, bound: Option<&LabelMap<()>>)
@@ -371,6 +382,7 @@ pub fn check_items(
         holds_halfword(item);
         match look_at(item, constants, info, frame, restorable) {
             Look::Fault(fault) => return Err(own_error(i, fault)),
+            Look::Binding => {}
             Look::Bare(growth) => {
                 size = size.saturating_add(growth);
                 totals.widest = wider(totals.widest, growth);
@@ -380,7 +392,7 @@ pub fn check_items(
                 add_light(&mut totals, light, bound);
             }
             Look::Right => {
-                let burden = burden_of(item, frame, info);
+                let burden = burden_apart(item, frame, info);
                 size = size
                     .saturating_add(burden.extent.size)
                     .saturating_add(burden.extent.charge);
