@@ -15,8 +15,10 @@ use std::alloc::AllocError;
 /// some use waits.
 fn is_asked(buffer: &MachBuffer<'_, LabelUse>, distance: u32, force: ForceVeneers) -> bool
     ensures asked { MatchBool result
-        ((Fits label_kinds buffer.now distance → ⊥) ⊎ ((force ≡ Yes) × (Fits label_kinds buffer.now (2 ^ 32 - 1) → ⊥)))
-        (Fits label_kinds buffer.now distance × (force ≡ Yes → Fits label_kinds buffer.now (2 ^ 32 - 1))) }
+        ((Fits label_kinds buffer.now distance → ⊥)
+        ⊎ ((force ≡ Yes) × (Fits label_kinds buffer.now (2 ^ 32 - 1) → ⊥)))
+        (Fits label_kinds buffer.now distance
+        × (force ≡ Yes → Fits label_kinds buffer.now (2 ^ 32 - 1))) }
 {
     if buffer.island_needed(distance) {
         return true;

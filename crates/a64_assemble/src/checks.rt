@@ -53,8 +53,10 @@ fn holds_halfword(item: &Item)
 ///
 /// The first label that is bound twice, or want of memory.
 pub fn bound_labels(alloc: Global, items: &[Item]) -> Result<LabelMap<()>, EmitError>
-    ensures ok { IfOk result (λ bound. (second_binding items.now ≡ None) × HasLabels bound (bindings items.now)) }
-    ensures err { IfErr result (λ error. (error ≡ OutOfMemory) ⊎ (second_binding items.now ≡ Some error)) }
+    ensures ok { IfOk result (λ bound. (second_binding items.now ≡ None)
+        × HasLabels bound (bindings items.now)) }
+    ensures err { IfErr result (λ error. (error ≡ OutOfMemory)
+        ⊎ (second_binding items.now ≡ Some error)) }
 {
     let mut bound = LabelMap::new(alloc);
     for item in items {
@@ -71,7 +73,8 @@ pub fn bound_labels(alloc: Global, items: &[Item]) -> Result<LabelMap<()>, EmitE
 /// The label that a use leads to, where it is not bound.
 #[inline(always)]
 fn missing(site: Option<Site>, bound: &LabelMap<()>) -> Option<MachLabel>
-    ensures { (labels : _) → HasLabels bound.now labels → result ≡ first_missing labels (filter_map used_label (cons_option site [])) }
+    ensures { (labels : _) → HasLabels bound.now labels
+        → result ≡ first_missing labels (filter_map used_label (cons_option site [])) }
 {
     match site?.target {
         Target::Label(label) if !bound.contains(label.0) => Some(label),
@@ -81,7 +84,8 @@ fn missing(site: Option<Site>, bound: &LabelMap<()>) -> Option<MachLabel>
 
 /// The first of some labels that is not bound.
 fn missing_label(labels: &[MachLabel], bound: &LabelMap<()>) -> Option<MachLabel>
-    ensures { (among : _) → HasLabels bound.now among → result ≡ first_missing among labels.now }
+    ensures { (among : _) → HasLabels bound.now among
+        → result ≡ first_missing among labels.now }
 {
     for label in labels {
         if !bound.contains(label.0) {
@@ -93,7 +97,9 @@ fn missing_label(labels: &[MachLabel], bound: &LabelMap<()>) -> Option<MachLabel
 
 /// The first label of a table that is not bound: one of its targets, or else its default.
 fn missing_entry(table: Table, bound: &LabelMap<()>) -> Option<MachLabel>
-    ensures { (labels : _) → HasLabels bound.now labels → result ≡ first_missing labels (table_labels table.entry.default table.entry.targets.now) }
+    ensures { (labels : _) → HasLabels bound.now labels
+        → result
+        ≡ first_missing labels (table_labels table.entry.default table.entry.targets.now) }
 {
     match missing_label(table.targets, bound) {
         Some(label) => Some(label),
@@ -110,7 +116,8 @@ fn missing_in_two(
     bound: &LabelMap<()>,
 ) -> Option<MachLabel>
     ensures { (labels : _) → HasLabels bound.now labels
-        → (cells : _) → uses_of 0 cells ≡ two_uses first second → result ≡ first_missing labels (filter_map used_label (sites_of cells)) }
+        → (cells : _) → uses_of 0 cells ≡ two_uses first second
+        → result ≡ first_missing labels (filter_map used_label (sites_of cells)) }
 {
     match missing(first, bound) {
         Some(label) => Some(label),
@@ -122,7 +129,8 @@ fn missing_in_two(
 #[inline(always)]
 fn missing_in(uses: Uses, bound: &LabelMap<()>) -> Option<MachLabel>
     ensures { (labels : _) → HasLabels bound.now labels
-        → (cells : _) → uses_of 0 cells ≡ listed_uses uses.entry → result ≡ first_missing labels (filter_map used_label (sites_of cells)) }
+        → (cells : _) → uses_of 0 cells ≡ listed_uses uses.entry
+        → result ≡ first_missing labels (filter_map used_label (sites_of cells)) }
 {
     if let Some(label) = missing(uses.first, bound) {
         return Some(label);
@@ -147,7 +155,8 @@ fn near_use(site: Option<Site>) -> bool
 /// Whether one of these uses needs its label near. No entry of a table does.
 #[inline(always)]
 fn near_in(uses: Uses) -> bool
-    ensures { (cells : _) → uses_of 0 cells ≡ listed_uses uses.entry → result ≡ list_any is_near (sites_of cells) }
+    ensures { (cells : _) → uses_of 0 cells ≡ listed_uses uses.entry
+        → result ≡ list_any is_near (sites_of cells) }
 {
     near_use(uses.first) | near_use(uses.second)
 }
@@ -232,7 +241,13 @@ pub struct Totals {
 /// What no uses come to.
 #[inline(always)]
 fn no_totals() -> Totals
-    ensures { result ≡ record { shortest = None; near = false; users = 0; widest = 68; missing = None } }
+    ensures { result ≡ record {
+      shortest = None;
+      near = false;
+      users = 0;
+      widest = 68;
+      missing = None;
+    } }
 {
     Totals {
         shortest: None,
@@ -251,7 +266,9 @@ fn missing_behind(
     bound: Option<&LabelMap<()>>,
 ) -> Option<MachLabel>
     ensures { IfSome bound.entry (λ map. (labels : _) → HasLabels map.now labels
-        → (cells : _) → uses_of 0 cells ≡ two_uses light.first light.second → result ≡ option_or before (first_missing labels (filter_map used_label (sites_of cells)))) }
+        → (cells : _) → uses_of 0 cells ≡ two_uses light.first light.second
+        → result ≡ option_or before (first_missing labels
+        (filter_map used_label (sites_of cells)))) }
 {
     match (before, bound) {
         (None, Some(bound)) => missing_in_two(light.first, light.second, bound),
@@ -267,7 +284,9 @@ fn missing_behind_all(
     bound: Option<&LabelMap<()>>,
 ) -> Option<MachLabel>
     ensures { IfSome bound.entry (λ map. (labels : _) → HasLabels map.now labels
-        → (cells : _) → uses_of 0 cells ≡ listed_uses uses.entry → result ≡ option_or before (first_missing labels (filter_map used_label (sites_of cells)))) }
+        → (cells : _) → uses_of 0 cells ≡ listed_uses uses.entry
+        → result ≡ option_or before (first_missing labels
+        (filter_map used_label (sites_of cells)))) }
 {
     match (before, bound) {
         (None, Some(bound)) => missing_in(uses, bound),
@@ -283,7 +302,9 @@ fn add_light(totals: &mut Totals, light: Light, bound: Option<&LabelMap<()>>)
     ensures near { totals.new.near ≡ totals.old.near }
     ensures widest { totals.new.widest ≡ max totals.old.widest light.growth }
     ensures missing { IfSome bound.entry (λ map. (labels : _) → HasLabels map.now labels
-        → (cells : _) → uses_of 0 cells ≡ two_uses light.first light.second → totals.new.missing ≡ option_or totals.old.missing (first_missing labels (filter_map used_label (sites_of cells)))) }
+        → (cells : _) → uses_of 0 cells ≡ two_uses light.first light.second
+        → totals.new.missing ≡ option_or totals.old.missing
+        (first_missing labels (filter_map used_label (sites_of cells)))) }
 {
     totals.shortest = lesser(totals.shortest, light.range);
     totals.users = totals
@@ -308,11 +329,16 @@ fn burden_apart<'a>(item: &'a Item, frame: &FrameLayout, info: &EmitInfo) -> Bur
 #[inline(always)]
 fn add_burden(totals: &mut Totals, burden: Burden, bound: Option<&LabelMap<()>>)
     requires { 68 ≤ totals.old.widest }
-    ensures shortest { totals.new.shortest ≡ bounds.lesser totals.old.shortest burden.entry.extent.range }
-    ensures near { (cells : _) → uses_of 0 cells ≡ listed_uses burden.entry.uses → totals.new.near ≡ (totals.old.near || list_any is_near (sites_of cells)) }
-    ensures widest { (width : ℕ) × IsWidth burden.entry.extent width × (totals.new.widest ≡ max totals.old.widest width) }
+    ensures shortest { totals.new.shortest
+        ≡ bounds.lesser totals.old.shortest burden.entry.extent.range }
+    ensures near { (cells : _) → uses_of 0 cells ≡ listed_uses burden.entry.uses
+        → totals.new.near ≡ (totals.old.near || list_any is_near (sites_of cells)) }
+    ensures widest { (width : ℕ) × IsWidth burden.entry.extent width
+        × (totals.new.widest ≡ max totals.old.widest width) }
     ensures missing { IfSome bound.entry (λ map. (labels : _) → HasLabels map.now labels
-        → (cells : _) → uses_of 0 cells ≡ listed_uses burden.entry.uses → totals.new.missing ≡ option_or totals.old.missing (first_missing labels (filter_map used_label (sites_of cells)))) }
+        → (cells : _) → uses_of 0 cells ≡ listed_uses burden.entry.uses
+        → totals.new.missing ≡ option_or totals.old.missing
+        (first_missing labels (filter_map used_label (sites_of cells)))) }
 {
     let Burden { extent, uses } = burden;
     totals.shortest = lesser(totals.shortest, extent.range);
@@ -328,7 +354,8 @@ fn add_burden(totals: &mut Totals, burden: Burden, bound: Option<&LabelMap<()>>)
 ///
 /// The label that is missing, or else that the code may be too large.
 fn found_of(size: u64, totals: Totals) -> Result<Found, EmitError>
-    ensures ok { IfOk result (λ found. (totals.missing ≡ None) × (size < 2 ^ 31) × (found.size ≡ size) × (found.shortest ≡ totals.shortest)
+    ensures ok { IfOk result (λ found. (totals.missing ≡ None) × (size < 2 ^ 31)
+        × (found.size ≡ size) × (found.shortest ≡ totals.shortest)
         × (found.near ≡ totals.near) × (found.widest ≡ min totals.widest (2 ^ 32 - 1))) }
     ensures err { IfErr result (λ error. (option_map UnboundLabel totals.missing ≡ Some error)
         ⊎ ((totals.missing ≡ None) × (2 ^ 31 ≤ size) × (error ≡ TooLarge))) }
@@ -373,7 +400,8 @@ pub fn check_items(
     ensures halfwords { OnOk result (All HoldsHalfword items.now) }
     ensures found { IfOk result (λ found. IfSome bound.entry (λ _. MatchResult found
         (IsFound frame.now info.now items.now)
-        (λ error. or_else (unbound_use frame.now info.now items.now) (too_large frame.now info.now items.now) ≡ Some error))) }
+        (λ error. or_else (unbound_use frame.now info.now items.now)
+        (too_large frame.now info.now items.now) ≡ Some error))) }
 {
     let restorable = frame.is_restorable(info, VirtualRegisters::Refused);
     let mut size: u64 = 0;

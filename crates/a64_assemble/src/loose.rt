@@ -31,7 +31,9 @@ fn first_waiting(marks: &[Mark], index: usize) -> usize
 fn loose_uses(marks: &[Mark], index: usize) -> u32
     requires sums { AreSums marks.now }
     requires within { index < length marks.now }
-    ensures count { (frame : FrameLayout) (flags : EmitFlags) (items : List Item) → AreMarks frame flags items marks.now → result ≡ loose frame flags (take index items) }
+    ensures count { (frame : FrameLayout) (flags : EmitFlags) (items : List Item)
+        → AreMarks frame flags items marks.now
+        → result ≡ loose frame flags (take index items) }
     ensures few { 28 * result < 2 ^ 31 }
 {
     let mark = marks[index];
@@ -45,7 +47,9 @@ pub fn reach_of(marks: &[Mark], quiet: bool, i: usize, j: usize) -> u64
     requires sums { AreSums marks.now }
     requires first { i + 1 < length marks.now }
     requires second { j + 1 < length marks.now }
-    ensures { (frame : FrameLayout) (flags : EmitFlags) (items : List Item) (force : ForceVeneers) → AreMarks frame flags items marks.now → quiet ≡ is_quiet frame flags force items → result ≡ reach frame flags force items i j }
+    ensures { (frame : FrameLayout) (flags : EmitFlags) (items : List Item) (force : ForceVeneers)
+        → AreMarks frame flags items marks.now → quiet ≡ is_quiet frame flags force items
+        → result ≡ reach frame flags force items i j }
 {
     let low = i.min(j);
     let start = marks[low];

@@ -27,7 +27,9 @@ pub struct Mark {
 
 /// What islands may add because of an item, without the space that it asks for.
 fn item_charge(extent: Extent) -> u64
-    ensures { (frame : _) (flags : _) (item : Item) → IsExtent frame flags item extent.size extent.charge extent.range → growth_of frame flags item < 2 ^ 31 → result ≡ bounds.item_charge frame flags item }
+    ensures { (frame : _) (flags : _) (item : Item)
+        → IsExtent frame flags item extent.size extent.charge extent.range
+        → growth_of frame flags item < 2 ^ 31 → result ≡ bounds.item_charge frame flags item }
 {
     if extent.size == 0 {
         extent.charge.min(4)
@@ -52,8 +54,12 @@ fn next_mark(
     requires few { 28 * (mark.loads + mark.branches) ≤ mark.growth }
     requires within { (n : ℕ) → count_of counts.old n ≤ mark.branches }
     requires short { mark.growth + growth_of frame.now info.now item.now < 2 ^ 31 }
-    ensures mark { IfOk result (λ next. (items : List Item) → IsTally frame.now info.now items counts.old → IsMark frame.now info.now items mark → IsMark frame.now info.now (items ++ item.now ∷ []) next) }
-    ensures labels { OnOk result ((items : List Item) → IsTally frame.now info.now items counts.old → IsTally frame.now info.now (items ++ item.now ∷ []) counts.new) }
+    ensures mark { IfOk result (λ next. (items : List Item)
+        → IsTally frame.now info.now items counts.old → IsMark frame.now info.now items mark
+        → IsMark frame.now info.now (items ++ item.now ∷ []) next) }
+    ensures labels { OnOk result ((items : List Item)
+        → IsTally frame.now info.now items counts.old
+        → IsTally frame.now info.now (items ++ item.now ∷ []) counts.new) }
 {
     let burden = burden_of(item, frame, info);
     let size = burden.extent.size as u32;

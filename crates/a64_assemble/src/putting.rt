@@ -47,12 +47,18 @@ fn put_inst(
     widest: u32,
 ) -> Result<(), AllocError>
     requires place { place ≡ end_of buffer.old }
-    requires good { inst_fault state.old.frame info.now buffer.old.constants Refused inst.now ≡ None }
-    requires may { MayMove (element_of state.old.frame info.now (Emit inst.now state.old.map)) (elements_of state.old.frame info.now rest.now) buffer.old }
+    requires good { inst_fault state.old.frame info.now buffer.old.constants Refused inst.now
+        ≡ None }
+    requires may { MayMove (element_of state.old.frame info.now (Emit inst.now state.old.map))
+        (elements_of state.old.frame info.now rest.now) buffer.old }
     requires asked { quiet ≡ false → bounds.asked_of inst.now ≡ None }
     requires wide { room_of (elements_of state.old.frame info.now rest.now) ≤ widest }
-    requires quiet { quiet ≡ true → NeedsNone force (element_of state.old.frame info.now (Emit inst.now state.old.map)) (elements_of state.old.frame info.now rest.now) buffer.old }
-    ensures buffer { OnOk result (Moves force (element_of state.old.frame info.now (Emit inst.now state.old.map)) (elements_of state.old.frame info.now rest.now) buffer.old buffer.new) }
+    requires quiet { quiet ≡ true → NeedsNone force
+        (element_of state.old.frame info.now (Emit inst.now state.old.map))
+        (elements_of state.old.frame info.now rest.now) buffer.old }
+    ensures buffer { OnOk result (Moves force
+        (element_of state.old.frame info.now (Emit inst.now state.old.map))
+        (elements_of state.old.frame info.now rest.now) buffer.old buffer.new) }
     ensures frame { OnOk result (state.new.frame ≡ state.old.frame) }
 {
     inst.emit(buffer, info, state)?;
@@ -83,7 +89,8 @@ fn ask_behind(
     force: ForceVeneers,
 ) -> Result<(), AllocError>
     requires whole { whole_in (elements_of frame.now info.now rest.now) < 2 ^ 31 }
-    requires short { start ≢ end_of buffer.old → end_of buffer.old + owed label_kinds buffer.old + 4 < 2 ^ 31 }
+    requires short { start ≢ end_of buffer.old
+        → end_of buffer.old + owed label_kinds buffer.old + 4 < 2 ^ 31 }
     ensures without { OnOk result (start ≡ end_of buffer.old → buffer.new ≡ buffer.old) }
     ensures behind { OnOk result (start ≢ end_of buffer.old →
         AsksNext force (inst_falls inst.now)
@@ -118,10 +125,14 @@ fn put_item(
 ) -> Result<(), AllocError>
     requires place { place ≡ end_of buffer.old }
     requires good { item_fault state.old.frame info.now buffer.old.constants item.now ≡ None }
-    requires may { MayMove (element_of state.old.frame info.now item.now) (elements_of state.old.frame info.now rest.now) buffer.old }
+    requires may { MayMove (element_of state.old.frame info.now item.now)
+        (elements_of state.old.frame info.now rest.now) buffer.old }
     requires wide { room_of (elements_of state.old.frame info.now rest.now) ≤ widest }
-    requires quiet { quiet ≡ true → NeedsNone force (element_of state.old.frame info.now item.now) (elements_of state.old.frame info.now rest.now) buffer.old }
-    ensures buffer { OnOk result (Moves force (element_of state.old.frame info.now item.now) (elements_of state.old.frame info.now rest.now) buffer.old buffer.new) }
+    requires quiet { quiet ≡ true → NeedsNone force
+        (element_of state.old.frame info.now item.now)
+        (elements_of state.old.frame info.now rest.now) buffer.old }
+    ensures buffer { OnOk result (Moves force (element_of state.old.frame info.now item.now)
+        (elements_of state.old.frame info.now rest.now) buffer.old buffer.new) }
     ensures frame { OnOk result (state.new.frame ≡ state.old.frame) }
 {
     match item {
@@ -164,8 +175,10 @@ pub fn put_items(
     requires once { second_binding items.now ≡ None }
     requires short { whole state.old.frame info.now items.now < 2 ^ 31 }
     requires wide { BoundsRooms widest (elements_of state.old.frame info.now items.now) }
-    requires quiet { quiet ≡ true → AreQuiet force (elements_of state.old.frame info.now items.now) }
-    ensures put { IfOk result (λ places. HasPutAll force (elements_of state.old.frame info.now items.now) places.items buffer.new) }
+    requires quiet { quiet ≡ true → AreQuiet force
+        (elements_of state.old.frame info.now items.now) }
+    ensures put { IfOk result (λ places. HasPutAll force
+        (elements_of state.old.frame info.now items.now) places.items buffer.new) }
     ensures constants { OnOk result (buffer.new.constants ≡ buffer.old.constants) }
     ensures sized { OnOk result (AreConstants buffer.old.constants) }
 {

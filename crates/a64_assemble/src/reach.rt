@@ -29,7 +29,8 @@ const NEAR_RANGE: u32 = (1 << 20) - 1;
 
 /// Whether nothing of the code can want an island.
 pub fn is_quiet(found: Found, force: ForceVeneers) -> bool
-    ensures { (frame : FrameLayout) (flags : EmitFlags) (items : List Item) → IsFound frame flags items found → result ≡ Reach.is_quiet frame flags force items }
+    ensures { (frame : FrameLayout) (flags : EmitFlags) (items : List Item)
+        → IsFound frame flags items found → result ≡ Reach.is_quiet frame flags force items }
 {
     match found.shortest {
         Some(range) => matches!(force, ForceVeneers::No) && found.size < range,
@@ -68,7 +69,9 @@ fn far_label(
     requires sums { AreSums marks.now }
     requires within { AreWithin bindings.now marks.now }
     requires index { index + 1 < length marks.now }
-    ensures { (frame : FrameLayout) (flags : EmitFlags) (force : ForceVeneers) (items : List Item) → AreMarks frame flags items marks.now → HasBindings items bindings.now → quiet ≡ Reach.is_quiet frame flags force items
+    ensures { (frame : FrameLayout) (flags : EmitFlags) (force : ForceVeneers) (items : List Item)
+        → AreMarks frame flags items marks.now → HasBindings items bindings.now
+        → quiet ≡ Reach.is_quiet frame flags force items
         → result ≡ option_and_then (Reach.far_label frame flags force items index) site }
 {
     let label = near_label(site?)?;
@@ -94,8 +97,11 @@ fn far_in(
     requires sums { AreSums marks.now }
     requires within { AreWithin bindings.now marks.now }
     requires index { index + 1 < length marks.now }
-    ensures { (force : ForceVeneers) (items : List Item) → AreMarks frame.now info.now items marks.now → HasBindings items bindings.now → quiet ≡ Reach.is_quiet frame.now info.now force items
-        → result ≡ first_some (Reach.far_label frame.now info.now force items index) (sites_of (inst_cells frame.now info.now inst.now)) }
+    ensures { (force : ForceVeneers) (items : List Item)
+        → AreMarks frame.now info.now items marks.now → HasBindings items bindings.now
+        → quiet ≡ Reach.is_quiet frame.now info.now force items
+        → result ≡ first_some (Reach.far_label frame.now info.now force items index)
+        (sites_of (inst_cells frame.now info.now inst.now)) }
 {
     let uses = uses_in(inst, frame, info);
     match far_label(uses.first, index, marks, bindings, quiet) {
@@ -120,7 +126,8 @@ fn check_uses(
     requires marks { AreMarks frame.now info.now items.now marks.now }
     requires bindings { HasBindings items.now bindings.now }
     requires short { whole frame.now info.now items.now < 2 ^ 31 }
-    ensures { (force : ForceVeneers) → quiet ≡ Reach.is_quiet frame.now info.now force items.now → MatchResult result
+    ensures { (force : ForceVeneers) → quiet ≡ Reach.is_quiet frame.now info.now force items.now
+        → MatchResult result
         (λ _. out_of_reach frame.now info.now force items.now ≡ None)
         (λ error. out_of_reach frame.now info.now force items.now ≡ Some error) }
 {
@@ -153,7 +160,8 @@ pub fn check_reach(
     requires once { second_binding items.now ≡ None }
     requires found { IsFound frame.now info.now items.now found }
     ensures ok { IfOk result (λ _. out_of_reach frame.now info.now force items.now ≡ None) }
-    ensures err { IfErr result (λ error. (error ≡ OutOfMemory) ⊎ (out_of_reach frame.now info.now force items.now ≡ Some error)) }
+    ensures err { IfErr result (λ error. (error ≡ OutOfMemory)
+        ⊎ (out_of_reach frame.now info.now force items.now ≡ Some error)) }
 {
     if !found.near || found.size <= NEAR_RANGE {
         return Ok(());

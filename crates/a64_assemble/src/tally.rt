@@ -52,7 +52,8 @@ fn count_of_label(counts: &LabelMap<u32>, label: MachLabel) -> u32
 fn count_use(site: Option<Site>, counts: &mut LabelMap<u32>) -> Result<u32, AllocError>
     requires few { (n : ℕ) → count_of counts.old n < 2 ^ 31 }
     ensures total { IfOk result (λ count. count ≡ branches every (cons_option site [])) }
-    ensures labels { OnOk result ((n : ℕ) → count_of counts.new n ≡ count_of counts.old n + branches (same n) (cons_option site [])) }
+    ensures labels { OnOk result ((n : ℕ) → count_of counts.new n
+        ≡ count_of counts.old n + branches (same n) (cons_option site [])) }
 {
     let Some(label) = used_branch(site) else {
         return Ok(0);
@@ -70,8 +71,12 @@ fn count_use(site: Option<Site>, counts: &mut LabelMap<u32>) -> Result<u32, Allo
 /// Want of memory.
 fn count_uses(uses: Uses, counts: &mut LabelMap<u32>) -> Result<u32, AllocError>
     requires few { (n : ℕ) → count_of counts.old n < 2 ^ 30 }
-    ensures total { IfOk result (λ count. (cells : _) → uses_of 0 cells ≡ listed_uses uses.entry → count ≡ branches every (sites_of cells)) }
-    ensures labels { OnOk result ((cells : _) → uses_of 0 cells ≡ listed_uses uses.entry → (n : ℕ) → count_of counts.new n ≡ count_of counts.old n + branches (same n) (sites_of cells)) }
+    ensures total { IfOk result (λ count. (cells : _)
+        → uses_of 0 cells ≡ listed_uses uses.entry
+        → count ≡ branches every (sites_of cells)) }
+    ensures labels { OnOk result ((cells : _) → uses_of 0 cells ≡ listed_uses uses.entry
+        → (n : ℕ) → count_of counts.new n ≡ count_of counts.old n
+        + branches (same n) (sites_of cells)) }
     ensures few { IfOk result (λ count. count ≤ 2) }
 {
     let first = count_use(uses.first, counts)?;
@@ -93,8 +98,14 @@ pub fn count_item(
 ) -> Result<u32, AllocError>
     requires few { live < 2 ^ 30 }
     requires within { (n : ℕ) → count_of counts.old n ≤ live }
-    ensures total { IfOk result (λ count. (frame : FrameLayout) (flags : EmitFlags) (items : List Item) → uses_of 0 (cells_of frame flags item.now) ≡ listed_uses uses.entry → IsTally frame flags items counts.old → live ≡ alive frame flags every items → count ≡ alive frame flags every (items ++ item.now ∷ [])) }
-    ensures labels { OnOk result ((frame : FrameLayout) (flags : EmitFlags) (items : List Item) → uses_of 0 (cells_of frame flags item.now) ≡ listed_uses uses.entry → IsTally frame flags items counts.old → IsTally frame flags (items ++ item.now ∷ []) counts.new) }
+    ensures total { IfOk result (λ count. (frame : FrameLayout) (flags : EmitFlags)
+        (items : List Item) → uses_of 0 (cells_of frame flags item.now) ≡ listed_uses uses.entry
+        → IsTally frame flags items counts.old → live ≡ alive frame flags every items
+        → count ≡ alive frame flags every (items ++ item.now ∷ [])) }
+    ensures labels { OnOk result ((frame : FrameLayout) (flags : EmitFlags) (items : List Item)
+        → uses_of 0 (cells_of frame flags item.now) ≡ listed_uses uses.entry
+        → IsTally frame flags items counts.old
+        → IsTally frame flags (items ++ item.now ∷ []) counts.new) }
 {
     match item {
         Item::Bind(label) => {
@@ -126,7 +137,8 @@ fn wait_count(site: Option<Site>) -> u32
 
 /// How many uses of an item are loads of constants or deferred traps; no entry of a table is one.
 pub fn wait_counts(uses: Uses) -> u32
-    ensures total { (cells : _) → uses_of 0 cells ≡ listed_uses uses.entry → result ≡ waiting (sites_of cells) }
+    ensures total { (cells : _) → uses_of 0 cells ≡ listed_uses uses.entry
+        → result ≡ waiting (sites_of cells) }
     ensures few { result ≤ 2 }
 {
     wait_count(uses.first) + wait_count(uses.second)
