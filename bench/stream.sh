@@ -1,13 +1,13 @@
 #!/usr/bin/env bash
 # Counts the machine instructions that the program `stream` takes for each item of its mixed stream
 # and for each pair of its branches, making and assembling apart, and times it. It installs valgrind
-# where it is missing, and builds the program.
+# where it is missing, and builds the program. With PROGRAM=FILE it counts that program, and builds none.
 set -eu
 cd "$(dirname "$0")/.."
 command -v valgrind >/dev/null || apt-get install -y -q valgrind >/dev/null ||
     { apt-get update -q >/dev/null; apt-get install -y -q valgrind >/dev/null; }
-(cd crates/a64_stream && rt run >/dev/null 2>&1)
-program=$PWD/crates/a64_stream/out/a64_stream
+[ -n "${PROGRAM:-}" ] || (cd crates/a64_stream && rt run >/dev/null 2>&1)
+program=${PROGRAM:-$PWD/crates/a64_stream/out/a64_stream}
 work=$(mktemp -d)
 trap 'rm -rf "$work"' EXIT
 small=20000
