@@ -1,6 +1,5 @@
 -- Loops of atomic accesses, and returns that authenticate their address: what is put for their words, and that none is a use.
-use Rattle.std.proofs.Common.{ℕ, pos, negsuc, zero, suc, ◌≡◌, ◌≤◌, ◌+◌, ◌*◌, w32, of_z, to_z, Bool, List, [], ◌∷◌, ◌++◌, length, map, Option, None, refl, sym, ap, ◌∙◌, arith}
-use Rattle.std.specs.Prelude.{◌*ℤ◌, ◌+ℤ◌}
+use Rattle.std.proofs.Common.{ℕ, ◌≡◌, ◌+◌, Bool, List, [], ◌∷◌, ◌++◌, length, map, Option, None, refl, sym, ap, ◌∙◌, arith}
 use Rattle.std.proofs.lemmas.List.{length-append, length-map, map-append}
 use Rattle.std.proofs.lemmas.List.Elements.{filter_map-append}
 use Rattle.a64_base.specs.declared.entity.TrapCode.{TrapCode}
@@ -55,14 +54,3 @@ module _ (ty : IrType) (between : List Form) (stored : Reg) (trap : Option TrapC
 
 pub return_uses : (key : APIKey) (is_hint : Bool) → uses_of 0 (map plain (authenticated_ret_forms key is_hint)) ≡ []
 return_uses key is_hint = no_uses 0 (map plain (authenticated_ret_forms key is_hint)) (plain_sites (authenticated_ret_forms key is_hint))
-
--- ---- the branch back
-
--- over so many words between, the store and the load
-pub back_offset : (between : ℕ) → between ≤ 4 → to_z w32 (of_z w32 (negsuc 3 *ℤ to_z w32 (of_z w32 (to_z w32 between +ℤ pos 2)))) ≡ negsuc (4 * between + 7)
-back_offset zero few = refl
-back_offset (suc zero) few = refl
-back_offset (suc (suc zero)) few = refl
-back_offset (suc (suc (suc zero))) few = refl
-back_offset (suc (suc (suc (suc zero)))) few = refl
-back_offset (suc (suc (suc (suc (suc n))))) few = absurd (omega (arith, few))

@@ -37,16 +37,17 @@ use Rattle.a64_rows.specs.Forms.{IsFormOf}
 use Rattle.a64_rows.specs.Limits.{is_permute, is_vector_shift}
 use Rattle.a64_enc_int.specs.Operators.{bit_of}
 use Rattle.a64_enc_int.proofs.Registers.{field_below}
-use Rattle.a64_emit.specs.declared.word.plain.vector_op.LongFields.{LongFields}
-use Rattle.a64_emit.specs.declared.word.plain.vector_op.OpFields.{OpFields}
-use Rattle.a64_emit.specs.declared.word.plain.vector_op.ThreeOp.{ThreeOp}
-use Rattle.a64_emit.specs.declared.word.plain.vector_op.ThreeOp.TheVariants.{Lanes, Bits, Floats, Permute, Dot}
-use Rattle.a64_emit.specs.declared.word.plain.vector_op.TwoFields.{TwoFields}
-use Rattle.a64_emit.specs.declared.word.plain.vector_op.TwoOp.{TwoOp}
-use Rattle.a64_emit.specs.declared.word.plain.vector_op.TwoOp.TheVariants as two
+use Rattle.a64_enc_vec.specs.declared.operator.LongFields.{LongFields}
+use Rattle.a64_enc_vec.specs.declared.operator.OpFields.{OpFields}
+use Rattle.a64_enc_vec.specs.declared.operator.ThreeOp.{ThreeOp}
+use Rattle.a64_enc_vec.specs.declared.operator.ThreeOp.TheVariants.{Lanes, Bits, Floats, Permute, Dot}
+use Rattle.a64_enc_vec.specs.declared.operator.TwoFields.{TwoFields}
+use Rattle.a64_enc_vec.specs.declared.operator.TwoOp.{TwoOp}
+use Rattle.a64_enc_vec.specs.declared.operator.TwoOp.TheVariants as two
 use Rattle.a64_emit.specs.FloatForms.{lane_number}
-use Rattle.a64_emit.specs.VectorForms.{across_form, dup_float_form, dup_form, dup_immediate_form, dup_lane_form, element_form, element_h, element_l, extend_fields, extend_form, extract_form, half_bits, insert_form, kept_shift_form, lane_shift_form, left_shift_field, long_product_form, misc_form, mov_cmode, mov_op, move_element_form, pair_form, replicate_form, right_shift_field, shift_field, shift_form, signed_move_form, table_form, three_form, two_fields, two_form, unsigned_move_form}
-use Rattle.a64_emit.specs.VectorOperators.{across_fields, added_product_fields, element_o2, kept_three_op, long_fields, narrow_fields, pair_long_fields, product_fields, shift_fields, three_op, two_op}
+use Rattle.a64_emit.specs.VectorForms.{across_form, dup_float_form, dup_form, dup_immediate_form, dup_lane_form, element_form, element_h, element_l, extend_fields, extend_form, extract_form, half_bits, insert_form, kept_shift_form, lane_shift_form, long_product_form, misc_form, mov_cmode, mov_op, move_element_form, pair_form, replicate_form, shift_form, signed_move_form, table_form, three_form, two_fields, two_form, unsigned_move_form}
+use Rattle.a64_enc_vec.specs.Shifts.{left_shift_field, right_shift_field, shift_field}
+use Rattle.a64_enc_vec.specs.VectorOperators.{across_fields, added_product_fields, element_o2, kept_three_op, long_fields, narrow_fields, pair_long_fields, product_fields, shift_fields, three_op, two_op}
 use Rattle.a64_emit.proofs.FloatForms.{lane_below, lane_number_below}
 use Rattle.a64_emit.proofs.OneWord.{bit_of_below}
 use Rattle.a64_emit.proofs.Operands.{sf_below}
@@ -224,9 +225,6 @@ bits_least size = grind arith
 
 bits_most : (size : VectorSize) → lane_bits size ≤ 64
 bits_most size = grind arith
-
-pub right_at_most : (size : VectorSize) (imm : ℕ) → is_right_amount size imm ≡ true → imm ≤ lane_bits size
-right_at_most size imm e = leb-true imm (lane_bits size) (and_parts (nat_lt 0 imm) (nat_le imm (lane_bits size)) e).1
 
 -- the fields immh and immb of a shift are those of its lanes: from as many as these have bits to less than twice as many
 abbrev IsImm7 : ℕ → Type 0

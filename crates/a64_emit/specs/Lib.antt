@@ -1,6 +1,5 @@
 pub mod IntegerForms
 pub mod FloatForms
-pub mod VectorOperators
 pub mod VectorForms
 pub mod PlainForms
 pub mod ControlForms

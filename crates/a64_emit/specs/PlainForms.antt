@@ -21,7 +21,7 @@ use Rattle.a64_emit.specs.FloatForms as float
 use Rattle.a64_emit.specs.IntegerForms as integer
 use Rattle.a64_emit.specs.IntegerForms.{bfm_opc, bit_opcode, product_form, shifted_form, two_registers}
 use Rattle.a64_emit.specs.VectorForms as vector
-use Rattle.a64_emit.specs.VectorOperators as operators
+use Rattle.a64_enc_vec.specs.VectorOperators as operators
 
 abbrev pub plain_form : Inst → Option Form
 -- ---- integer operations with immediates

@@ -17,18 +17,18 @@ use Rattle.a64_ops.specs.declared.vector.VecALUModOp.{VecALUModOp}
 use Rattle.a64_ops.specs.declared.vector.VecExtendOp.{VecExtendOp}
 use Rattle.a64_ops.specs.declared.vector.VecExtendOp.TheVariants.{Sxtl, Uxtl}
 use Rattle.a64_ops.specs.declared.vector.VecShiftImmOp.{VecShiftImmOp}
-use Rattle.a64_ops.specs.declared.vector.VecShiftImmOp.TheVariants.{Shl, Ushr, Sshr}
 use Rattle.a64_enc_int.specs.Operators.{bit_of}
 use Rattle.a64_enc_int.specs.Registers.{register_field}
-use Rattle.a64_emit.specs.declared.word.plain.vector_op.LongFields.{LongFields}
-use Rattle.a64_emit.specs.declared.word.plain.vector_op.OpFields.{OpFields}
-use Rattle.a64_emit.specs.declared.word.plain.vector_op.ThreeOp.{ThreeOp}
-use Rattle.a64_emit.specs.declared.word.plain.vector_op.ThreeOp.TheVariants.{Lanes, Bits, Floats, Permute, Dot}
-use Rattle.a64_emit.specs.declared.word.plain.vector_op.TwoFields.{TwoFields}
-use Rattle.a64_emit.specs.declared.word.plain.vector_op.TwoOp.{TwoOp}
-use Rattle.a64_emit.specs.declared.word.plain.vector_op.TwoOp.TheVariants as two
+use Rattle.a64_enc_vec.specs.declared.operator.LongFields.{LongFields}
+use Rattle.a64_enc_vec.specs.declared.operator.OpFields.{OpFields}
+use Rattle.a64_enc_vec.specs.declared.operator.ThreeOp.{ThreeOp}
+use Rattle.a64_enc_vec.specs.declared.operator.ThreeOp.TheVariants.{Lanes, Bits, Floats, Permute, Dot}
+use Rattle.a64_enc_vec.specs.declared.operator.TwoFields.{TwoFields}
+use Rattle.a64_enc_vec.specs.declared.operator.TwoOp.{TwoOp}
+use Rattle.a64_enc_vec.specs.declared.operator.TwoOp.TheVariants as two
 use Rattle.a64_emit.specs.FloatForms.{lane_number}
-use Rattle.a64_emit.specs.VectorOperators.{element_o2, shift_fields}
+use Rattle.a64_enc_vec.specs.Shifts.{left_shift_field, shift_field}
+use Rattle.a64_enc_vec.specs.VectorOperators.{element_o2, shift_fields}
 use Rattle.a64_rows.specs.Forms.{Form}
 use Rattle.a64_rows.specs.Memory.{ld_replicate}
 use Rattle.a64_rows.specs.Vectors.{vec_across, vec_copy, vec_dot, vec_elem, vec_ext, vec_imm, vec_ins_elem, vec_long3, vec_permute, vec_scalar_pair, vec_shift, vec_table, vec_three, vec_two}
@@ -157,19 +157,6 @@ across_form fields size rd rn =
     })
 
 -- ---- shifts
-
--- the fields immh and immb of a shift to the left: the lane's bits plus the amount
-abbrev pub left_shift_field : VectorSize → ℕ → ℕ
-left_shift_field size imm = lane_bits size + imm
-
--- and of one to the right: twice the lane's bits less the amount
-abbrev pub right_shift_field : VectorSize → ℕ → ℕ
-right_shift_field size imm = 2 * lane_bits size - imm
-
-abbrev pub shift_field : VecShiftImmOp → VectorSize → ℕ → ℕ
-shift_field Shl size imm = left_shift_field size imm
-shift_field Ushr size imm = right_shift_field size imm
-shift_field Sshr size imm = right_shift_field size imm
 
 -- Advanced SIMD shift by immediate, with the fields immh and immb as one
 abbrev pub shift_form : ℕ → OpFields → ℕ → Reg → Reg → Form

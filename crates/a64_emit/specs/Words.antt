@@ -113,9 +113,9 @@ as_put cell = record { body = Data (cell_word cell); site = cell.site; marks = c
 abbrev pub put_rest : LoopWords → List Cell
 put_rest words = put_cells words.store.first.items words.store.last None words.store.trap ++ put_cell words.back None None ∷ []
 
--- and before them the load, which may trap where the store may
+-- and before them the load, with its trap
 abbrev pub put_loop : LoopWords → List Cell
-put_loop words = put_cell words.load None words.store.trap ∷ put_rest words
+put_loop words = put_cell words.load None words.load_trap ∷ put_rest words
 
 -- words are those of a loop, none of which is a use
 pub record AreLoop (words : LoopWords) (cells : List Cell) : Type 0 where

@@ -222,7 +222,7 @@ fn emit_loop(sink: &mut MachBuffer<'_, LabelUse>, words: &LoopWords) -> Result<(
     requires can { CanPut sink.old (put_loop words.now) }
     ensures { PutsCells result sink.old sink.new (put_loop words.now) }
 {
-    emit_last(sink, words.load, None, words.store.trap)?;
+    emit_last(sink, words.load, None, words.load_trap)?;
     put_rest(sink, words)
 }
 

@@ -9,6 +9,7 @@ mod address;
 mod arith;
 mod atomic;
 mod branch;
+mod exclusive;
 mod memory;
 mod register;
 mod select;
@@ -22,6 +23,7 @@ pub use branch::{
     enc_br, enc_cbr, enc_cmpbr, enc_conditional_br, enc_jump26, enc_op_size,
     enc_test_bit_and_branch,
 };
+pub use exclusive::{LoopTraps, loop_offset, loop_traps};
 pub use memory::{enc_ldst_imm19, enc_ldst_pair, enc_ldst_reg, enc_ldst_simm9, enc_ldst_uimm12};
 pub use register::register_field;
 pub use select::{enc_bfm, enc_ccmp, enc_ccmp_imm, enc_csel, enc_move_wide, enc_movk};

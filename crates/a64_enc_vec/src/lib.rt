@@ -6,13 +6,21 @@
 
 mod float;
 mod memory;
+mod operator;
 mod register;
+mod shift;
 mod vector;
 
 pub use float::{
     enc_fcmp, enc_fcsel, enc_fpurr, enc_fpurrr, enc_fpurrrr, enc_fputoint, enc_fround, enc_inttofpu,
 };
 pub use memory::{enc_ldst_vec, enc_ldst_vec_pair};
+pub use operator::{
+    LongFields, OpFields, ThreeOp, TwoFields, TwoOp, across_fields, added_product_fields,
+    element_o2, kept_three_op, long_fields, narrow_fields, pair_long_fields, product_fields,
+    shift_fields, three_op, two_op,
+};
+pub use shift::{lane_bits, left_shift_field, shift_field};
 pub use vector::{
     enc_asimd_mod_imm, enc_tbl, enc_vec_lanes, enc_vec_rr_misc, enc_vec_rr_pair,
     enc_vec_rr_pair_long, enc_vec_rrr, enc_vec_rrr_long, enc_vecmov,

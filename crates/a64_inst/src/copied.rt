@@ -16,7 +16,7 @@ use std::alloc::{AllocError, Global};
 macro_rules! copied {
     ($inst:expr; $($name:ident { $($field:ident),* }),+) => {
         match $inst {
-            $(Inst::$name { $($field),* } => Ok(Inst::$name { $($field: *$field),* }),)+
+            $(Inst::$name { $($field),* } => Inst::$name { $($field: *$field),* },)+
             _ => unreachable!(),
         }
     };
@@ -106,7 +106,7 @@ fn copied_control(alloc: Global, inst: &Inst) -> Result<Inst, AllocError>
             targets: targets.try_clone(alloc)?,
         });
     }
-    copied!(inst;
+    Ok(copied!(inst;
         Nop0 {},
         Nop4 {},
         MovToNZCV { rn },
@@ -123,7 +123,7 @@ fn copied_control(alloc: Global, inst: &Inst) -> Result<Inst, AllocError>
         Word8 { value },
         EmitIsland { needed_space },
         LabelAddress { dst, label }
-    )
+    ))
 }
 
 /// An equal sequence around a table, a symbol or the stack, loop of atomic accesses, select of vectors, or what has no
@@ -155,7 +155,7 @@ fn copied_sequence(alloc: Global, inst: &Inst) -> Result<Inst, AllocError>
                 rtmp2: *rtmp2,
             })
         }
-        other => copied!(other;
+        other => Ok(copied!(other;
             DummyUse { reg },
             SequencePoint {},
             LoadExtNameGot { rd, name },
@@ -165,7 +165,7 @@ fn copied_sequence(alloc: Global, inst: &Inst) -> Result<Inst, AllocError>
             VecCSel { rd, rn, rm, cond },
             AtomicRMWLoop { ty, op, flags, addr, operand, oldval, scratch1, scratch2 },
             AtomicCASLoop { ty, flags, addr, expected, replacement, oldval, scratch }
-        ),
+        )),
     }
 }
 
@@ -199,7 +199,7 @@ fn copied_memory(inst: &Inst) -> Result<Inst, AllocError>
     if let Some(access) = inst.access() {
         return Ok(Inst::from_access(access));
     }
-    copied!(inst;
+    Ok(copied!(inst;
         LoadP64 { rt, rt2, mem, flags },
         StoreP64 { rt, rt2, mem, flags },
         FpuLoadP64 { rt, rt2, mem, flags },
@@ -213,7 +213,7 @@ fn copied_memory(inst: &Inst) -> Result<Inst, AllocError>
         LoadAcquire { access_ty, rt, rn, flags },
         StoreRelease { access_ty, rt, rn, flags },
         VecLoadReplicate { rd, rn, size, flags }
-    )
+    ))
 }
 
 impl Inst {

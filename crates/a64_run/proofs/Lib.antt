@@ -1,17 +1,8 @@
 pub mod GenItems
 pub mod Words
-pub mod SummaryParts
 pub mod Faultless
 pub mod RightItems
 pub mod Ending
-pub mod Numbered
 pub mod Inputs
 pub mod Taking
-pub mod Gathering
-pub mod DigitPairs
-pub mod HexPairs
-pub mod SectionLists
-pub mod Overlaps
-pub mod KeptLines
-pub mod LineRuns
 pub mod Faults

@@ -29,8 +29,9 @@ use Rattle.a64_audit.specs.Verdicts.{IsClean, IsVerdict}
 use Rattle.a64_formtext.specs.declared.file.ShownFile.{ShownFile}
 use Rattle.a64_formtext.specs.Shown as Shown
 use Rattle.a64_lines.specs.Lines as Lines
-use Rattle.a64_run.specs.Report.{report_of, words_text}
-use Rattle.a64_run.specs.Gen.{gen_file, summary_of}
+use Rattle.a64_report.specs.Report.{report_of, words_text}
+use Rattle.a64_report.specs.Summary.{summary_of}
+use Rattle.a64_run.specs.Gen.{gen_file}
 
 -- the words behind a command that forces islands, and behind one that does not
 abbrev pub force_words : ForceVeneers → List (List ℕ)

@@ -1,5 +1,5 @@
--- The file that `gen` makes for itself, and what is told of its code.
-use Rattle.std.specs.Prelude.{ℕ, ◌+◌, ◌*◌, ◌%◌, ◌^◌, ◌==◌, zero, suc, if◌then◌else◌, List, [], ◌∷◌, ◌++◌, length, sum, min, codes, None}
+-- The file that `gen` makes for itself.
+use Rattle.std.specs.Prelude.{ℕ, ◌+◌, ◌*◌, ◌%◌, ◌==◌, zero, suc, if◌then◌else◌, List, [], ◌∷◌, ◌++◌, min, None}
 use Rattle.std.specs.List.{flat_map, range_with_len}
 use Rattle.std.specs.Ordering.{nat_cmp}
 use Rattle.std.specs.FinMap.{FinMap, empty, insert}
@@ -13,10 +13,7 @@ use Rattle.a64_inst.specs.declared.inst.Inst.TheVariants as insts
 use Rattle.a64_inst.specs.declared.item.Item.{Item}
 use Rattle.a64_inst.specs.declared.item.Item.TheVariants.{Bind, Emit}
 use Rattle.a64_inst.specs.declared.mode.AMode.TheVariants.{Const}
-use Rattle.a64_emit.specs.declared.code.Code.{Code}
 use Rattle.a64_text.specs.States.{Contents, default_frame, default_flags}
-use Rattle.a64_run.specs.Report.{words_in, line_of_one}
-use Rattle.a64_read.specs.Hex.{hex_word}
 
 -- the label with this number
 abbrev pub label_at : ℕ → MachLabel
@@ -57,19 +54,3 @@ gen_constants count = constants_below (min count 4)
 -- what the file of so many turns says. Frame and settings are those of a file that names none
 abbrev pub gen_file : ℕ → Contents
 gen_file count = record { items = gen_items count; constants = gen_constants count; frame = default_frame; flags = default_flags }
-
--- the sum of the words of code, as a word
-abbrev pub word_sum : List ℕ → ℕ
-word_sum bytes = sum (words_in bytes) % 2 ^ 32
-
--- four lines: how many items there are, how many bytes of code, how many islands, and the sum of the words
-abbrev pub summary_lines : ℕ → ℕ → ℕ → ℕ → List ℕ
-summary_lines items bytes islands total =
-    line_of_one (codes "items") items
-    ++ line_of_one (codes "bytes") bytes
-    ++ line_of_one (codes "islands") islands
-    ++ codes "sum " ++ hex_word total ++ codes "\n"
-
--- what is told of the code of so many items
-abbrev pub summary_of : ℕ → Code → List ℕ
-summary_of items code = summary_lines items (length code.bytes.items) (length code.islands.items) (word_sum code.bytes.items)

@@ -18,7 +18,7 @@ use Rattle.a64_formtext.specs.declared.file.ShownFile.{ShownFile}
 use Rattle.a64_run.specs.declared.ran.Fault.{Fault}
 use Rattle.a64_run.specs.declared.ran.Fault.TheVariants as faults
 use Rattle.a64_run.specs.Commands.{limit, works_on, format_of, IsText, IsFirstBad, HasNoItemFault, IsFaultOf, IsFaultless, IsInput, IsMade}
-use Rattle.a64_run.specs.Streams.{Takes, TakesPart}
+use Rattle.a64_io.specs.Streams.{Takes, TakesPart}
 
 -- the status of each answer
 abbrev pub status_of : Option Fault → ℕ

@@ -1,5 +1,5 @@
 -- What the parts of a run answer.
-use Rattle.std.specs.Prelude.{ℕ, codes, ◌≡◌, ◌≢◌, ◌<◌, ◌≤◌, ◌^◌, ◌/◌, ◌%◌, ◌++◌, ◌∷◌, List, [], take, drop, length, Option, None, Some, IfSome, Result, IfOk, IfErr, ⊤}
+use Rattle.std.specs.Prelude.{ℕ, codes, ◌≡◌, ◌≢◌, ◌<◌, ◌≤◌, ◌^◌, ◌++◌, ◌∷◌, List, [], take, drop, length, Option, None, Some, IfSome, Result, IfOk, IfErr, ⊤}
 use Rattle.std.specs.Fmt.{decimal}
 use Rattle.std.specs.String.{string_bytes}
 use Rattle.a64_emit.specs.declared.code.Code.{Code}
@@ -12,15 +12,14 @@ use Rattle.a64_run.specs.declared.input.Input.TheVariants as inputs
 use Rattle.a64_text.specs.declared.file.File.{File}
 use Rattle.a64_run.specs.declared.ran.Fault.{Fault}
 use Rattle.a64_run.specs.declared.ran.Fault.TheVariants as faults
-use Rattle.a64_read.specs.Hex.{hex_digit}
 use Rattle.a64_text.specs.States.{contents_of}
 use Rattle.a64_audit.specs.Entries as Audit
 use Rattle.a64_formtext.specs.Shown as Shown
 use Rattle.a64_run.specs.declared.making.Made.{Made}
 use Rattle.a64_run.specs.declared.making.Made.TheVariants.{Report, Summary, Listing, Words, Clean}
-use Rattle.a64_run.specs.Report.{report_of, words_in, words_text}
-use Rattle.a64_run.specs.Gen.{summary_of}
-use Rattle.a64_run.specs.Streams.{HasFailed, Takes, TakesPart}
+use Rattle.a64_report.specs.Report.{report_of, words_in, words_text}
+use Rattle.a64_report.specs.Summary.{summary_of}
+use Rattle.a64_io.specs.Streams.{HasFailed, Takes, TakesPart}
 use Rattle.a64_run.specs.Commands.{limit, works_on, format_of, IsText, IsFirstBad, IsCommand, OfCommand, HasRightItems, HasNoItemFault, IsFaultOf, assembly_fault, IsMade}
 use Rattle.a64_run.specs.Run.{Held, IsDueForText}
 
@@ -175,7 +174,3 @@ module _ (command : Command) (taken taken' : Option (List ℕ)) (input : Input) 
 -- a text, a number, and a text
 abbrev pub numbered_text : List ℕ → ℕ → List ℕ → List ℕ
 numbered_text before number after = before ++ decimal number ++ after
-
--- a byte as two hexadecimal digits
-abbrev pub hex_pair : ℕ → List ℕ
-hex_pair byte = hex_digit (byte / 16) ∷ hex_digit (byte % 16) ∷ []

@@ -2,9 +2,9 @@
 
 ghost use Rattle.std.specs.Prelude.{◌≡◌, ◌<◌, ◌≤◌, None, take, length, IfOk, OnOk, OnErr};
 ghost use Rattle.std.specs.Io.KnownBytes.{Keeps, Appends, Consumes, IsAtEnd};
-ghost use Rattle.a64_run.specs.Streams.{HasFailed};
+ghost use Rattle.a64_io.specs.Streams.{HasFailed};
 
-use crate::stream::{Failed, Sink, Source};
+use a64_io::{Failed, Sink, Source};
 use std::io::{Read, Write};
 
 /// A source over a reader.

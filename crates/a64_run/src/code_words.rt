@@ -7,7 +7,7 @@ ghost use Rattle.a64_audit.specs.Verdicts.{IsClean};
 ghost use Rattle.a64_formtext.specs.Shown.{IsListing};
 ghost use Rattle.a64_run.specs.declared.command.Command.TheVariants as commands;
 ghost use Rattle.a64_run.specs.declared.input.Input.TheVariants as inputs;
-ghost use Rattle.a64_run.specs.Report.{words_in};
+ghost use Rattle.a64_report.specs.Report.{words_in};
 ghost use Rattle.a64_run.specs.Stages.{IsMakingFault};
 
 use crate::ran::Fault;

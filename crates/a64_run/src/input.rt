@@ -1,7 +1,7 @@
 //! What a command works on: read from a source, or made.
 
 ghost use Rattle.std.specs.Prelude.{◌≡◌, ◌+◌, ◌<◌, ◌≤◌, length, [], false, Some, IfSome, IfOk, IfErr, OnOk, OnErr};
-ghost use Rattle.a64_run.specs.Streams.{HasFailed};
+ghost use Rattle.a64_io.specs.Streams.{HasFailed};
 ghost use Rattle.a64_run.specs.declared.command.Format.TheVariants as formats;
 ghost use Rattle.a64_run.specs.declared.command.Format.{Format};
 ghost use Rattle.a64_run.specs.declared.ran.Fault.TheVariants as faults;
@@ -11,10 +11,10 @@ ghost use Rattle.a64_run.specs.Stages.{HasRead, TakesBehind, TakesAtMost, IsWhol
 
 use crate::command::{Command, Format};
 use crate::ran::Fault;
-use crate::stream::Source;
 use crate::turns::gen_file;
 use a64_audit::{AuditFile, AuditFileError, read_audit};
 use a64_formtext::{ShownFile, ShownFileError, read_shown};
+use a64_io::Source;
 use a64_text::{File, FileError, read_file};
 use std::alloc::Global;
 

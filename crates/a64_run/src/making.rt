@@ -3,7 +3,7 @@
 ghost use Rattle.std.specs.Prelude.{◌≡◌, ◌^◌, ◌<◌, [], length, IfOk, IfErr, OnOk, OnErr};
 ghost use Rattle.a64_run.specs.declared.command.Format.TheVariants as formats;
 ghost use Rattle.a64_run.specs.declared.input.Input.TheVariants as inputs;
-ghost use Rattle.a64_run.specs.Streams.{HasFailed, Takes, TakesPart};
+ghost use Rattle.a64_io.specs.Streams.{HasFailed, Takes, TakesPart};
 ghost use Rattle.a64_run.specs.Commands.{IsMade, format_of, works_on};
 ghost use Rattle.a64_run.specs.Stages.{IsFew, IsMakingFault, kept_of, text_of};
 
@@ -12,16 +12,13 @@ use crate::code_words::{audit_words, bytes_of, show_words};
 use crate::command::Command;
 use crate::input::Input;
 use crate::listing::list_file;
-use crate::output::write_all;
-use crate::piece::Piece;
 use crate::ran::Fault;
-use crate::report::{write_report, write_words};
 use crate::roles::list_roles;
-use crate::stream::{Failed, Sink};
-use crate::summary::write_summary;
 use a64_audit::AuditFile;
 use a64_emit::Code;
 use a64_formtext::ShownFile;
+use a64_io::{Failed, Sink, write_all};
+use a64_report::{Piece, write_report, write_summary, write_words};
 use a64_text::File;
 use std::alloc::Global;
 

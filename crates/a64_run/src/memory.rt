@@ -3,9 +3,9 @@
 ghost use Rattle.std.specs.Prelude.{◌≡◌, ℕ, ◌==◌, ◌+◌, ◌-◌, ◌^◌, ◌<◌, ◌≤◌, ◌||◌, min, if◌then◌else◌, List, [], ◌++◌, length, take, drop, Option, None, Some, Ok, IfOk, OnOk, OnErr, is_err, is_ok};
 ghost use Rattle.std.specs.List.{list_any};
 ghost use Rattle.std.specs.Vec.{vec_capacity};
-ghost use Rattle.a64_run.specs.Streams.{HasFailed, TakesFront};
+ghost use Rattle.a64_io.specs.Streams.{HasFailed, TakesFront};
 
-use crate::stream::{Failed, Sink, Source};
+use a64_io::{Failed, Sink, Source};
 use std::alloc::{AllocError, Global};
 
 /// Moves some bytes from a place on to the front of a buffer, at most `at_most`. Answers how many.

@@ -3,7 +3,7 @@
 ghost use Rattle.std.specs.Prelude.{◌≡◌, ◌≢◌, ◌⊎◌, ◌^◌, ◌<◌, ◌↔◌, length, map, false, None, Some, IfSome};
 ghost use Rattle.std.specs.String.{string_bytes};
 ghost use Rattle.a64_run.specs.declared.ran.Fault.TheVariants as faults;
-ghost use Rattle.a64_run.specs.Streams.{HasFailed, Takes, TakesPart};
+ghost use Rattle.a64_io.specs.Streams.{HasFailed, Takes, TakesPart};
 ghost use Rattle.a64_run.specs.Commands.{IsNoCommand, OfCommand, HasWords, format_of, reads_source, works_on};
 ghost use Rattle.a64_run.specs.Run.{status_of, fault_line, files_of, kept_files, Keeps, KeepsFiles, Held, FailsOnlyAt, Untouched, TakesFew, IsDueAnswer};
 ghost use Rattle.a64_run.specs.Stages.{IsFew, Ends, EndsWriting};
@@ -12,10 +12,9 @@ use crate::command::{Command, command_of};
 use crate::fault_lines::line_of_fault;
 use crate::input::{Input, input_of};
 use crate::making::{Made, make};
-use crate::output::write_all;
-use crate::piece::Piece;
 use crate::ran::{Ended, Fault, Ran};
-use crate::stream::{Failed, Sink, Source};
+use a64_io::{Failed, Sink, Source, write_all};
+use a64_report::Piece;
 use std::alloc::Global;
 
 /// Writes what was made. The memory for that is taken before the first write.

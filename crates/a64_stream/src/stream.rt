@@ -10,7 +10,6 @@ use a64_base::{BranchTarget, MachLabel};
 use a64_buffer::Constants;
 use a64_emit::Item;
 use a64_inst::{EmitFlags, EmitInfo, FrameLayout, Inst};
-use a64_list::ListVec;
 use std::alloc::{AllocError, Global};
 
 /// A step of a stream.
@@ -46,27 +45,6 @@ pub struct Stream {
     pub frame: FrameLayout,
 }
 
-/// The settings of plain code.
-fn plain_info() -> EmitInfo {
-    EmitInfo::new(EmitFlags {
-        enable_probestack: false,
-        enable_table_access_spectre_mitigation: false,
-        use_csdb: false,
-    })
-}
-
-/// The frame of a function without one: a return restores nothing.
-fn no_frame(alloc: Global) -> FrameLayout {
-    FrameLayout {
-        setup_area_size: 0,
-        tail_args_size: 0,
-        clobber_size: 0,
-        fixed_frame_storage_size: 0,
-        outgoing_args_size: 0,
-        restore: ListVec::new(alloc),
-    }
-}
-
 impl Stream {
     /// A stream without items, and with memory for so many.
     ///
@@ -79,8 +57,8 @@ impl Stream {
         Ok(Stream {
             items: Vec::with_capacity(alloc, capacity)?,
             constants: Constants::new(alloc),
-            info: plain_info(),
-            frame: no_frame(alloc),
+            info: EmitInfo::new(EmitFlags::none()),
+            frame: FrameLayout::none(alloc),
         })
     }
 

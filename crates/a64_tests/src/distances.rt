@@ -5,7 +5,7 @@ ghost use Rattle.a64_buffer.specs.Kinds.{IsWithin};
 ghost use Rattle.a64_label_use.specs.LabelUses.{label_kinds};
 
 use a64_buffer::MachInstLabelUse;
-use a64_emit::LabelUse;
+use a64_label_use::LabelUse;
 use std::test::Fail;
 
 #[test]

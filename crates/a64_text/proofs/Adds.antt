@@ -6,18 +6,11 @@ use Rattle.std.specs.Global.{Vec}
 use Rattle.a64_inst.specs.declared.item.Item.{Item}
 use Rattle.a64_text.specs.declared.entry.Entry.{Entry}
 use Rattle.a64_text.specs.declared.entry.Entry.TheVariants as entries
-use Rattle.a64_text.specs.declared.name.ControlName.TheVariants as control
-use Rattle.a64_text.specs.declared.name.FloatName.TheVariants as float
-use Rattle.a64_text.specs.declared.name.ImmediateName.TheVariants as immediate
-use Rattle.a64_text.specs.declared.name.VectorMoveName.TheVariants as vector_move
-use Rattle.a64_text.specs.declared.name.SequenceName.TheVariants as sequence
 use Rattle.a64_text.specs.declared.name.Name.{Name}
-use Rattle.a64_text.specs.declared.name.Name.TheVariants as names
 use Rattle.a64_text.specs.declared.state.ReaderState.{ReaderState}
 use Rattle.a64_read.specs.declared.value.Value.{Value}
 use Rattle.a64_text.specs.AddsLine.{Added, AddsName, AddsNothing, AddsEntry, AddsMade}
-use Rattle.a64_text.specs.Makes.{entry_of, Makes}
-use Rattle.a64_text.specs.Puts.{PutsEntry, PutsMade, Puts}
+use Rattle.a64_text.specs.Puts.{PutsEntry, Puts}
 use Rattle.a64_read.specs.Reads.{Reads}
 use Rattle.a64_text.specs.States.{contents_of, once_name, said}
 use Rattle.a64_text.specs.Tokens.{line_of, IsEntry}
@@ -28,21 +21,6 @@ use Rattle.a64_text.proofs.Restores.{plain_read}
 pub all_ok : {X E : Type 0} (P Q : X → Type 0) → ((x : X) → P x → Q x) → (r : Result X E) → IfOk r P → IfOk r Q
 all_ok P Q f (Ok x) h = f x h
 all_ok P Q f (Err e) h = tt
-
-puts_made : (name : Name) (values : List Value) (old new : List Item) (made : Bool) → Puts name values old new made → PutsMade name values old new made
-unfolding Makes Puts
-puts_made (names.Immediate immediate.AluRRImmLogic) values old new made h = h
-puts_made (names.Float float.FpuMoveFPImm) values old new made h = h
-puts_made (names.VectorMove vector_move.VecDupFPImm) values old new made h = h
-puts_made (names.VectorMove vector_move.VecDupImm) values old new made h = h
-puts_made (names.Pair name) values old new made h = h
-puts_made (names.Control control.IndirectBr) values old new made h = h
-puts_made (names.Sequence sequence.Args) values old new made h = h
-puts_made (names.Sequence sequence.Rets) values old new made h = h
-puts_made (names.Sequence sequence.JTSequence) values old new made h = h
-puts_made (names.Call name) values old new made h = h
-puts_made names.Const values old new made h = absurd h
-puts_made name values old new made h = (Some (entry_of name values), refl, h)
 
 -- the states differ in their items at most
 module _ (old new : ReaderState) (given : new.given ≡ old.given) (same : contents_of new.file ≡ record (contents_of old.file) { items = new.file.items.items }) where
@@ -59,7 +37,7 @@ module _ (old new : ReaderState) (given : new.given ≡ old.given) (same : conte
 
   pub put_adds : (name its_name : Name) (values : List Value) (items : List Item) (made : Bool) → name ≡ its_name → items ≡ old.file.items.items → Puts its_name values items new.file.items.items made → AddsMade name values old new made
   put_adds name its_name values items made is stay h =
-      let puts = puts_made its_name values old.file.items.items new.file.items.items made (subst (λ (l : List Item). Puts its_name values l new.file.items.items made) stay h) in
+      let puts = subst (λ (l : List Item). Puts its_name values l new.file.items.items made) stay h in
       subst (λ (n : Name). AddsMade n values old new made) (sym is) (puts.0, puts.1, adds_put puts.0 made puts.2)
 
 -- so is what a name adds, where room was made for an item that did not come

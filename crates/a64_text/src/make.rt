@@ -61,7 +61,7 @@ fn emit_called(items: &mut Vec<Item>, inst: Option<Inst>, map: Option<UserStackM
 }
 
 /// Puts the binding of the label behind the items. Always true.
-#[tactic(auto, unfolding(crate::specs::Puts::Puts))]
+#[tactic(auto, unfolding(crate::specs::Makes::Makes))]
 #[inline(always)]
 pub fn put_bind(items: &mut Vec<Item>, values: &[Value]) -> bool
     requires { vec_len items.old < vec_capacity items.old }

@@ -18,7 +18,7 @@ use a64_base::{
     BranchTarget, Cond, CondBrKind, ExtendOp, IrType, OperandSize, Reg, TrapCode, writable_xreg,
     writable_zero_reg, xreg, zero_reg,
 };
-use a64_enc_int::{enc_ldaxr, enc_stlxr};
+use a64_enc_int::{enc_ldaxr, enc_stlxr, loop_offset, loop_traps};
 use a64_inst::AtomicRMWLoopOp;
 use a64_ops::ALUOp;
 use arrayvec::ArrayVec;
@@ -37,8 +37,10 @@ const NEW: u8 = 28;
 /// The words of a loop of atomic accesses.
 #[derive(Drop)]
 pub struct LoopWords {
-    /// The exclusive load. It may trap where the store may.
+    /// The exclusive load.
     pub load: u32,
+    /// The trap that the load may cause, if it may cause one.
+    pub load_trap: Option<TrapCode>,
     /// The exclusive store, and the words between.
     pub store: SeveralWords,
     /// The branch back to the load.
@@ -71,7 +73,7 @@ fn back_word(between: usize) -> u32
     ensures { result ≡ form_word (forms.back_form between) }
 {
     let failed = CondBrKind::NotZero(xreg(FAILED), OperandSize::Size64);
-    let load = BranchTarget::ResolvedOffset(-4 * (between as i32 + 2));
+    let load = BranchTarget::ResolvedOffset(loop_offset(between));
     cond_br_word(load, failed)
 }
 
@@ -236,14 +238,16 @@ fn loop_words(
     ensures { (between' : List Form) → between.items ≡ map form_word between'
         → AreLoop result (loop_cells ty between' stored trap) }
 {
+    let traps = loop_traps(trap);
     LoopWords {
         load: load_word(ty),
+        load_trap: traps.load,
         back: back_word(between.len()),
         store: SeveralWords {
             first: between,
             last: store_word(ty, stored),
             site: None,
-            trap,
+            trap: traps.store,
         },
     }
 }

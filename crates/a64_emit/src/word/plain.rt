@@ -6,7 +6,6 @@ pub mod lane;
 mod operator;
 pub mod register;
 pub mod vector;
-mod vector_op;
 
 ghost use Rattle.std.specs.Prelude.{◌≡◌, Some, true};
 ghost use Rattle.a64_inst.specs.declared.group.Group.TheVariants.{Plain};
@@ -37,16 +36,15 @@ use crate::word::plain::vector::{
     across_word, element_word, extend_lanes_word, kept_lane_shift_word, lane_shift_word,
     long_product_word, misc_word, pair_word, three_word, two_word,
 };
-use crate::word::plain::vector_op::{
-    across_fields, added_product_fields, kept_three_op, long_fields, narrow_fields,
-    pair_long_fields, product_fields, three_op, two_op,
-};
 use crate::word::system::{bti_word, csdb_word, paci_word, xpaclri_word};
 use a64_base::{OperandSize, Reg, ScalarSize, Writable, zero_reg};
 use a64_enc_int::{
     enc_bfm, enc_bit_rr, enc_ccmp, enc_ccmp_imm, enc_csel, enc_dmb_ish, register_field,
 };
-use a64_enc_vec::{enc_fcmp, enc_fcsel};
+use a64_enc_vec::{
+    across_fields, added_product_fields, enc_fcmp, enc_fcsel, kept_three_op, long_fields,
+    narrow_fields, pair_long_fields, product_fields, three_op, two_op,
+};
 use a64_inst::{EmitInfo, FrameLayout, Inst, PlainGroup};
 
 /// The word of an instruction, by its fields.

@@ -140,7 +140,6 @@ fn return_call_ind(alloc: Global, values: &[Value]) -> Result<Option<Inst>, Allo
 /// # Errors
 ///
 /// Want of memory, for what is known of the call.
-#[tactic(auto, unfolding(crate::specs::Puts::Puts))]
 #[inline(never)]
 pub fn put_call(
     alloc: Global,

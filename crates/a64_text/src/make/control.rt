@@ -1,6 +1,6 @@
 //! Makes branches and other instructions of control of their fields.
 
-ghost use Rattle.std.specs.Prelude.{◌<◌, option_map, IfOk};
+ghost use Rattle.std.specs.Prelude.{◌<◌, ◌≢◌, option_map, Some, IfOk};
 ghost use Rattle.std.specs.Vec.{vec_len, vec_capacity};
 ghost use Rattle.a64_text.specs.declared.name.ControlName.TheVariants as control;
 ghost use Rattle.a64_text.specs.declared.name.Name.TheVariants as names;
@@ -31,12 +31,64 @@ fn indirect_br(alloc: Global, values: &[Value]) -> Result<Option<Inst>, AllocErr
     }))
 }
 
+/// The instruction of this name, of which the fields are all.
+#[tactic(auto, unfolding(crate::specs::Makes::Makes))]
+#[inline(always)]
+fn control_inst(name: ControlName, values: &[Value]) -> Inst
+    requires other { name ≢ control.IndirectBr }
+    ensures { Makes (names.Control name) values.now (Some (emitted result)) }
+{
+    match name {
+        ControlName::IndirectBr => unreachable!(),
+        ControlName::Ret => Inst::Ret,
+        ControlName::Jump => Inst::Jump {
+            dest: at::get(values, 0),
+        },
+        ControlName::CondBr => Inst::CondBr {
+            taken: at::get(values, 0),
+            not_taken: at::get(values, 1),
+            kind: at::get(values, 2),
+        },
+        ControlName::TestBitAndBranch => Inst::TestBitAndBranch {
+            kind: at::get(values, 0),
+            taken: at::get(values, 1),
+            not_taken: at::get(values, 2),
+            rn: at::get(values, 3),
+            bit: at::get(values, 4),
+        },
+        ControlName::TrapIf => Inst::TrapIf {
+            kind: at::get(values, 0),
+            trap_code: TrapCode(at::get(values, 1)),
+        },
+        ControlName::Brk => Inst::Brk,
+        ControlName::Udf => Inst::Udf {
+            trap_code: TrapCode(at::get(values, 0)),
+        },
+        ControlName::Word4 => Inst::Word4 {
+            value: at::get(values, 0),
+        },
+        ControlName::Word8 => Inst::Word8 {
+            value: at::get(values, 0),
+        },
+        ControlName::EmitIsland => Inst::EmitIsland {
+            needed_space: at::get(values, 0),
+        },
+        ControlName::LabelAddress => Inst::LabelAddress {
+            dst: Writable::from_reg(at::get(values, 0)),
+            label: at::get(values, 1),
+        },
+        ControlName::AuthenticatedRet => Inst::AuthenticatedRet {
+            key: at::get(values, 0),
+            is_hint: at::get(values, 1),
+        },
+    }
+}
+
 /// Puts the instruction of this name with these fields behind the items.
 ///
 /// # Errors
 ///
 /// Want of memory, for the targets of an indirect branch.
-#[tactic(auto, unfolding(crate::specs::Puts::Puts))]
 #[inline(never)]
 pub fn put_control(
     alloc: Global,
@@ -48,77 +100,7 @@ pub fn put_control(
     ensures { IfOk result (Puts (names.Control name) values.now items.old.items items.new.items) }
 {
     match name {
-        ControlName::Ret => Ok(emit(items, Inst::Ret)),
-        ControlName::Jump => Ok(emit(
-            items,
-            Inst::Jump {
-                dest: at::get(values, 0),
-            },
-        )),
-        ControlName::CondBr => Ok(emit(
-            items,
-            Inst::CondBr {
-                taken: at::get(values, 0),
-                not_taken: at::get(values, 1),
-                kind: at::get(values, 2),
-            },
-        )),
-        ControlName::TestBitAndBranch => Ok(emit(
-            items,
-            Inst::TestBitAndBranch {
-                kind: at::get(values, 0),
-                taken: at::get(values, 1),
-                not_taken: at::get(values, 2),
-                rn: at::get(values, 3),
-                bit: at::get(values, 4),
-            },
-        )),
-        ControlName::TrapIf => Ok(emit(
-            items,
-            Inst::TrapIf {
-                kind: at::get(values, 0),
-                trap_code: TrapCode(at::get(values, 1)),
-            },
-        )),
         ControlName::IndirectBr => Ok(emit_some(items, indirect_br(alloc, values)?)),
-        ControlName::Brk => Ok(emit(items, Inst::Brk)),
-        ControlName::Udf => Ok(emit(
-            items,
-            Inst::Udf {
-                trap_code: TrapCode(at::get(values, 0)),
-            },
-        )),
-        ControlName::Word4 => Ok(emit(
-            items,
-            Inst::Word4 {
-                value: at::get(values, 0),
-            },
-        )),
-        ControlName::Word8 => Ok(emit(
-            items,
-            Inst::Word8 {
-                value: at::get(values, 0),
-            },
-        )),
-        ControlName::EmitIsland => Ok(emit(
-            items,
-            Inst::EmitIsland {
-                needed_space: at::get(values, 0),
-            },
-        )),
-        ControlName::LabelAddress => Ok(emit(
-            items,
-            Inst::LabelAddress {
-                dst: Writable::from_reg(at::get(values, 0)),
-                label: at::get(values, 1),
-            },
-        )),
-        ControlName::AuthenticatedRet => Ok(emit(
-            items,
-            Inst::AuthenticatedRet {
-                key: at::get(values, 0),
-                is_hint: at::get(values, 1),
-            },
-        )),
+        _ => Ok(emit(items, control_inst(name, values))),
     }
 }

@@ -83,7 +83,6 @@ fn pair(name: PairName, values: &[Value]) -> Option<Inst>
 }
 
 /// Puts the load or store of a pair of this name with these fields behind the items, where there is one.
-#[tactic(auto, unfolding(crate::specs::Puts::Puts))]
 #[inline(never)]
 pub fn put_pair(items: &mut Vec<Item>, name: PairName, values: &[Value]) -> bool
     requires { vec_len items.old < vec_capacity items.old }

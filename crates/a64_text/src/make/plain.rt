@@ -1,11 +1,12 @@
 //! Makes instructions that are one plain word of their fields.
 
-ghost use Rattle.std.specs.Prelude.{◌<◌, ◌≢◌, option_map};
+ghost use Rattle.std.specs.Prelude.{◌≡◌, ◌<◌, ◌≢◌, option_map, Some};
 ghost use Rattle.std.specs.Vec.{vec_len, vec_capacity};
 ghost use Rattle.a64_text.specs.declared.name.Name.TheVariants as names;
 ghost use Rattle.a64_text.specs.declared.name.ImmediateName.TheVariants as immediate;
 ghost use Rattle.a64_text.specs.Makes.{emitted, Makes};
 ghost use Rattle.a64_text.specs.Names.{logic_name};
+ghost use Rattle.a64_text.specs.PlainFields.{register_of, system_of};
 ghost use Rattle.a64_text.specs.Puts.{Puts};
 
 use crate::logic::logic_of;
@@ -34,11 +35,11 @@ macro_rules! made_of {
     };
 }
 
-/// Puts the instruction of a name of a list, with these fields, behind the items.
-macro_rules! put_arms {
-    ($virtuals:ident, $items:expr, $name:expr, $names:ident, $values:expr; $($inst:ident { $($field:ident: $way:ident $what:tt),* } if $rest:expr;)+) => {
+/// The instruction of a name of a list, with these fields.
+macro_rules! inst_arms {
+    ($virtuals:ident, $name:expr, $names:ident, $values:expr; $($inst:ident { $($field:ident: $way:ident $what:tt),* } if $rest:expr;)+) => {
         match $name {
-            $($names::$inst => emit($items, made_of!($inst, $values; [0 1 2 3 4 5 6 7 8]; {}; $($field $way $what,)*)),)+
+            $($names::$inst => made_of!($inst, $values; [0 1 2 3 4 5 6 7 8]; {}; $($field $way $what,)*),)+
         }
     };
 }
@@ -63,7 +64,6 @@ fn alu_rr_imm_logic(values: &[Value]) -> Option<Inst>
 
 /// Puts the operation with the immediate that the constructor gives behind the items, where there is
 /// one. Not inlined, so that other instructions have no room for it to clear.
-#[tactic(auto, unfolding(crate::specs::Puts::Puts))]
 #[inline(never)]
 fn put_alu_rr_imm_logic(items: &mut Vec<Item>, values: &[Value]) -> bool
     requires { vec_len items.old < vec_capacity items.old }
@@ -72,15 +72,14 @@ fn put_alu_rr_imm_logic(items: &mut Vec<Item>, values: &[Value]) -> bool
     emit_some(items, alu_rr_imm_logic(values))
 }
 
-/// Puts the operation of this name, of which the fields are all, behind the items.
-#[tactic(auto, unfolding(crate::specs::Puts::Puts))]
+/// The operation with an immediate of this name, of which the fields are all.
+#[tactic(auto, unfolding(crate::specs::Makes::Makes))]
 #[inline(always)]
-fn put_other_immediate(items: &mut Vec<Item>, name: ImmediateName, values: &[Value]) -> bool
-    requires room { vec_len items.old < vec_capacity items.old }
+fn immediate_inst(name: ImmediateName, values: &[Value]) -> Inst
     requires other { name ≢ immediate.AluRRImmLogic }
-    ensures { Puts (names.Immediate name) values.now items.old.items items.new.items result }
+    ensures { Makes (names.Immediate name) values.now (Some (emitted result)) }
 {
-    immediate_list!(put_arms, virtuals, items, name, ImmediateName, values)
+    immediate_list!(inst_arms, virtuals, name, ImmediateName, values)
 }
 
 /// Puts the operation with an immediate of this name with these fields behind the items.
@@ -91,56 +90,60 @@ pub fn put_immediate(items: &mut Vec<Item>, name: ImmediateName, values: &[Value
 {
     match name {
         ImmediateName::AluRRImmLogic => put_alu_rr_imm_logic(items, values),
-        _ => put_other_immediate(items, name, values),
+        _ => emit(items, immediate_inst(name, values)),
     }
 }
 
+/// The operation on registers of this name.
+#[inline(always)]
+fn register_inst(name: RegisterName, values: &[Value]) -> Inst
+    ensures { result ≡ register_of name values.now }
+{
+    register_list!(inst_arms, virtuals, name, RegisterName, values)
+}
+
 /// Puts the operation on registers of this name with these fields behind the items.
-#[tactic(auto, unfolding(crate::specs::Puts::Puts))]
+#[tactic(auto, unfolding(crate::specs::Makes::Makes))]
 #[inline(always)]
 pub fn put_register(items: &mut Vec<Item>, name: RegisterName, values: &[Value]) -> bool
     requires { vec_len items.old < vec_capacity items.old }
     ensures { Puts (names.Register name) values.now items.old.items items.new.items result }
 {
-    register_list!(put_arms, virtuals, items, name, RegisterName, values)
+    emit(items, register_inst(name, values))
+}
+
+/// The hint, the barrier, or the access to the flags, of this name.
+#[inline(always)]
+fn system_inst(name: SystemName, values: &[Value]) -> Inst
+    ensures { result ≡ system_of name values.now }
+{
+    match name {
+        SystemName::Nop0 => Inst::Nop0,
+        SystemName::Nop4 => Inst::Nop4,
+        SystemName::MovToNZCV => Inst::MovToNZCV {
+            rn: at::get(values, 0),
+        },
+        SystemName::MovFromNZCV => Inst::MovFromNZCV {
+            rd: Writable::from_reg(at::get(values, 0)),
+        },
+        SystemName::Csdb => Inst::Csdb,
+        SystemName::Fence => Inst::Fence,
+        SystemName::Paci => Inst::Paci {
+            key: at::get(values, 0),
+        },
+        SystemName::Xpaclri => Inst::Xpaclri,
+        SystemName::Bti => Inst::Bti {
+            targets: at::get(values, 0),
+        },
+    }
 }
 
 /// Puts the hint, the barrier, or the access to the flags, of this name with these fields behind the items.
-#[tactic(auto, unfolding(crate::specs::Puts::Puts))]
+#[tactic(auto, unfolding(crate::specs::Makes::Makes))]
 #[inline(always)]
 pub fn put_system(items: &mut Vec<Item>, name: SystemName, values: &[Value]) -> bool
     requires { vec_len items.old < vec_capacity items.old }
     ensures { Puts (names.System name) values.now items.old.items items.new.items result }
 {
-    match name {
-        SystemName::Nop0 => emit(items, Inst::Nop0),
-        SystemName::Nop4 => emit(items, Inst::Nop4),
-        SystemName::MovToNZCV => emit(
-            items,
-            Inst::MovToNZCV {
-                rn: at::get(values, 0),
-            },
-        ),
-        SystemName::MovFromNZCV => emit(
-            items,
-            Inst::MovFromNZCV {
-                rd: Writable::from_reg(at::get(values, 0)),
-            },
-        ),
-        SystemName::Csdb => emit(items, Inst::Csdb),
-        SystemName::Fence => emit(items, Inst::Fence),
-        SystemName::Paci => emit(
-            items,
-            Inst::Paci {
-                key: at::get(values, 0),
-            },
-        ),
-        SystemName::Xpaclri => emit(items, Inst::Xpaclri),
-        SystemName::Bti => emit(
-            items,
-            Inst::Bti {
-                targets: at::get(values, 0),
-            },
-        ),
-    }
+    emit(items, system_inst(name, values))
 }

@@ -1,6 +1,6 @@
 //! Makes sequences around tables, symbols and the stack, and what has no word, of their fields.
 
-ghost use Rattle.std.specs.Prelude.{◌<◌, option_map, IfOk};
+ghost use Rattle.std.specs.Prelude.{◌<◌, ◌≢◌, option_map, Some, IfOk};
 ghost use Rattle.std.specs.Vec.{vec_len, vec_capacity};
 ghost use Rattle.a64_text.specs.declared.name.Name.TheVariants as names;
 ghost use Rattle.a64_text.specs.declared.name.SequenceName.TheVariants as sequence;
@@ -58,12 +58,54 @@ fn jt_sequence(alloc: Global, values: &[Value]) -> Result<Option<Inst>, AllocErr
     }))
 }
 
+/// The instruction of this name, of which the fields are all.
+#[tactic(auto, unfolding(crate::specs::Makes::Makes))]
+#[inline(always)]
+fn sequence_inst(name: SequenceName, values: &[Value]) -> Inst
+    requires no_args { name ≢ sequence.Args }
+    requires no_rets { name ≢ sequence.Rets }
+    requires no_table { name ≢ sequence.JTSequence }
+    ensures { Makes (names.Sequence name) values.now (Some (emitted result)) }
+{
+    match name {
+        SequenceName::Args | SequenceName::Rets | SequenceName::JTSequence => unreachable!(),
+        SequenceName::DummyUse => Inst::DummyUse {
+            reg: at::get(values, 0),
+        },
+        SequenceName::SequencePoint => Inst::SequencePoint,
+        SequenceName::LoadExtNameGot => Inst::LoadExtNameGot {
+            rd: Writable::from_reg(at::get(values, 0)),
+            name: ExternalName(at::get(values, 1)),
+        },
+        SequenceName::LoadExtNameNear => Inst::LoadExtNameNear {
+            rd: Writable::from_reg(at::get(values, 0)),
+            name: ExternalName(at::get(values, 1)),
+            offset: at::get(values, 2),
+        },
+        SequenceName::LoadExtNameFar => Inst::LoadExtNameFar {
+            rd: Writable::from_reg(at::get(values, 0)),
+            name: ExternalName(at::get(values, 1)),
+            offset: at::get(values, 2),
+        },
+        SequenceName::StackProbeLoop => Inst::StackProbeLoop {
+            start: Writable::from_reg(at::get(values, 0)),
+            end: at::get(values, 1),
+            step: at::get(values, 2),
+        },
+        SequenceName::VecCSel => Inst::VecCSel {
+            rd: Writable::from_reg(at::get(values, 0)),
+            rn: at::get(values, 1),
+            rm: at::get(values, 2),
+            cond: at::get(values, 3),
+        },
+    }
+}
+
 /// Puts the instruction of this name with these fields behind the items.
 ///
 /// # Errors
 ///
 /// Want of memory, for a list of registers or of labels.
-#[tactic(auto, unfolding(crate::specs::Puts::Puts))]
 #[inline(never)]
 pub fn put_sequence(
     alloc: Global,
@@ -77,53 +119,7 @@ pub fn put_sequence(
     match name {
         SequenceName::Args => Ok(emit_some(items, args(alloc, values)?)),
         SequenceName::Rets => Ok(emit_some(items, rets(alloc, values)?)),
-        SequenceName::DummyUse => Ok(emit(
-            items,
-            Inst::DummyUse {
-                reg: at::get(values, 0),
-            },
-        )),
-        SequenceName::SequencePoint => Ok(emit(items, Inst::SequencePoint)),
         SequenceName::JTSequence => Ok(emit_some(items, jt_sequence(alloc, values)?)),
-        SequenceName::LoadExtNameGot => Ok(emit(
-            items,
-            Inst::LoadExtNameGot {
-                rd: Writable::from_reg(at::get(values, 0)),
-                name: ExternalName(at::get(values, 1)),
-            },
-        )),
-        SequenceName::LoadExtNameNear => Ok(emit(
-            items,
-            Inst::LoadExtNameNear {
-                rd: Writable::from_reg(at::get(values, 0)),
-                name: ExternalName(at::get(values, 1)),
-                offset: at::get(values, 2),
-            },
-        )),
-        SequenceName::LoadExtNameFar => Ok(emit(
-            items,
-            Inst::LoadExtNameFar {
-                rd: Writable::from_reg(at::get(values, 0)),
-                name: ExternalName(at::get(values, 1)),
-                offset: at::get(values, 2),
-            },
-        )),
-        SequenceName::StackProbeLoop => Ok(emit(
-            items,
-            Inst::StackProbeLoop {
-                start: Writable::from_reg(at::get(values, 0)),
-                end: at::get(values, 1),
-                step: at::get(values, 2),
-            },
-        )),
-        SequenceName::VecCSel => Ok(emit(
-            items,
-            Inst::VecCSel {
-                rd: Writable::from_reg(at::get(values, 0)),
-                rn: at::get(values, 1),
-                rm: at::get(values, 2),
-                cond: at::get(values, 3),
-            },
-        )),
+        _ => Ok(emit(items, sequence_inst(name, values))),
     }
 }

@@ -9,9 +9,10 @@ ghost use Rattle.a64_rows.specs.Forms.{form_word};
 ghost use Rattle.a64_emit.specs.VectorForms as forms;
 
 use crate::word::plain::float::lane_number;
-use crate::word::plain::vector::{float_bit, lane_bits};
+use crate::word::plain::vector::float_bit;
 use a64_base::{OperandSize, Reg, ScalarSize, VectorSize, Writable};
 use a64_enc_int::register_field;
+use a64_enc_vec::lane_bits;
 use a64_imms::{ASIMDFPModImm, ASIMDMovModImm};
 use a64_rows::{Row, pack};
 

@@ -8,11 +8,12 @@ ghost use Rattle.a64_enc_int.specs.Registers.{IsReal};
 ghost use Rattle.a64_rows.specs.Forms.{form_word, IsFormOf};
 ghost use Rattle.a64_emit.specs.VectorForms as forms;
 
-use crate::word::plain::vector_op::{
-    LongFields, OpFields, ThreeOp, TwoFields, TwoOp, element_o2, shift_fields,
-};
 use a64_base::{Reg, ScalarSize, VectorSize, Writable};
 use a64_enc_int::register_field;
+use a64_enc_vec::{
+    LongFields, OpFields, ThreeOp, TwoFields, TwoOp, element_o2, left_shift_field, shift_field,
+    shift_fields,
+};
 use a64_ops::{VecALUModOp, VecExtendOp, VecShiftImmOp};
 use a64_rows::{Row, pack};
 
@@ -170,46 +171,6 @@ pub fn across_word(fields: OpFields, size: VectorSize, rd: Writable<Reg>, rn: Re
     let (q, lanes) = size.enc_size();
     let (rn, rd) = (register_field(rn), register_field(rd.to_reg()));
     pack(Row::VecAcross, &[q, u, lanes, op, rn, rd])
-}
-
-/// How many bits a lane has.
-pub fn lane_bits(size: VectorSize) -> u32
-    ensures value { result ≡ sets.lane_bits size }
-    ensures below { result < 65 }
-{
-    match size {
-        VectorSize::Size8x8 | VectorSize::Size8x16 => 8,
-        VectorSize::Size16x4 | VectorSize::Size16x8 => 16,
-        VectorSize::Size32x2 | VectorSize::Size32x4 => 32,
-        VectorSize::Size64x2 => 64,
-    }
-}
-
-/// The fields immh and immb of a shift of lanes to the left.
-fn left_shift_field(size: VectorSize, imm: u8) -> u32
-    ensures { result ≡ forms.left_shift_field size imm }
-{
-    lane_bits(size) + u32::from(imm)
-}
-
-/// The fields immh and immb of a shift of lanes to the right.
-#[tactic(auto, using(crate::proofs::VectorForms::right_at_most))]
-fn right_shift_field(size: VectorSize, imm: u8) -> u32
-    requires { sets.is_right_amount size imm ≡ true }
-    ensures { result ≡ forms.right_shift_field size imm }
-{
-    2 * lane_bits(size) - u32::from(imm)
-}
-
-/// The fields immh and immb of a shift of lanes.
-pub fn shift_field(op: VecShiftImmOp, size: VectorSize, imm: u8) -> u32
-    requires { sets.is_amount op size imm ≡ true }
-    ensures { result ≡ forms.shift_field op size imm }
-{
-    match op {
-        VecShiftImmOp::Shl => left_shift_field(size, imm),
-        VecShiftImmOp::Ushr | VecShiftImmOp::Sshr => right_shift_field(size, imm),
-    }
 }
 
 /// The word of a shift of lanes.

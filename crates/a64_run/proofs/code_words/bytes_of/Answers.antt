@@ -3,7 +3,7 @@ use Rattle.std.specs.Int.{w32, to_le_bytes}
 use Rattle.std.proofs.lemmas.List.{take_all}
 use Rattle.std.proofs.lemmas.Nat.{from_le_bytes-to_le_bytes_4}
 use Rattle.std.proofs.Math.Seq.{take-suc}
-use Rattle.a64_run.specs.Report.{words_in}
+use Rattle.a64_report.specs.Report.{words_in}
 use Rattle.a64_run.proofs.code_words.bytes_of.Goals as goal
 
 -- one word more

@@ -1,5 +1,5 @@
 use Rattle.std.proofs.Common.{◌≡◌, ◌++◌, List, ℕ, take}
-use Rattle.a64_run.specs.Report.{words_in}
+use Rattle.a64_report.specs.Report.{words_in}
 use Rattle.a64_run.proofs.code_words.bytes_of.Given as goal
 
 -- whatever comes behind the bytes, the words that were put come before its words

@@ -1,6 +1,6 @@
 //! Makes operations on scalar floats of their fields.
 
-ghost use Rattle.std.specs.Prelude.{◌<◌, ◌≢◌, option_map};
+ghost use Rattle.std.specs.Prelude.{◌<◌, ◌≢◌, option_map, Some};
 ghost use Rattle.std.specs.Vec.{vec_len, vec_capacity};
 ghost use Rattle.a64_text.specs.declared.name.FloatName.TheVariants as float;
 ghost use Rattle.a64_text.specs.declared.name.Name.TheVariants as names;
@@ -29,23 +29,14 @@ fn fpu_move_fp_imm(values: &[Value]) -> Option<Inst>
     })
 }
 
-/// Puts the move of the float behind the items, where there is one.
-#[tactic(auto, unfolding(crate::specs::Puts::Puts))]
-fn put_fpu_move_fp_imm(items: &mut Vec<Item>, values: &[Value]) -> bool
-    requires { vec_len items.old < vec_capacity items.old }
-    ensures { Puts float_imm_name values.now items.old.items items.new.items result }
-{
-    emit_some(items, fpu_move_fp_imm(values))
-}
-
-/// Puts the operation of this name, of which the fields are all, behind the items.
-#[tactic(auto, unfolding(crate::specs::Puts::Puts))]
-fn put_other_float(items: &mut Vec<Item>, name: FloatName, values: &[Value]) -> bool
-    requires room { vec_len items.old < vec_capacity items.old }
+/// The operation on scalar floats of this name, of which the fields are all.
+#[tactic(auto, unfolding(crate::specs::Makes::Makes))]
+#[inline(always)]
+fn float_inst(name: FloatName, values: &[Value]) -> Inst
     requires other { name ≢ float.FpuMoveFPImm }
-    ensures { Puts (names.Float name) values.now items.old.items items.new.items result }
+    ensures { Makes (names.Float name) values.now (Some (emitted result)) }
 {
-    float_list!(put_arms, virtuals, items, name, FloatName, values)
+    float_list!(inst_arms, virtuals, name, FloatName, values)
 }
 
 /// Puts the operation on scalar floats of this name with these fields behind the items, where there
@@ -56,7 +47,7 @@ pub fn put_float(items: &mut Vec<Item>, name: FloatName, values: &[Value]) -> bo
     ensures { Puts (names.Float name) values.now items.old.items items.new.items result }
 {
     match name {
-        FloatName::FpuMoveFPImm => put_fpu_move_fp_imm(items, values),
-        _ => put_other_float(items, name, values),
+        FloatName::FpuMoveFPImm => emit_some(items, fpu_move_fp_imm(values)),
+        _ => emit(items, float_inst(name, values)),
     }
 }

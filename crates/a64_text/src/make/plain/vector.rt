@@ -1,11 +1,12 @@
 //! Makes operations on vectors, moves of lanes and tables of bytes of their fields.
 
-ghost use Rattle.std.specs.Prelude.{◌<◌, ◌≢◌, option_map};
+ghost use Rattle.std.specs.Prelude.{◌≡◌, ◌<◌, ◌≢◌, option_map, Some};
 ghost use Rattle.std.specs.Vec.{vec_len, vec_capacity};
 ghost use Rattle.a64_text.specs.declared.name.VectorMoveName.TheVariants as vector_move;
 ghost use Rattle.a64_text.specs.declared.name.Name.TheVariants as names;
 ghost use Rattle.a64_text.specs.Makes.{emitted, Makes};
 ghost use Rattle.a64_text.specs.Names.{dup_float_name, dup_name};
+ghost use Rattle.a64_text.specs.PlainFields.{vector_of};
 ghost use Rattle.a64_text.specs.Puts.{Puts};
 
 use crate::float_imm::float_imm_of;
@@ -17,14 +18,22 @@ use a64_inst::{Inst, Item, vector_list, vector_move_list};
 use a64_read::at;
 use a64_read::value::Value;
 
+/// The operation on vectors of this name.
+#[inline(always)]
+fn vector_inst(name: VectorName, values: &[Value]) -> Inst
+    ensures { result ≡ vector_of name values.now }
+{
+    vector_list!(inst_arms, virtuals, name, VectorName, values)
+}
+
 /// Puts the operation on vectors of this name with these fields behind the items.
-#[tactic(auto, unfolding(crate::specs::Puts::Puts))]
+#[tactic(auto, unfolding(crate::specs::Makes::Makes))]
 #[inline(never)]
 pub fn put_vector(items: &mut Vec<Item>, name: VectorName, values: &[Value]) -> bool
     requires { vec_len items.old < vec_capacity items.old }
     ensures { Puts (names.Vector name) values.now items.old.items items.new.items result }
 {
-    vector_list!(put_arms, virtuals, items, name, VectorName, values)
+    emit(items, vector_inst(name, values))
 }
 
 /// The move to all lanes of the float that the eight bits are at their size.
@@ -54,19 +63,18 @@ fn vec_dup_imm(values: &[Value]) -> Option<Inst>
     })
 }
 
-/// Puts the move or the table of this name, of which the fields are all, behind the items.
-#[tactic(auto, unfolding(crate::specs::Puts::Puts))]
-fn put_other_vector_move(items: &mut Vec<Item>, name: VectorMoveName, values: &[Value]) -> bool
-    requires room { vec_len items.old < vec_capacity items.old }
+/// The move or the table of this name, of which the fields are all.
+#[tactic(auto, unfolding(crate::specs::Makes::Makes))]
+#[inline(always)]
+fn vector_move_inst(name: VectorMoveName, values: &[Value]) -> Inst
     requires no_float { name ≢ vector_move.VecDupFPImm }
     requires no_imm { name ≢ vector_move.VecDupImm }
-    ensures { Puts (names.VectorMove name) values.now items.old.items items.new.items result }
+    ensures { Makes (names.VectorMove name) values.now (Some (emitted result)) }
 {
-    vector_move_list!(put_arms, virtuals, items, name, VectorMoveName, values)
+    vector_move_list!(inst_arms, virtuals, name, VectorMoveName, values)
 }
 
 /// Puts the move or the table of this name with these fields behind the items, where there is one.
-#[tactic(auto, unfolding(crate::specs::Puts::Puts))]
 #[inline(never)]
 pub fn put_vector_move(items: &mut Vec<Item>, name: VectorMoveName, values: &[Value]) -> bool
     requires { vec_len items.old < vec_capacity items.old }
@@ -75,6 +83,6 @@ pub fn put_vector_move(items: &mut Vec<Item>, name: VectorMoveName, values: &[Va
     match name {
         VectorMoveName::VecDupFPImm => emit_some(items, vec_dup_fp_imm(values)),
         VectorMoveName::VecDupImm => emit_some(items, vec_dup_imm(values)),
-        _ => put_other_vector_move(items, name, values),
+        _ => emit(items, vector_move_inst(name, values)),
     }
 }

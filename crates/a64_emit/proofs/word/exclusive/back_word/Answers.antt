@@ -4,10 +4,9 @@ use Rattle.a64_base.specs.declared.size.OperandSize.TheVariants.{Size64}
 use Rattle.a64_base.specs.declared.target.BranchTarget.TheVariants.{ResolvedOffset}
 use Rattle.a64_rows.specs.Forms.{form_word}
 use Rattle.a64_emit.specs.ControlForms.{cond_br_form}
-use Rattle.a64_emit.proofs.Loops.{back_offset}
 use Rattle.a64_emit.proofs.word.exclusive.back_word.Goals as goal
 
 pub returns : goal.returns
 returns c =
     c.cond_br_word.ensures
-    ∙ ap₂ (λ z reg. form_word (cond_br_form (ResolvedOffset z) (NotZero reg Size64))) (back_offset c.args.between c.requires) c.xreg.ensures
+    ∙ ap₂ (λ z reg. form_word (cond_br_form (ResolvedOffset z) (NotZero reg Size64))) c.loop_offset.ensures c.xreg.ensures

@@ -1,0 +1,9 @@
+pub mod SummaryParts
+pub mod Numbered
+pub mod Gathering
+pub mod DigitPairs
+pub mod HexPairs
+pub mod SectionLists
+pub mod Overlaps
+pub mod KeptLines
+pub mod LineRuns

@@ -1,0 +1,14 @@
+//! What is written of finished code: its report, and a summary of it, by way of a piece of memory to a sink.
+#![tactic(auto)]
+
+mod hundred;
+mod kept;
+mod line;
+mod piece;
+mod report;
+mod report_lines;
+mod summary;
+
+pub use piece::Piece;
+pub use report::{write_report, write_words};
+pub use summary::write_summary;
