@@ -88,7 +88,10 @@ fn constants_into_a_register(rt: HostRuntime) -> Result<(), Fail> {
         (0x5555_5555, "orr w0, wzr, #1431655765; "),
         (0xf00f_f00f, "orr w0, wzr, #4027576335; "),
         (0x00ff_ff00, "orr x0, xzr, #16776960; "),
-        (0x1234_5678, "movz w0, #22136; movk w0, w0, #4660, LSL #16; "),
+        (
+            0x1234_5678,
+            "movz w0, #22136; movk w0, w0, #4660, LSL #16; ",
+        ),
     ] {
         let insts = Inst::load_constant(alloc, writable_xreg(0), value)?;
         assert_eq!(rt; texts_of(alloc, insts.as_slice())?.as_str(), texts);
