@@ -1,5 +1,5 @@
 -- Loops of atomic accesses, and returns that authenticate their address: what is put for their words, and that none is a use.
-use Rattle.std.proofs.Common.{ℕ, ◌≡◌, ◌+◌, Bool, List, [], ◌∷◌, ◌++◌, length, map, Option, None, refl, sym, ap, ◌∙◌, arith}
+use Rattle.std.proofs.Common.{ℕ, zero, suc, negsuc, ◌≡◌, ◌≤◌, ◌+◌, ◌*◌, w32, of_z, to_z, Bool, List, [], ◌∷◌, ◌++◌, length, map, Option, None, refl, sym, ap, ◌∙◌, arith}
 use Rattle.std.proofs.lemmas.List.{length-append, length-map, map-append}
 use Rattle.std.proofs.lemmas.List.Elements.{filter_map-append}
 use Rattle.a64_base.specs.declared.entity.TrapCode.{TrapCode}
@@ -54,3 +54,14 @@ module _ (ty : IrType) (between : List Form) (stored : Reg) (trap : Option TrapC
 
 pub return_uses : (key : APIKey) (is_hint : Bool) → uses_of 0 (map plain (authenticated_ret_forms key is_hint)) ≡ []
 return_uses key is_hint = no_uses 0 (map plain (authenticated_ret_forms key is_hint)) (plain_sites (authenticated_ret_forms key is_hint))
+
+-- ---- the branch back
+
+-- its offset is a number of 32 bits
+pub offset_kept : (between : ℕ) → between ≤ 4 → to_z w32 (of_z w32 (negsuc (4 * between + 7))) ≡ negsuc (4 * between + 7)
+offset_kept zero few = refl
+offset_kept (suc zero) few = refl
+offset_kept (suc (suc zero)) few = refl
+offset_kept (suc (suc (suc zero))) few = refl
+offset_kept (suc (suc (suc (suc zero)))) few = refl
+offset_kept (suc (suc (suc (suc (suc n))))) few = absurd (omega (arith, few))

@@ -15,5 +15,5 @@ returns c between e =
       site = refl;
       put =
           subst (λ (traps : LoopTraps). put_cell c.load_word.result None traps.load ∷ put_cells c.args.between.items c.store_word.result None traps.store ++ put_cell c.back_word.result None None ∷ [] ≡ map as_put (loop_cells c.args.ty between c.args.stored c.args.trap))
-          (sym c.loop_traps.ensures) put;
+          (sym c.loop_traps-traps.ensures) put;
     }
