@@ -1,0 +1,349 @@
+//! The assembler.
+
+ghost use Rattle.std.specs.Prelude.{◌≡◌, ◌+◌, ◌^◌, ◌<◌, ◌≤◌, true, map, length, [], ◌∷◌, ◌++◌, None, Err, IfOk, IfErr, OnOk, OnErr};
+ghost use Rattle.std.specs.FinMap.{insert};
+ghost use Rattle.std.specs.Vec.{vec_len, vec_capacity};
+ghost use Rattle.a64_base.specs.declared.cond.CondBrKind.TheVariants as kinds;
+ghost use Rattle.a64_base.specs.declared.target.BranchTarget.TheVariants.{Label};
+ghost use Rattle.a64_operand.specs.declared.virtuals.VirtualRegisters.TheVariants.{Refused};
+ghost use Rattle.a64_operand.specs.Operands.{is_register};
+ghost use Rattle.a64_plan.specs.Plans.{plan_of};
+ghost use Rattle.a64_inst.specs.Accesses.{inst_with};
+ghost use Rattle.a64_inst.specs.Constants.{step_into};
+ghost use Rattle.a64_inst.specs.declared.inst.Inst.TheVariants.{Jump};
+ghost use Rattle.a64_inst.specs.declared.item.Item.TheVariants.{Bind};
+ghost use Rattle.a64_assemble.specs.Assembled.{IsAssembled, IsRefusal};
+ghost use Rattle.a64_assembler.specs.declared.error.AddError.TheVariants.{TooMany, BadLength};
+ghost use Rattle.a64_buffer.specs.Constants.{IsConstant};
+ghost use Rattle.a64_assembler.specs.Assembly.{nothing, with_items, emitted, label_at, Adds, AddsBranch, AddsCall, IsFull};
+
+use crate::error::AddError;
+use a64_assemble::assemble;
+use a64_base::{
+    BranchTarget, CallConv, Cond, CondBrKind, ExternalName, MachLabel, MemFlagsData, OperandSize,
+    Reg, VCodeConstant, Writable,
+};
+use a64_buffer::{Constants, ForceVeneers};
+use a64_emit::{Code, EmitError};
+use a64_inst::{AMode, Access, AccessOp, CallInfo, EmitFlags, EmitInfo, FrameLayout, Inst, Item};
+use smallvec::SmallVec;
+use std::alloc::Global;
+use std::marker::Model;
+
+/// The most items, labels or constants that there may be.
+const MOST: u32 = u32::MAX;
+
+/// Items that are added one after another, and what their assembly is told beside them: constants, a frame,
+/// settings, and whether islands are forced.
+#[derive(Drop)]
+pub struct Assembler {
+    alloc: Global,
+    items: Vec<Item>,
+    constants: Constants,
+    info: EmitInfo,
+    frame: FrameLayout,
+    force: ForceVeneers,
+    labels: u32,
+    numbers: u32,
+}
+
+impl Model for Assembler {
+    ghost use Rattle.std.specs.Prelude.{◌^◌, ◌<◌, length};
+    ghost use Rattle.std.specs.Ordering.{nat_cmp};
+    ghost use Rattle.std.specs.FinMap.{code};
+    ghost use Rattle.std.specs.Coded.{codes, coded_ℕ, coded_list};
+    ghost use Rattle.a64_assembler.specs.Assembly.{Assembly, IsFresh};
+
+    ghost Value = { Assembly };
+
+    ghost coded = { Prim.hlevel (codes, code {R = nat_cmp} coded_ℕ (coded_list coded_ℕ)) };
+
+    ghost view = { λ a. record {
+      items = a.items.items;
+      constants = a.constants;
+      frame = a.frame;
+      flags = a.info;
+      force = a.force;
+      labels = a.labels;
+      numbers = a.numbers;
+    } };
+
+    ghost invariant = { λ a. (length a.items.items < 2 ^ 32) × IsFresh a.constants a.numbers };
+}
+
+/// Puts instructions behind the items, which have room for them.
+fn push_all(items: &mut Vec<Item>, insts: SmallVec<Inst, 4>)
+    requires { vec_len items.old + length insts.items ≤ vec_capacity items.old }
+    ensures { items.new.items ≡ items.old.items ++ map emitted insts.items }
+{
+    for inst in insts {
+        items.push_reserved(Item::from(inst));
+    }
+}
+
+impl Assembler {
+    /// An assembler to which nothing was added, for a function without a frame, with no setting on. It takes no
+    /// memory.
+    pub fn new(alloc: Global) -> Assembler
+        ensures { result ≡ nothing }
+    {
+        Assembler {
+            alloc,
+            items: Vec::new(alloc),
+            constants: Constants::new(alloc),
+            info: EmitInfo::new(EmitFlags::none()),
+            frame: FrameLayout::none(alloc),
+            force: ForceVeneers::No,
+            labels: 0,
+            numbers: 0,
+        }
+    }
+
+    /// Sets the frame of the function that the items are.
+    pub fn set_frame(&mut self, frame: FrameLayout)
+        ensures { self.new ≡ record self.old { frame = frame } }
+    {
+        self.frame = frame;
+    }
+
+    /// Sets the settings.
+    pub fn set_flags(&mut self, flags: EmitFlags)
+        ensures { self.new ≡ record self.old { flags = flags } }
+    {
+        self.info = EmitInfo::new(flags);
+    }
+
+    /// Sets whether islands are forced.
+    pub fn set_force(&mut self, force: ForceVeneers)
+        ensures { self.new ≡ record self.old { force = force } }
+    {
+        self.force = force;
+    }
+
+    /// A label that was not given before.
+    ///
+    /// # Errors
+    ///
+    /// [`AddError::TooMany`] alone.
+    pub fn new_label(&mut self) -> Result<MachLabel, AddError>
+        ensures ok { IfOk result (λ label. label ≡ label_at self.old.labels) }
+        ensures given { OnOk result (self.new ≡ record self.old { labels = self.old.labels + 1 }) }
+        ensures err { OnErr result (self.new ≡ self.old) }
+        ensures cause { IfErr result (λ error. (error ≡ TooMany) × IsFull self.old.labels 1) }
+    {
+        if self.labels == MOST {
+            return Err(AddError::TooMany);
+        }
+        let label = MachLabel(self.labels);
+        self.labels += 1;
+        Ok(label)
+    }
+
+    /// Adds an item.
+    ///
+    /// # Errors
+    ///
+    /// [`AddError::TooMany`], or want of memory. Then nothing has changed.
+    pub fn push(&mut self, item: Item) -> Result<(), AddError>
+        ensures { Adds (item ∷ []) result self.old self.new }
+    {
+        if self.items.len() >= MOST as usize {
+            return Err(AddError::TooMany);
+        }
+        self.items.push(item)?;
+        Ok(())
+    }
+
+    /// Binds a label to the place of the next item.
+    ///
+    /// # Errors
+    ///
+    /// As of [`Assembler::push`].
+    pub fn bind(&mut self, label: MachLabel) -> Result<(), AddError>
+        ensures { Adds (Bind label ∷ []) result self.old self.new }
+    {
+        self.push(Item::Bind(label))
+    }
+
+    /// Adds an instruction.
+    ///
+    /// # Errors
+    ///
+    /// As of [`Assembler::push`].
+    pub fn emit(&mut self, inst: Inst) -> Result<(), AddError>
+        ensures { Adds (emitted inst ∷ []) result self.old self.new }
+    {
+        self.push(Item::from(inst))
+    }
+
+    /// Adds a jump to a label.
+    ///
+    /// # Errors
+    ///
+    /// As of [`Assembler::push`].
+    pub fn jump(&mut self, label: MachLabel) -> Result<(), AddError>
+        ensures { Adds (emitted (Jump (Label label)) ∷ []) result self.old self.new }
+    {
+        self.emit(Inst::Jump {
+            dest: BranchTarget::Label(label),
+        })
+    }
+
+    /// Adds a branch to a label where a test succeeds. Else execution goes on behind it.
+    ///
+    /// # Errors
+    ///
+    /// [`AddError::TooMany`], since it takes two items and a label of its own, or want of memory. Then nothing has
+    /// changed.
+    pub fn branch(&mut self, kind: CondBrKind, label: MachLabel) -> Result<(), AddError>
+        ensures { AddsBranch kind label result self.old self.new }
+    {
+        if self.labels == MOST || self.items.len() + 1 >= MOST as usize {
+            return Err(AddError::TooMany);
+        }
+        self.items.reserve(2)?;
+        let next = MachLabel(self.labels);
+        let inst = Inst::CondBr {
+            taken: BranchTarget::Label(label),
+            not_taken: BranchTarget::Label(next),
+            kind,
+        };
+        self.items.push_reserved(Item::from(inst));
+        self.items.push_reserved(Item::Bind(next));
+        self.labels += 1;
+        Ok(())
+    }
+
+    /// Adds a branch to a label where a condition on the flags holds. Else execution goes on behind it.
+    ///
+    /// # Errors
+    ///
+    /// As of [`Assembler::branch`].
+    pub fn branch_if(&mut self, cond: Cond, label: MachLabel) -> Result<(), AddError>
+        ensures { AddsBranch (kinds.Cond cond) label result self.old self.new }
+    {
+        self.branch(CondBrKind::Cond(cond), label)
+    }
+
+    /// Adds a branch to a label where a register is zero, at a size. Else execution goes on behind it.
+    ///
+    /// # Errors
+    ///
+    /// As of [`Assembler::branch`].
+    pub fn branch_if_zero(
+        &mut self,
+        reg: Reg,
+        size: OperandSize,
+        label: MachLabel,
+    ) -> Result<(), AddError>
+        ensures { AddsBranch (kinds.Zero reg size) label result self.old self.new }
+    {
+        self.branch(CondBrKind::Zero(reg, size), label)
+    }
+
+    /// Adds a load or a store of one register, which does not trap.
+    ///
+    /// # Errors
+    ///
+    /// As of [`Assembler::push`].
+    pub fn access(&mut self, op: AccessOp, reg: Reg, mem: AMode) -> Result<(), AddError>
+        ensures { Adds (emitted (inst_with op reg mem None) ∷ []) result self.old self.new }
+    {
+        let flags = MemFlagsData::trusted();
+        self.emit(Inst::from_access(Access {
+            op,
+            reg,
+            mem,
+            flags,
+        }))
+    }
+
+    /// Adds the moves that put a value into a register from x0 to x30: the shortest ones, of which there are at most
+    /// four.
+    ///
+    /// # Errors
+    ///
+    /// [`AddError::TooMany`], where not four more items have room, or want of memory. Then nothing has changed.
+    pub fn load_constant(&mut self, rd: Writable<Reg>, value: u64) -> Result<(), AddError>
+        requires { is_register Refused rd ≡ true }
+        ensures ok { OnOk result (self.new
+            ≡ with_items self.old (map emitted (map (step_into rd) (plan_of value)))) }
+        ensures err { OnErr result (self.new ≡ self.old) }
+    {
+        if self.items.len() >= MOST as usize - 4 {
+            return Err(AddError::TooMany);
+        }
+        self.items.reserve(4)?;
+        let insts = Inst::load_constant(self.alloc, rd, value)?;
+        push_all(&mut self.items, insts);
+        Ok(())
+    }
+
+    /// Adds a constant of 4, 8 or 16 bytes that items may load, and gives its number.
+    ///
+    /// # Errors
+    ///
+    /// [`AddError::BadLength`], [`AddError::TooMany`], or want of memory. Then nothing has changed.
+    #[tactic(auto, using(crate::proofs::Fresh::still_fresh, crate::proofs::Fresh::inserted_is))]
+    pub fn constant(&mut self, bytes: &[u8]) -> Result<VCodeConstant, AddError>
+        ensures ok { IfOk result (λ constant. constant.0 ≡ self.old.numbers) }
+        ensures added { OnOk result (IsConstant bytes.now × (self.new ≡ record self.old {
+          constants = insert self.old.constants self.old.numbers bytes.now;
+          numbers = self.old.numbers + 1;
+        })) }
+        ensures err { OnErr result (self.new ≡ self.old) }
+        ensures length { result ≡ Err BadLength → IsConstant bytes.now → ⊥ }
+        ensures many { result ≡ Err TooMany → IsFull self.old.numbers 1 }
+    {
+        if !matches!(bytes.len(), 4 | 8 | 16) {
+            return Err(AddError::BadLength);
+        }
+        if self.numbers == MOST {
+            return Err(AddError::TooMany);
+        }
+        let constant = VCodeConstant(self.numbers);
+        self.constants.insert(constant, bytes)?;
+        self.numbers += 1;
+        Ok(constant)
+    }
+
+    /// Adds a call of a symbol that passes nothing and gets nothing back, by the standard convention.
+    ///
+    /// # Errors
+    ///
+    /// As of [`Assembler::push`].
+    pub fn call(&mut self, name: ExternalName) -> Result<(), AddError>
+        ensures { AddsCall name result self.old self.new }
+    {
+        let info = CallInfo::new(self.alloc, name, CallConv::SystemV);
+        self.emit(Inst::Call { info })
+    }
+
+    /// How many items there are.
+    pub fn len(&self) -> usize
+        ensures { result ≡ length self.now.items }
+    {
+        self.items.len()
+    }
+
+    /// The code of the items: what `assemble` gives for them (a64_assemble).
+    ///
+    /// # Errors
+    ///
+    /// The first fault of the items, or want of memory, which comes only where each item is right by itself.
+    pub fn finish(self) -> Result<Code, EmitError>
+        ensures ok { IfOk result
+            (IsAssembled self.frame self.flags self.constants self.force self.items) }
+        ensures err { IfErr result
+            (IsRefusal self.frame self.flags self.constants self.force self.items) }
+    {
+        assemble(
+            self.alloc,
+            &self.items,
+            &self.constants,
+            &self.info,
+            &self.frame,
+            self.force,
+        )
+    }
+}
