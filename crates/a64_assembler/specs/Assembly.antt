@@ -1,5 +1,5 @@
 -- Items that are added one after another, and what their assembly is told beside them.
-use Rattle.std.specs.Prelude.{ℕ, ◌≡◌, ◌+◌, ◌^◌, ◌≤◌, List, [], ◌∷◌, ◌++◌, length, false, None, OnOk, OnErr, Result, IfErr, ⊤}
+use Rattle.std.specs.Prelude.{ℕ, ◌≡◌, ◌⊎◌, ◌+◌, ◌^◌, ◌≤◌, List, [], ◌∷◌, ◌++◌, length, false, None, OnOk, OnErr, Result, IfErr, ⊤}
 use Rattle.std.specs.FinMap.{FinMap, empty, get}
 use Rattle.std.specs.Ordering.{nat_cmp}
 use Rattle.a64_base.specs.declared.convention.CallConv.TheVariants.{SystemV}
@@ -87,10 +87,17 @@ label_at number = record { 0 = number }
 abbrev pub branch_items : CondBrKind → MachLabel → MachLabel → List Item
 branch_items kind taken next = emitted (CondBr (Label taken) (Label next) kind) ∷ Bind next ∷ []
 
+-- why no branch was added: there would be too many items or labels, or memory was missing
+abbrev pub IsBranchCause : Assembly → AddError → Type 0
+IsBranchCause a TooMany = IsFull (length a.items) 2 ⊎ IsFull a.labels 1
+IsBranchCause a BadLength = ⊥
+IsBranchCause a OutOfMemory = ⊤
+
 -- what a conditional branch leaves: its items, and one label less to give out; or nothing has changed
 pub record AddsBranch {T : Type 0} (kind : CondBrKind) (taken : MachLabel) (result : Result T AddError) (a a' : Assembly) : Type 0 where
   pub ok : OnOk result (a' ≡ record (with_items a (branch_items kind taken (label_at a.labels))) { labels = a.labels + 1 })
   pub err : OnErr result (a' ≡ a)
+  pub cause : IfErr result (IsBranchCause a)
 
 -- a call of a symbol that passes nothing and gets nothing back, by the standard convention
 pub record IsPlainCall (name : ExternalName) (info : CallInfo ExternalName) : Type 0 where

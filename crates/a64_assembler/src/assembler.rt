@@ -15,7 +15,7 @@ ghost use Rattle.a64_inst.specs.declared.item.Item.TheVariants.{Bind};
 ghost use Rattle.a64_assemble.specs.Assembled.{IsAssembled, IsRefusal};
 ghost use Rattle.a64_assembler.specs.declared.error.AddError.TheVariants.{TooMany, BadLength};
 ghost use Rattle.a64_buffer.specs.Constants.{IsConstant};
-ghost use Rattle.a64_assembler.specs.Assembly.{nothing, with_items, emitted, label_at, Adds, AddsBranch, AddsCall, IsFull};
+ghost use Rattle.a64_assembler.specs.Assembly.{nothing, with_items, emitted, label_at, Adds, AddsBranch, AddsCall, IsCause, IsFull};
 
 use crate::error::AddError;
 use a64_assemble::assemble;
@@ -269,8 +269,9 @@ impl Assembler {
         ensures ok { OnOk result (self.new
             ≡ with_items self.old (map emitted (map (step_into rd) (plan_of value)))) }
         ensures err { OnErr result (self.new ≡ self.old) }
+        ensures cause { IfErr result (IsCause (length self.old.items) 4) }
     {
-        if self.items.len() >= MOST as usize - 4 {
+        if self.items.len() > MOST as usize - 4 {
             return Err(AddError::TooMany);
         }
         self.items.reserve(4)?;
