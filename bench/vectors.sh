@@ -3,14 +3,16 @@
 # Usage: bench/vectors.sh FOLDER
 # FOLDER has words.tsv and refusals.tsv. A row is a number, a line of a file, and the words of its code in hex, or the line on
 # standard error. Where " | " stands between words, those behind it hold. Rows of instructions that do not exist are left out.
+# It builds the program; with PROGRAM=FILE it holds that program against them, and builds none.
 set -eu
 cd "$(dirname "$0")/.."
 folder=$(cd "$OLDPWD" && cd "${1:?a folder of vectors}" && pwd)
-(cd crates/a64_cli && rt run </dev/null >/dev/null 2>&1)
+[ -n "${PROGRAM:-}" ] || (cd crates/a64_cli && rt run </dev/null >/dev/null 2>&1)
+program=${PROGRAM:-$PWD/crates/a64_cli/out/a64_cli}
 
-python3 - "$folder" <<'P'
+python3 - "$folder" "$program" <<'P'
 import re, subprocess, sys
-folder = sys.argv[1]
+folder, program = sys.argv[1:]
 source = open("crates/a64_inst/src/inst.rt").read()
 start = source.index("pub enum Inst")
 names = set(re.findall(r"^    (\w+)(?: \{|,)$", source[start:source.index("\n}\n", start)], re.M))
@@ -22,7 +24,7 @@ def rows(name):
             yield line, answer.split(" | ")[-1]
 
 def run(line):
-    return subprocess.run(["crates/a64_cli/out/a64_cli"], input=line.encode(), capture_output=True)
+    return subprocess.run([program], input=line.encode(), capture_output=True)
 
 def words(report):
     return " ".join(row.split(b" ")[2].decode() for row in report.splitlines() if row.startswith(b"word "))

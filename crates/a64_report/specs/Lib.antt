@@ -2,3 +2,4 @@ pub mod Report
 pub mod Summary
 pub mod Sections
 pub mod Kept
+pub mod Putting

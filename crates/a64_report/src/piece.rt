@@ -1,8 +1,8 @@
 //! Gathers text into pieces that are written whole.
 
-ghost use Rattle.std.specs.Prelude.{◌≡◌, ◌<◌, ◌≤◌, ◌+◌, ◌%◌, List, ℕ, [], ◌++◌, take, length, IfOk, OnOk, OnErr};
-ghost use Rattle.a64_io.specs.Streams.{HasFailed, Takes, TakesPart, Puts, IsCut};
+ghost use Rattle.std.specs.Prelude.{◌≡◌, ◌<◌, ◌≤◌, ◌+◌, ◌%◌, List, ℕ, [], ◌++◌, take, length, IfOk, OnOk};
 ghost use Rattle.a64_report.specs.Kept.{item_lines, word_lines};
+ghost use Rattle.a64_report.specs.Putting.{PutsOrCuts, WritesOrFails};
 
 use crate::kept::{ItemLine, SHORT, WordLine};
 use a64_io::{Failed, Sink, write_all};
@@ -65,12 +65,9 @@ impl Piece {
     /// A write failed; some first bytes may have been taken, but not all.
     #[inline(never)]
     pub fn flush<K: Sink>(&mut self, sink: &mut K) -> Result<(), Failed>
-        ensures all { OnOk result (Takes (K.taken sink.old) (K.taken sink.new) self.old) }
+        ensures writes { WritesOrFails K.taken K.faults sink.old sink.new self.old result }
         ensures empty { OnOk result (self.new ≡ []) }
-        ensures part { OnErr result (TakesPart (K.taken sink.old) (K.taken sink.new) self.old) }
         ensures rises { K.faults sink.old ≤ K.faults sink.new }
-        ensures steady { OnOk result (K.faults sink.new ≡ K.faults sink.old) }
-        ensures cause { OnErr result (HasFailed (K.faults sink.old) (K.faults sink.new)) }
     {
         match write_all(sink, &self.bytes[..self.len]) {
             Ok(()) => {
@@ -100,10 +97,8 @@ impl Piece {
     #[inline(always)]
     pub fn put<K: Sink>(&mut self, sink: &mut K, text: &[u8]) -> Result<(), Failed>
         requires { length text.now ≤ 65536 }
-        ensures ok { OnOk result (Puts (K.taken sink.old) (K.faults sink.old) self.old
-            (K.taken sink.new) (K.faults sink.new) self.new text.now) }
-        ensures err { OnErr result (IsCut (K.taken sink.old) (K.faults sink.old) self.old
-            (K.taken sink.new) (K.faults sink.new) text.now) }
+        ensures puts { PutsOrCuts K.taken K.faults sink.old sink.new self.old self.new
+            text.now result }
         ensures waits { length self.old + length text.now ≤ 65536 → sink.new ≡ sink.old }
     {
         if self.len + text.len() > SIZE {
@@ -121,10 +116,7 @@ impl Piece {
     #[inline(always)]
     pub fn make_room<K: Sink>(&mut self, sink: &mut K) -> Result<(), Failed>
         ensures room { OnOk result (length self.new + 48 ≤ 65536) }
-        ensures ok { OnOk result (Puts (K.taken sink.old) (K.faults sink.old) self.old
-            (K.taken sink.new) (K.faults sink.new) self.new []) }
-        ensures err { OnErr result (IsCut (K.taken sink.old) (K.faults sink.old) self.old
-            (K.taken sink.new) (K.faults sink.new) []) }
+        ensures puts { PutsOrCuts K.taken K.faults sink.old sink.new self.old self.new [] result }
     {
         if self.len > SIZE - SHORT {
             self.flush(sink)?;

@@ -1,8 +1,8 @@
 //! Writes the report of assembled code.
 
-ghost use Rattle.std.specs.Prelude.{◌≡◌, ◌+◌, [], ◌∷◌, length, IfSome, IfNone, OnOk, OnErr};
+ghost use Rattle.std.specs.Prelude.{◌≡◌, ◌+◌, [], ◌∷◌, length, IfSome, IfNone};
 ghost use Rattle.std.specs.List.{flat_map, enumerate_from};
-ghost use Rattle.a64_io.specs.Streams.{HasFailed, Takes, TakesPart, Puts, IsCut};
+ghost use Rattle.a64_report.specs.Putting.{PutsOrCuts, WritesOrFails};
 ghost use Rattle.a64_report.specs.Report.{item_line, pool_line, words_in, words_text, report_of};
 ghost use Rattle.a64_report.specs.Sections.{section_text};
 
@@ -24,10 +24,8 @@ fn put_lines<L: LineKind, K: Sink>(
     piece: &mut Piece,
     subjects: &[L::Subject],
 ) -> Result<(), Failed>
-    ensures ok { OnOk result (Puts (K.taken sink.old) (K.faults sink.old) piece.old
-        (K.taken sink.new) (K.faults sink.new) piece.new (flat_map L.line subjects.now)) }
-    ensures err { OnErr result (IsCut (K.taken sink.old) (K.faults sink.old) piece.old
-        (K.taken sink.new) (K.faults sink.new) (flat_map L.line subjects.now)) }
+    ensures { PutsOrCuts K.taken K.faults sink.old sink.new piece.old piece.new
+        (flat_map L.line subjects.now) result }
 {
     let mut buffer = [0; SIZE];
     for subject in subjects {
@@ -40,11 +38,8 @@ fn put_lines<L: LineKind, K: Sink>(
 /// Puts the lines of the items.
 #[inline(never)]
 fn put_items<K: Sink>(sink: &mut K, piece: &mut Piece, places: &[u32]) -> Result<(), Failed>
-    ensures ok { OnOk result (Puts (K.taken sink.old) (K.faults sink.old) piece.old
-        (K.taken sink.new) (K.faults sink.new) piece.new
-        (flat_map item_line (enumerate_from 0 places.now))) }
-    ensures err { OnErr result (IsCut (K.taken sink.old) (K.faults sink.old) piece.old
-        (K.taken sink.new) (K.faults sink.new) (flat_map item_line (enumerate_from 0 places.now))) }
+    ensures { PutsOrCuts K.taken K.faults sink.old sink.new piece.old piece.new
+        (flat_map item_line (enumerate_from 0 places.now)) result }
 {
     let mut line = ItemLine::of(0, 0);
     let mut index = 0;
@@ -57,10 +52,8 @@ fn put_items<K: Sink>(sink: &mut K, piece: &mut Piece, places: &[u32]) -> Result
 
 /// Puts the line of the pool.
 fn put_pool<K: Sink>(sink: &mut K, piece: &mut Piece, pool: u32) -> Result<(), Failed>
-    ensures ok { OnOk result (Puts (K.taken sink.old) (K.faults sink.old) piece.old
-        (K.taken sink.new) (K.faults sink.new) piece.new (pool_line pool)) }
-    ensures err { OnErr result (IsCut (K.taken sink.old) (K.faults sink.old) piece.old
-        (K.taken sink.new) (K.faults sink.new) (pool_line pool)) }
+    ensures { PutsOrCuts K.taken K.faults sink.old sink.new piece.old piece.new
+        (pool_line pool) result }
 {
     let mut buffer = [0; SIZE];
     let start = compose_one(&mut buffer, b"pool", pool);
@@ -84,10 +77,8 @@ pub fn first_word(bytes: &[u8]) -> Option<(u32, &[u8])>
 /// Puts the lines of the words.
 #[inline(never)]
 fn put_words<K: Sink>(sink: &mut K, piece: &mut Piece, bytes: &[u8]) -> Result<(), Failed>
-    ensures ok { OnOk result (Puts (K.taken sink.old) (K.faults sink.old) piece.old
-        (K.taken sink.new) (K.faults sink.new) piece.new (words_text (words_in bytes.now))) }
-    ensures err { OnErr result (IsCut (K.taken sink.old) (K.faults sink.old) piece.old
-        (K.taken sink.new) (K.faults sink.new) (words_text (words_in bytes.now))) }
+    ensures { PutsOrCuts K.taken K.faults sink.old sink.new piece.old piece.new
+        (words_text (words_in bytes.now)) result }
 {
     let mut line = WordLine::of(0, 0);
     let mut place = 0;
@@ -134,10 +125,8 @@ fn put_section<K: Sink>(
     code: &Code,
     section: Section,
 ) -> Result<(), Failed>
-    ensures ok { OnOk result (Puts (K.taken sink.old) (K.faults sink.old) piece.old
-        (K.taken sink.new) (K.faults sink.new) piece.new (section_text code.now section)) }
-    ensures err { OnErr result (IsCut (K.taken sink.old) (K.faults sink.old) piece.old
-        (K.taken sink.new) (K.faults sink.new) (section_text code.now section)) }
+    ensures { PutsOrCuts K.taken K.faults sink.old sink.new piece.old piece.new
+        (section_text code.now section) result }
 {
     match section {
         Section::Items => put_items(sink, piece, &code.places),
@@ -160,11 +149,8 @@ fn put_sections<K: Sink>(
     code: &Code,
     sections: &[Section],
 ) -> Result<(), Failed>
-    ensures ok { OnOk result (Puts (K.taken sink.old) (K.faults sink.old) piece.old
-        (K.taken sink.new) (K.faults sink.new) piece.new
-        (flat_map (section_text code.now) sections.now)) }
-    ensures err { OnErr result (IsCut (K.taken sink.old) (K.faults sink.old) piece.old
-        (K.taken sink.new) (K.faults sink.new) (flat_map (section_text code.now) sections.now)) }
+    ensures { PutsOrCuts K.taken K.faults sink.old sink.new piece.old piece.new
+        (flat_map (section_text code.now) sections.now) result }
 {
     for section in sections {
         put_section(sink, piece, code, *section)?;
@@ -182,11 +168,7 @@ fn put_sections<K: Sink>(
 #[inline(never)]
 pub fn write_report<K: Sink>(sink: &mut K, piece: &mut Piece, code: &Code) -> Result<(), Failed>
     requires { piece.old ≡ [] }
-    ensures all { OnOk result (Takes (K.taken sink.old) (K.taken sink.new) (report_of code.now)) }
-    ensures part { OnErr result (TakesPart (K.taken sink.old) (K.taken sink.new)
-        (report_of code.now)) }
-    ensures steady { OnOk result (K.faults sink.new ≡ K.faults sink.old) }
-    ensures cause { OnErr result (HasFailed (K.faults sink.old) (K.faults sink.new)) }
+    ensures { WritesOrFails K.taken K.faults sink.old sink.new (report_of code.now) result }
 {
     put_sections(sink, piece, code, &SECTIONS)?;
     piece.flush(sink)
@@ -199,12 +181,8 @@ pub fn write_report<K: Sink>(sink: &mut K, piece: &mut Piece, code: &Code) -> Re
 /// A write failed; some first bytes may have been taken, but not all.
 pub fn write_words<K: Sink>(sink: &mut K, piece: &mut Piece, bytes: &[u8]) -> Result<(), Failed>
     requires { piece.old ≡ [] }
-    ensures all { OnOk result (Takes (K.taken sink.old) (K.taken sink.new)
-        (words_text (words_in bytes.now))) }
-    ensures part { OnErr result (TakesPart (K.taken sink.old) (K.taken sink.new)
-        (words_text (words_in bytes.now))) }
-    ensures steady { OnOk result (K.faults sink.new ≡ K.faults sink.old) }
-    ensures cause { OnErr result (HasFailed (K.faults sink.old) (K.faults sink.new)) }
+    ensures { WritesOrFails K.taken K.faults sink.old sink.new
+        (words_text (words_in bytes.now)) result }
 {
     put_words(sink, piece, bytes)?;
     piece.flush(sink)

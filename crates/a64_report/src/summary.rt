@@ -1,8 +1,8 @@
 //! The summary of assembled code.
 
-ghost use Rattle.std.specs.Prelude.{◌≡◌, ◌≤◌, [], drop, OnOk, OnErr};
+ghost use Rattle.std.specs.Prelude.{◌≡◌, ◌≤◌, [], drop};
+ghost use Rattle.a64_report.specs.Putting.{WritesOrFails};
 ghost use Rattle.a64_report.specs.Summary.{word_sum, summary_of};
-ghost use Rattle.a64_io.specs.Streams.{HasFailed, Takes, TakesPart};
 
 use crate::line::{LineBuffer, SIZE, put_decimal, put_hex, put_text, text_from};
 use crate::piece::Piece;
@@ -53,12 +53,7 @@ pub fn write_summary<K: Sink>(
     code: &Code,
 ) -> Result<(), Failed>
     requires { piece.old ≡ [] }
-    ensures all { OnOk result (Takes (K.taken sink.old) (K.taken sink.new)
-        (summary_of items code.now)) }
-    ensures part { OnErr result (TakesPart (K.taken sink.old) (K.taken sink.new)
-        (summary_of items code.now)) }
-    ensures steady { OnOk result (K.faults sink.new ≡ K.faults sink.old) }
-    ensures cause { OnErr result (HasFailed (K.faults sink.old) (K.faults sink.new)) }
+    ensures { WritesOrFails K.taken K.faults sink.old sink.new (summary_of items code.now) result }
 {
     let mut buffer = [0; SIZE];
     let start = compose_summary(&mut buffer, items, code);

@@ -1,10 +1,10 @@
 //! Roles that are told to a visitor one after the other.
 
-ghost use Rattle.std.specs.Prelude.{◌≡◌, ◌≤◌, [], ◌∷◌, ◌++◌, map, OnOk, OnErr};
+ghost use Rattle.std.specs.Prelude.{◌≡◌, ◌++◌, map};
 ghost use Rattle.a64_role.specs.declared.role.Role.{Role};
 ghost use Rattle.a64_role.specs.Lists as lists;
 ghost use Rattle.a64_role.specs.Lists.{call_roles, mode_roles, pair_mode_roles, return_call_roles};
-ghost use Rattle.a64_role.specs.Visits.{HasRefused, HasPart};
+ghost use Rattle.a64_role.specs.Visits.{Tells, TellsOne};
 
 use crate::role::Role;
 use crate::visitor::OperandVisitor;
@@ -59,10 +59,7 @@ impl HasRole for CallRetPair {
 
 /// Tells a visitor one role.
 fn hand_one<V: OperandVisitor>(visitor: &mut V, role: Role) -> Result<(), AllocError>
-    ensures ok { OnOk result (V.told visitor.new ≡ V.told visitor.old ++ role ∷ []) }
-    ensures err { OnErr result (V.told visitor.new ≡ V.told visitor.old) }
-    ensures rises { V.refusals visitor.old ≤ V.refusals visitor.new }
-    ensures cause { OnErr result (HasRefused (V.refusals visitor.old) (V.refusals visitor.new)) }
+    ensures { TellsOne V.told V.refusals visitor.old visitor.new role result }
 {
     match role {
         Role::RegUse(reg) => visitor.reg_use(reg),
@@ -83,10 +80,7 @@ fn hand_one<V: OperandVisitor>(visitor: &mut V, role: Role) -> Result<(), AllocE
 ///
 /// The visitor refused one; it was told those before.
 pub fn hand<V: OperandVisitor>(visitor: &mut V, roles: &[Role]) -> Result<(), AllocError>
-    ensures ok { OnOk result (V.told visitor.new ≡ V.told visitor.old ++ roles.now) }
-    ensures err { OnErr result (HasPart (V.told visitor.old) (V.told visitor.new) roles.now) }
-    ensures rises { V.refusals visitor.old ≤ V.refusals visitor.new }
-    ensures cause { OnErr result (HasRefused (V.refusals visitor.old) (V.refusals visitor.new)) }
+    ensures { Tells V.told V.refusals visitor.old visitor.new roles.now result }
 {
     for role in roles {
         hand_one(visitor, *role)?;
@@ -104,11 +98,7 @@ pub fn hand_each<V: OperandVisitor, P: HasRole>(
     visitor: &mut V,
     pairs: &[P],
 ) -> Result<(), AllocError>
-    ensures ok { OnOk result (V.told visitor.new ≡ V.told visitor.old ++ map P.role pairs.now) }
-    ensures err { OnErr result (HasPart (V.told visitor.old) (V.told visitor.new)
-        (map P.role pairs.now)) }
-    ensures rises { V.refusals visitor.old ≤ V.refusals visitor.new }
-    ensures cause { OnErr result (HasRefused (V.refusals visitor.old) (V.refusals visitor.new)) }
+    ensures { Tells V.told V.refusals visitor.old visitor.new (map P.role pairs.now) result }
 {
     for pair in pairs {
         hand_one(visitor, pair.role())?;
@@ -127,12 +117,7 @@ fn hand_two<V: OperandVisitor>(
     first: &[Role],
     last: &[Role],
 ) -> Result<(), AllocError>
-    ensures ok { OnOk result (V.told visitor.new
-        ≡ V.told visitor.old ++ (first.now ++ last.now)) }
-    ensures err { OnErr result (HasPart (V.told visitor.old) (V.told visitor.new) (first.now
-        ++ last.now)) }
-    ensures rises { V.refusals visitor.old ≤ V.refusals visitor.new }
-    ensures cause { OnErr result (HasRefused (V.refusals visitor.old) (V.refusals visitor.new)) }
+    ensures { Tells V.told V.refusals visitor.old visitor.new (first.now ++ last.now) result }
 {
     hand(visitor, first)?;
     hand(visitor, last)
@@ -148,12 +133,8 @@ pub fn hand_mode<V: OperandVisitor>(
     first: &[Role],
     mode: &AMode,
 ) -> Result<(), AllocError>
-    ensures ok { OnOk result (V.told visitor.new
-        ≡ V.told visitor.old ++ (first.now ++ mode_roles mode.now)) }
-    ensures err { OnErr result (HasPart (V.told visitor.old) (V.told visitor.new) (first.now
-        ++ mode_roles mode.now)) }
-    ensures rises { V.refusals visitor.old ≤ V.refusals visitor.new }
-    ensures cause { OnErr result (HasRefused (V.refusals visitor.old) (V.refusals visitor.new)) }
+    ensures { Tells V.told V.refusals visitor.old visitor.new
+        (first.now ++ mode_roles mode.now) result }
 {
     match mode {
         AMode::RegReg { rn, rm }
@@ -186,12 +167,8 @@ pub fn hand_pair_mode<V: OperandVisitor>(
     first: &[Role],
     mode: &PairAMode,
 ) -> Result<(), AllocError>
-    ensures ok { OnOk result (V.told visitor.new
-        ≡ V.told visitor.old ++ (first.now ++ pair_mode_roles mode.now)) }
-    ensures err { OnErr result (HasPart (V.told visitor.old) (V.told visitor.new) (first.now
-        ++ pair_mode_roles mode.now)) }
-    ensures rises { V.refusals visitor.old ≤ V.refusals visitor.new }
-    ensures cause { OnErr result (HasRefused (V.refusals visitor.old) (V.refusals visitor.new)) }
+    ensures { Tells V.told V.refusals visitor.old visitor.new
+        (first.now ++ pair_mode_roles mode.now) result }
 {
     match mode {
         PairAMode::SignedOffset { reg, .. } => hand_two(visitor, first, &[Role::RegUse(*reg)]),
@@ -215,12 +192,8 @@ pub fn hand_call<V: OperandVisitor>(
     defs: &[CallRetPair],
     clobbers: PRegSet,
 ) -> Result<(), AllocError>
-    ensures ok { OnOk result (V.told visitor.new
-        ≡ V.told visitor.old ++ call_roles first.now uses.now defs.now clobbers) }
-    ensures err { OnErr result (HasPart (V.told visitor.old) (V.told visitor.new)
-        (call_roles first.now uses.now defs.now clobbers)) }
-    ensures rises { V.refusals visitor.old ≤ V.refusals visitor.new }
-    ensures cause { OnErr result (HasRefused (V.refusals visitor.old) (V.refusals visitor.new)) }
+    ensures { Tells V.told V.refusals visitor.old visitor.new
+        (call_roles first.now uses.now defs.now clobbers) result }
 {
     hand(visitor, first)?;
     hand_each(visitor, uses)?;
@@ -239,12 +212,8 @@ pub fn hand_return_call<V: OperandVisitor>(
     first: &[Role],
     uses: &[CallArgPair],
 ) -> Result<(), AllocError>
-    ensures ok { OnOk result (V.told visitor.new
-        ≡ V.told visitor.old ++ return_call_roles first.now uses.now) }
-    ensures err { OnErr result (HasPart (V.told visitor.old) (V.told visitor.new)
-        (return_call_roles first.now uses.now)) }
-    ensures rises { V.refusals visitor.old ≤ V.refusals visitor.new }
-    ensures cause { OnErr result (HasRefused (V.refusals visitor.old) (V.refusals visitor.new)) }
+    ensures { Tells V.told V.refusals visitor.old visitor.new
+        (return_call_roles first.now uses.now) result }
 {
     hand(visitor, first)?;
     hand_each(visitor, uses)

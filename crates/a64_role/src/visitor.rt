@@ -1,9 +1,9 @@
 //! Visitors of roles.
 
-ghost use Rattle.std.specs.Prelude.{◌≡◌, ℕ, ◌≤◌, List, [], ◌∷◌, ◌++◌, OnOk, OnErr};
+ghost use Rattle.std.specs.Prelude.{ℕ, List};
 ghost use Rattle.a64_role.specs.declared.role.Role.{Role};
 ghost use Rattle.a64_role.specs.declared.role.Role.TheVariants as role;
-ghost use Rattle.a64_role.specs.Visits.{HasRefused};
+ghost use Rattle.a64_role.specs.Visits.{TellsOne};
 
 use a64_base::{PReg, PRegSet, Reg};
 use std::alloc::AllocError;
@@ -22,10 +22,7 @@ pub trait OperandVisitor {
     ///
     /// Want of memory; the role was not told.
     fn reg_use(&mut self, reg: Reg) -> Result<(), AllocError>
-        ensures ok { OnOk result (told self.new ≡ told self.old ++ role.RegUse reg ∷ []) }
-        ensures err { OnErr result (told self.new ≡ told self.old) }
-        ensures rises { refusals self.old ≤ refusals self.new }
-        ensures cause { OnErr result (HasRefused (refusals self.old) (refusals self.new)) };
+        ensures { TellsOne told refusals self.old self.new (role.RegUse reg) result };
 
     /// It writes a register.
     ///
@@ -33,10 +30,7 @@ pub trait OperandVisitor {
     ///
     /// Want of memory; the role was not told.
     fn reg_def(&mut self, reg: Reg) -> Result<(), AllocError>
-        ensures ok { OnOk result (told self.new ≡ told self.old ++ role.RegDef reg ∷ []) }
-        ensures err { OnErr result (told self.new ≡ told self.old) }
-        ensures rises { refusals self.old ≤ refusals self.new }
-        ensures cause { OnErr result (HasRefused (refusals self.old) (refusals self.new)) };
+        ensures { TellsOne told refusals self.old self.new (role.RegDef reg) result };
 
     /// It writes a register before it has read all others.
     ///
@@ -44,10 +38,7 @@ pub trait OperandVisitor {
     ///
     /// Want of memory; the role was not told.
     fn reg_early_def(&mut self, reg: Reg) -> Result<(), AllocError>
-        ensures ok { OnOk result (told self.new ≡ told self.old ++ role.RegEarlyDef reg ∷ []) }
-        ensures err { OnErr result (told self.new ≡ told self.old) }
-        ensures rises { refusals self.old ≤ refusals self.new }
-        ensures cause { OnErr result (HasRefused (refusals self.old) (refusals self.new)) };
+        ensures { TellsOne told refusals self.old self.new (role.RegEarlyDef reg) result };
 
     /// It writes a register, which may be a place on the stack.
     ///
@@ -55,10 +46,7 @@ pub trait OperandVisitor {
     ///
     /// Want of memory; the role was not told.
     fn any_def(&mut self, reg: Reg) -> Result<(), AllocError>
-        ensures ok { OnOk result (told self.new ≡ told self.old ++ role.AnyDef reg ∷ []) }
-        ensures err { OnErr result (told self.new ≡ told self.old) }
-        ensures rises { refusals self.old ≤ refusals self.new }
-        ensures cause { OnErr result (HasRefused (refusals self.old) (refusals self.new)) };
+        ensures { TellsOne told refusals self.old self.new (role.AnyDef reg) result };
 
     /// It writes a register, which is that of the use with this index.
     ///
@@ -66,11 +54,7 @@ pub trait OperandVisitor {
     ///
     /// Want of memory; the role was not told.
     fn reg_reuse_def(&mut self, reg: Reg, index: usize) -> Result<(), AllocError>
-        ensures ok { OnOk result (told self.new
-            ≡ told self.old ++ role.RegReuseDef reg index ∷ []) }
-        ensures err { OnErr result (told self.new ≡ told self.old) }
-        ensures rises { refusals self.old ≤ refusals self.new }
-        ensures cause { OnErr result (HasRefused (refusals self.old) (refusals self.new)) };
+        ensures { TellsOne told refusals self.old self.new (role.RegReuseDef reg index) result };
 
     /// It reads a register, in the second one.
     ///
@@ -78,11 +62,7 @@ pub trait OperandVisitor {
     ///
     /// Want of memory; the role was not told.
     fn reg_fixed_use(&mut self, reg: Reg, preg: Reg) -> Result<(), AllocError>
-        ensures ok { OnOk result (told self.new
-            ≡ told self.old ++ role.RegFixedUse reg preg ∷ []) }
-        ensures err { OnErr result (told self.new ≡ told self.old) }
-        ensures rises { refusals self.old ≤ refusals self.new }
-        ensures cause { OnErr result (HasRefused (refusals self.old) (refusals self.new)) };
+        ensures { TellsOne told refusals self.old self.new (role.RegFixedUse reg preg) result };
 
     /// It writes a register, in the second one.
     ///
@@ -90,11 +70,7 @@ pub trait OperandVisitor {
     ///
     /// Want of memory; the role was not told.
     fn reg_fixed_def(&mut self, reg: Reg, preg: Reg) -> Result<(), AllocError>
-        ensures ok { OnOk result (told self.new
-            ≡ told self.old ++ role.RegFixedDef reg preg ∷ []) }
-        ensures err { OnErr result (told self.new ≡ told self.old) }
-        ensures rises { refusals self.old ≤ refusals self.new }
-        ensures cause { OnErr result (HasRefused (refusals self.old) (refusals self.new)) };
+        ensures { TellsOne told refusals self.old self.new (role.RegFixedDef reg preg) result };
 
     /// It names a register that is never given out.
     ///
@@ -102,11 +78,8 @@ pub trait OperandVisitor {
     ///
     /// Want of memory; the role was not told.
     fn reg_fixed_nonallocatable(&mut self, preg: PReg) -> Result<(), AllocError>
-        ensures ok { OnOk result (told self.new
-            ≡ told self.old ++ role.RegFixedNonallocatable preg ∷ []) }
-        ensures err { OnErr result (told self.new ≡ told self.old) }
-        ensures rises { refusals self.old ≤ refusals self.new }
-        ensures cause { OnErr result (HasRefused (refusals self.old) (refusals self.new)) };
+        ensures { TellsOne told refusals self.old self.new
+            (role.RegFixedNonallocatable preg) result };
 
     /// It may change any of these.
     ///
@@ -114,8 +87,5 @@ pub trait OperandVisitor {
     ///
     /// Want of memory; the role was not told.
     fn reg_clobbers(&mut self, set: PRegSet) -> Result<(), AllocError>
-        ensures ok { OnOk result (told self.new ≡ told self.old ++ role.RegClobbers set ∷ []) }
-        ensures err { OnErr result (told self.new ≡ told self.old) }
-        ensures rises { refusals self.old ≤ refusals self.new }
-        ensures cause { OnErr result (HasRefused (refusals self.old) (refusals self.new)) };
+        ensures { TellsOne told refusals self.old self.new (role.RegClobbers set) result };
 }

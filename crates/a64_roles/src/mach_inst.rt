@@ -1,6 +1,6 @@
 //! What register allocation and code generators ask of instructions.
 
-ghost use Rattle.std.specs.Prelude.{ℕ, ◌≡◌, ◌≤◌, ◌↔◌, ◌⊎◌, Bool, IsTrue, List, [], ◌∷◌, ◌++◌, map, None, Option, Some, OnOk, OnErr, IfOk, IfErr};
+ghost use Rattle.std.specs.Prelude.{ℕ, ◌≡◌, ◌≤◌, ◌↔◌, ◌⊎◌, Bool, IsTrue, List, [], ◌∷◌, map, None, Option, Some, OnErr, IfOk, IfErr};
 ghost use Rattle.a64_base.specs.declared.ir_type.IrType.{IrType};
 ghost use Rattle.a64_base.specs.declared.entity.MachLabel.{MachLabel};
 ghost use Rattle.a64_base.specs.declared.reg.Reg.{Reg};
@@ -16,7 +16,7 @@ ghost use Rattle.a64_role.specs.declared.role.Role.{Role};
 ghost use Rattle.a64_role.specs.Queries as queries;
 ghost use Rattle.a64_role.specs.Queries.{IsIncludedInClobbers};
 ghost use Rattle.a64_roles.specs.Roles.{roles_of};
-ghost use Rattle.a64_role.specs.Visits.{HasRefused, HasPart};
+ghost use Rattle.a64_role.specs.Visits.{Tells};
 
 use crate::operands::hand_operands;
 use a64_base::{BranchTarget, IrType, MachLabel, OperandSize, Reg, RegClass, Writable};
@@ -80,12 +80,7 @@ pub trait MachInst: Sized {
     ///
     /// The visitor refused a role; it was told those before.
     fn get_operands<V: OperandVisitor>(&self, collector: &mut V) -> Result<(), AllocError>
-        ensures ok { OnOk result (V.told collector.new ≡ V.told collector.old ++ roles self.now) }
-        ensures err { OnErr result (HasPart (V.told collector.old) (V.told collector.new)
-            (roles self.now)) }
-        ensures rises { V.refusals collector.old ≤ V.refusals collector.new }
-        ensures cause { OnErr result (HasRefused (V.refusals collector.old)
-            (V.refusals collector.new)) };
+        ensures { Tells V.told V.refusals collector.old collector.new (roles self.now) result };
 
     /// The register that it writes and the one that it reads, where it moves a whole register.
     fn is_move(&self) -> Option<(Writable<Reg>, Reg)>

@@ -2,3 +2,4 @@ pub mod Gen
 pub mod Commands
 pub mod Run
 pub mod Stages
+pub mod Answering

@@ -2,8 +2,8 @@
 use Rattle.std.specs.Prelude.{ℕ, ◌≡◌, ◌≢◌, ◌⊎◌, ◌<◌, ◌≤◌, ◌++◌, List, codes, drop, length, Option, None, Some, IfSome, IsSomeAnd, ⊤}
 use Rattle.std.specs.Fmt.{decimal}
 use Rattle.a64_emit.specs.declared.code.Code.{Code}
-use Rattle.a64_emit.specs.declared.error.EmitError.{EmitError}
 use Rattle.a64_emit.specs.declared.error.EmitError.TheVariants as errors
+use Rattle.a64_emit.specs.ErrorTexts.{error_text}
 use Rattle.a64_run.specs.declared.command.Command.{Command}
 use Rattle.a64_run.specs.declared.command.Command.TheVariants.{Gen}
 use Rattle.a64_run.specs.declared.command.Format.{Format}
@@ -31,18 +31,6 @@ status_of (Some faults.Usage) = 2
 status_of (Some faults.Read) = 3
 status_of (Some faults.Write) = 4
 status_of (Some faults.Memory) = 5
-
--- the line of each refusal of `assemble`, without its line feed
-abbrev pub error_text : EmitError → List ℕ
-error_text (errors.BadOperand i) = codes "item " ++ decimal i ++ codes ": bad operand"
-error_text (errors.BadMode i) = codes "item " ++ decimal i ++ codes ": bad addressing mode"
-error_text (errors.ScratchConflict i) = codes "item " ++ decimal i ++ codes ": scratch register in use"
-error_text (errors.UnknownConstant i) = codes "item " ++ decimal i ++ codes ": unknown constant"
-error_text (errors.LabelBoundTwice label) = codes "label L" ++ decimal label.0 ++ codes ": bound twice"
-error_text (errors.UnboundLabel label) = codes "label L" ++ decimal label.0 ++ codes ": not bound"
-error_text errors.TooLarge = codes "code too large"
-error_text (errors.OutOfReach label) = codes "label L" ++ decimal label.0 ++ codes ": out of reach"
-error_text errors.OutOfMemory = codes "out of memory"
 
 -- the line of each verdict, without its line feed
 abbrev pub verdict_text : Verdict → List ℕ
@@ -147,8 +135,8 @@ files_of (Some (inputs.Listing file)) = record { file = None; audit = None; show
 abbrev pub kept_files : Ran → Files
 kept_files ran = record { file = ran.file; audit = ran.audit; shown = ran.shown }
 
-abbrev pub KeepsFiles : Command → Option (List ℕ) → Option (List ℕ) → Option (List ℕ) → Option (List ℕ) → Ran → Type 0
-KeepsFiles command left left' taken taken' ran = (input : Option Input) × (kept_files ran ≡ files_of input) × Keeps command left left' taken taken' ran.fault input ran.code
+abbrev pub KeepsFiles : Command → Option (List ℕ) → Option (List ℕ) → Option (List ℕ) → Option (List ℕ) → Files → Option Fault → Option Code → Type 0
+KeepsFiles command left left' taken taken' files fault code = (input : Option Input) × (files ≡ files_of input) × Keeps command left left' taken taken' fault input code
 
 -- which answer is due for a source that tells this text, where the command reads it
 pub record IsDueForText (command : Command) (text : List ℕ) (fault : Option Fault) : Type 0 where

@@ -2,7 +2,8 @@
 
 ghost use Rattle.std.specs.Prelude.{◌≡◌, ◌+◌, ◌≤◌, ◌++◌, codes, length};
 ghost use Rattle.arrayvec.specs.ArrayVec.{array_vec_len};
-ghost use Rattle.a64_run.specs.Run.{error_text, fault_text, fault_line, verdict_text};
+ghost use Rattle.a64_emit.specs.ErrorTexts.{error_text};
+ghost use Rattle.a64_run.specs.Run.{fault_text, fault_line, verdict_text};
 ghost use Rattle.a64_run.specs.Stages.{numbered_text};
 
 use crate::ran::Fault;

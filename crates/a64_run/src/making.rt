@@ -1,9 +1,9 @@
 //! What each command makes of what it works on, and how that is written.
 
-ghost use Rattle.std.specs.Prelude.{◌≡◌, ◌^◌, ◌<◌, [], length, IfOk, IfErr, OnOk, OnErr};
+ghost use Rattle.std.specs.Prelude.{◌≡◌, ◌^◌, ◌<◌, [], length, IfOk, IfErr};
 ghost use Rattle.a64_run.specs.declared.command.Format.TheVariants as formats;
 ghost use Rattle.a64_run.specs.declared.input.Input.TheVariants as inputs;
-ghost use Rattle.a64_io.specs.Streams.{HasFailed, Takes, TakesPart};
+ghost use Rattle.a64_report.specs.Putting.{WritesOrFails};
 ghost use Rattle.a64_run.specs.Commands.{IsMade, format_of, works_on};
 ghost use Rattle.a64_run.specs.Stages.{IsFew, IsMakingFault, kept_of, text_of};
 
@@ -50,11 +50,7 @@ impl Made {
     /// A write failed; some first bytes may have been taken, but not all.
     pub fn write<K: Sink>(&self, sink: &mut K, piece: &mut Piece) -> Result<(), Failed>
         requires { piece.old ≡ [] }
-        ensures all { OnOk result (Takes (K.taken sink.old) (K.taken sink.new) (text_of self.now)) }
-        ensures part { OnErr result (TakesPart (K.taken sink.old) (K.taken sink.new)
-            (text_of self.now)) }
-        ensures steady { OnOk result (K.faults sink.new ≡ K.faults sink.old) }
-        ensures cause { OnErr result (HasFailed (K.faults sink.old) (K.faults sink.new)) }
+        ensures { WritesOrFails K.taken K.faults sink.old sink.new (text_of self.now) result }
     {
         match self {
             Made::Report(code) => write_report(sink, piece, code),

@@ -1,11 +1,12 @@
 //! The whole program, over any source and sinks.
 
-ghost use Rattle.std.specs.Prelude.{◌≡◌, ◌≢◌, ◌⊎◌, ◌^◌, ◌<◌, ◌↔◌, length, map, false, None, Some, IfSome};
+ghost use Rattle.std.specs.Prelude.{◌≡◌, map, Some};
 ghost use Rattle.std.specs.String.{string_bytes};
 ghost use Rattle.a64_run.specs.declared.ran.Fault.TheVariants as faults;
-ghost use Rattle.a64_io.specs.Streams.{HasFailed, Takes, TakesPart};
-ghost use Rattle.a64_run.specs.Commands.{IsNoCommand, OfCommand, HasWords, format_of, reads_source, works_on};
-ghost use Rattle.a64_run.specs.Run.{status_of, fault_line, files_of, kept_files, Keeps, KeepsFiles, Held, FailsOnlyAt, Untouched, TakesFew, IsDueAnswer};
+ghost use Rattle.a64_io.specs.Streams.{HasFailed};
+ghost use Rattle.a64_run.specs.Answering.{AnswersCommand, AnswersWords, TellsFault};
+ghost use Rattle.a64_run.specs.Commands.{HasWords, format_of, works_on};
+ghost use Rattle.a64_run.specs.Run.{status_of, files_of, kept_files, FailsOnlyAt};
 ghost use Rattle.a64_run.specs.Stages.{IsFew, Ends, EndsWriting};
 
 use crate::command::{Command, command_of};
@@ -66,23 +67,8 @@ fn run_command<S: Source, K: Sink>(
     sink: &mut K,
 ) -> Ended
     requires { HasWords command }
-    ensures keeps { Keeps command (S.left source.old) (S.left source.new) (K.taken sink.old)
-        (K.taken sink.new)
-        result.fault result.input result.code }
-    ensures usage { result.fault ≢ Some faults.Usage }
-    ensures read { result.fault ≡ Some faults.Read
-        → HasFailed (S.faults source.old) (S.faults source.new) }
-    ensures reads { FailsOnlyAt faults.Read result.fault
-        (S.faults source.old) (S.faults source.new) }
-    ensures held { Held (works_on command) (S.left source.old) result.fault }
-    ensures write { result.fault ≡ Some faults.Write
-        → HasFailed (K.faults sink.old) (K.faults sink.new) }
-    ensures writes { FailsOnlyAt faults.Write result.fault
-        (K.faults sink.old) (K.faults sink.new) }
-    ensures due { IsDueAnswer command (S.left source.old) result.fault }
-    ensures few { TakesFew (S.left source.old) (S.left source.new) }
-    ensures unread { reads_source command ≡ false → source.new ≡ source.old }
-    ensures untouched { Untouched (K.taken sink.old) (K.taken sink.new) result.fault }
+    ensures { AnswersCommand S.left S.faults K.taken K.faults source.old source.new
+        sink.old sink.new command (files_of result.input) result.fault result.code }
 {
     match input_of(alloc, command, source) {
         Ok(input) => run_input(alloc, command, sink, input),
@@ -97,29 +83,9 @@ fn run_words<S: Source, K: Sink>(
     source: &mut S,
     sink: &mut K,
 ) -> Ended
-    ensures keeps { OfCommand (map string_bytes words.now) (λ command.
-        Keeps command (S.left source.old) (S.left source.new) (K.taken sink.old) (K.taken sink.new)
-        result.fault result.input result.code) }
-    ensures nothing { result.fault ≡ Some faults.Usage
-        → (result.input ≡ None) × (result.code ≡ None) }
-    ensures usage { (result.fault ≡ Some faults.Usage)
-        ↔ IsNoCommand (map string_bytes words.now) }
-    ensures read { result.fault ≡ Some faults.Read
-        → HasFailed (S.faults source.old) (S.faults source.new) }
-    ensures reads { FailsOnlyAt faults.Read result.fault
-        (S.faults source.old) (S.faults source.new) }
-    ensures held { OfCommand (map string_bytes words.now) (λ command.
-        Held (works_on command) (S.left source.old) result.fault) }
-    ensures write { result.fault ≡ Some faults.Write
-        → HasFailed (K.faults sink.old) (K.faults sink.new) }
-    ensures writes { FailsOnlyAt faults.Write result.fault
-        (K.faults sink.old) (K.faults sink.new) }
-    ensures due { OfCommand (map string_bytes words.now)
-        (λ command. IsDueAnswer command (S.left source.old) result.fault) }
-    ensures few { TakesFew (S.left source.old) (S.left source.new) }
-    ensures unread { OfCommand (map string_bytes words.now) (λ command. reads_source command
-        ≡ false) → source.new ≡ source.old }
-    ensures untouched { Untouched (K.taken sink.old) (K.taken sink.new) result.fault }
+    ensures { AnswersWords S.left S.faults K.taken K.faults source.old source.new
+        sink.old sink.new (map string_bytes words.now)
+        (files_of result.input) result.fault result.code }
 {
     match command_of(words) {
         Some(command) => run_command(alloc, command, source, sink),
@@ -129,12 +95,7 @@ fn run_words<S: Source, K: Sink>(
 
 /// Offers the line of a fault. Where that fails, nothing more is done.
 fn tell<E: Sink>(errs: &mut E, fault: Fault)
-    ensures said { ¬ HasFailed (E.faults errs.old) (E.faults errs.new)
-        → Takes (E.taken errs.old) (E.taken errs.new) (fault_line fault) }
-    ensures cut { E.faults errs.old < E.faults errs.new
-        → TakesPart (E.taken errs.old) (E.taken errs.new) (fault_line fault) }
-    ensures begun { Takes (E.taken errs.old) (E.taken errs.new) (fault_line fault)
-        ⊎ TakesPart (E.taken errs.old) (E.taken errs.new) (fault_line fault) }
+    ensures { TellsFault E.taken E.faults errs.old errs.new (Some fault) }
 {
     let line = line_of_fault(fault);
     let _ = write_all(errs, line.as_slice());
@@ -178,48 +139,14 @@ pub fn run<S: Source, K: Sink, E: Sink>(
     // Status and answer name one thing.
     ensures status { result.status ≡ status_of result.fault }
 
-    // The headline, at status 0, and what is kept at the others; nothing where the words are no
-    // command.
-    ensures keeps { OfCommand (map string_bytes words.now) (λ command.
-        KeepsFiles command (S.left source.old) (S.left source.new) (K.taken sink.old)
-        (K.taken sink.new) result) }
-    ensures nothing { result.fault ≡ Some faults.Usage
-        → (kept_files result ≡ files_of None) × (result.code ≡ None) }
+    // The headline, what is kept, the cause of each answer and when it is due, and what the source
+    // and the sink gave and took.
+    ensures answers { AnswersWords S.left S.faults K.taken K.faults source.old source.new
+        sink.old sink.new (map string_bytes words.now)
+        (kept_files result) result.fault result.code }
 
-    // The causes of the answers. Where a count of failures rose, the answer is that failure.
-    ensures usage { (result.fault ≡ Some faults.Usage)
-        ↔ IsNoCommand (map string_bytes words.now) }
-    ensures read { result.fault ≡ Some faults.Read
-        → HasFailed (S.faults source.old) (S.faults source.new) }
-    ensures reads { FailsOnlyAt faults.Read result.fault
-        (S.faults source.old) (S.faults source.new) }
-    ensures held { OfCommand (map string_bytes words.now) (λ command.
-        Held (works_on command) (S.left source.old) result.fault) }
-    ensures write { result.fault ≡ Some faults.Write
-        → HasFailed (K.faults sink.old) (K.faults sink.new) }
-    ensures writes { FailsOnlyAt faults.Write result.fault
-        (K.faults sink.old) (K.faults sink.new) }
-
-    // Each answer comes where it is due; want of memory alone is free.
-    ensures due { OfCommand (map string_bytes words.now)
-        (λ command. IsDueAnswer command (S.left source.old) result.fault) }
-
-    // What the streams gave and took. A command that does not read the source leaves it as it was,
-    // and so do words that are no command. `errs` gets the whole line, or where a write to it failed a
-    // proper prefix, and at status 0 nothing.
-    ensures few { TakesFew (S.left source.old) (S.left source.new) }
-    ensures unread { OfCommand (map string_bytes words.now) (λ command. reads_source command
-        ≡ false) → source.new ≡ source.old }
-    ensures untouched { Untouched (K.taken sink.old) (K.taken sink.new) result.fault }
-    ensures silent { result.fault ≡ None → errs.new ≡ errs.old }
-    ensures said { IfSome result.fault (λ fault. ¬ HasFailed (E.faults errs.old)
-        (E.faults errs.new)
-        → Takes (E.taken errs.old) (E.taken errs.new) (fault_line fault)) }
-    ensures cut { IfSome result.fault (λ fault. E.faults errs.old < E.faults errs.new
-        → TakesPart (E.taken errs.old) (E.taken errs.new) (fault_line fault)) }
-    ensures begun { IfSome result.fault (λ fault.
-        Takes (E.taken errs.old) (E.taken errs.new) (fault_line fault)
-        ⊎ TakesPart (E.taken errs.old) (E.taken errs.new) (fault_line fault)) }
+    // `errs` gets the line of the fault, and at status 0 nothing.
+    ensures tells { TellsFault E.taken E.faults errs.old errs.new result.fault }
 {
     let ran = Ran::from(run_words(alloc, words, source, sink));
     if let Some(fault) = ran.fault {

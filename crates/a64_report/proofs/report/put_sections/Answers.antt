@@ -1,4 +1,4 @@
-use Rattle.std.proofs.Common.{◌+◌, drop}
+use Rattle.std.proofs.Common.{rules, ◌+◌, drop}
 use Rattle.std.specs.List.{flat_map}
 use Rattle.a64_report.specs.declared.report.Section.TheVariants.{Items}
 use Rattle.a64_report.specs.Sections.{section_text}
@@ -12,9 +12,12 @@ loop-section-preserved g c =
     c.in_ok-put_section.ensures.ok
     (plain_lines_left (section_text c.args.code.now) c.args.sections.now c.loop-section.section-index Items c.loop-section-test.true)
 
-pub returns-in_err-put_section-clause-err : goal.returns-in_err-put_section-clause-err
-returns-in_err-put_section-clause-err g c =
-    on_err c.from_residual.result
-    (front_cut (flat_map (section_text c.args.code.now) (drop (c.loop-section.section-index + 1) c.args.sections.now)) c.loop-section.invariant
-    c.in_err-put_section.ensures.err
-    (plain_lines_left (section_text c.args.code.now) c.args.sections.now c.loop-section.section-index Items c.loop-section-test.true))
+pub returns-in_err-put_section : goal.returns-in_err-put_section
+returns-in_err-put_section g c = record {
+  ok = search rules;
+  err =
+      on_err c.from_residual.result
+      (front_cut (flat_map (section_text c.args.code.now) (drop (c.loop-section.section-index + 1) c.args.sections.now)) c.loop-section.invariant
+      c.in_err-put_section.ensures.err
+      (plain_lines_left (section_text c.args.code.now) c.args.sections.now c.loop-section.section-index Items c.loop-section-test.true));
+}
