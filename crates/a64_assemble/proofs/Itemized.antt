@@ -36,7 +36,7 @@ use Rattle.a64_assemble.specs.Elements.{Element, Binding, Asking, element_of, el
 use Rattle.a64_assemble.specs.LooseUses.{is_alive, is_load, loose_in, charges_in, reach_between, AreAllBound, AreAllNear}
 use Rattle.a64_assemble.proofs.Checked.{not_bound_before, among_bindings, uses_bound}
 use Rattle.a64_assemble.proofs.Reached.{none_far, within_reach}
-use Rattle.a64_assemble.proofs.Sites.{found_in}
+use Rattle.a64_emit.proofs.Sites.{found_in}
 use Rattle.a64_assemble.proofs.Spans.{has_binding, first_binding}
 use Rattle.a64_emit.specs.Layout.{standing}
 

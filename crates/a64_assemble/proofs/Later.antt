@@ -1,10 +1,8 @@
 -- What stays in a buffer that grows.
-use Rattle.std.proofs.Common.{ℕ, ◌≡◌, ◌+◌, ◌-◌, ◌*◌, ◌/◌, ◌<◌, ◌≤◌, List, [], ◌∷◌, ◌++◌, length, get_or, map, Option, None, Some, refl, sym, ap, ◌∙◌, subst, arith, inl, inr}
+use Rattle.std.proofs.Common.{ℕ, ◌≡◌, ◌+◌, ◌-◌, ◌*◌, ◌/◌, ◌<◌, ◌≤◌, List, length, get_or, map, Option, None, Some, refl, sym, ap, ◌∙◌, subst, arith, inl, inr}
 use Rattle.std.specs.Prelude.{All, MatchOption}
-use Rattle.std.specs.Ordering.{nat_cmp}
-use Rattle.std.specs.FinMap.{FinMap}
 use Rattle.std.proofs.lemmas.Bool.{cases_lt}
-use Rattle.std.proofs.lemmas.List.{get_or_append_left, get_or-append_right, get_or-map, length-append, length-map, map-append}
+use Rattle.std.proofs.lemmas.List.{get_or_append_left, get_or-append_right, get_or-map, length-append, length-map}
 use Rattle.a64_base.specs.declared.entity.MachLabel.{MachLabel}
 use Rattle.a64_buffer.specs.declared.site.Use.{Use}
 use Rattle.a64_buffer.specs.Buffer.{Buffer, end_of, closed_at, IsFree}
@@ -12,9 +10,10 @@ use Rattle.a64_label_use.specs.declared.label_use.LabelUse.{LabelUse}
 use Rattle.a64_emit.specs.declared.site.Site.{Site}
 use Rattle.a64_label_use.specs.LabelUses.{label_kinds}
 use Rattle.a64_emit.specs.Cells.{Cell, cell_word}
-use Rattle.a64_emit.specs.Emission.{use_at, uses_from, appended, site_of, HasUse, IsPut, Binds}
+use Rattle.a64_emit.specs.Emission.{uses_from, appended, site_of, HasUse, IsPut, Binds}
 use Rattle.a64_emit.specs.Layout.{placed}
-use Rattle.a64_assemble.proofs.Sites.{sites_from, ComesFrom, comes_from, has_site, length-placed, placed_at}
+use Rattle.a64_emit.proofs.Putting.{sites_of_uses, made_from}
+use Rattle.a64_emit.proofs.Sites.{ComesFrom, has_site, length-placed, placed_at}
 
 -- a buffer has grown: its words stay, its uses stay where and what they are, and new ones stand
 -- behind its old end
@@ -46,36 +45,13 @@ put_later b b' l s h = record {
 
 -- ---- cells at the end
 
-sites_of_uses : (labels : FinMap nat_cmp ℕ) (place : ℕ) (cells : List Cell) → map site_of (uses_from labels place cells) ≡ sites_from place cells
-sites_of_uses labels place [] = refl
-sites_of_uses labels place (c ∷ cs) =
-    map-append site_of (use_at labels place c.site) (uses_from labels (place + 4) cs)
-    ∙ ap (λ us. map site_of (use_at labels place c.site) ++ us) (sites_of_uses labels (place + 4) cs)
-    ∙ ap (λ us. us ++ sites_from (place + 4) cs) (one c.site)
-  where
-    one : (site : Option Site) → map site_of (use_at labels place site) ≡ elim site [ None ↦ [] | Some s ↦ (place, s) ∷ [] ]
-    one None = refl
-    one (Some s) = refl
-
 module _ (b : Buffer LabelUse) (cells : List Cell) where
-  made : List (Use LabelUse)
-  made = uses_from b.labels (end_of b) cells
-
-  -- a use that is made comes from a cell
-  pub made_from : (k : ℕ) (d : Use LabelUse) → k < length (uses_from b.labels (end_of b) cells) → ComesFrom (end_of b) cells (site_of (get_or (uses_from b.labels (end_of b) cells) k d))
-  made_from k d within =
-      let all = sites_of_uses b.labels (end_of b) cells in
-      let is : site_of (get_or (uses_from b.labels (end_of b) cells) k d) ≡ get_or (sites_from (end_of b) cells) k (site_of d) =
-      sym (get_or-map site_of (uses_from b.labels (end_of b) cells) k d (site_of d) within) ∙ ap (λ (ss : List (ℕ × Site)). get_or ss k (site_of d)) all in
-      subst (ComesFrom (end_of b) cells) (sym is)
-      (comes_from (end_of b) cells k (site_of d) (omega (arith, within, length-map (uses_from b.labels (end_of b) cells) site_of, ap length all)))
-
   -- a new use of the buffer comes from a cell
   pub new_from : (k : ℕ) (d : Use LabelUse) → length b.uses ≤ k → k < length (appended b cells).uses → ComesFrom (end_of b) cells (site_of (get_or (appended b cells).uses k d))
   new_from k d ge within =
       let there : get_or (appended b cells).uses k d ≡ get_or (uses_from b.labels (end_of b) cells) (k - length b.uses) d = get_or-append_right b.uses (uses_from b.labels (end_of b) cells) (length b.uses) k d refl ge in
       subst (λ u. ComesFrom (end_of b) cells (site_of u)) (sym there)
-      (made_from (k - length b.uses) d (omega (arith, ge, within, length-append b.uses (uses_from b.labels (end_of b) cells))))
+      (made_from b cells (k - length b.uses) d (omega (arith, ge, within, length-append b.uses (uses_from b.labels (end_of b) cells))))
 
   pub append_later : IsLater b (appended b cells)
   append_later = record {

@@ -26,7 +26,7 @@ use Rattle.a64_emit.specs.Leads.{Leads, SiteLeads, UseStops, CellStops, IsTrapUs
 use Rattle.a64_assemble.proofs.Arrivals.{no_use, IsOutput, FinalUse, final_use, stops_at, site_leads}
 use Rattle.a64_assemble.proofs.Everywhere.{standing_all}
 use Rattle.a64_assemble.proofs.Rising.{standing_rising}
-use Rattle.a64_assemble.proofs.Sites.{found_in}
+use Rattle.a64_emit.proofs.Sites.{found_in}
 use Rattle.a64_emit.proofs.Keeping.{keep_sites}
 use Rattle.a64_emit.proofs.Targets.{IsCodeTarget, IsCodeSite, inst_targets}
 use Rattle.a64_assemble.proofs.FieldKinds.{one_stop}

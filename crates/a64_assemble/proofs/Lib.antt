@@ -7,7 +7,6 @@ pub mod Nears
 pub mod Checked
 pub mod Spans
 pub mod Reached
-pub mod Sites
 pub mod Later
 pub mod Arrivals
 pub mod Filled

@@ -1,45 +1,35 @@
 -- What one element leaves: room for what follows, length, labels, and all that was there.
 use Rattle.std.proofs.Common.{ℕ, zero, suc, ◌≡◌, ◌⊎◌, ◌+◌, ◌-◌, ◌*◌, ◌<◌, ◌≤◌, true, List, [], ◌∷◌, ◌++◌, length, get_or, map, Option, None, Some, refl, sym, ap, ◌∙◌, subst, arith, inl, inr, Bool}
-use Rattle.std.specs.Prelude.{All}
 use Rattle.std.specs.Option.{unwrap_or}
 use Rattle.std.specs.FinMap.{get, insert}
 use Rattle.std.proofs.lemmas.Bool.{cases_eq}
 use Rattle.std.proofs.lemmas.List.{append-nil, get_or_append_left, length-append}
-use Rattle.std.proofs.lemmas.List.Elements.{All-append}
 use Rattle.a64_base.specs.declared.entity.TrapCode.{TrapCode}
-use Rattle.a64_buffer.specs.declared.site.Use.{Use}
 use Rattle.a64_buffer.specs.declared.force.ForceVeneers.{ForceVeneers}
 use Rattle.a64_buffer.specs.declared.force.ForceVeneers.TheVariants.{No}
 use Rattle.a64_buffer.specs.Buffer.{Buffer, end_of}
-use Rattle.a64_buffer.specs.Classes.{Level, third, wants, cost, level_of, class, range_of, is_open, burden, owed, Fits}
+use Rattle.a64_buffer.specs.Classes.{third, cost, burden, owed, Fits}
 use Rattle.a64_buffer.specs.Later.{IsSameUse, HasMoreTraps, HasMoreRecords, IsLater}
 use Rattle.a64_buffer.specs.Sound.{IsWhole}
-use Rattle.a64_buffer.proofs.Costs.{weight-append, burden_third}
 use Rattle.a64_buffer.proofs.Laters.{same_use, later_none, later_trans}
-use Rattle.a64_buffer.proofs.Rooms.{open_wants, less_room, end_room}
+use Rattle.a64_buffer.proofs.Rooms.{less_room}
 use Rattle.a64_buffer.proofs.Sounds.{bind_weight, bind_room}
 use Rattle.a64_buffer.proofs.Sounds as sounds
 use Rattle.a64_label_use.specs.declared.label_use.LabelUse.{LabelUse}
-use Rattle.a64_emit.specs.declared.site.Site.{Site}
 use Rattle.a64_label_use.specs.LabelUses.{label_kinds}
 use Rattle.a64_label_use.specs.LabelLaws.{label_kinds_lawful}
-use Rattle.a64_emit.specs.Cells.{Cell, Data, no_marks, cell_word, sites_of}
+use Rattle.a64_emit.specs.Cells.{Cell, cell_word}
 use Rattle.a64_emit.specs.Bounds.{ranges_in, size_of, charge_of}
 use Rattle.a64_emit.specs.Layout.{placed, relocs_in, calls_in, patchable_in, maps_in, traps_in}
-use Rattle.a64_emit.specs.Emission.{uses_from, appended, site_of, CellsFit, Binds}
-use Rattle.a64_emit.specs.Contents.{site_class}
-use Rattle.a64_assemble.specs.Elements.{Element, Binding, Words, Asking, size_in, growth_in, hosts, AreCompact, add_more, words_room, next_room, room_of}
+use Rattle.a64_emit.specs.Emission.{uses_from, appended, CellsFit, Binds}
+use Rattle.a64_assemble.specs.Elements.{Element, Binding, Words, Asking, size_in, growth_in, hosts, add_more, words_room, next_room, room_of}
 use Rattle.a64_assemble.specs.Asks.{Asks, AsksNext, PutsWords, Moves, MayMove}
-use Rattle.a64_emit.proofs.Burdens.{new_burden}
 use Rattle.a64_emit.proofs.Holding.{same_holding, no_more}
-use Rattle.a64_assemble.proofs.Later.{made_from, new_from, longer}
+use Rattle.a64_assemble.proofs.Later.{new_from, longer}
 use Rattle.a64_assemble.proofs.Marked.{between}
-use Rattle.a64_assemble.proofs.Sites.{found_in}
+use Rattle.a64_emit.proofs.Putting.{put_burden, put_room}
 use Rattle.a64_buffer.proofs.Islands.{front_short}
 use Rattle.a64_assemble.proofs.Fronts.{island_ends, EndsAt}
-
-pub no_cell : Cell
-no_cell = record { body = Data 0; site = None; marks = no_marks }
 
 -- ---- a put
 
@@ -48,46 +38,12 @@ pub appended_none : (b : Buffer LabelUse) → appended b [] ≡ b
 appended_none b = same_holding b _ _ _ _ _ _ _ _ (append-nil b.words) (append-nil b.uses) (append-nil b.traps) (no_more b.records)
 
 module _ (b : Buffer LabelUse) (cells : List Cell) where
-  fresh : List (Use LabelUse)
-  fresh = uses_from b.labels (end_of b) cells
-
-  -- the new uses stand behind the end, in the cells
-  pub made_low : All (λ u. end_of b ≤ u.offset) (uses_from b.labels (end_of b) cells)
-  made_low k d w = let from = made_from b cells k d w in omega (arith, from.place_is)
-
-  pub made_high : All (λ u. u.offset < end_of b + 4 * length cells) (uses_from b.labels (end_of b) cells)
-  made_high k d w = let from = made_from b cells k d w in omega (arith, from.place_is, from.within)
-
-  -- and each of them is that of a site of the cells
-  pub made_site : (P : Site → Type 0) → All P (sites_of cells) → All (λ u. P (site_of u).1) (uses_from b.labels (end_of b) cells)
-  made_site P all k d w =
-      let from = made_from b cells k d w in
-      let found = found_in (λ (cell : Cell). cell.site) cells from.index no_cell (site_of (get_or (uses_from b.labels (end_of b) cells) k d)).1 from.within (from.site_is no_cell) in
-      subst P (found.is (site_of (get_or (uses_from b.labels (end_of b) cells) k d)).1) (all found.index (site_of (get_or (uses_from b.labels (end_of b) cells) k d)).1 found.within)
-
-  -- what all open uses may want, with those of the cells
-  pub put_burden : (l : Level) → burden label_kinds l (b.uses ++ uses_from b.labels (end_of b) cells) ≤ burden label_kinds l b.uses + 28 * length (ranges_in cells)
-  put_burden l = omega (arith, weight-append label_kinds (cost l) b.uses (uses_from b.labels (end_of b) cells), burden_third label_kinds l (uses_from b.labels (end_of b) cells), new_burden b.labels (end_of b) cells)
-
-  -- where their size and 28 for each use of them fit, cells fit with their uses counted
-  pub put_room : IsWhole label_kinds b → AreCompact cells → 1 ≤ length cells → Fits label_kinds b (size_of cells + 28 * length (ranges_in cells)) → CellsFit b cells
-  put_room whole compact some h = record {
-    rooms = All-append (λ (u : Use LabelUse). is_open label_kinds u ≡ true → end_of b + 4 * length cells + 4 + burden label_kinds (level_of (class label_kinds u)) (b.uses ++ uses_from b.labels (end_of b) cells) ≤ u.offset + range_of label_kinds (level_of (class label_kinds u))) b.uses (uses_from b.labels (end_of b) cells)
-        (λ k d w o. let x = h.rooms k d w o in omega (arith, x, put_burden (level_of (class label_kinds (get_or b.uses k d)))))
-        (λ k d w o.
-        let l : Level = level_of (class label_kinds (get_or (uses_from b.labels (end_of b) cells) k d)) in
-        let own = made_site (λ s. wants (site_class s) ≡ true → size_of cells + 28 * length (ranges_in cells) + 4 ≤ range_of label_kinds (level_of (site_class s))) compact k d w (open_wants label_kinds (get_or (uses_from b.labels (end_of b) cells) k d) o) in
-        let less = less_room label_kinds label_kinds_lawful (end_of b) b.uses (size_of cells + 28 * length (ranges_in cells)) (size_of cells + 28 * length (ranges_in cells) - 4) (omega arith) h in
-        let x = end_room label_kinds label_kinds_lawful (end_of b) b.uses (size_of cells + 28 * length (ranges_in cells) - 4) l d (omega arith) whole.sound.placed less (omega (arith, own, some)) in
-        omega (arith, made_low k d w, x, put_burden l, some));
-  }
-
   -- and what was put fits
   pub put_fits : CellsFit b cells → Fits label_kinds (appended b cells) 0
   put_fits h = record { rooms = λ k d w o. let x = h.rooms k d w o in omega (arith, x, longer b cells) }
 
   pub put_owed : end_of (appended b cells) + owed label_kinds (appended b cells) ≤ end_of b + owed label_kinds b + size_of cells + 28 * length (ranges_in cells)
-  put_owed = omega (arith, longer b cells, put_burden third)
+  put_owed = omega (arith, longer b cells, put_burden b cells third)
 
   -- the traps of cells
   later_traps : HasMoreTraps (end_of b) (end_of (appended b cells)) b.traps (b.traps ++ traps_in (placed (end_of b) cells))

@@ -21,7 +21,7 @@ use Rattle.a64_emit.specs.Reach.{is_near}
 use Rattle.a64_assemble.specs.Elements.{Element, Binding, Words, Asking, cells_in, next_room, element_at}
 use Rattle.a64_assemble.specs.Asks.{Asks, AsksNext, PutsWords, Moves}
 use Rattle.a64_assemble.specs.Progress.{IsUsedIn, StandsIn}
-use Rattle.a64_assemble.proofs.Moving.{made_low, made_high, made_site}
+use Rattle.a64_emit.proofs.Putting.{made_low, made_high, made_site}
 use Rattle.a64_assemble.proofs.Fronts.{given_use}
 
 -- a fact of a use that depends on its place and its site

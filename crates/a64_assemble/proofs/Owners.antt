@@ -32,9 +32,10 @@ use Rattle.a64_assemble.specs.Asks.{Asks, AsksNext, PutsWords, Moves}
 use Rattle.a64_assemble.specs.Owners.{IsOwned, AreOwned}
 use Rattle.a64_assemble.proofs.Fronts.{given_use, island_ends, over_stays}
 use Rattle.a64_assemble.proofs.Later.{new_from}
-use Rattle.a64_assemble.proofs.Moving.{no_cell, put_later}
+use Rattle.a64_assemble.proofs.Moving.{put_later}
+use Rattle.a64_emit.proofs.Putting.{no_cell}
 use Rattle.a64_assemble.proofs.Rising.{placed_has}
-use Rattle.a64_assemble.proofs.Sites.{standing-push}
+use Rattle.a64_emit.proofs.Sites.{standing-push}
 use Rattle.a64_assemble.proofs.Standings.{still}
 use Rattle.a64_buffer.proofs.Islands.{begun_end}
 use Rattle.a64_buffer.specs.Pieces.{front_size}

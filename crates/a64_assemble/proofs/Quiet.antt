@@ -20,7 +20,8 @@ use Rattle.a64_emit.specs.Emission.{uses_from, appended}
 use Rattle.a64_assemble.specs.Elements.{Element, Binding, Words, Asking, growth_in, space_in, whole_in, add_more, words_room, next_room, room_of}
 use Rattle.a64_assemble.specs.Asks.{Asks, AsksNext, PutsWords, Moves, NeedsNone}
 use Rattle.a64_assemble.specs.OpenUses.{SiteIsQuiet, IsQuietElement, UseIsQuiet}
-use Rattle.a64_assemble.proofs.Moving.{made_site, put_owed}
+use Rattle.a64_assemble.proofs.Moving.{put_owed}
+use Rattle.a64_emit.proofs.Putting.{made_site}
 use Rattle.a64_assemble.proofs.Opens.{misfit}
 
 -- what the next words need is within all

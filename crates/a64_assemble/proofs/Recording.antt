@@ -29,7 +29,7 @@ use Rattle.a64_emit.proofs.Holding.{same_records}
 use Rattle.a64_assemble.proofs.Arrivals.{no_use}
 use Rattle.a64_assemble.proofs.Later.{longer}
 use Rattle.a64_assemble.proofs.Marked.{ordered_behind, ordered_more, below_more}
-use Rattle.a64_assemble.proofs.Sites.{standing-push}
+use Rattle.a64_emit.proofs.Sites.{standing-push}
 use Rattle.a64_assemble.proofs.PieceTraps.{piece_traps_between}
 use Rattle.a64_assemble.specs.Elements.{Element, Binding, Words, Asking, cells_in, next_room, element_at}
 use Rattle.a64_assemble.specs.Asks.{Asks, AsksNext, PutsWords, Moves}

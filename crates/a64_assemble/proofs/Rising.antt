@@ -8,7 +8,7 @@ use Rattle.std.proofs.lemmas.List.Elements.{All-append, Contains-append_left, Co
 use Rattle.a64_buffer.proofs.Serving.{pairs_append}
 use Rattle.a64_emit.specs.Cells.{Cell}
 use Rattle.a64_emit.specs.Layout.{placed, standing}
-use Rattle.a64_assemble.proofs.Sites.{length-placed, placed_at}
+use Rattle.a64_emit.proofs.Sites.{length-placed, placed_at}
 
 -- each item starts where the one before it ends, or behind that
 abbrev pub AreBehind : List (List Cell) → List ℕ → ℕ → Type 0

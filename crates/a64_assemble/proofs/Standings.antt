@@ -14,7 +14,7 @@ use Rattle.a64_assemble.specs.Elements.{Element, Binding, Words, Asking, cells_i
 use Rattle.a64_assemble.specs.Asks.{PutsWords, Moves}
 use Rattle.a64_assemble.proofs.Later.{IsLater, put_later, all_put}
 use Rattle.a64_assemble.proofs.Moving.{next_later}
-use Rattle.a64_assemble.proofs.Sites.{standing-push}
+use Rattle.a64_emit.proofs.Sites.{standing-push}
 
 -- the uses of a buffer that only grew are those that they were
 pub still : (b b' : Buffer LabelUse) → buffers.IsLater b b' → IsLater b b'

@@ -1,17 +1,15 @@
 -- What items are to the layout of code, and what they add to it.
-use Rattle.std.specs.Prelude.{ℕ, ◌≡◌, ◌+◌, ◌*◌, ◌<◌, ◌≤◌, Bool, true, false, nat_eq, List, [], ◌∷◌, All, length, map, drop, sum_by, slice_index_or, Option, None, Some}
+use Rattle.std.specs.Prelude.{ℕ, ◌≡◌, ◌+◌, ◌*◌, ◌<◌, ◌≤◌, Bool, true, false, nat_eq, List, [], ◌∷◌, length, map, drop, sum_by, slice_index_or, Option, None, Some}
 use Rattle.std.specs.List.{list_any}
 use Rattle.std.specs.Option.{unwrap_or}
 use Rattle.a64_inst.specs.declared.emission.EmitFlags.{EmitFlags}
 use Rattle.a64_inst.specs.declared.frame.FrameLayout.{FrameLayout}
 use Rattle.a64_inst.specs.declared.item.Item.{Item}
 use Rattle.a64_inst.specs.declared.item.Item.TheVariants.{Bind, Emit}
-use Rattle.a64_buffer.specs.Classes.{wants, level_of, range_of}
-use Rattle.a64_label_use.specs.LabelUses.{label_kinds}
-use Rattle.a64_emit.specs.Cells.{Cell, kept_cells, sites_of}
+use Rattle.a64_emit.specs.Cells.{Cell, kept_cells}
 use Rattle.a64_emit.specs.Bounds.{ranges_in, size_of, charge_of, asked}
 use Rattle.a64_emit.specs.Falls.{inst_falls}
-use Rattle.a64_emit.specs.Contents.{site_class}
+use Rattle.a64_emit.specs.Rooms.{AreCompact}
 
 -- an item binds the label of a number, or has words, behind which execution may go on or not, or is a place at which
 -- an island may stand without words before it, and asks for so much space
@@ -81,11 +79,7 @@ binds_number number (Binding label) = nat_eq label number
 binds_number number (Words goes_on cells) = false
 binds_number number (Asking space) = false
 
--- each use of cells that may want something of an island reaches over all of them, and over what their
--- uses may want there
-abbrev pub AreCompact : List Cell → Type 0
-AreCompact cells = All (λ s. wants (site_class s) ≡ true → size_of cells + 28 * length (ranges_in cells) + 4 ≤ range_of label_kinds (level_of (site_class s))) (sites_of cells)
-
+-- its uses reach over all of its words, and over what its uses may want of an island
 abbrev pub IsCompact : Element → Type 0
 IsCompact x = AreCompact (cells_in x)
 

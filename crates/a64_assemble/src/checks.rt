@@ -270,9 +270,12 @@ fn missing_behind(
         → result ≡ option_or before (first_missing labels
         (filter_map used_label (sites_of cells)))) }
 {
-    match (before, bound) {
-        (None, Some(bound)) => missing_in_two(light.first, light.second, bound),
-        _ => before,
+    let Some(bound) = bound else {
+        return before;
+    };
+    match missing_in_two(light.first, light.second, bound) {
+        None => before,
+        missing => before.or(missing),
     }
 }
 

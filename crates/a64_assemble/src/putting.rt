@@ -21,6 +21,7 @@ ghost use Rattle.a64_assemble.specs.Progress.{AreQuiet};
 
 use crate::ahead::next_room;
 use crate::asking::ask;
+use a64_base::UserStackMap;
 use a64_buffer::{ForceVeneers, MachBuffer};
 use a64_emit::{LabelUse, MachInstEmit, asked_space, falls};
 use a64_inst::{EmitInfo, EmitState, FrameLayout, Inst, Item};
@@ -51,7 +52,7 @@ fn put_inst(
         ≡ None }
     requires may { MayMove (element_of state.old.frame info.now (Emit inst.now state.old.map))
         (elements_of state.old.frame info.now rest.now) buffer.old }
-    requires asked { quiet ≡ false → bounds.asked_of inst.now ≡ None }
+    requires asked { bounds.asked_of inst.now ≡ None }
     requires wide { room_of (elements_of state.old.frame info.now rest.now) ≤ widest }
     requires quiet { quiet ≡ true → NeedsNone force
         (element_of state.old.frame info.now (Emit inst.now state.old.map))
@@ -105,15 +106,16 @@ fn ask_behind(
     }
 }
 
-/// Puts an item at the end of a buffer, which is its place, and an island behind it where what follows needs one, or where it
-/// asks for one. In quiet code none is needed, nor forced. The next words need no more than `widest` bytes.
+/// Puts an instruction at the end of a buffer, which is its place, and an island behind it where what follows needs one, or
+/// where it asks for one. In quiet code none is needed, nor forced. The next words need no more than `widest` bytes.
 ///
 /// # Errors
 ///
 /// Want of memory.
 #[inline(always)]
-fn put_item(
-    item: &Item,
+fn put_emitted(
+    inst: &Inst,
+    map: Option<UserStackMap>,
     rest: &[Item],
     place: u32,
     buffer: &mut MachBuffer<'_, LabelUse>,
@@ -124,28 +126,24 @@ fn put_item(
     widest: u32,
 ) -> Result<(), AllocError>
     requires place { place ≡ end_of buffer.old }
-    requires good { item_fault state.old.frame info.now buffer.old.constants item.now ≡ None }
-    requires may { MayMove (element_of state.old.frame info.now item.now)
+    requires good { inst_fault state.old.frame info.now buffer.old.constants Refused inst.now
+        ≡ None }
+    requires may { MayMove (element_of state.old.frame info.now (Emit inst.now map))
         (elements_of state.old.frame info.now rest.now) buffer.old }
     requires wide { room_of (elements_of state.old.frame info.now rest.now) ≤ widest }
     requires quiet { quiet ≡ true → NeedsNone force
-        (element_of state.old.frame info.now item.now)
+        (element_of state.old.frame info.now (Emit inst.now map))
         (elements_of state.old.frame info.now rest.now) buffer.old }
-    ensures buffer { OnOk result (Moves force (element_of state.old.frame info.now item.now)
+    ensures buffer { OnOk result (Moves force
+        (element_of state.old.frame info.now (Emit inst.now map))
         (elements_of state.old.frame info.now rest.now) buffer.old buffer.new) }
     ensures frame { OnOk result (state.new.frame ≡ state.old.frame) }
 {
-    match item {
-        Item::Bind(label) => buffer.bind_label(*label),
-        Item::Emit { inst, map } => {
-            let asked = if quiet { None } else { asked_space(inst) };
-            if let Some(space) = asked {
-                return ask(buffer, space, force, force, true);
-            }
-            state.pre_safepoint(*map);
-            put_inst(inst, rest, place, buffer, info, state, force, quiet, widest)
-        }
+    if let Some(space) = asked_space(inst) {
+        return ask(buffer, space, force, force, true);
     }
+    state.pre_safepoint(map);
+    put_inst(inst, rest, place, buffer, info, state, force, quiet, widest)
 }
 
 /// Puts items one after another into a buffer without code, with islands between them, and answers their
@@ -186,17 +184,22 @@ pub fn put_items(
     let mut place = buffer.cur_offset();
     for index in 0..items.len() {
         places.push_reserved(place);
-        put_item(
-            &items[index],
-            &items[index + 1..],
-            place,
-            buffer,
-            info,
-            state,
-            force,
-            quiet,
-            widest,
-        )?;
+        let item = &items[index];
+        match item {
+            Item::Bind(label) => buffer.bind_label(*label)?,
+            Item::Emit { inst, map } => put_emitted(
+                inst,
+                *map,
+                &items[index + 1..],
+                place,
+                buffer,
+                info,
+                state,
+                force,
+                quiet,
+                widest,
+            )?,
+        }
         place = buffer.cur_offset();
     }
     Ok(places)

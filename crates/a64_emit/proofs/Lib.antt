@@ -50,3 +50,8 @@ pub mod WrongAnswers
 pub mod Lights
 pub mod ShownFaults
 pub mod WorstCases
+pub mod Sites
+pub mod Putting
+pub mod Compact
+pub mod Ready
+pub mod CodeBytes

@@ -21,3 +21,5 @@ pub mod Records
 pub mod Faults
 pub mod ShownFaults
 pub mod WorstCases
+pub mod ErrorTexts
+pub mod Rooms

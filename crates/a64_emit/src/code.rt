@@ -1,5 +1,9 @@
 //! Assembled code.
 
+ghost use Rattle.std.specs.Prelude.{◌≡◌};
+ghost use Rattle.std.specs.Iterator.{YieldsFirst, item_count};
+ghost use Rattle.a64_words.specs.Word.{words_of};
+
 use a64_base::{ExternalName, MachLabel, Reloc, TrapCode, UserStackMap};
 
 /// Assembled code, and what is known of it. Places are bytes from the start of the code.
@@ -25,4 +29,36 @@ pub struct Code {
     pub patchable: Vec<(u32, u32)>,
     /// The stack maps by the places behind their calls.
     pub maps: Vec<(u32, UserStackMap)>,
+}
+
+impl Code {
+    /// The words of the code, in order. The last three bytes at most, where they are no whole word, are left out:
+    /// assembled code has none.
+    #[inline(always)]
+    pub fn words(&self) -> CodeWords<'_>
+        ensures { words_of result.bytes.now ≡ words_of self.now.bytes.items }
+    {
+        CodeWords { bytes: &self.bytes }
+    }
+}
+
+/// The words of code that are left, in order.
+#[derive(Clone, Copy, Debug)]
+pub struct CodeWords<'a> {
+    bytes: &'a [u8],
+}
+
+impl Iterator for CodeWords<'_> {
+    type Item = u32;
+
+    ghost next_gives = { YieldsFirst (λ s. words_of s.bytes.now) };
+
+    ghost remaining = { item_count (λ s. words_of s.bytes.now) };
+
+    #[inline(always)]
+    fn next(&mut self) -> Option<u32> {
+        let (word, rest) = self.bytes.split_first_chunk::<4>()?;
+        self.bytes = rest;
+        Some(u32::from_le_bytes(*word))
+    }
 }

@@ -1,10 +1,13 @@
 //! Why items are refused.
 
-ghost use Rattle.std.specs.Prelude.{◌≡◌};
+ghost use Rattle.std.specs.Prelude.{◌≡◌, Some};
 ghost use Rattle.a64_emit.specs.declared.error.EmitError.TheVariants.{OutOfMemory};
+ghost use Rattle.a64_emit.specs.ErrorTexts.{error_text};
 
 use a64_base::MachLabel;
 use std::alloc::{AllocError, AllocFailed};
+use std::error::Error;
+use std::fmt;
 
 /// Why items are refused: the first of these that applies.
 #[derive(Clone, Copy, Debug, PartialEq, Eq)]
@@ -28,6 +31,26 @@ pub enum EmitError {
     /// Want of memory.
     OutOfMemory,
 }
+
+impl fmt::Display for EmitError {
+    ghost output = { λ error. Some (error_text error) };
+
+    fn fmt<W: fmt::Write>(&self, f: &mut fmt::Formatter<W>) -> fmt::Result {
+        match *self {
+            EmitError::BadOperand(item) => write!(f, "item {item}: bad operand"),
+            EmitError::BadMode(item) => write!(f, "item {item}: bad addressing mode"),
+            EmitError::ScratchConflict(item) => write!(f, "item {item}: scratch register in use"),
+            EmitError::UnknownConstant(item) => write!(f, "item {item}: unknown constant"),
+            EmitError::LabelBoundTwice(label) => write!(f, "label L{}: bound twice", label.0),
+            EmitError::UnboundLabel(label) => write!(f, "label L{}: not bound", label.0),
+            EmitError::TooLarge => f.write_str("code too large"),
+            EmitError::OutOfReach(label) => write!(f, "label L{}: out of reach", label.0),
+            EmitError::OutOfMemory => f.write_str("out of memory"),
+        }
+    }
+}
+
+impl Error for EmitError {}
 
 impl From<AllocError> for EmitError {
     ghost from_gives = { λ _ error. error ≡ OutOfMemory };

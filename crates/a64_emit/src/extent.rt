@@ -13,6 +13,7 @@ ghost use Rattle.a64_label_use.specs.declared.label_use.LabelUse.TheVariants as 
 ghost use Rattle.a64_emit.specs.Cells.{branch, branches, cells_of, inst_cells, inst_uses, listed_uses, two_uses, uses_of};
 ghost use Rattle.a64_label_use.specs.LabelUses.{has_veneer};
 ghost use Rattle.a64_emit.specs.Lights.{IsLight, IsModeLight};
+ghost use Rattle.a64_emit.specs.Rooms as rooms;
 
 use crate::call_extent::call_count;
 use crate::site::{Site, Uses};
@@ -258,6 +259,20 @@ fn words_burden<'a>(inst: &'a Inst, frame: &FrameLayout, info: &EmitInfo) -> Bur
                 extent: using_extent(memory_count(inst, frame, info), uses),
                 uses,
             }
+        }
+    }
+}
+
+/// The most bytes that an instruction adds to code, beside the space that it asks for: its words, and what
+/// islands may add because of it. Numbers past those of 64 bits stand at the greatest.
+pub fn most_added(inst: &Inst, frame: &FrameLayout, info: &EmitInfo) -> u64
+    ensures { result ≡ saturated (rooms.most_added frame.now info.now inst.now) }
+{
+    match asked_space(inst) {
+        Some(_) => JUMP_CHARGE,
+        None => {
+            let extent = words_burden(inst, frame, info).extent;
+            extent.size.saturating_add(extent.charge)
         }
     }
 }

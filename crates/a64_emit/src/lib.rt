@@ -10,6 +10,7 @@ mod extent;
 mod falling;
 mod halfword;
 mod one_word;
+mod room;
 mod sequence;
 mod shown;
 mod site;
@@ -18,7 +19,7 @@ mod uses;
 mod word;
 
 pub use crate::call::Callee;
-pub use crate::code::Code;
+pub use crate::code::{Code, CodeWords};
 pub use a64_inst::Item;
 pub use a64_label_use::LabelUse;
 pub use emit::MachInstEmit;
@@ -27,6 +28,7 @@ pub use extent::{Burden, Extent, Light, asked_space, burden_of, inst_light, less
 pub use falling::falls;
 pub use halfword::{has_halfword, restores_halfwords};
 pub use one_word::is_one_word;
+pub use room::room_for;
 pub use shown::{ShownFault, first_shown_fault, shown_fault, shown_fault_with};
 pub use site::{Site, Table, Uses, near_label};
 pub use state::MachInstEmitState;

@@ -1,4 +1,4 @@
-//! Makes entries of their names and fields. An item is put where it is made, so that none is moved.
+//! Makes entries of their names and fields. An instruction is made by one match, and moved once, into the items.
 
 pub mod call;
 pub mod control;

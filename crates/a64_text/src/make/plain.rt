@@ -138,12 +138,16 @@ fn system_inst(name: SystemName, values: &[Value]) -> Inst
     }
 }
 
-/// Puts the hint, the barrier, or the access to the flags, of this name with these fields behind the items.
+/// Puts the hint, the barrier, or the access to the flags, of this name with these fields behind the items. A `Nop4`,
+/// which padding has in numbers, has an arm of its own, where it is put as it is made.
 #[tactic(auto, unfolding(crate::specs::Makes::Makes))]
 #[inline(always)]
 pub fn put_system(items: &mut Vec<Item>, name: SystemName, values: &[Value]) -> bool
     requires { vec_len items.old < vec_capacity items.old }
     ensures { Puts (names.System name) values.now items.old.items items.new.items result }
 {
-    emit(items, system_inst(name, values))
+    match name {
+        SystemName::Nop4 => emit(items, Inst::Nop4),
+        _ => emit(items, system_inst(name, values)),
+    }
 }

@@ -24,7 +24,7 @@ returns-then-quiet-clause-buffer c =
       | then-quiet-via-then-quiet w ↦ c.requires.quiet w.if-quiet.true
       | then-quiet-via-else-quiet+then-not-island_needed w ↦
           needs_none c.args.info.now c.args.force c.args.state.now c.args.inst.now rest c.args.buffer.now c.emit.new.sink c.args.widest
-          (c.requires.asked w.if-quiet.false) c.requires.wide w.if-not-island_needed.ensures c.in_ok-emit.ensures.ok
+          c.requires.asked c.requires.wide w.if-not-island_needed.ensures c.in_ok-emit.ensures.ok
     ])
     c.cur_offset-end.ensures.whole c.in_ok-emit.ensures.ok
 
@@ -33,7 +33,7 @@ ask_behind-requires c =
     let frame : FrameLayout = c.args.state.now.frame in
     let cells : List Cell = kept_cells frame c.args.info.now c.args.inst.now c.args.state.now.map in
     let rest : List Element = elements_of frame c.args.info.now c.args.rest.now in
-    let none : asked_of c.args.inst.now ≡ None = c.requires.asked c.if-quiet.false in
+    let none : asked_of c.args.inst.now ≡ None = c.requires.asked in
     record {
       whole = subst (λ (f : FrameLayout). whole_in (elements_of f c.args.info.now c.args.rest.now) < 2 ^ 31) (sym (c.frame_layout.ensures ∙ ap (λ (s : State). s.frame) c.in_ok-emit.ensures.state)) c.requires.may.rest_short;
       short = λ moved. island_short No rest c.args.buffer.now cells c.emit.new.sink
@@ -47,7 +47,7 @@ returns-clause-buffer c =
     let frame : FrameLayout = c.args.state.now.frame in
     let cells : List Cell = kept_cells frame c.args.info.now c.args.inst.now c.args.state.now.map in
     let rest : List Element = elements_of frame c.args.info.now c.args.rest.now in
-    let none : asked_of c.args.inst.now ≡ None = c.requires.asked c.if-quiet.false in
+    let none : asked_of c.args.inst.now ≡ None = c.requires.asked in
     both_ok c.ask_behind.result (λ without behind. subst (λ (x : Element). Moves c.args.force x rest c.args.buffer.now c.ask_behind.new.buffer) (sym (words_element frame c.args.info.now c.args.inst.now c.args.state.now.map none))
     (words_put c.args.force rest c.args.buffer.now (inst_falls c.args.inst.now) cells c.emit.new.sink c.ask_behind.new.buffer c.args.place
     (put_cells (asked_of c.args.inst.now) cells c.args.buffer.now c.emit.new.sink none c.in_ok-emit.ensures.ok)
