@@ -1,5 +1,5 @@
 -- Numbers of constants that were not given out yet.
-use Rattle.std.proofs.Common.{ℕ, ◌≡◌, ◌+◌, ◌≤◌, cond, List, Option, None, Some, ap, ◌∙◌, arith, nat_cmp}
+use Rattle.std.proofs.Common.{ℕ, ◌≡◌, ◌+◌, cond, List, Option, Some, ap, ◌∙◌, arith, nat_cmp}
 use Rattle.std.specs.Prelude.{is_some, if◌then◌else◌}
 use Rattle.std.specs.Cmp.{nat_cmp_total, unsigned_tied}
 use Rattle.std.specs.FinMap.{FinMap, get, insert, get-insert}
