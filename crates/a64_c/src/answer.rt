@@ -1,0 +1,78 @@
+//! What a call answers.
+
+ghost use Rattle.std.specs.Prelude.{◌≡◌};
+ghost use Rattle.a64_c.specs.Answers.{answer_of, refusal_of_file_error};
+ghost use Rattle.a64_c.specs.declared.answer.Refusal.TheVariants as refusals;
+
+use a64_emit::EmitError;
+use a64_text::FileError;
+
+/// Why a text has no code.
+#[derive(Clone, Copy, Debug)]
+pub enum Refusal {
+    /// The text has more than 16,777,216 bytes.
+    TooLong,
+    /// The line of this number, counted from 1, is the first that is no entry.
+    Line(u64),
+    /// The items are refused for this fault of theirs, or want of memory.
+    Assembly(EmitError),
+}
+
+/// What a call answers of the code that it makes.
+#[repr(C)]
+#[derive(Clone, Copy, Debug)]
+pub struct Answer {
+    /// 0 where the code stands in the caller's buffer; a64_c.h has a name for each status.
+    pub status: i32,
+    /// The line, the item or the label that is refused, and else 0.
+    pub subject: u64,
+    /// How many bytes the code has, and 0 where there is none.
+    pub length: usize,
+}
+
+impl From<FileError> for Refusal {
+    ghost from_gives = { λ error refusal. refusal ≡ refusal_of_file_error error };
+
+    fn from(error: FileError) -> Refusal {
+        match error {
+            FileError::BadLine(number) => Refusal::Line(number),
+            FileError::OutOfMemory => Refusal::Assembly(EmitError::OutOfMemory),
+        }
+    }
+}
+
+impl From<EmitError> for Refusal {
+    ghost from_gives = { λ error refusal. refusal ≡ refusals.Assembly error };
+
+    fn from(error: EmitError) -> Refusal {
+        Refusal::Assembly(error)
+    }
+}
+
+impl Refusal {
+    /// What is answered where there is no code.
+    pub fn answer(self) -> Answer
+        ensures { result ≡ answer_of self }
+    {
+        let (status, subject) = match self {
+            Refusal::TooLong => (1, 0),
+            Refusal::Line(number) => (2, number),
+            Refusal::Assembly(error) => match error {
+                EmitError::BadOperand(index) => (3, index as u64),
+                EmitError::BadMode(index) => (4, index as u64),
+                EmitError::ScratchConflict(index) => (5, index as u64),
+                EmitError::UnknownConstant(index) => (6, index as u64),
+                EmitError::LabelBoundTwice(label) => (7, u64::from(label.0)),
+                EmitError::UnboundLabel(label) => (8, u64::from(label.0)),
+                EmitError::TooLarge => (9, 0),
+                EmitError::OutOfReach(label) => (10, u64::from(label.0)),
+                EmitError::OutOfMemory => (11, 0),
+            },
+        };
+        Answer {
+            status,
+            subject,
+            length: 0,
+        }
+    }
+}
