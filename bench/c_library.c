@@ -3,6 +3,7 @@
  * c_library report [force]: the text of the standard input, as the program's report, by a64_assemble_records;
  *     or, where it is refused, the program's line, with status 1. The code has to be that of
  *     a64_assemble_text, and buffers with less room have to hold the same records as far as they go.
+ * c_library status N [force]: whether both calls refuse the text with the status N, and write nothing.
  * c_library memory [force]: each allocation of each of the two calls refused in turn. Each has to answer want of
  *     memory, write nothing, and leave no block.
  */
@@ -138,9 +139,14 @@ static void read_text(void) {
 
 /* ---- the report */
 
-static const char *const kinds[] = {"Arm64Call",           "Abs8",
-                                    "Aarch64AdrGotPage21", "Aarch64Ld64GotLo12Nc",
-                                    "Aarch64AdrPrelPgHi21", "Aarch64AddAbsLo12Nc"};
+static const char *const kinds[] = {
+    [A64_RELOC_ARM64_CALL] = "Arm64Call",
+    [A64_RELOC_ABS8] = "Abs8",
+    [A64_RELOC_AARCH64_ADR_GOT_PAGE21] = "Aarch64AdrGotPage21",
+    [A64_RELOC_AARCH64_LD64_GOT_LO12_NC] = "Aarch64Ld64GotLo12Nc",
+    [A64_RELOC_AARCH64_ADR_PREL_PG_HI21] = "Aarch64AdrPrelPgHi21",
+    [A64_RELOC_AARCH64_ADD_ABS_LO12_NC] = "Aarch64AddAbsLo12Nc",
+};
 
 static void print_report(a64_counts counts, buffers of) {
     for (size_t i = 0; i < counts.items; i++) printf("item %zu %u\n", i, of.items[i]);
@@ -180,6 +186,15 @@ static void print_refusal(int32_t status, uint64_t subject) {
     }
 }
 
+/* Whether relocations are the same: not the bytes between their fields, of which nothing is said. */
+static bool are_same_relocations(const a64_relocation *a, const a64_relocation *b, size_t count) {
+    for (size_t i = 0; i < count; i++)
+        if (a[i].place != b[i].place || a[i].kind != b[i].kind || a[i].symbol != b[i].symbol ||
+            a[i].addend != b[i].addend)
+            return false;
+    return true;
+}
+
 /* Buffers with less room hold the same from the first on, and are as they were behind it. */
 static void check_smaller(a64_counts counts, buffers whole, lengths room) {
     buffers part = buffers_of(room);
@@ -191,12 +206,15 @@ static void check_smaller(a64_counts counts, buffers whole, lengths room) {
 #define COMPARE(kind)                                                                           \
     {                                                                                           \
         size_t size = least(room.kind, counts.kind) * sizeof *part.kind;                        \
-        if (memcmp(part.kind, whole.kind, size)) fail("other records with less room: " #kind);  \
+        if ((void *)part.kind != (void *)part.relocations && memcmp(part.kind, whole.kind, size)) \
+            fail("other records with less room: " #kind);                                       \
         if (!is_filled(part.kind, size, room.kind * sizeof *part.kind + 64))                    \
             fail("written behind the records: " #kind);                                         \
     }
     EACH_KIND(COMPARE)
 #undef COMPARE
+    if (!are_same_relocations(part.relocations, whole.relocations, least(room.relocations, counts.relocations)))
+        fail("other records with less room: relocations");
     give_back(part);
 }
 
@@ -215,15 +233,37 @@ static void check_text(a64_counts counts, buffers whole) {
     }
 }
 
+static void check_unwritten(buffers to) {
+#define UNWRITTEN(kind) \
+    if (!is_filled(to.kind, 0, to.room.kind * sizeof *to.kind + 64)) fail("written without code: " #kind);
+    EACH_KIND(UNWRITTEN)
+#undef UNWRITTEN
+}
+
+/* Both calls refuse the text alike, and write nothing, whatever room there is. */
+static a64_counts check_refused(void) {
+    const size_t some = 64;
+    lengths room = {some, some, some, some, some, some, some, some, some};
+    buffers to = buffers_of(room);
+    a64_counts counts = records_into(to);
+    if (counts.status == A64_DONE) fail("the text is not refused");
+    lengths found = lengths_of(counts), nothing = {0};
+    if (memcmp(&found, &nothing, sizeof found) || counts.pool) fail("a refusal counts records");
+    a64_answer answer = a64_assemble_text(text, text_length, force, to.bytes, some);
+    if (answer.status != counts.status || answer.subject != counts.subject || answer.length)
+        fail("the two calls answer otherwise");
+    check_unwritten(to);
+    give_back(to);
+    return counts;
+}
+
 static int report(void) {
     buffers none = buffers_of((lengths){0});
     a64_counts counts = records_into(none);
+    check_unwritten(none);
     give_back(none);
     if (counts.status != A64_DONE) {
-        uint8_t byte = FILL;
-        a64_answer answer = a64_assemble_text(text, text_length, force, &byte, 1);
-        if (answer.status != counts.status || answer.subject != counts.subject || answer.length || byte != FILL)
-            fail("the two calls answer otherwise");
+        counts = check_refused();
         print_refusal(counts.status, counts.subject);
         return 1;
     }
@@ -248,13 +288,6 @@ static int report(void) {
 
 /* ---- want of memory */
 
-static void check_unwritten(buffers to) {
-#define UNWRITTEN(kind) \
-    if (!is_filled(to.kind, 0, to.room.kind * sizeof *to.kind + 64)) fail("written at want of memory: " #kind);
-    EACH_KIND(UNWRITTEN)
-#undef UNWRITTEN
-}
-
 /* One of the two calls, with an allocation refused, or none for 0; its status. */
 static int32_t status_of(bool records, buffers to, long refuse) {
     start_counting(refuse);
@@ -275,6 +308,7 @@ static int memory(void) {
         buffers to = buffers_of(lengths_of(counts));
         if (status_of(records, to, 0) != A64_DONE) fail("refused with enough memory");
         long all = allocations;
+        if (!all) fail("no allocation is seen");
         give_back(to);
         to = buffers_of(lengths_of(counts));
         for (long refuse = 1; refuse <= all; refuse++) {
@@ -289,8 +323,13 @@ static int memory(void) {
 }
 
 int main(int count, char **words) {
-    if (count < 2) fail("usage: c_library report|memory [force]");
-    force = count > 2 && !strcmp(words[2], "force");
+    if (count < 2) fail("usage: c_library report|status N|memory [force]");
+    bool is_status = !strcmp(words[1], "status");
+    force = !strcmp(words[count - 1], "force");
     read_text();
+    if (is_status) {
+        if (count < 3 || check_refused().status != atoi(words[2])) fail("refused with another status");
+        return 0;
+    }
     return strcmp(words[1], "memory") ? report() : memory();
 }

@@ -4,7 +4,8 @@
 Usage: bench/c_library.py LIBRARY [force] < TEXT
 
 The report is the program's, so bench/c_library.sh compares the two. LIBRARY is a shared object that has the
-whole archive. Where the text is refused, the status is 1, and nothing is printed.
+whole archive. Where the text is refused, the status is 1, and its line is the status and the subject of the refusal,
+on the standard error.
 """
 import ctypes
 import sys
@@ -103,6 +104,11 @@ def main():
     text = sys.stdin.buffer.read()
     counts, buffers = records_of(library, text, force)
     if counts.status != 0:
+        buffer = ctypes.create_string_buffer(64)
+        answer = library.a64_assemble_text(text, len(text), force, ctypes.addressof(buffer), 64)
+        assert (answer.status, answer.subject, answer.length) == (counts.status, counts.subject, 0)
+        assert buffer.raw == bytes(64)
+        print(counts.status, counts.subject, file=sys.stderr)
         return 1
     assert code_of(library, text, force, counts.bytes) == bytes(buffers["bytes"])
     print("\n".join(report_of(counts, buffers)))

@@ -1,12 +1,14 @@
 /* The assembler of A64 texts as a library for C: docs/LIBRARY.md, "From C".
  *
- * Link liba64_c.a, and the C file of the kit that takes memory by malloc, realloc and free.
+ * Link liba64_c.a, and c/liblibc_c.a of the kit, which takes memory by malloc, realloc and free.
  *
  * What the caller owes, and nothing else:
- * - Each pointer is valid for its length, and is not null, also where the length is 0. Lengths of buffers of
- *   structs count structs, not bytes.
- * - No buffer overlaps another buffer or the text.
- * - malloc, realloc and free are of one allocator, and align as C asks.
+ * - Each pointer is valid for its length, aligned for its type, and not null, also where the length is 0.
+ *   Lengths of buffers of structs count structs, not bytes.
+ * - No buffer overlaps another buffer or the text, and nothing else writes the text, or uses a buffer, during
+ *   a call.
+ * - malloc, realloc and free are of one allocator, and align a block to each power of two up to 16 that divides
+ *   its size.
  * - No call is made in a signal handler, nor in a forked child of a process with threads.
  *
  * A call keeps nothing: it gives back all memory that it takes, and no pointer is used after it returns.
