@@ -28,8 +28,8 @@ impl Fault {
 impl fmt::Display for Fault {
     fn fmt<W: fmt::Write>(&self, f: &mut fmt::Formatter<W>) -> fmt::Result {
         match self {
-            Fault::Add(error) => write!(f, "nothing was added: {error:?}"),
-            Fault::Refused(error) => write!(f, "the items are refused: {error:?}"),
+            Fault::Add(error) => write!(f, "nothing was added: {error}"),
+            Fault::Refused(error) => write!(f, "the items are refused: {error}"),
             Fault::Write => write!(f, "write fault"),
         }
     }

@@ -15,15 +15,11 @@ use function::function;
 use std::process::ExitCode;
 
 /// Prints the words of code, a line for each.
-fn print_words(rt: &HostRuntime, bytes: &[u8]) -> Result<(), Fault> {
-    for i in 0..bytes.len() / 4 {
-        let word = u32::from_le_bytes([
-            bytes[4 * i],
-            bytes[4 * i + 1],
-            bytes[4 * i + 2],
-            bytes[4 * i + 3],
-        ]);
-        println!(rt; "word {} {word:08x}", 4 * i)?;
+fn print_words(rt: &HostRuntime, code: &Code) -> Result<(), Fault> {
+    let mut place: u64 = 0;
+    for word in code.words() {
+        println!(rt; "word {place} {word:08x}")?;
+        place = place.saturating_add(4);
     }
     Ok(())
 }
@@ -40,7 +36,7 @@ fn print_relocs(rt: &HostRuntime, code: &Code) -> Result<(), Fault> {
 /// Makes the function and prints it.
 fn run(rt: &HostRuntime) -> Result<(), Fault> {
     let code = function(rt.alloc())?;
-    print_words(rt, &code.bytes)?;
+    print_words(rt, &code)?;
     print_relocs(rt, &code)
 }
 
