@@ -1,13 +1,14 @@
 #!/usr/bin/env bash
 # Times the program `stream` on growing numbers of uses of labels in a buffer of code, and counts the
 # machine instructions that it takes for each of the smaller numbers, of the buffer's work alone, so that
-# growth can be seen. It installs valgrind where it is missing, and builds the program.
+# growth can be seen. It installs valgrind where it is missing, and builds the program. With PROGRAM=FILE it
+# counts that program, and builds none.
 set -eu
 cd "$(dirname "$0")/.."
 command -v valgrind >/dev/null || apt-get install -y -q valgrind >/dev/null ||
     { apt-get update -q >/dev/null; apt-get install -y -q valgrind >/dev/null; }
-(cd crates/a64_stream && rt run >/dev/null 2>&1)
-program=$PWD/crates/a64_stream/out/a64_stream
+[ -n "${PROGRAM:-}" ] || (cd crates/a64_stream && rt run >/dev/null 2>&1)
+program=${PROGRAM:-$PWD/crates/a64_stream/out/a64_stream}
 work=$(mktemp -d)
 trap 'rm -rf "$work"' EXIT
 # Above this number the machine instructions are not counted.
