@@ -1,6 +1,6 @@
 //! Items in a buffer that writes islands.
 
-ghost use Rattle.std.specs.Prelude.{◌≡◌, ◌≢◌, ◌+◌, ◌^◌, ◌<◌, ◌≤◌, true, false, None, [], IfOk, OnOk};
+ghost use Rattle.std.specs.Prelude.{◌≡◌, ◌≢◌, ◌+◌, ◌^◌, ◌<◌, ◌≤◌, true, None, [], IfOk, OnOk};
 ghost use Rattle.std.specs.FinMap.{empty};
 ghost use Rattle.a64_inst.specs.declared.item.Item.TheVariants.{Emit};
 ghost use Rattle.a64_operand.specs.declared.virtuals.VirtualRegisters.TheVariants.{Refused};
@@ -11,7 +11,7 @@ ghost use Rattle.a64_buffer.specs.Constants.{AreConstants};
 ghost use Rattle.a64_emit.specs.Bounds as bounds;
 ghost use Rattle.a64_emit.specs.Bounds.{whole};
 ghost use Rattle.a64_emit.specs.Falls.{inst_falls};
-ghost use Rattle.a64_emit.specs.Faults.{item_fault, own_fault, second_binding};
+ghost use Rattle.a64_emit.specs.Faults.{own_fault, second_binding};
 ghost use Rattle.a64_label_use.specs.LabelUses.{label_kinds};
 ghost use Rattle.a64_assemble.specs.Asks.{AsksNext, MayMove, Moves, NeedsNone};
 ghost use Rattle.a64_assemble.specs.Elements as elements;
@@ -29,7 +29,7 @@ use std::alloc::{AllocError, Global};
 
 /// Emits an instruction at the end of a buffer, which is its place; where it has words, an island comes behind them where the
 /// next words need one, and gives veneers to all far uses where islands are forced. In quiet code none
-/// comes, nor at a place for one. The next words need no more than `widest` bytes, so that the rest is
+/// comes. The next words need no more than `widest` bytes, so that the rest is
 /// looked at only where an island is needed before so many.
 ///
 /// # Errors
@@ -147,7 +147,7 @@ fn put_emitted(
 }
 
 /// Puts items one after another into a buffer without code, with islands between them, and answers their
-/// places. Between items that are quiet no island is asked for. Behind no item do the next words need more
+/// places. Behind the words of items that are quiet no island is asked for. Behind no item do the next words need more
 /// than `widest` bytes.
 ///
 /// # Errors

@@ -19,12 +19,11 @@ use Rattle.a64_buffer.specs.Kinds.{Kinds, IsLawful}
 use Rattle.a64_buffer.specs.Constants.{IsConstant}
 use Rattle.a64_buffer.specs.Buffer.{Buffer, end_of, label_of, goal_of}
 use Rattle.a64_buffer.specs.Areas.{InArea}
-use Rattle.a64_buffer.specs.Chain.{AreChained}
 use Rattle.a64_buffer.specs.Classes.{third, label_class, wants, rank_of, cost, veneer_uses, class, is_open, weigh, weight_of, owed, class_of}
 use Rattle.a64_buffer.specs.Later.{IsSameUse, IsLater}
 use Rattle.a64_buffer.specs.Sound.{seen, IsPlaced, AreApart, IsKnown, IsSound}
 use Rattle.a64_buffer.specs.Islands.{IsVeneerUse}
-use Rattle.a64_buffer.specs.Space.{SameRoom, HasSpace}
+use Rattle.a64_buffer.specs.Space.{SameRoom, HasSpace, IsTracked}
 use Rattle.a64_buffer.specs.Pieces.{AtGoal, key_of, ComesBefore, Serves}
 use Rattle.a64_buffer.specs.Steps.{stopped, waits_for, GivesJump, GivesFar, GivesTrap, GivesCopy, IsPart, everywhere, HoldFrom, ServesNext, GivesAll, MayWrite, IsWriting, IsNextOpen, IsReady}
 use Rattle.a64_buffer.proofs.Rooms.{open_wants}
@@ -387,14 +386,14 @@ module _ {K : Type 0} (r : Kinds K) (limit : ℕ) (five : limit ≤ 5) (start p 
   ranks d = next_ranks r (seen p) limit index (get_or p.uses.items index d) w.sound next.0 (get_or_default p.uses.items index d (get_or p.uses.items index d) next.0) (next.1 d).1 (next.1 d).2
 
   -- the open use that comes first is ready
-  pub ready_next : HasSpace r p → AreChained p.uses.items p.earlier.items p.heads p.loads → IsReady r p index
-  ready_next space chained = record {
+  pub ready_next : HasSpace r p → IsTracked r p → IsReady r p index
+  ready_next space tracked = record {
     within = next.0;
     least = λ d. (next.1 d).2;
     next = λ d. ((next.1 d).0, (ranks d).1);
     may = may_write_on r limit (seen start) (seen p) may w;
     space = space;
-    chained = chained;
+    tracked = tracked;
   }
 
   pub writing_next : (d : Use K) (p' : Parts K) → GivesAll r (class r (get_or p.uses.items index d)) (seen p) (seen p') → IsWriting r limit (seen start) (seen p')

@@ -17,8 +17,8 @@ use Rattle.a64_buffer.specs.Classes.{class, rank_of, level_of, cost_in, wants, v
 use Rattle.a64_buffer.specs.declared.force.ForceVeneers.{ForceVeneers}
 use Rattle.a64_buffer.specs.declared.force.ForceVeneers.TheVariants.{No, Yes}
 use Rattle.a64_buffer.specs.Later.{IsLater}
-use Rattle.a64_buffer.specs.Space.{HasSpace}
-use Rattle.a64_buffer.specs.Sound.{seen, HasChains, AreApart, IsSound}
+use Rattle.a64_buffer.specs.Space.{HasSpace, IsTracked}
+use Rattle.a64_buffer.specs.Sound.{seen, AreApart, IsSound}
 use Rattle.a64_buffer.specs.Pieces.{padding, listed, AtGoal, key_of, Serves}
 use Rattle.a64_buffer.specs.Islands.{IsVeneerUse, FarWaits}
 
@@ -228,4 +228,4 @@ pub record IsReady {K : Type 0} (r : Kinds K) (p : Parts K) (index : ℕ) : Type
   pub next : (d : Use K) → (is_open r (slice_index_or p.uses.items index d) ≡ true) × All (λ u. is_open r u ≡ true → rank_of (class r (slice_index_or p.uses.items index d)) ≤ rank_of (class r u)) p.uses.items
   pub may : MayWrite r (seen p)
   pub space : HasSpace r p
-  pub chained : HasChains p
+  pub tracked : IsTracked r p

@@ -4,7 +4,7 @@
 ghost use Rattle.std.specs.Prelude.{◌≡◌, ◌<◌, false, is_some, length, map, slice_set, slice_index_or};
 ghost use Rattle.a64_buffer.specs.Buffer.{reached, closed_at};
 ghost use Rattle.a64_buffer.specs.Classes as classes;
-ghost use Rattle.a64_buffer.specs.Queues.{AllHold, AllLimits, AreBurdens, AreWaiting};
+ghost use Rattle.a64_buffer.specs.Queues.{AreWaiting};
 ghost use Rattle.a64_buffer.specs.Chain.{with_stop, labels_of, emptied, IsChained, IsLast};
 
 use crate::class::Class;
@@ -56,9 +56,7 @@ fn close_use<K: MachInstLabelUse>(
     requires waiting { AreWaiting K.kinds uses.old queues.old burdens.old }
     ensures uses { (d : _) → uses.new ≡ slice_set uses.old index
         (with_stop K.kinds place (slice_index_or uses.old index d)) }
-    ensures hold { AllHold K.kinds uses.new queues.new }
-    ensures limits { AllLimits K.kinds uses.new queues.new }
-    ensures burdens { AreBurdens K.kinds uses.new burdens.new }
+    ensures waiting { AreWaiting K.kinds uses.new queues.new burdens.new }
 {
     let site = uses[index];
     if site.stop.is_some() {
@@ -92,9 +90,7 @@ fn close_as<K: MachInstLabelUse>(
     requires class { (d : _) → classes.class K.kinds (slice_index_or uses.old index d) ≡ class }
     ensures uses { (d : _) → uses.new ≡ slice_set uses.old index
         (with_stop K.kinds place (slice_index_or uses.old index d)) }
-    ensures hold { AllHold K.kinds uses.new queues.new }
-    ensures limits { AllLimits K.kinds uses.new queues.new }
-    ensures burdens { AreBurdens K.kinds uses.new burdens.new }
+    ensures waiting { AreWaiting K.kinds uses.new queues.new burdens.new }
 {
     let site = uses[index];
     let stop = reached(site.kind, site.offset, place);

@@ -62,20 +62,15 @@ fn stop_loads<K: MachInstLabelUse>(
 
 impl<'c, K: MachInstLabelUse> Parts<'c, K> {
     ghost use Rattle.a64_buffer.specs.Sound.{seen};
-    ghost use Rattle.a64_buffer.specs.Chain.{AreChained};
-    ghost use Rattle.a64_buffer.specs.Space.{SameRoom};
+    ghost use Rattle.a64_buffer.specs.Space.{IsTracked, KeepsQueues};
 
     /// Lets all open loads of a constant stop at a place.
     fn stop_loads(&mut self, constant: u32, place: u32)
-        requires chained { AreChained self.old.uses.items self.old.earlier.items self.old.heads
-            self.old.loads }
-        requires burdens { AreBurdens K.kinds self.old.uses.items self.old.burdens }
+        requires tracked { IsTracked K.kinds self.old }
         ensures uses { self.new.uses.items ≡ map
             (stopped (waits_for constant) place) self.old.uses.items }
         ensures capacity { vec_capacity self.new.uses ≡ vec_capacity self.old.uses }
-        ensures chained { AreChained self.new.uses.items self.new.earlier.items self.new.heads
-            self.new.loads }
-        ensures burdens { AreBurdens K.kinds self.new.uses.items self.new.burdens }
+        ensures tracked { IsTracked K.kinds self.new }
         ensures rest { self.new ≡ record self.old {
           uses = self.new.uses;
           loads = self.new.loads;
@@ -99,16 +94,10 @@ impl<'c, K: MachInstLabelUse> Parts<'c, K> {
         requires known { IsSome (finmap.get (seen self.old).constants constant.0) }
         requires short { end_of (seen self.old) + 28 < 2 ^ 31 }
         requires words { length self.old.words.items + 7 ≤ self.old.words.capacity }
-        requires chained { AreChained self.old.uses.items self.old.earlier.items self.old.heads
-            self.old.loads }
-        requires burdens { AreBurdens K.kinds self.old.uses.items self.old.burdens }
+        requires tracked { IsTracked K.kinds self.old }
         ensures gives { IfSome (finmap.get (seen self.old).constants constant.0)
             (λ content. GivesCopy K.kinds constant.0 content (seen self.old) (seen self.new)) }
-        ensures chained { AreChained self.new.uses.items self.new.earlier.items self.new.heads
-            self.new.loads }
-        ensures room { SameRoom self.old self.new }
-        ensures queues { self.new.queues ≡ self.old.queues }
-        ensures burdens { AreBurdens K.kinds self.new.uses.items self.new.burdens }
+        ensures keeps { KeepsQueues K.kinds self.old self.new }
     {
         let constants = self.constants;
         let Some(bytes) = constants.bytes_of(constant) else {

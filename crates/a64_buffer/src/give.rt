@@ -35,9 +35,9 @@ fn push_far_words<K: MachInstLabelUse>(words: &mut Words, kind: K, place: u32) -
 impl<'c, K: MachInstLabelUse> Parts<'c, K> {
     ghost use Rattle.a64_buffer.specs.Sound.{seen, AreApart};
     ghost use Rattle.a64_buffer.specs.Steps.{stopped, stands_at, AddsUse, GivesJump, GivesFar, GivesTrap};
-    ghost use Rattle.a64_buffer.specs.Chain.{constant_of, AreChained};
-    ghost use Rattle.a64_buffer.specs.Queues.{IsWaitingClass, AreBurdens};
-    ghost use Rattle.a64_buffer.specs.Space.{SameRoom};
+    ghost use Rattle.a64_buffer.specs.Chain.{constant_of};
+    ghost use Rattle.a64_buffer.specs.Queues.{IsWaitingClass};
+    ghost use Rattle.a64_buffer.specs.Space.{IsTracked, KeepsQueues};
 
     /// Lets the use at an index, which loads no constant, stop at a place, in bytes from the start of
     /// the code. The class is what the use waits for, where it waits.
@@ -48,18 +48,14 @@ impl<'c, K: MachInstLabelUse> Parts<'c, K> {
             (slice_index_or self.old.uses.items index d).target ≡ None }
         requires class { (d : _) → IsWaitingClass K.kinds
             (slice_index_or self.old.uses.items index d) class }
-        requires chained { AreChained self.old.uses.items self.old.earlier.items self.old.heads
-            self.old.loads }
-        requires burdens { AreBurdens K.kinds self.old.uses.items self.old.burdens }
+        requires tracked { IsTracked K.kinds self.old }
         ensures uses { (d : _) → AreApart self.old.uses.items
             → self.new.uses.items ≡ map (stopped
             (stands_at
             (slice_index_or self.old.uses.items index d).offset) place) self.old.uses.items }
-        ensures chained { AreChained self.new.uses.items self.new.earlier.items self.new.heads
-            self.new.loads }
+        ensures tracked { IsTracked K.kinds self.new }
         ensures capacity { vec_capacity self.new.uses ≡ vec_capacity self.old.uses }
         ensures len { vec_len self.new.uses ≡ vec_len self.old.uses }
-        ensures burdens { AreBurdens K.kinds self.new.uses.items self.new.burdens }
         ensures less { self.new.burdens.third ≤ self.old.burdens.third }
         ensures rest { self.new ≡ record self.old {
           uses = self.new.uses;
@@ -76,19 +72,15 @@ impl<'c, K: MachInstLabelUse> Parts<'c, K> {
     pub fn push_use(&mut self, site: Use<K>)
         requires uses { vec_len self.old.uses < vec_capacity self.old.uses }
         requires earlier { vec_len self.old.earlier < vec_capacity self.old.earlier }
-        requires chained { AreChained self.old.uses.items self.old.earlier.items self.old.heads
-            self.old.loads }
+        requires tracked { IsTracked K.kinds self.old }
         requires known { IfSome (label_of site.target)
             (λ label. IsSome (finmap.get self.old.heads label)) }
         requires target { constant_of site.target ≡ None }
-        requires burdens { AreBurdens K.kinds self.old.uses.items self.old.burdens }
         requires few { self.old.burdens.third < 2 ^ 32 }
         ensures uses { self.new.uses.items ≡ self.old.uses.items ++ site ∷ [] }
-        ensures chained { AreChained self.new.uses.items self.new.earlier.items self.new.heads
-            self.new.loads }
+        ensures tracked { IsTracked K.kinds self.new }
         ensures uses_capacity { vec_capacity self.new.uses ≡ vec_capacity self.old.uses }
         ensures earlier_capacity { vec_capacity self.new.earlier ≡ vec_capacity self.old.earlier }
-        ensures burdens { AreBurdens K.kinds self.new.uses.items self.new.burdens }
         ensures rest { self.new ≡ record self.old {
           uses = self.new.uses;
           earlier = self.new.earlier;
@@ -138,19 +130,13 @@ impl<'c, K: MachInstLabelUse> Parts<'c, K> {
         requires words { length self.old.words.items < self.old.words.capacity }
         requires uses { vec_len self.old.uses < vec_capacity self.old.uses }
         requires earlier { vec_len self.old.earlier < vec_capacity self.old.earlier }
-        requires chained { AreChained self.old.uses.items self.old.earlier.items self.old.heads
-            self.old.loads }
-        requires burdens { AreBurdens K.kinds self.old.uses.items self.old.burdens }
+        requires tracked { IsTracked K.kinds self.old }
         requires few { self.old.burdens.third < 2 ^ 32 }
         ensures gives { (d : _) → AreApart self.old.uses.items
             → GivesJump K.kinds (slice_index_or self.old.uses.items index d) (seen self.old)
             (seen self.new) }
         ensures added { AddsUse self.old.uses.items self.new.uses.items result }
-        ensures chained { AreChained self.new.uses.items self.new.earlier.items self.new.heads
-            self.new.loads }
-        ensures room { SameRoom self.old self.new }
-        ensures queues { self.new.queues ≡ self.old.queues }
-        ensures burdens { AreBurdens K.kinds self.new.uses.items self.new.burdens }
+        ensures keeps { KeepsQueues K.kinds self.old self.new }
     {
         let place = self.end();
         let target = Target::Label(label);
@@ -185,19 +171,13 @@ impl<'c, K: MachInstLabelUse> Parts<'c, K> {
             ≤ self.old.words.capacity }
         requires uses { vec_len self.old.uses < vec_capacity self.old.uses }
         requires earlier { vec_len self.old.earlier < vec_capacity self.old.earlier }
-        requires chained { AreChained self.old.uses.items self.old.earlier.items self.old.heads
-            self.old.loads }
-        requires burdens { AreBurdens K.kinds self.old.uses.items self.old.burdens }
+        requires tracked { IsTracked K.kinds self.old }
         requires few { self.old.burdens.third < 2 ^ 32 }
         ensures gives { (d : _) → AreApart self.old.uses.items
             → GivesFar K.kinds (slice_index_or self.old.uses.items index d) (seen self.old)
             (seen self.new) }
         ensures added { AddsUse self.old.uses.items self.new.uses.items result }
-        ensures chained { AreChained self.new.uses.items self.new.earlier.items self.new.heads
-            self.new.loads }
-        ensures room { SameRoom self.old self.new }
-        ensures queues { self.new.queues ≡ self.old.queues }
-        ensures burdens { AreBurdens K.kinds self.new.uses.items self.new.burdens }
+        ensures keeps { KeepsQueues K.kinds self.old self.new }
     {
         let place = self.end();
         let site = self.uses[index];
@@ -226,18 +206,12 @@ impl<'c, K: MachInstLabelUse> Parts<'c, K> {
         requires short { end_of (seen self.old) + 4 < 2 ^ 31 }
         requires words { length self.old.words.items < self.old.words.capacity }
         requires traps { vec_len self.old.traps < vec_capacity self.old.traps }
-        requires chained { AreChained self.old.uses.items self.old.earlier.items self.old.heads
-            self.old.loads }
-        requires burdens { AreBurdens K.kinds self.old.uses.items self.old.burdens }
+        requires tracked { IsTracked K.kinds self.old }
         requires few { self.old.burdens.third < 2 ^ 32 }
         ensures gives { (d : _) → AreApart self.old.uses.items
             → GivesTrap K.kinds (slice_index_or self.old.uses.items index d) code (seen self.old)
             (seen self.new) }
-        ensures chained { AreChained self.new.uses.items self.new.earlier.items self.new.heads
-            self.new.loads }
-        ensures room { SameRoom self.old self.new }
-        ensures queues { self.new.queues ≡ self.old.queues }
-        ensures burdens { AreBurdens K.kinds self.new.uses.items self.new.burdens }
+        ensures keeps { KeepsQueues K.kinds self.old self.new }
     {
         let place = self.end();
         self.stop_at(index, place, Class::Trapping);

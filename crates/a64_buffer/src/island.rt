@@ -16,10 +16,10 @@ use a64_base::MachLabel;
 use std::alloc::AllocError;
 
 impl<'c, K: MachInstLabelUse> Parts<'c, K> {
-    ghost use Rattle.a64_buffer.specs.Sound.{seen, HasChains, IsPlaced, IsKinded, AreSound};
+    ghost use Rattle.a64_buffer.specs.Sound.{seen, IsPlaced, IsKinded, AreSound};
     ghost use Rattle.a64_buffer.specs.Chain.{constant_of};
-    ghost use Rattle.a64_buffer.specs.Queues.{AllHold, AllLimits, AreBurdens, AreWaiting};
-    ghost use Rattle.a64_buffer.specs.Space.{SameRoom, HasSpace, HasSpaceForMore, HasVeneerRoom};
+    ghost use Rattle.a64_buffer.specs.Queues.{AllLimits, AreWaiting};
+    ghost use Rattle.a64_buffer.specs.Space.{HasSpace, HasSpaceForMore, IsTracked, KeepsQueues, IsKept, Keeps};
     ghost use Rattle.a64_buffer.specs.Steps.{AddsUse, MayAddUse, IsNextOpen, IsReady, IsOfClass};
     ghost use Rattle.a64_buffer.specs.Steps.{GivesAll, GivesUse, MayWrite, Writes, WritesFar};
     ghost use Rattle.a64_buffer.specs.Steps.{StandsAt, EndsJump, EndsIsland};
@@ -45,13 +45,9 @@ impl<'c, K: MachInstLabelUse> Parts<'c, K> {
         requires class { IsOfClass K.kinds class self.old.uses.items index }
         requires label { (d : _) →
             (slice_index_or self.old.uses.items index d).target ≡ Label label }
-        requires burdens { AreBurdens K.kinds self.old.uses.items self.old.burdens }
         ensures gives { GivesAll K.kinds class (seen self.old) (seen self.new) }
         ensures added { AddsUse self.old.uses.items self.new.uses.items result }
-        ensures chained { HasChains self.new }
-        ensures room { SameRoom self.old self.new }
-        ensures queues { self.new.queues ≡ self.old.queues }
-        ensures burdens { AreBurdens K.kinds self.new.uses.items self.new.burdens }
+        ensures keeps { KeepsQueues K.kinds self.old self.new }
     {
         match class {
             Class::Near | Class::Middle => self.give_jump(index, label, class),
@@ -66,13 +62,9 @@ impl<'c, K: MachInstLabelUse> Parts<'c, K> {
     fn give(&mut self, index: usize, class: Class) -> Option<Use<K>>
         requires ready { IsReady K.kinds self.old index }
         requires class { IsOfClass K.kinds class self.old.uses.items index }
-        requires burdens { AreBurdens K.kinds self.old.uses.items self.old.burdens }
         ensures gives { GivesAll K.kinds class (seen self.old) (seen self.new) }
         ensures added { MayAddUse self.old.uses.items self.new.uses.items result }
-        ensures chained { HasChains self.new }
-        ensures room { SameRoom self.old self.new }
-        ensures queues { self.new.queues ≡ self.old.queues }
-        ensures burdens { AreBurdens K.kinds self.new.uses.items self.new.burdens }
+        ensures keeps { KeepsQueues K.kinds self.old self.new }
     {
         match self.uses[index].target {
             Target::Label(label) => return Some(self.give_veneer(index, label, class)),
@@ -89,17 +81,9 @@ impl<'c, K: MachInstLabelUse> Parts<'c, K> {
     fn serve_as(&mut self, index: usize, class: Class)
         requires ready { IsReady K.kinds self.old index }
         requires class { IsOfClass K.kinds class self.old.uses.items index }
-        requires hold { AllHold K.kinds self.old.uses.items self.old.queues }
-        requires limits { AllLimits K.kinds self.old.uses.items self.old.queues }
-        requires burdens { AreBurdens K.kinds self.old.uses.items self.old.burdens }
-        requires queued { HasVeneerRoom K.kinds self.old 0 }
+        requires kept { IsKept K.kinds self.old 0 }
         ensures gives { GivesAll K.kinds class (seen self.old) (seen self.new) }
-        ensures chained { HasChains self.new }
-        ensures room { SameRoom self.old self.new }
-        ensures hold { AllHold K.kinds self.new.uses.items self.new.queues }
-        ensures burdens { AreBurdens K.kinds self.new.uses.items self.new.burdens }
-        ensures limits { AllLimits K.kinds self.new.uses.items self.new.queues }
-        ensures queued { HasVeneerRoom K.kinds self.new 0 }
+        ensures keeps { Keeps K.kinds self.old self.new }
     {
         let from = self.uses.len();
         let added = self.give(index, class);
@@ -121,17 +105,9 @@ impl<'c, K: MachInstLabelUse> Parts<'c, K> {
     #[inline(always)]
     fn serve(&mut self, index: usize)
         requires ready { IsReady K.kinds self.old index }
-        requires hold { AllHold K.kinds self.old.uses.items self.old.queues }
-        requires limits { AllLimits K.kinds self.old.uses.items self.old.queues }
-        requires burdens { AreBurdens K.kinds self.old.uses.items self.old.burdens }
-        requires queued { HasVeneerRoom K.kinds self.old 0 }
+        requires kept { IsKept K.kinds self.old 0 }
         ensures gives { GivesUse K.kinds index (seen self.old) (seen self.new) }
-        ensures chained { HasChains self.new }
-        ensures room { SameRoom self.old self.new }
-        ensures hold { AllHold K.kinds self.new.uses.items self.new.queues }
-        ensures burdens { AreBurdens K.kinds self.new.uses.items self.new.burdens }
-        ensures limits { AllLimits K.kinds self.new.uses.items self.new.queues }
-        ensures queued { HasVeneerRoom K.kinds self.new 0 }
+        ensures keeps { Keeps K.kinds self.old self.new }
     {
         match self.uses[index].class() {
             Class::Near => self.serve_as(index, Class::Near),
@@ -148,19 +124,10 @@ impl<'c, K: MachInstLabelUse> Parts<'c, K> {
         requires limit { limit ≤ 5 }
         requires may { MayWrite K.kinds (seen self.old) }
         requires space { HasSpace K.kinds self.old }
-        requires chained { HasChains self.old }
-        requires hold { AllHold K.kinds self.old.uses.items self.old.queues }
-        requires burdens { AreBurdens K.kinds self.old.uses.items self.old.burdens }
-        requires limits { AllLimits K.kinds self.old.uses.items self.old.queues }
-        requires queued { HasVeneerRoom K.kinds self.old 0 }
+        requires kept { IsKept K.kinds self.old 0 }
         ensures writes { Writes K.kinds limit (seen self.old) (seen self.new) }
         ensures space { HasSpace K.kinds self.new }
-        ensures chained { HasChains self.new }
-        ensures room { SameRoom self.old self.new }
-        ensures hold { AllHold K.kinds self.new.uses.items self.new.queues }
-        ensures burdens { AreBurdens K.kinds self.new.uses.items self.new.burdens }
-        ensures limits { AllLimits K.kinds self.new.uses.items self.new.queues }
-        ensures queued { HasVeneerRoom K.kinds self.new 0 }
+        ensures keeps { Keeps K.kinds self.old self.new }
     {
         while let Some(index) = self.next_open(limit) {
             self.serve(index);
@@ -170,8 +137,7 @@ impl<'c, K: MachInstLabelUse> Parts<'c, K> {
     /// Takes the memory for all that open uses may want, and for one use, word and island more.
     pub fn reserve_all(&mut self) -> Result<(), AllocError>
         requires owed { owed K.kinds (seen self.old) < 2 ^ 31 }
-        requires burdens { AreBurdens K.kinds self.old.uses.items self.old.burdens }
-        requires chained { HasChains self.old }
+        requires tracked { IsTracked K.kinds self.old }
         ensures ok { OnOk result (HasSpaceForMore K.kinds self.new) }
         ensures rest { seen self.new ≡ seen self.old }
         ensures earlier { self.new.earlier.items ≡ self.old.earlier.items }
@@ -196,19 +162,10 @@ impl<'c, K: MachInstLabelUse> Parts<'c, K> {
         requires words { length self.old.words.items < self.old.words.capacity }
         requires uses { vec_len self.old.uses < vec_capacity self.old.uses }
         requires earlier { vec_len self.old.earlier < vec_capacity self.old.earlier }
-        requires chained { HasChains self.old }
-        requires hold { AllHold K.kinds self.old.uses.items self.old.queues }
-        requires limits { AllLimits K.kinds self.old.uses.items self.old.queues }
-        requires burdens { AreBurdens K.kinds self.old.uses.items self.old.burdens }
-        requires queued { HasVeneerRoom K.kinds self.old 1 }
+        requires kept { IsKept K.kinds self.old 1 }
         requires few { self.old.burdens.third < 2 ^ 32 }
         ensures begun { seen self.new ≡ begun K.kinds jump (seen self.old) }
-        ensures chained { HasChains self.new }
-        ensures room { SameRoom self.old self.new }
-        ensures hold { AllHold K.kinds self.new.uses.items self.new.queues }
-        ensures burdens { AreBurdens K.kinds self.new.uses.items self.new.burdens }
-        ensures limits { AllLimits K.kinds self.new.uses.items self.new.queues }
-        ensures queued { HasVeneerRoom K.kinds self.new 0 }
+        ensures keeps { Keeps K.kinds self.old self.new }
         ensures islands { self.new.islands ≡ self.old.islands }
     {
         if !jump {
@@ -229,11 +186,9 @@ impl<'c, K: MachInstLabelUse> Parts<'c, K> {
     #[inline(always)]
     fn end_jump(&mut self, index: usize, start: u32, end: u32, jump: bool)
         requires over { jump ≡ true → StandsAt index start self.old.uses.items }
-        requires chained { HasChains self.old }
-        requires burdens { AreBurdens K.kinds self.old.uses.items self.old.burdens }
+        requires tracked { IsTracked K.kinds self.old }
         ensures uses { EndsJump jump start end self.old.uses.items self.new.uses.items }
-        ensures chained { HasChains self.new }
-        ensures burdens { AreBurdens K.kinds self.new.uses.items self.new.burdens }
+        ensures tracked { IsTracked K.kinds self.new }
         ensures capacity { vec_capacity self.new.uses ≡ vec_capacity self.old.uses }
         ensures rest { self.new ≡ record self.old {
           uses = self.new.uses;
@@ -253,12 +208,10 @@ impl<'c, K: MachInstLabelUse> Parts<'c, K> {
         requires over { jump ≡ true → StandsAt index start self.old.uses.items }
         requires short { end_of (seen self.old) < 2 ^ 31 }
         requires islands { vec_len self.old.islands < vec_capacity self.old.islands }
-        requires chained { HasChains self.old }
-        requires burdens { AreBurdens K.kinds self.old.uses.items self.old.burdens }
+        requires tracked { IsTracked K.kinds self.old }
         ensures ended { EndsIsland jump start (seen self.old) (seen self.new) }
-        ensures chained { HasChains self.new }
+        ensures tracked { IsTracked K.kinds self.new }
         ensures queues { self.new.queues ≡ self.old.queues }
-        ensures burdens { AreBurdens K.kinds self.new.uses.items self.new.burdens }
         ensures capacity { vec_capacity self.new.uses ≡ vec_capacity self.old.uses }
     {
         let end = self.end();
@@ -314,17 +267,9 @@ impl<'c, K: MachInstLabelUse> Parts<'c, K> {
     fn promote(&mut self, distance: u32, force: ForceVeneers)
         requires may { MayWrite K.kinds (seen self.old) }
         requires space { HasSpace K.kinds self.old }
-        requires chained { HasChains self.old }
-        requires hold { AllHold K.kinds self.old.uses.items self.old.queues }
-        requires burdens { AreBurdens K.kinds self.old.uses.items self.old.burdens }
-        requires limits { AllLimits K.kinds self.old.uses.items self.old.queues }
-        requires queued { HasVeneerRoom K.kinds self.old 0 }
+        requires kept { IsKept K.kinds self.old 0 }
         ensures promotes { WritesFar K.kinds distance force (seen self.old) (seen self.new) }
-        ensures chained { HasChains self.new }
-        ensures room { SameRoom self.old self.new }
-        ensures hold { AllHold K.kinds self.new.uses.items self.new.queues }
-        ensures burdens { AreBurdens K.kinds self.new.uses.items self.new.burdens }
-        ensures limits { AllLimits K.kinds self.new.uses.items self.new.queues }
+        ensures keeps { Keeps K.kinds self.old self.new }
     {
         if self.promotes(distance, force) {
             self.write_until(5);

@@ -25,11 +25,8 @@ impl<'c, K: MachInstLabelUse> Parts<'c, K> {
         requires room { HaveRoomForOne class limit self.old.queues }
         requires waiting { AreWaiting K.kinds self.old.uses.items self.old.queues self.old.burdens }
         requires few { burden K.kinds third self.old.uses.items < 2 ^ 32 }
-        ensures hold { AllHold K.kinds (self.old.uses.items ++ site.now ∷ []) self.new.queues }
-        ensures limits { AllLimits K.kinds (self.old.uses.items ++ site.now
-            ∷ []) self.new.queues }
-        ensures burdens { AreBurdens K.kinds (self.old.uses.items ++ site.now
-            ∷ []) self.new.burdens }
+        ensures waiting { AreWaiting K.kinds (self.old.uses.items ++ site.now ∷ [])
+            self.new.queues self.new.burdens }
         ensures rest { self.new ≡ record self.old {
           queues = self.new.queues;
           burdens = self.new.burdens;

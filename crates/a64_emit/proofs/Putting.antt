@@ -65,7 +65,7 @@ module _ (b : Buffer LabelUse) (cells : List Cell) where
   pub put_burden : (l : Level) → burden label_kinds l (b.uses ++ uses_from b.labels (end_of b) cells) ≤ burden label_kinds l b.uses + 28 * length (ranges_in cells)
   put_burden l = omega (arith, weight-append label_kinds (cost l) b.uses (uses_from b.labels (end_of b) cells), burden_third label_kinds l (uses_from b.labels (end_of b) cells), new_burden b.labels (end_of b) cells)
 
-  -- where their size and 28 for each use of them fit, cells fit with their uses counted
+  -- where their size and 28 for each use of them that may want something of an island fit, cells fit with their uses counted
   pub put_room : IsWhole label_kinds b → AreCompact cells → 1 ≤ length cells → Fits label_kinds b (size_of cells + 28 * length (ranges_in cells)) → CellsFit b cells
   put_room whole compact some h = record {
     rooms = All-append (λ (u : Use LabelUse). is_open label_kinds u ≡ true → end_of b + 4 * length cells + 4 + burden label_kinds (level_of (class label_kinds u)) (b.uses ++ uses_from b.labels (end_of b) cells) ≤ u.offset + range_of label_kinds (level_of (class label_kinds u))) b.uses (uses_from b.labels (end_of b) cells)

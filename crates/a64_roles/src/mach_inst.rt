@@ -1,6 +1,6 @@
 //! What register allocation and code generators ask of instructions.
 
-ghost use Rattle.std.specs.Prelude.{ℕ, ◌≡◌, ◌≤◌, ◌↔◌, ◌⊎◌, Bool, IsTrue, List, [], ◌∷◌, map, None, Option, Some, OnErr, IfOk, IfErr};
+ghost use Rattle.std.specs.Prelude.{ℕ, ◌≡◌, ◌≤◌, ◌↔◌, ◌⊎◌, Bool, IsTrue, List, [], ◌∷◌, map, None, Option, Some, OnErr, IfOk};
 ghost use Rattle.a64_base.specs.declared.ir_type.IrType.{IrType};
 ghost use Rattle.a64_base.specs.declared.entity.MachLabel.{MachLabel};
 ghost use Rattle.a64_base.specs.declared.reg.Reg.{Reg};

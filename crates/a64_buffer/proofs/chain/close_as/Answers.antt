@@ -1,4 +1,5 @@
-use Rattle.std.proofs.Common.{◌≡◌, true, false, not, get_or, set, is_some, sym, ◌∙◌, ap, inl, inr}
+use Rattle.std.proofs.Common.{arith, ◌≡◌, true, false, not, get_or, set, is_some, sym, ◌∙◌, ap, inl, inr}
+use Rattle.std.proofs.lemmas.Grind.{common_steps}
 use Rattle.std.specs.Prelude.{◌&&◌, is_none}
 use Rattle.a64_buffer.specs.declared.site.Use.{Use}
 use Rattle.std.proofs.lemmas.List.{get_or_default}
@@ -25,17 +26,17 @@ close_queued-requires-clause-limits g c =
     ])
     (c.requires.waiting.limits rank q l)
 
-pub returns-else-wants-clause-hold : goal.returns-else-wants-clause-hold
-returns-else-wants-clause-hold g c = stopped_hold g.K.MachInstLabelUse.kinds c.args.uses.now c.args.queues.now c.args.index c.index-uses-index-2.result c.reached-stop.result c.requires.index (ap not (c.is_none.ensures ∙ ap not c.if-is_none.false)) c.requires.waiting.hold
-
-pub returns-else-wants-clause-limits : goal.returns-else-wants-clause-limits
-returns-else-wants-clause-limits g c =
-    λ rank q l.
-    stopped_limit g.K.MachInstLabelUse.kinds rank c.args.uses.now c.args.index c.index-uses-index-2.result c.reached-stop.result _ _ c.requires.index (ap not (c.is_none.ensures ∙ ap not c.if-is_none.false))
-    (λ d o e z.
-    let x : false ≡ true = sym c.if-wants.false ∙ (c.wants.ensures ∙ (ap wants (sym (c.requires.class d)) ∙ open_wants g.K.MachInstLabelUse.kinds (get_or c.args.uses.now c.args.index d) o)) in
-    cc)
-    (c.requires.waiting.limits rank q l)
+pub returns-else-wants-clause-waiting : goal.returns-else-wants-clause-waiting
+returns-else-wants-clause-waiting g c = record {
+  hold = stopped_hold g.K.MachInstLabelUse.kinds c.args.uses.now c.args.queues.now c.args.index c.index-uses-index-2.result c.reached-stop.result c.requires.index (ap not (c.is_none.ensures ∙ ap not c.if-is_none.false)) c.requires.waiting.hold;
+  limits = λ rank q l.
+      stopped_limit g.K.MachInstLabelUse.kinds rank c.args.uses.now c.args.index c.index-uses-index-2.result c.reached-stop.result _ _ c.requires.index (ap not (c.is_none.ensures ∙ ap not c.if-is_none.false))
+      (λ d o e z.
+      let x : false ≡ true = sym c.if-wants.false ∙ (c.wants.ensures ∙ (ap wants (sym (c.requires.class d)) ∙ open_wants g.K.MachInstLabelUse.kinds (get_or c.args.uses.now c.args.index d) o)) in
+      cc)
+      (c.requires.waiting.limits rank q l);
+  burdens = grind (arith, common_steps);
+}
 
 pub close_queued-requires-clause-none : goal.close_queued-requires-clause-none
 close_queued-requires-clause-none g c =

@@ -19,7 +19,7 @@ loop-at-preserved g c =
     let i : c.loop-at.at - 1 < length (labels_of c.args.uses.now) = omega (arith, c.loop-at.invariant.walked.within, length-map c.args.uses.now (λ (u : Use g.row.K.Denot). label_of u.target)) in
     record {
       walked = walked_more (λ (u : Use g.row.K.Denot). label_of u.target) c.args.label (closed_at g.K.MachInstLabelUse.kinds c.args.label c.args.place) (with_stop g.K.MachInstLabelUse.kinds c.args.place) (closes g.K.MachInstLabelUse.kinds c.args.label c.args.place) c.loop-at.at _ c.args.uses.now c.loop-at.uses c.close_use.new.uses p c.loop-at.invariant.walked (c.requires.chained.links (c.loop-at.at - 1) c.args.label i (c.loop-at.invariant.walked.here p)) c.close_use.ensures.uses c.close_use.auto.uses;
-      waiting = record { hold = c.close_use.ensures.hold; limits = c.close_use.ensures.limits; burdens = c.close_use.ensures.burdens };
+      waiting = c.close_use.ensures.waiting;
     }
 
 pub returns-clause-uses : goal.returns-clause-uses

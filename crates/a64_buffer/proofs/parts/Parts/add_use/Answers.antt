@@ -39,7 +39,7 @@ returns-clause-sound g c =
           (whole_use g.K.MachInstLabelUse.kinds g.met.K.MachInstLabelUse.lawful (seen c.args.self.now) c.requires.sound.whole c.args.offset c.args.target c.args.kind c.requires.aligned c.requires.inside c.requires.free c.requires.outside c.requires.kinded c.requires.known c.requires.fits);
       chained = chained_more c.args.self.now.uses.items c.push_reserved-2.new.self.items c.args.self.now.earlier.items c.await_use.new.self.earlier.items c.args.self.now.heads c.await_use.new.self.heads c.args.self.now.loads c.await_use.new.self.loads (made_use g.K.MachInstLabelUse.kinds c.args.self.now.labels c.args.offset c.args.target c.args.kind) c.in_ok-earlier.earlier c.requires.sound.chained pushed earlier (made_load g.K.MachInstLabelUse.kinds c.args.self.now.labels c.args.offset c.args.target c.args.kind) c.in_ok-earlier.ensures.label heads c.in_ok-earlier.ensures.constant loads;
       waiting = subst (λ us. AreWaiting g.K.MachInstLabelUse.kinds us c.await_use.new.self.queues c.await_use.new.self.burdens) (sym (c.push_reserved-2.ensures.items ∙ ap (λ p. p.uses.items ++ record { offset = c.args.offset; target = c.args.target; kind = c.args.kind; stop = c.stop_of-stop.result } ∷ []) c.await_use.ensures.rest))
-          (record { hold = c.await_use.ensures.hold; limits = c.await_use.ensures.limits; burdens = c.await_use.ensures.burdens });
+          c.await_use.ensures.waiting;
     }
 
 pub returns-clause-later : goal.returns-clause-later

@@ -1,6 +1,7 @@
-use Rattle.std.proofs.Common.{◌≡◌, length, get_or, sym, ◌∙◌, ap, subst, arith}
+use Rattle.std.proofs.Common.{rules, ℕ, ◌≡◌, length, get_or, sym, ◌∙◌, ap, subst, arith}
 use Rattle.a64_buffer.specs.Buffer.{end_of}
 use Rattle.a64_buffer.specs.Classes.{veneer_uses, weight_of}
+use Rattle.a64_buffer.specs.declared.queue.Queue.{Queue}
 use Rattle.a64_buffer.specs.Queues.{IsSameQueue, AllHold, AllLimits, AreBurdens}
 use Rattle.a64_buffer.specs.Islands.{HasIsland}
 use Rattle.a64_buffer.specs.Sound.{seen, IsWhole}
@@ -29,34 +30,26 @@ reserve_veneers-requires g c = record {
   burdens = subst (λ us. AreBurdens g.K.MachInstLabelUse.kinds us c.reserve_all.new.self.burdens) (sym (ap (λ b. b.uses) c.in_ok-reserve_all.ensures.rest)) (subst (AreBurdens g.K.MachInstLabelUse.kinds c.args.self.now.uses.items) (sym c.in_ok-reserve_all.ensures.burdens) c.requires.sound.waiting.burdens);
 }
 
-pub begin_island-requires-clause-hold : goal.begin_island-requires-clause-hold
-begin_island-requires-clause-hold g c =
+pub begin_island-requires-clause-kept : goal.begin_island-requires-clause-kept
+begin_island-requires-clause-kept g c =
     let same : seen c.reserve_veneers.new.self ≡ seen c.args.self.now = ap (λ p. seen p) c.reserve_veneers.ensures.rest ∙ c.in_ok-reserve_all.ensures.rest in
-    subst (λ us. AllHold g.K.MachInstLabelUse.kinds us c.reserve_veneers.new.self.queues) (sym (ap (λ b. b.uses) same))
-    (same_hold g.K.MachInstLabelUse.kinds c.args.self.now.uses.items c.args.self.now.queues c.reserve_veneers.new.self.queues
-    (λ rank q. subst (λ qs. IsSameQueue (get_or qs rank q) (get_or c.reserve_veneers.new.self.queues rank q)) c.in_ok-reserve_all.ensures.queues (c.reserve_veneers.ensures.kept rank q))
-    c.requires.sound.waiting.hold)
-
-pub begin_island-requires-clause-limits : goal.begin_island-requires-clause-limits
-begin_island-requires-clause-limits g c =
-    let same : seen c.reserve_veneers.new.self ≡ seen c.args.self.now = ap (λ p. seen p) c.reserve_veneers.ensures.rest ∙ c.in_ok-reserve_all.ensures.rest in
-    subst (λ us. AllLimits g.K.MachInstLabelUse.kinds us c.reserve_veneers.new.self.queues) (sym (ap (λ b. b.uses) same))
-    (same_limits g.K.MachInstLabelUse.kinds c.args.self.now.uses.items c.args.self.now.queues c.reserve_veneers.new.self.queues
-    (λ rank q. subst (λ qs. IsSameQueue (get_or qs rank q) (get_or c.reserve_veneers.new.self.queues rank q)) c.in_ok-reserve_all.ensures.queues (c.reserve_veneers.ensures.kept rank q))
-    c.requires.sound.waiting.limits)
-
-pub begin_island-requires-clause-burdens : goal.begin_island-requires-clause-burdens
-begin_island-requires-clause-burdens g c =
-    subst (λ p. AreBurdens g.K.MachInstLabelUse.kinds p.uses.items p.burdens) (sym c.reserve_veneers.ensures.rest)
-    (subst (λ us. AreBurdens g.K.MachInstLabelUse.kinds us c.reserve_all.new.self.burdens) (sym (ap (λ b. b.uses) c.in_ok-reserve_all.ensures.rest)) (subst (AreBurdens g.K.MachInstLabelUse.kinds c.args.self.now.uses.items) (sym c.in_ok-reserve_all.ensures.burdens) c.requires.sound.waiting.burdens))
+    let queues : (rank : ℕ) (q : Queue) → IsSameQueue (get_or c.args.self.now.queues rank q) (get_or c.reserve_veneers.new.self.queues rank q) = λ rank q. subst (λ qs. IsSameQueue (get_or qs rank q) (get_or c.reserve_veneers.new.self.queues rank q)) c.in_ok-reserve_all.ensures.queues (c.reserve_veneers.ensures.kept rank q) in
+    let weight : weight_of g.K.MachInstLabelUse.kinds veneer_uses c.reserve_veneers.new.self.uses.items ≡ weight_of g.K.MachInstLabelUse.kinds veneer_uses c.reserve_all.new.self.uses.items = ap (λ p. weight_of g.K.MachInstLabelUse.kinds veneer_uses p.uses.items) c.reserve_veneers.ensures.rest in
+    record {
+      tracked = record {
+        chained = search rules;
+        burdens = subst (λ p. AreBurdens g.K.MachInstLabelUse.kinds p.uses.items p.burdens) (sym c.reserve_veneers.ensures.rest)
+            (subst (λ us. AreBurdens g.K.MachInstLabelUse.kinds us c.reserve_all.new.self.burdens) (sym (ap (λ b. b.uses) c.in_ok-reserve_all.ensures.rest)) (subst (AreBurdens g.K.MachInstLabelUse.kinds c.args.self.now.uses.items) (sym c.in_ok-reserve_all.ensures.burdens) c.requires.sound.waiting.burdens));
+      };
+      hold = subst (λ us. AllHold g.K.MachInstLabelUse.kinds us c.reserve_veneers.new.self.queues) (sym (ap (λ b. b.uses) same))
+          (same_hold g.K.MachInstLabelUse.kinds c.args.self.now.uses.items c.args.self.now.queues c.reserve_veneers.new.self.queues queues c.requires.sound.waiting.hold);
+      limits = subst (λ us. AllLimits g.K.MachInstLabelUse.kinds us c.reserve_veneers.new.self.queues) (sym (ap (λ b. b.uses) same))
+          (same_limits g.K.MachInstLabelUse.kinds c.args.self.now.uses.items c.args.self.now.queues c.reserve_veneers.new.self.queues queues c.requires.sound.waiting.limits);
+      queued = λ q. omega (arith, c.in_ok-reserve_veneers.ensures.ok q, weight);
+    }
 
 pub begin_island-requires-clause-few : goal.begin_island-requires-clause-few
 begin_island-requires-clause-few g c = omega (arith, ap (λ p. p.burdens.third) c.reserve_veneers.ensures.rest, ap (λ b. b.third) c.in_ok-reserve_all.ensures.burdens, c.requires.sound.waiting.burdens.third_is, c.requires.short)
-
-pub begin_island-requires-clause-queued : goal.begin_island-requires-clause-queued
-begin_island-requires-clause-queued g c =
-    let weight : weight_of g.K.MachInstLabelUse.kinds veneer_uses c.reserve_veneers.new.self.uses.items ≡ weight_of g.K.MachInstLabelUse.kinds veneer_uses c.reserve_all.new.self.uses.items = ap (λ p. weight_of g.K.MachInstLabelUse.kinds veneer_uses p.uses.items) c.reserve_veneers.ensures.rest in
-    λ q. omega (arith, c.in_ok-reserve_veneers.ensures.ok q, weight)
 
 pub end_island-requires-clause-over : goal.end_island-requires-clause-over
 end_island-requires-clause-over g c = λ j.
@@ -84,13 +77,13 @@ returns-clause-sound g c =
     let stays = ended_waits r law c.args.distance c.args.force c.args.jump (seen c.args.self.now) (seen c.write_until.new.self) (seen c.promote.new.self) c.requires.sound.whole c.requires.short near c.promote.ensures.promotes in
     record {
       whole = subst (IsWhole r) (sym ended_is) (island_made r law c.args.distance c.args.force c.args.jump (seen c.args.self.now) (seen c.write_until.new.self) (seen c.promote.new.self) c.requires.sound.whole c.requires.short near c.promote.ensures.promotes).whole;
-      chained = c.end_island.ensures.chained;
+      chained = c.end_island.ensures.tracked.chained;
       waiting = record {
         hold = subst (AllHold r c.end_island.new.self.uses.items) (sym c.end_island.ensures.queues)
-            (subst (λ us. AllHold r us c.promote.new.self.queues) (sym (ap (λ b. b.uses) ended_is)) (all_closed_hold r c.promote.new.self.uses.items _ c.promote.new.self.queues closes c.promote.ensures.hold));
+            (subst (λ us. AllHold r us c.promote.new.self.queues) (sym (ap (λ b. b.uses) ended_is)) (all_closed_hold r c.promote.new.self.uses.items _ c.promote.new.self.queues closes c.promote.ensures.keeps.kept.hold));
         limits = subst (AllLimits r c.end_island.new.self.uses.items) (sym c.end_island.ensures.queues)
-            (subst (λ us. AllLimits r us c.promote.new.self.queues) (sym (ap (λ b. b.uses) ended_is)) (all_kept_limits r c.promote.new.self.uses.items _ c.promote.new.self.queues closes stays c.promote.ensures.limits));
-        burdens = c.end_island.ensures.burdens;
+            (subst (λ us. AllLimits r us c.promote.new.self.queues) (sym (ap (λ b. b.uses) ended_is)) (all_kept_limits r c.promote.new.self.uses.items _ c.promote.new.self.queues closes stays c.promote.ensures.keeps.kept.limits));
+        burdens = c.end_island.ensures.tracked.burdens;
       };
     }
 

@@ -1,6 +1,7 @@
-use Rattle.std.proofs.Common.{◌≡◌, get_or, ap, ◌∙◌, arith, sym, subst, Result, Ok, Err}
+use Rattle.std.proofs.Common.{rules, ℕ, ◌≡◌, get_or, ap, ◌∙◌, arith, sym, subst, Result, Ok, Err}
 use Rattle.std.specs.Prelude.{IfOk}
 use Rattle.a64_buffer.specs.Classes.{veneer_uses, weight_of}
+use Rattle.a64_buffer.specs.declared.queue.Queue.{Queue}
 use Rattle.a64_buffer.specs.Queues.{IsSameQueue, AllHold, AllLimits, AreBurdens}
 use Rattle.a64_buffer.specs.Space.{HasSpace}
 use Rattle.a64_buffer.proofs.Queued.{same_hold, same_limits}
@@ -19,29 +20,23 @@ reserve_veneers-requires g c = record {
   burdens = subst (λ us. AreBurdens g.K.MachInstLabelUse.kinds us c.reserve_all.new.self.burdens) (sym (ap (λ b. b.uses) c.in_ok-reserve_all.ensures.rest)) (subst (AreBurdens g.K.MachInstLabelUse.kinds c.args.self.uses.items) (sym c.in_ok-reserve_all.ensures.burdens) c.requires.sound.waiting.burdens);
 }
 
-pub write_until-requires-clause-hold : goal.write_until-requires-clause-hold
-write_until-requires-clause-hold g c =
-    subst (λ us. AllHold g.K.MachInstLabelUse.kinds us c.reserve_veneers.new.self.queues) (sym (ap (λ p. p.uses.items) c.reserve_veneers.ensures.rest ∙ ap (λ b. b.uses) c.in_ok-reserve_all.ensures.rest))
-    (same_hold g.K.MachInstLabelUse.kinds c.args.self.uses.items c.args.self.queues c.reserve_veneers.new.self.queues
-    (λ rank q. subst (λ qs. IsSameQueue (get_or qs rank q) (get_or c.reserve_veneers.new.self.queues rank q)) c.in_ok-reserve_all.ensures.queues (c.reserve_veneers.ensures.kept rank q))
-    c.requires.sound.waiting.hold)
-
-pub write_until-requires-clause-limits : goal.write_until-requires-clause-limits
-write_until-requires-clause-limits g c =
-    subst (λ us. AllLimits g.K.MachInstLabelUse.kinds us c.reserve_veneers.new.self.queues) (sym (ap (λ p. p.uses.items) c.reserve_veneers.ensures.rest ∙ ap (λ b. b.uses) c.in_ok-reserve_all.ensures.rest))
-    (same_limits g.K.MachInstLabelUse.kinds c.args.self.uses.items c.args.self.queues c.reserve_veneers.new.self.queues
-    (λ rank q. subst (λ qs. IsSameQueue (get_or qs rank q) (get_or c.reserve_veneers.new.self.queues rank q)) c.in_ok-reserve_all.ensures.queues (c.reserve_veneers.ensures.kept rank q))
-    c.requires.sound.waiting.limits)
-
-pub write_until-requires-clause-burdens : goal.write_until-requires-clause-burdens
-write_until-requires-clause-burdens g c =
-    subst (λ p. AreBurdens g.K.MachInstLabelUse.kinds p.uses.items p.burdens) (sym c.reserve_veneers.ensures.rest)
-    (subst (λ us. AreBurdens g.K.MachInstLabelUse.kinds us c.reserve_all.new.self.burdens) (sym (ap (λ b. b.uses) c.in_ok-reserve_all.ensures.rest)) (subst (AreBurdens g.K.MachInstLabelUse.kinds c.args.self.uses.items) (sym c.in_ok-reserve_all.ensures.burdens) c.requires.sound.waiting.burdens))
-
-pub write_until-requires-clause-queued : goal.write_until-requires-clause-queued
-write_until-requires-clause-queued g c =
+pub write_until-requires-clause-kept : goal.write_until-requires-clause-kept
+write_until-requires-clause-kept g c =
+    let uses = ap (λ p. p.uses.items) c.reserve_veneers.ensures.rest ∙ ap (λ b. b.uses) c.in_ok-reserve_all.ensures.rest in
+    let queues : (rank : ℕ) (q : Queue) → IsSameQueue (get_or c.args.self.queues rank q) (get_or c.reserve_veneers.new.self.queues rank q) = λ rank q. subst (λ qs. IsSameQueue (get_or qs rank q) (get_or c.reserve_veneers.new.self.queues rank q)) c.in_ok-reserve_all.ensures.queues (c.reserve_veneers.ensures.kept rank q) in
     let weight : weight_of g.K.MachInstLabelUse.kinds veneer_uses c.reserve_veneers.new.self.uses.items ≡ weight_of g.K.MachInstLabelUse.kinds veneer_uses c.reserve_all.new.self.uses.items = ap (λ p. weight_of g.K.MachInstLabelUse.kinds veneer_uses p.uses.items) c.reserve_veneers.ensures.rest in
-    λ q. omega (arith, c.in_ok-reserve_veneers.ensures.ok q, weight)
+    record {
+      tracked = record {
+        chained = search rules;
+        burdens = subst (λ p. AreBurdens g.K.MachInstLabelUse.kinds p.uses.items p.burdens) (sym c.reserve_veneers.ensures.rest)
+            (subst (λ us. AreBurdens g.K.MachInstLabelUse.kinds us c.reserve_all.new.self.burdens) (sym (ap (λ b. b.uses) c.in_ok-reserve_all.ensures.rest)) (subst (AreBurdens g.K.MachInstLabelUse.kinds c.args.self.uses.items) (sym c.in_ok-reserve_all.ensures.burdens) c.requires.sound.waiting.burdens));
+      };
+      hold = subst (λ us. AllHold g.K.MachInstLabelUse.kinds us c.reserve_veneers.new.self.queues) (sym uses)
+          (same_hold g.K.MachInstLabelUse.kinds c.args.self.uses.items c.args.self.queues c.reserve_veneers.new.self.queues queues c.requires.sound.waiting.hold);
+      limits = subst (λ us. AllLimits g.K.MachInstLabelUse.kinds us c.reserve_veneers.new.self.queues) (sym uses)
+          (same_limits g.K.MachInstLabelUse.kinds c.args.self.uses.items c.args.self.queues c.reserve_veneers.new.self.queues queues c.requires.sound.waiting.limits);
+      queued = λ q. omega (arith, c.in_ok-reserve_veneers.ensures.ok q, weight);
+    }
 
 pub write_until-requires-clause-space : goal.write_until-requires-clause-space
 write_until-requires-clause-space g c =

@@ -12,7 +12,7 @@ use Rattle.a64_buffer.proofs.parts.Parts.give_jump.Goals as goal
 pub push_use-requires-clause-known : goal.push_use-requires-clause-known
 push_use-requires-clause-known g c =
     subst (λ p. IsSome (get p.heads c.args.label.0)) (sym c.stop_at.ensures.rest)
-    (head_of_label c.args.self.now.uses.items c.args.self.now.earlier.items c.args.self.now.heads c.args.index c.args.label g.K.MachInstLabelUse.kinds.jump c.requires.chained.labels c.requires.within c.requires.label)
+    (head_of_label c.args.self.now.uses.items c.args.self.now.earlier.items c.args.self.now.heads c.args.index c.args.label g.K.MachInstLabelUse.kinds.jump c.requires.tracked.chained.labels c.requires.within c.requires.label)
 
 pub push_use-requires-clause-few : goal.push_use-requires-clause-few
 push_use-requires-clause-few g c = omega (arith, c.requires.few, c.stop_at.ensures.less)

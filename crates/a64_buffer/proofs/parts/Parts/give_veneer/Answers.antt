@@ -16,7 +16,7 @@ pub give_jump-requires-clause-uses : goal.give_jump-requires-clause-uses
 give_jump-requires-clause-uses g c = omega (arith, c.requires.ready.space.uses, c.args.self.now.uses.ok.0, (jump_kept g.K.MachInstLabelUse.kinds g.met.K.MachInstLabelUse.lawful c.args.self.now c.args.index c.requires.ready c.args.class c.requires.class c.in-Near.is).1)
 
 pub give_jump-requires-clause-earlier : goal.give_jump-requires-clause-earlier
-give_jump-requires-clause-earlier g c = omega (arith, c.requires.ready.space.earlier, c.args.self.now.earlier.ok.0, c.requires.ready.chained.labels.same_length, length-map c.args.self.now.uses.items (λ (u : Use g.row.K.Denot). label_of u.target), (jump_kept g.K.MachInstLabelUse.kinds g.met.K.MachInstLabelUse.lawful c.args.self.now c.args.index c.requires.ready c.args.class c.requires.class c.in-Near.is).1)
+give_jump-requires-clause-earlier g c = omega (arith, c.requires.ready.space.earlier, c.args.self.now.earlier.ok.0, c.requires.ready.tracked.chained.labels.same_length, length-map c.args.self.now.uses.items (λ (u : Use g.row.K.Denot). label_of u.target), (jump_kept g.K.MachInstLabelUse.kinds g.met.K.MachInstLabelUse.lawful c.args.self.now c.args.index c.requires.ready c.args.class c.requires.class c.in-Near.is).1)
 
 pub give_far-requires-clause-short : goal.give_far-requires-clause-short
 give_far-requires-clause-short g c = omega (arith, c.requires.ready.may.short, (far_kept g.K.MachInstLabelUse.kinds g.met.K.MachInstLabelUse.lawful c.args.self.now c.args.index c.requires.ready c.args.class c.requires.class c.in-Far.is).0)
@@ -28,7 +28,7 @@ pub give_far-requires-clause-uses : goal.give_far-requires-clause-uses
 give_far-requires-clause-uses g c = omega (arith, c.requires.ready.space.uses, c.args.self.now.uses.ok.0, (far_kept g.K.MachInstLabelUse.kinds g.met.K.MachInstLabelUse.lawful c.args.self.now c.args.index c.requires.ready c.args.class c.requires.class c.in-Far.is).1)
 
 pub give_far-requires-clause-earlier : goal.give_far-requires-clause-earlier
-give_far-requires-clause-earlier g c = omega (arith, c.requires.ready.space.earlier, c.args.self.now.earlier.ok.0, c.requires.ready.chained.labels.same_length, length-map c.args.self.now.uses.items (λ (u : Use g.row.K.Denot). label_of u.target), (far_kept g.K.MachInstLabelUse.kinds g.met.K.MachInstLabelUse.lawful c.args.self.now c.args.index c.requires.ready c.args.class c.requires.class c.in-Far.is).1)
+give_far-requires-clause-earlier g c = omega (arith, c.requires.ready.space.earlier, c.args.self.now.earlier.ok.0, c.requires.ready.tracked.chained.labels.same_length, length-map c.args.self.now.uses.items (λ (u : Use g.row.K.Denot). label_of u.target), (far_kept g.K.MachInstLabelUse.kinds g.met.K.MachInstLabelUse.lawful c.args.self.now c.args.index c.requires.ready c.args.class c.requires.class c.in-Far.is).1)
 
 pub returns-in-Near-clause-gives : goal.returns-in-Near-clause-gives
 returns-in-Near-clause-gives g c = jump_ready g.K.MachInstLabelUse.kinds g.met.K.MachInstLabelUse.lawful c.args.self.now c.args.index c.requires.ready c.args.class c.requires.class (seen c.give_jump.new.self) c.in-Near.is c.give_jump.ensures.gives
