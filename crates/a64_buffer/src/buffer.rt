@@ -32,7 +32,11 @@ impl<'c, K: MachInstLabelUse> Model for MachBuffer<'c, K> {
 
     ghost Value = { Buffer K };
 
-    ghost coded = { Prim.hlevel (codes, code {R = nat_cmp} coded_ℕ coded_ℕ, code {R = nat_cmp} coded_ℕ (coded_list coded_ℕ)) };
+    ghost coded = { Prim.hlevel (
+      codes,
+      code {R = nat_cmp} coded_ℕ coded_ℕ,
+      code {R = nat_cmp} coded_ℕ (coded_list coded_ℕ),
+    ) };
 
     ghost use Rattle.a64_buffer.specs.Sound.{seen, AreSound};
 

@@ -550,7 +550,8 @@ impl MachInstEmit for Inst {
 
     ghost emits = { λ inst flags state before after. Emits flags state inst before after };
 
-    ghost emits_in_part = { λ inst flags state before after. EmitsInPart flags state inst before after };
+    ghost emits_in_part = { λ inst flags state before after.
+        EmitsInPart flags state inst before after };
 
     ghost item_cells = { λ inst flags state. kept_cells state.frame flags inst state.map };
 

@@ -27,6 +27,7 @@ pub trait ImmClass {
         → set parameter (value parameter x) };
 
     /// For one parameter, two values with one field are one value.
-    ghost one_value: { (parameter : Self.Parameter) (x y : Self) → lawful parameter x → lawful parameter y
+    ghost one_value: { (parameter : Self.Parameter) (x y : Self)
+        → lawful parameter x → lawful parameter y
         → field parameter x ≡ field parameter y → value parameter x ≡ value parameter y };
 }

@@ -155,7 +155,8 @@ impl ImmClass for SImm7Scaled {
 
     ghost within = { λ _ _ lawful. lawful.1 };
 
-    ghost one_value = { λ scale_ty x y of_x of_y. one_pair_offset scale_ty x.value y.value of_x.1 of_y.1 };
+    ghost one_value = { λ scale_ty x y of_x of_y.
+        one_pair_offset scale_ty x.value y.value of_x.1 of_y.1 };
 }
 
 /// An unsigned offset: 12 bits, times the size of a type.

@@ -59,13 +59,18 @@ pub trait Call: Named {
     ghost some_field: { (made : Self.Made) → 0 < length (fields_of made) };
 
     /// What a name makes of fields has these and the name.
-    ghost made_some: { (name : Self) (values : List Value) (r : Option Self.Made) → makes name values r → map kind_of values ≡ Self.kinds_of name → IfSome r (λ made. (name_of made ≡ name) × (fields_of made ≡ values) × own made) };
+    ghost made_some: { (name : Self) (values : List Value) (r : Option Self.Made)
+        → makes name values r → map kind_of values ≡ Self.kinds_of name
+        → IfSome r (λ made. (name_of made ≡ name) × (fields_of made ≡ values) × own made) };
 
     /// Nothing else has them.
-    ghost made_only: { (made : Self.Made) (values : List Value) (r : Option Self.Made) → makes (name_of made) values r → AllByRecursion IsValue (fields_of made) → own made → fields_of made ≡ values → r ≡ Some made };
+    ghost made_only: { (made : Self.Made) (values : List Value) (r : Option Self.Made)
+        → makes (name_of made) values r → AllByRecursion IsValue (fields_of made)
+        → own made → fields_of made ≡ values → r ≡ Some made };
 
     /// The fields are of the kinds behind the name.
-    ghost fields_kinds: { (made : Self.Made) → map kind_of (fields_of made) ≡ Self.kinds_of (name_of made) };
+    ghost fields_kinds: { (made : Self.Made)
+        → map kind_of (fields_of made) ≡ Self.kinds_of (name_of made) };
 }
 
 /// What the name and the fields in parentheses are.

@@ -30,7 +30,8 @@ pub trait Listed: Copy + Drop {
         ensures { Reads fits text token.now result };
 
     /// What was joined are these texts.
-    ghost apart: { (x : Self) (xs : List Self) → AllByRecursion fits (x ∷ xs) → tokens (join_with_byte 44 (map text (x ∷ xs))) ≡ map text (x ∷ xs) };
+    ghost apart: { (x : Self) (xs : List Self) → AllByRecursion fits (x ∷ xs)
+        → tokens (join_with_byte 44 (map text (x ∷ xs))) ≡ map text (x ∷ xs) };
 
     /// Joined, they are the list.
     ghost joined: { (list : List ℕ) → join_with_byte 44 (tokens list) ≡ list };

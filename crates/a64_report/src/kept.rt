@@ -65,7 +65,8 @@ impl Model for ItemLine {
 
     ghost view = { λ line. take (64 - line.start) (drop line.start line.buffer) };
 
-    ghost invariant = { λ line. KeepsItemOf line.buffer line.start line.index_end line.index line.place };
+    ghost invariant = { λ line.
+        KeepsItemOf line.buffer line.start line.index_end line.index line.place };
 }
 
 impl ItemLine {
