@@ -38,7 +38,7 @@ fn is_short(buffer: &MachBuffer<'_, LabelUse>, more: u64) -> bool
 
 /// Writes an island, behind which an instruction has room that the worst cases bound.
 fn make_room(buffer: &mut MachBuffer<'_, LabelUse>) -> Result<(), Fault>
-    ensures constants { OnOk result (buffer.new.constants ≡ buffer.old.constants) }
+    ensures constants { buffer.new.constants ≡ buffer.old.constants }
     ensures labels { OnOk result (buffer.new.labels ≡ buffer.old.labels) }
 {
     if !is_short(buffer, 4) {
@@ -49,20 +49,21 @@ fn make_room(buffer: &mut MachBuffer<'_, LabelUse>) -> Result<(), Fault>
     Ok(())
 }
 
-/// A buffer of code of a function without a frame, and what emission into it is told.
+/// A buffer of code of a function without a frame, and what emission into it is told. The constants are those of the
+/// buffer.
 #[derive(Drop)]
 pub struct Emitter<'c> {
     buffer: MachBuffer<'c, LabelUse>,
     constants: &'c Constants,
     info: EmitInfo,
     state: EmitState,
+    ghost same: { buffer.constants ≡ constants.now },
 }
 
 impl<'c> Emitter<'c> {
     /// A buffer without code, over the constants that the code may load.
     pub fn new(alloc: Global, constants: &'c Constants) -> Emitter<'c>
-        ensures constants { result.buffer.constants ≡ result.constants.now }
-        ensures labels { result.buffer.labels ≡ empty }
+        ensures { result.buffer.labels ≡ empty }
     {
         Emitter {
             buffer: MachBuffer::new(alloc, constants),
@@ -74,9 +75,7 @@ impl<'c> Emitter<'c> {
 
     /// Puts an instruction at the end, behind an island where it has no room.
     pub fn emit(&mut self, inst: &Inst) -> Result<(), Fault>
-        requires { self.old.buffer.constants ≡ self.old.constants.now }
-        ensures constants { OnOk result (self.new.buffer.constants ≡ self.new.constants.now) }
-        ensures labels { OnOk result (self.new.buffer.labels ≡ self.old.buffer.labels) }
+        ensures { OnOk result (self.new.buffer.labels ≡ self.old.buffer.labels) }
     {
         let size = constant_size(inst, self.constants);
         inst.check(self.state.frame_layout(), &self.info, size)?;
@@ -93,11 +92,8 @@ impl<'c> Emitter<'c> {
     /// Binds a label to the end.
     pub fn bind(&mut self, label: MachLabel) -> Result<(), Fault>
         requires { get self.old.buffer.labels label.0 ≡ None }
-        ensures buffer { OnOk result (self.new.buffer.labels
+        ensures { OnOk result (self.new.buffer.labels
             ≡ insert self.old.buffer.labels label.0 (end_of self.old.buffer)) }
-        ensures constants { OnOk result (self.new.buffer.constants
-            ≡ self.old.buffer.constants) }
-        ensures same { OnOk result (self.new.constants.now ≡ self.old.constants.now) }
     {
         self.buffer.bind_label(label)?;
         Ok(())

@@ -36,10 +36,8 @@ fn emit_constant(
     rd: Writable<Reg>,
     value: u64,
 ) -> Result<(), Fault>
-    requires register { is_register Refused rd ≡ true }
-    requires constants { emitter.old.buffer.constants ≡ emitter.old.constants.now }
-    ensures constants { OnOk result (emitter.new.buffer.constants ≡ emitter.new.constants.now) }
-    ensures labels { OnOk result (emitter.new.buffer.labels ≡ emitter.old.buffer.labels) }
+    requires { is_register Refused rd ≡ true }
+    ensures { OnOk result (emitter.new.buffer.labels ≡ emitter.old.buffer.labels) }
 {
     let insts = Inst::load_constant(alloc, rd, value)?;
     for inst in insts.as_slice() {
@@ -50,9 +48,7 @@ fn emit_constant(
 
 /// Emits what the loop does in a turn: it loads a word, adds it, and goes to the next one.
 fn emit_turn(emitter: &mut Emitter<'_>) -> Result<(), Fault>
-    requires { emitter.old.buffer.constants ≡ emitter.old.constants.now }
-    ensures constants { OnOk result (emitter.new.buffer.constants ≡ emitter.new.constants.now) }
-    ensures labels { OnOk result (emitter.new.buffer.labels ≡ emitter.old.buffer.labels) }
+    ensures { OnOk result (emitter.new.buffer.labels ≡ emitter.old.buffer.labels) }
 {
     emitter.emit(&Inst::from_access(Access {
         op: AccessOp::ULoad64,
@@ -81,9 +77,7 @@ fn emit_turn(emitter: &mut Emitter<'_>) -> Result<(), Fault>
 
 /// Emits the loop, which goes on until x1 is zero.
 fn emit_loop(emitter: &mut Emitter<'_>) -> Result<(), Fault>
-    requires constants { emitter.old.buffer.constants ≡ emitter.old.constants.now }
-    requires labels { emitter.old.buffer.labels ≡ empty }
-    ensures { OnOk result (emitter.new.buffer.constants ≡ emitter.new.constants.now) }
+    requires { emitter.old.buffer.labels ≡ empty }
 {
     emitter.bind(AGAIN)?;
     emitter.emit(&Inst::CondBr {
@@ -100,9 +94,7 @@ fn emit_loop(emitter: &mut Emitter<'_>) -> Result<(), Fault>
 }
 
 /// Emits what stands behind the loop: a call, the load of a constant, and the return.
-fn emit_end(alloc: Global, emitter: &mut Emitter<'_>) -> Result<(), Fault>
-    requires { emitter.old.buffer.constants ≡ emitter.old.constants.now }
-{
+fn emit_end(alloc: Global, emitter: &mut Emitter<'_>) -> Result<(), Fault> {
     emitter.emit(&Inst::Call {
         info: CallInfo::new(alloc, ExternalName(7), CallConv::SystemV),
     })?;

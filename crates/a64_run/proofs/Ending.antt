@@ -9,7 +9,7 @@ use Rattle.a64_run.specs.declared.input.Input.TheVariants as inputs
 use Rattle.a64_run.specs.declared.ran.Fault.{Fault}
 use Rattle.a64_run.specs.declared.ran.Fault.TheVariants as faults
 use Rattle.a64_run.specs.declared.making.Made.{Made}
-use Rattle.a64_run.specs.Commands.{works_on, contents_fault, HasWords, IsFaultOf, IsFaultless, IsGenFile, IsInput, IsMade}
+use Rattle.a64_run.specs.Commands.{works_on, contents_fault, HasWords, IsFaultOf, IsFaultless, IsInput, IsMade}
 use Rattle.a64_run.specs.Run.{IsDue, IsDueForText, IsDueAlways, IsDueAnswer, Keeps}
 use Rattle.a64_run.specs.Stages.{IsInputOf, IsDueInput, IsMakingFault, kept_of, text_of, EndsWriting, Ends}
 use Rattle.a64_run.proofs.Faultless.{gen_faultless}

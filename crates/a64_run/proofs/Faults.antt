@@ -1,5 +1,5 @@
 -- The fault that a command finds first in what it works on is one.
-use Rattle.std.proofs.Common.{◌≡◌, ◌≢◌, ℕ, List, refl, sym, ap, ◌∙◌, subst, Option, None, Some}
+use Rattle.std.proofs.Common.{◌≡◌, ◌≢◌, refl, sym, ap, ◌∙◌, subst, Option, Some}
 use Rattle.a64_audit.specs.declared.file.AuditFile.{AuditFile}
 use Rattle.a64_audit.specs.declared.verdict.Verdict.{Verdict}
 use Rattle.a64_audit.specs.declared.verdict.Verdict.TheVariants.{Clean}

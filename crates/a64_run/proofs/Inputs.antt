@@ -1,5 +1,5 @@
 -- What is answered for bytes, from what reading them answers.
-use Rattle.std.proofs.Common.{◌≡◌, ℕ, ◌+◌, ◌<◌, ◌≤◌, List, [], length, refl, sym, ap, ◌∙◌, subst, inl, inr, arith, Option, None, Some, IfSome, Result, Ok, Err, IfOk, IfErr}
+use Rattle.std.proofs.Common.{◌≡◌, ℕ, ◌+◌, ◌≤◌, List, [], length, refl, sym, ap, ◌∙◌, subst, inl, inr, arith, Option, None, Some, IfSome, Result, Ok, Err, IfOk, IfErr}
 use Rattle.a64_audit.specs.declared.file.AuditFile.{AuditFile}
 use Rattle.a64_audit.specs.Entries as Audit
 use Rattle.a64_formtext.specs.declared.file.ShownFile.{ShownFile}
@@ -19,7 +19,7 @@ use Rattle.a64_run.specs.declared.input.Input.TheVariants as inputs
 use Rattle.a64_run.specs.declared.ran.Fault.{Fault}
 use Rattle.a64_run.specs.declared.ran.Fault.TheVariants as faults
 use Rattle.a64_buffer.specs.declared.force.ForceVeneers.{ForceVeneers}
-use Rattle.a64_run.specs.Commands.{limit, works_on, format_of, reads_source, IsText, IsFirstBad, IsGenFile, IsInput, WasRead}
+use Rattle.a64_run.specs.Commands.{limit, works_on, format_of, IsText, IsFirstBad, IsInput, WasRead}
 use Rattle.a64_run.specs.Run.{Held, FailsOnlyAt, IsDueAnswer}
 use Rattle.a64_run.specs.Stages.{IsWhole, IsLike, IsInputOf, IsDueInput, IsTextDue, IsParsed, IsTextFault, IsInputFault}
 

@@ -1,49 +1,31 @@
 -- What a run promises, whatever its source and sinks are.
-use Rattle.std.specs.Prelude.{ℕ, ◌≡◌, ◌≢◌, ◌⊎◌, ◌<◌, ◌↔◌, List, false, Option, None, Some, IfSome}
+use Rattle.std.specs.Prelude.{ℕ, ◌≡◌, ◌⊎◌, ◌<◌, ◌↔◌, List, false, Option, None, Some, IfSome}
 use Rattle.a64_emit.specs.declared.code.Code.{Code}
 use Rattle.a64_io.specs.Streams.{HasFailed, Takes, TakesPart}
 use Rattle.a64_run.specs.declared.command.Command.{Command}
 use Rattle.a64_run.specs.declared.ran.Fault.{Fault}
 use Rattle.a64_run.specs.declared.ran.Fault.TheVariants as faults
-use Rattle.a64_run.specs.Commands.{IsNoCommand, OfCommand, reads_source, works_on}
+use Rattle.a64_run.specs.Commands.{OfAsked, IsNoneAsked, reads_source, works_on}
 use Rattle.a64_run.specs.Run.{Files, files_of, fault_line, KeepsFiles, Held, FailsOnlyAt, Untouched, TakesFew, IsDueAnswer}
 
--- what a run of a command promises of its source and its sink, of the file and the code that it keeps, and of its answer
-pub record AnswersCommand {S K : Type 0} (left : S → Option (List ℕ)) (read_faults : S → ℕ) (taken : K → Option (List ℕ)) (write_faults : K → ℕ) (source source' : S) (sink sink' : K) (command : Command) (files : Files) (fault : Option Fault) (code : Option Code) : Type 0 where
-  -- the headline, where all was done, and what is kept at the other answers
-  pub keeps : KeepsFiles command (left source) (left source') (taken sink) (taken sink') files fault code
-  -- the causes of the answers; where a count of failures rose, the answer is that failure
-  pub usage : fault ≢ Some faults.Usage
-  pub read : fault ≡ Some faults.Read → HasFailed (read_faults source) (read_faults source')
-  pub reads : FailsOnlyAt faults.Read fault (read_faults source) (read_faults source')
-  pub held : Held (works_on command) (left source) fault
-  pub write : fault ≡ Some faults.Write → HasFailed (write_faults sink) (write_faults sink')
-  pub writes : FailsOnlyAt faults.Write fault (write_faults sink) (write_faults sink')
-  -- each answer comes where it is due; want of memory alone is free
-  pub due : IsDueAnswer command (left source) fault
-  -- what the streams gave and took; a command that does not read the source leaves it as it was
-  pub few : TakesFew (left source) (left source')
-  pub unread : reads_source command ≡ false → source' ≡ source
-  pub untouched : Untouched (taken sink) (taken sink') fault
-
--- the same of the command that the words are, where they are one
-pub record AnswersWords {S K : Type 0} (left : S → Option (List ℕ)) (read_faults : S → ℕ) (taken : K → Option (List ℕ)) (write_faults : K → ℕ) (source source' : S) (sink sink' : K) (words : List (List ℕ)) (files : Files) (fault : Option Fault) (code : Option Code) : Type 0 where
-  -- the headline, where all was done, and what is kept at the other answers; nothing where the words are no command
-  pub keeps : OfCommand words (λ command. KeepsFiles command (left source) (left source') (taken sink) (taken sink') files fault code)
+-- what a run promises of its source and its sink, of the file and the code that it keeps, and of its answer, for what was asked for:
+-- one command, or those that words are, which are one at most
+pub record Answers {S K : Type 0} (left : S → Option (List ℕ)) (read_faults : S → ℕ) (taken : K → Option (List ℕ)) (write_faults : K → ℕ) (source source' : S) (sink sink' : K) (asked : Command → Type 0) (files : Files) (fault : Option Fault) (code : Option Code) : Type 0 where
+  -- the headline, where all was done, and what is kept at the other answers; nothing where no command was asked for
+  pub keeps : OfAsked asked (λ command. KeepsFiles command (left source) (left source') (taken sink) (taken sink') files fault code)
   pub nothing : fault ≡ Some faults.Usage → (files ≡ files_of None) × (code ≡ None)
   -- the causes of the answers; where a count of failures rose, the answer is that failure
-  pub usage : (fault ≡ Some faults.Usage) ↔ IsNoCommand words
+  pub usage : (fault ≡ Some faults.Usage) ↔ IsNoneAsked asked
   pub read : fault ≡ Some faults.Read → HasFailed (read_faults source) (read_faults source')
   pub reads : FailsOnlyAt faults.Read fault (read_faults source) (read_faults source')
-  pub held : OfCommand words (λ command. Held (works_on command) (left source) fault)
+  pub held : OfAsked asked (λ command. Held (works_on command) (left source) fault)
   pub write : fault ≡ Some faults.Write → HasFailed (write_faults sink) (write_faults sink')
   pub writes : FailsOnlyAt faults.Write fault (write_faults sink) (write_faults sink')
   -- each answer comes where it is due; want of memory alone is free
-  pub due : OfCommand words (λ command. IsDueAnswer command (left source) fault)
-  -- what the streams gave and took; a command that does not read the source leaves it as it was, and so do words that are no
-  -- command
+  pub due : OfAsked asked (λ command. IsDueAnswer command (left source) fault)
+  -- what the streams gave and took; a command that does not read the source leaves it as it was, and so does what is no command
   pub few : TakesFew (left source) (left source')
-  pub unread : OfCommand words (λ command. reads_source command ≡ false) → source' ≡ source
+  pub unread : OfAsked asked (λ command. reads_source command ≡ false) → source' ≡ source
   pub untouched : Untouched (taken sink) (taken sink') fault
 
 -- what the sink for faults got: the whole line of the fault, or where a write to it failed a proper prefix, and without a

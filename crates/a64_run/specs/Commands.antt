@@ -22,11 +22,9 @@ use Rattle.a64_run.specs.declared.ran.Fault.TheVariants as faults
 use Rattle.a64_text.specs.declared.file.File.{File}
 use Rattle.a64_text.specs.States.{Contents, contents_of}
 use Rattle.a64_text.specs.FileText as FileText
-use Rattle.a64_audit.specs.declared.file.AuditFile.{AuditFile}
 use Rattle.a64_audit.specs.declared.verdict.Verdict.TheVariants.{Clean}
 use Rattle.a64_audit.specs.Entries as Audit
 use Rattle.a64_audit.specs.Verdicts.{IsClean, IsVerdict}
-use Rattle.a64_formtext.specs.declared.file.ShownFile.{ShownFile}
 use Rattle.a64_formtext.specs.Shown as Shown
 use Rattle.a64_lines.specs.Lines as Lines
 use Rattle.a64_report.specs.Report.{report_of, words_text}
@@ -63,13 +61,13 @@ abbrev pub HasWords : Command → Type 0
 HasWords (Gen count force) = IsCount count
 HasWords command = ⊤
 
--- no command has these words
-abbrev pub IsNoCommand : List (List ℕ) → Type 0
-IsNoCommand words = (command : Command) → ¬ IsCommand words command
+-- a fact about each command that was asked for
+abbrev pub OfAsked : (Command → Type 0) → (Command → Type 0) → Type 0
+OfAsked asked P = (command : Command) → asked command → P command
 
--- a fact about the command that the words are, if they are one
-abbrev pub OfCommand : List (List ℕ) → (Command → Type 0) → Type 0
-OfCommand words P = (command : Command) → IsCommand words command → P command
+-- no command was asked for
+abbrev pub IsNoneAsked : (Command → Type 0) → Type 0
+IsNoneAsked asked = (command : Command) → ¬ asked command
 
 -- what the command works on
 abbrev pub works_on : Command → Format

@@ -1,5 +1,5 @@
 -- What the parts of a run answer.
-use Rattle.std.specs.Prelude.{ℕ, codes, ◌≡◌, ◌≢◌, ◌<◌, ◌≤◌, ◌^◌, ◌++◌, ◌∷◌, List, [], take, drop, length, Option, None, Some, IfSome, Result, IfOk, IfErr, ⊤}
+use Rattle.std.specs.Prelude.{ℕ, codes, ◌≡◌, ◌≢◌, ◌<◌, ◌≤◌, ◌^◌, ◌++◌, List, [], take, drop, length, Option, None, Some, IfSome, Result, IfOk, IfErr, ⊤}
 use Rattle.std.specs.Fmt.{decimal}
 use Rattle.std.specs.String.{string_bytes}
 use Rattle.a64_emit.specs.declared.code.Code.{Code}
@@ -20,13 +20,13 @@ use Rattle.a64_run.specs.declared.making.Made.TheVariants.{Report, Summary, List
 use Rattle.a64_report.specs.Report.{report_of, words_in, words_text}
 use Rattle.a64_report.specs.Summary.{summary_of}
 use Rattle.a64_io.specs.Streams.{HasFailed, Takes, TakesPart}
-use Rattle.a64_run.specs.Commands.{limit, works_on, format_of, IsText, IsFirstBad, IsCommand, OfCommand, HasRightItems, HasNoItemFault, IsFaultOf, assembly_fault, IsMade}
+use Rattle.a64_run.specs.Commands.{limit, works_on, format_of, IsText, IsFirstBad, IsCommand, OfAsked, HasRightItems, HasNoItemFault, IsFaultOf, assembly_fault, IsMade}
 use Rattle.a64_run.specs.Run.{Held, IsDueForText}
 
 -- what is answered for words: Some exactly for the command that they are
 pub record ReadsCommand (words : List (List ℕ)) (result : Option Command) : Type 0 where
   pub some : IfSome result (IsCommand words)
-  pub only : OfCommand words (λ command. result ≡ Some command)
+  pub only : OfAsked (IsCommand words) (λ command. result ≡ Some command)
 
 -- these bytes were taken from the front of a text, and what follows them is left
 pub record HasTaken (text bytes : List ℕ) (left : Option (List ℕ)) : Type 0 where

@@ -4,8 +4,8 @@ ghost use Rattle.std.specs.Prelude.{◌≡◌, map, Some};
 ghost use Rattle.std.specs.String.{string_bytes};
 ghost use Rattle.a64_run.specs.declared.ran.Fault.TheVariants as faults;
 ghost use Rattle.a64_io.specs.Streams.{HasFailed};
-ghost use Rattle.a64_run.specs.Answering.{AnswersCommand, AnswersWords, TellsFault};
-ghost use Rattle.a64_run.specs.Commands.{HasWords, format_of, works_on};
+ghost use Rattle.a64_run.specs.Answering.{Answers, TellsFault};
+ghost use Rattle.a64_run.specs.Commands.{HasWords, IsCommand, format_of, works_on};
 ghost use Rattle.a64_run.specs.Run.{status_of, files_of, kept_files, FailsOnlyAt};
 ghost use Rattle.a64_run.specs.Stages.{IsFew, Ends, EndsWriting};
 
@@ -67,8 +67,8 @@ fn run_command<S: Source, K: Sink>(
     sink: &mut K,
 ) -> Ended
     requires { HasWords command }
-    ensures { AnswersCommand S.left S.faults K.taken K.faults source.old source.new
-        sink.old sink.new command (files_of result.input) result.fault result.code }
+    ensures { Answers S.left S.faults K.taken K.faults source.old source.new sink.old sink.new
+        (λ asked. command ≡ asked) (files_of result.input) result.fault result.code }
 {
     match input_of(alloc, command, source) {
         Ok(input) => run_input(alloc, command, sink, input),
@@ -83,8 +83,8 @@ fn run_words<S: Source, K: Sink>(
     source: &mut S,
     sink: &mut K,
 ) -> Ended
-    ensures { AnswersWords S.left S.faults K.taken K.faults source.old source.new
-        sink.old sink.new (map string_bytes words.now)
+    ensures { Answers S.left S.faults K.taken K.faults source.old source.new sink.old sink.new
+        (IsCommand (map string_bytes words.now))
         (files_of result.input) result.fault result.code }
 {
     match command_of(words) {
@@ -141,8 +141,8 @@ pub fn run<S: Source, K: Sink, E: Sink>(
 
     // The headline, what is kept, the cause of each answer and when it is due, and what the source
     // and the sink gave and took.
-    ensures answers { AnswersWords S.left S.faults K.taken K.faults source.old source.new
-        sink.old sink.new (map string_bytes words.now)
+    ensures answers { Answers S.left S.faults K.taken K.faults source.old source.new sink.old sink.new
+        (IsCommand (map string_bytes words.now))
         (kept_files result) result.fault result.code }
 
     // `errs` gets the line of the fault, and at status 0 nothing.

@@ -10,15 +10,15 @@ still_free m m' bound place label is other free =
     ∙ ap (λ t. cond t (Some place) (get m label)) (unsigned_tied label bound ∙ other) ∙ free
 
 pub bind-requires : goal.bind-requires
-bind-requires c = ap (λ (m : FinMap nat_cmp ℕ). get m 0) c.requires.labels ∙ get-empty nat_cmp 0
+bind-requires c = ap (λ (m : FinMap nat_cmp ℕ). get m 0) c.requires ∙ get-empty nat_cmp 0
 
 pub bind-requires-2 : goal.bind-requires-2
 bind-requires-2 c =
-    still_free c.args.emitter.now.buffer.labels c.emit.new.self.buffer.labels 0 _ 1 (c.in_ok-emit.ensures.labels ∙ c.in_ok-bind.ensures.buffer) refl
-    (ap (λ (m : FinMap nat_cmp ℕ). get m 1) c.requires.labels ∙ get-empty nat_cmp 1)
+    still_free c.args.emitter.now.buffer.labels c.emit.new.self.buffer.labels 0 _ 1 (c.in_ok-emit.ensures ∙ c.in_ok-bind.ensures) refl
+    (ap (λ (m : FinMap nat_cmp ℕ). get m 1) c.requires ∙ get-empty nat_cmp 1)
 
 pub bind-requires-3 : goal.bind-requires-3
 bind-requires-3 c =
-    still_free c.emit.new.self.buffer.labels c.emit-2.new.self.buffer.labels 1 _ 2 (c.in_ok-emit-2.ensures.labels ∙ c.in_ok-emit_turn.ensures.labels ∙ c.in_ok-bind-2.ensures.buffer) refl
-    (still_free c.args.emitter.now.buffer.labels c.emit.new.self.buffer.labels 0 _ 2 (c.in_ok-emit.ensures.labels ∙ c.in_ok-bind.ensures.buffer) refl
-    (ap (λ (m : FinMap nat_cmp ℕ). get m 2) c.requires.labels ∙ get-empty nat_cmp 2))
+    still_free c.emit.new.self.buffer.labels c.emit-2.new.self.buffer.labels 1 _ 2 (c.in_ok-emit-2.ensures ∙ c.in_ok-emit_turn.ensures ∙ c.in_ok-bind-2.ensures) refl
+    (still_free c.args.emitter.now.buffer.labels c.emit.new.self.buffer.labels 0 _ 2 (c.in_ok-emit.ensures ∙ c.in_ok-bind.ensures) refl
+    (ap (λ (m : FinMap nat_cmp ℕ). get m 2) c.requires ∙ get-empty nat_cmp 2))

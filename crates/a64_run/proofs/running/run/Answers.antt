@@ -1,14 +1,15 @@
 use Rattle.std.proofs.Common.{ℕ, ◌≡◌, List, Option}
 use Rattle.a64_emit.specs.declared.code.Code.{Code}
+use Rattle.a64_run.specs.declared.command.Command.{Command}
 use Rattle.a64_run.specs.declared.ran.Fault.{Fault}
-use Rattle.a64_run.specs.Answering.{AnswersWords}
+use Rattle.a64_run.specs.Answering.{Answers}
 use Rattle.a64_run.specs.Run.{Files}
 use Rattle.a64_run.proofs.running.run.Goals as goal
 
 -- what is kept elsewhere is promised there too
-kept_answers : {S K : Type 0} {left : S → Option (List ℕ)} {read_faults : S → ℕ} {taken : K → Option (List ℕ)} {write_faults : K → ℕ} {source source' : S} {sink sink' : K} {words : List (List ℕ)} {files files' : Files} {fault fault' : Option Fault} {code code' : Option Code}
+kept_answers : {S K : Type 0} {left : S → Option (List ℕ)} {read_faults : S → ℕ} {taken : K → Option (List ℕ)} {write_faults : K → ℕ} {source source' : S} {sink sink' : K} {asked : Command → Type 0} {files files' : Files} {fault fault' : Option Fault} {code code' : Option Code}
     → files' ≡ files → fault' ≡ fault → code' ≡ code
-    → AnswersWords left read_faults taken write_faults source source' sink sink' words files fault code → AnswersWords left read_faults taken write_faults source source' sink sink' words files' fault' code'
+    → Answers left read_faults taken write_faults source source' sink sink' asked files fault code → Answers left read_faults taken write_faults source source' sink sink' asked files' fault' code'
 kept_answers same_files same_fault same_code answers = rw (same_files, same_fault, same_code) answers
 
 pub returns-in-Some-clause-answers : goal.returns-in-Some-clause-answers

@@ -1,35 +1,36 @@
-use Rattle.std.proofs.Common.{rules, ℕ, ◌≡◌, List, Some, subst}
+use Rattle.std.proofs.Common.{ℕ, ◌≡◌, List, Option, map, refl, subst}
 use Rattle.std.specs.Prelude.{IfSome}
+use Rattle.std.specs.String.{string_bytes}
+use Rattle.a64_emit.specs.declared.code.Code.{Code}
 use Rattle.a64_run.specs.declared.command.Command.{Command}
-use Rattle.a64_run.specs.Commands.{OfCommand, works_on}
-use Rattle.a64_run.specs.Run.{files_of, KeepsFiles, Held, IsDueAnswer}
+use Rattle.a64_run.specs.declared.ran.Fault.{Fault}
+use Rattle.a64_run.specs.Answering.{Answers}
+use Rattle.a64_run.specs.Commands.{IsCommand}
+use Rattle.a64_run.specs.Run.{Files}
 use Rattle.a64_run.proofs.running.run_words.Goals as goal
 
--- a fact of the one command that the words are
-of_command : {words : List (List ℕ)} (P : Command → Type 0) (command : Command) → OfCommand words (λ other. Some command ≡ Some other) → P command → OfCommand words P
-of_command P command only fact = λ other is. subst (λ o. IfSome o P) (only other is) fact
+-- the same commands may be asked for in other words
+asked_answers : {S K : Type 0} {left : S → Option (List ℕ)} {read_faults : S → ℕ} {taken : K → Option (List ℕ)} {write_faults : K → ℕ} {source source' : S} {sink sink' : K} {asked asked' : Command → Type 0} {files : Files} {fault : Option Fault} {code : Option Code}
+    → ((command : Command) → asked' command → asked command) → ((command : Command) → asked command → asked' command)
+    → Answers left read_faults taken write_faults source source' sink sink' asked files fault code → Answers left read_faults taken write_faults source source' sink sink' asked' files fault code
+asked_answers from to answers = record {
+  keeps = λ command is. answers.keeps command (from command is);
+  nothing = answers.nothing;
+  usage = (λ e command is. answers.usage.0 e command (from command is), λ none. answers.usage.1 (λ command is. none command (to command is)));
+  read = answers.read;
+  reads = answers.reads;
+  held = λ command is. answers.held command (from command is);
+  write = answers.write;
+  writes = answers.writes;
+  due = λ command is. answers.due command (from command is);
+  few = answers.few;
+  unread = λ none. answers.unread (λ command is. none command (to command is));
+  untouched = answers.untouched;
+}
 
 pub returns-in-Some : goal.returns-in-Some
 returns-in-Some g c =
-    let command = c.in-Some.command in
-    let only = c.in-Some.ensures.only in
-    let left = g.S.Source.left c.args.source.now in
-    let left' = g.S.Source.left c.run_command.new.source in
-    let taken = g.K.Sink.taken c.args.sink.now in
-    let taken' = g.K.Sink.taken c.run_command.new.sink in
-    let ended = c.run_command.result in
-    let answers = c.run_command.ensures in
-    record {
-      keeps = of_command (λ k. KeepsFiles k left left' taken taken' (files_of ended.input) ended.fault ended.code) command only answers.keeps;
-      nothing = search rules;
-      usage = search rules;
-      read = answers.read;
-      reads = answers.reads;
-      held = of_command (λ k. Held (works_on k) left ended.fault) command only answers.held;
-      write = answers.write;
-      writes = answers.writes;
-      due = of_command (λ k. IsDueAnswer k left ended.fault) command only answers.due;
-      few = answers.few;
-      unread = λ none. answers.unread (none command c.in-Some.ensures.some);
-      untouched = answers.untouched;
-    }
+    asked_answers
+    (λ other is. subst (λ o. IfSome o (λ k. c.in-Some.command ≡ k)) (c.in-Some.ensures.only other is) refl)
+    (λ other same. subst (IsCommand (map string_bytes c.args.words.now)) same c.in-Some.ensures.some)
+    c.run_command.ensures
