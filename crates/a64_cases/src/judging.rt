@@ -33,20 +33,17 @@ fn judge_line(
 
 /// Holds what is kept of a run against what is wanted.
 fn judge_kept(alloc: Global, outcome: &Outcome, wanted: &Wanted<'_>) -> Result<(), Problem> {
-    let ran = &outcome.ran;
-    let has_file = ran.file.is_some() || ran.audit.is_some() || ran.shown.is_some();
-    let has_code = ran.code.is_some();
     same_number(
         alloc,
         "whether the file is kept",
         u64::from(wanted.has_file()),
-        u64::from(has_file),
+        u64::from(outcome.keeps_file),
     )?;
     same_number(
         alloc,
         "whether the code is kept",
         u64::from(wanted.has_code()),
-        u64::from(has_code),
+        u64::from(outcome.code.is_some()),
     )
 }
 
@@ -70,8 +67,8 @@ fn judge_words(
     report: &str,
     words: &Words,
 ) -> Result<(), Problem> {
-    let bytes = match &outcome.ran.code {
-        Some(code) => code.bytes.as_slice(),
+    let bytes = match &outcome.code {
+        Some(bytes) => bytes.as_slice(),
         None => &[],
     };
     if words.bytes.as_slice() != bytes {
@@ -153,7 +150,7 @@ pub fn judge(
     wanted: &Wanted<'_>,
     streams: &Streams<'_>,
 ) -> Result<(), Problem> {
-    let status = u64::from(outcome.ran.status);
+    let status = u64::from(outcome.status);
     judge_line(alloc, outcome, wanted, streams)?;
     same_number(alloc, "the status", u64::from(wanted.status()), status)?;
     judge_report(alloc, outcome, wanted)?;

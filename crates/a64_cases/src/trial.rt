@@ -21,15 +21,34 @@ pub struct Streams<'a> {
     ghost moves: { 0 < pieces },
 }
 
-/// How a run went.
+/// How a run went: what cases say of it. What it kept goes no further than here but for the bytes of its code, since the
+/// proof of each function that hands a whole file on is long.
 #[derive(Drop)]
 pub struct Outcome {
-    /// What it answered.
-    pub ran: Ran,
+    /// Its status.
+    pub status: u8,
+    /// Whether the file is kept.
+    pub keeps_file: bool,
+    /// The bytes of the code that is kept.
+    pub code: Option<Vec<u8>>,
     /// What it wrote.
     pub sink: MemSink,
     /// What it wrote to standard error.
     pub errs: MemSink,
+}
+
+impl Outcome {
+    /// What cases say of what a run answered and wrote.
+    fn new(ran: Ran, sink: MemSink, errs: MemSink) -> Outcome {
+        let keeps_file = ran.file.is_some() || ran.audit.is_some() || ran.shown.is_some();
+        Outcome {
+            status: ran.status,
+            keeps_file,
+            code: ran.code.map(|code| code.bytes),
+            sink,
+            errs,
+        }
+    }
 }
 
 /// The room for lines on standard error.
@@ -50,5 +69,5 @@ pub fn try_run(
     let mut sink = MemSink::new(alloc, streams.room, streams.pieces, writes)?;
     let mut errs = MemSink::new(alloc, ROOM_FOR_LINES, streams.pieces, lines)?;
     let ran = run(alloc, words, &mut source, &mut sink, &mut errs);
-    Ok(Outcome { ran, sink, errs })
+    Ok(Outcome::new(ran, sink, errs))
 }
