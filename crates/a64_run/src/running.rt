@@ -141,8 +141,8 @@ pub fn run<S: Source, K: Sink, E: Sink>(
 
     // The headline, what is kept, the cause of each answer and when it is due, and what the source
     // and the sink gave and took.
-    ensures answers { Answers S.left S.faults K.taken K.faults source.old source.new sink.old sink.new
-        (IsCommand (map string_bytes words.now))
+    ensures answers { Answers S.left S.faults K.taken K.faults source.old source.new
+        sink.old sink.new (IsCommand (map string_bytes words.now))
         (kept_files result) result.fault result.code }
 
     // `errs` gets the line of the fault, and at status 0 nothing.
