@@ -1,5 +1,5 @@
 -- What is answered for bytes, from what reading them answers.
-use Rattle.std.proofs.Common.{◌≡◌, ℕ, ◌+◌, ◌≤◌, List, [], length, refl, sym, ap, ◌∙◌, subst, inl, inr, arith, Option, None, Some, IfSome, Result, Ok, Err, IfOk, IfErr}
+use Rattle.std.proofs.Common.{◌≡◌, ℕ, ◌+◌, ◌<◌, ◌≤◌, ◌^◌, List, [], length, refl, sym, ap, ◌∙◌, subst, inl, inr, arith, Option, None, Some, IfSome, Result, Ok, Err, IfOk, IfErr}
 use Rattle.a64_audit.specs.declared.file.AuditFile.{AuditFile}
 use Rattle.a64_audit.specs.Entries as Audit
 use Rattle.a64_formtext.specs.declared.file.ShownFile.{ShownFile}
@@ -19,9 +19,9 @@ use Rattle.a64_run.specs.declared.input.Input.TheVariants as inputs
 use Rattle.a64_run.specs.declared.ran.Fault.{Fault}
 use Rattle.a64_run.specs.declared.ran.Fault.TheVariants as faults
 use Rattle.a64_buffer.specs.declared.force.ForceVeneers.{ForceVeneers}
-use Rattle.a64_run.specs.Commands.{limit, works_on, format_of, IsText, IsFirstBad, IsInput, WasRead}
+use Rattle.a64_run.specs.Commands.{limit, works_on, format_of, said_of, Said, SaysItems, SaysWords, SaysListing, IsText, IsFirstBad, IsInput, WasRead}
 use Rattle.a64_run.specs.Run.{Held, FailsOnlyAt, IsDueAnswer}
-use Rattle.a64_run.specs.Stages.{IsWhole, IsLike, IsInputOf, IsDueInput, IsTextDue, IsParsed, IsTextFault, IsInputFault}
+use Rattle.a64_run.specs.Stages.{IsWhole, IsFew, IsInputOf, IsDueInput, IsTextDue, IsParsed, IsTextFault, IsInputFault}
 
 -- ---- bytes in a format
 
@@ -43,77 +43,75 @@ bad_line format bytes n l bad one never = record {
   };
 }
 
-pub parsed_items : (bytes : List ℕ) (file : File) → length bytes ≤ limit → Answers bytes (Ok file) → length file.items.items ≤ length bytes + 1 → IsParsed formats.Items bytes (Ok (inputs.Items file))
-parsed_items bytes file l a few = record {
-  kind = refl;
-  ok = a.ok;
-  few = omega arith;
+-- what a file in a format is: its lines say something, and what is read of them is that
+record Parses (format : Format) (bytes : List ℕ) (told : Said) : Type 0 where
+  good : (n : ℕ) → IsFirstBad format bytes n → ⊥
+  same : (other : Input) → format_of other ≡ format → IsText bytes other → said_of other ≡ told
+
+parsed : (format : Format) (bytes : List ℕ) (input : Input) → length bytes ≤ limit → format_of input ≡ format → IsText bytes input → IsFew input → Parses format bytes (said_of input)
+    → IsParsed format bytes (Ok input)
+parsed format bytes input l kind is few p = record {
+  kind = kind;
+  ok = is;
+  few = few;
   held = tt;
   cause = tt;
-  due_ok = record { short = l; good = λ n bad. a.only_bad n bad; same = same };
+  due_ok = record { short = l; good = p.good; same = p.same };
   due_err = tt;
 }
-  where
-    same : (other : Input) → format_of other ≡ formats.Items → IsText bytes other → IsLike other (inputs.Items file)
-    same (inputs.Items other) kind f = f.holds ∙ sym (a.only_ok f.es f.state f.written f.chain)
-    same (inputs.Words other) kind f = absurd cc
-    same (inputs.Listing other) kind f = absurd cc
+
+-- what holds of each value of a format holds of what has that format
+at_items : (P : Input → Type 0) → ((file : File) → P (inputs.Items file)) → (other : Input) → format_of other ≡ formats.Items → P other
+at_items P p (inputs.Items file) kind = p file
+at_items P p (inputs.Words file) kind = absurd cc
+at_items P p (inputs.Listing file) kind = absurd cc
+
+at_words : (P : Input → Type 0) → ((file : AuditFile) → P (inputs.Words file)) → (other : Input) → format_of other ≡ formats.Words → P other
+at_words P p (inputs.Words file) kind = p file
+at_words P p (inputs.Items file) kind = absurd cc
+at_words P p (inputs.Listing file) kind = absurd cc
+
+at_listing : (P : Input → Type 0) → ((file : ShownFile) → P (inputs.Listing file)) → (other : Input) → format_of other ≡ formats.Listing → P other
+at_listing P p (inputs.Listing file) kind = p file
+at_listing P p (inputs.Items file) kind = absurd cc
+at_listing P p (inputs.Words file) kind = absurd cc
+
+-- ---- items
+
+pub parsed_items : (bytes : List ℕ) (file : File) → length bytes ≤ limit → Answers bytes (Ok file) → length file.items.items ≤ length bytes + 1 → IsParsed formats.Items bytes (Ok (inputs.Items file))
+parsed_items bytes file l a few =
+    parsed formats.Items bytes (inputs.Items file) l refl a.ok (omega arith) (record {
+      good = λ n bad. a.only_bad n bad;
+      same = at_items (λ other. IsText bytes other → said_of other ≡ said_of (inputs.Items file)) (λ other f. ap SaysItems (f.holds ∙ sym (a.only_ok f.es f.state f.written f.chain)));
+    })
 
 pub bad_items : (bytes : List ℕ) (n : ℕ) → length bytes ≤ limit → Answers bytes (Err (BadLine n)) → IsParsed formats.Items bytes (Err (faults.Line n))
-bad_items bytes n l a = bad_line formats.Items bytes n l a.bad (λ m bad. a.only_bad m bad) never
-  where
-    never : (other : Input) → format_of other ≡ formats.Items → IsText bytes other → ⊥
-    never (inputs.Items other) kind f = a.only_ok f.es f.state f.written f.chain
-    never (inputs.Words other) kind f = absurd cc
-    never (inputs.Listing other) kind f = absurd cc
+bad_items bytes n l a =
+    bad_line formats.Items bytes n l a.bad (λ m bad. a.only_bad m bad) (at_items (λ other. IsText bytes other → ⊥) (λ other f. a.only_ok f.es f.state f.written f.chain))
+
+-- ---- what is read line by line
 
 pub parsed_words : (bytes : List ℕ) (file : AuditFile) → length bytes ≤ limit → Lines.Answers Audit.says bytes Audit.nothing (Ok (Audit.contents_of file)) → length file.words.items ≤ length bytes → IsParsed formats.Words bytes (Ok (inputs.Words file))
-parsed_words bytes file l a few = record {
-  kind = refl;
-  ok = a.ok;
-  few = omega arith;
-  held = tt;
-  cause = tt;
-  due_ok = record { short = l; good = λ n bad. a.only_bad n bad; same = same };
-  due_err = tt;
-}
-  where
-    same : (other : Input) → format_of other ≡ formats.Words → IsText bytes other → IsLike other (inputs.Words file)
-    same (inputs.Words other) kind f = sym (a.only_ok (Audit.contents_of other) f)
-    same (inputs.Items other) kind f = absurd cc
-    same (inputs.Listing other) kind f = absurd cc
+parsed_words bytes file l a few =
+    parsed formats.Words bytes (inputs.Words file) l refl a.ok (omega arith) (record {
+      good = λ n bad. a.only_bad n bad;
+      same = at_words (λ other. IsText bytes other → said_of other ≡ said_of (inputs.Words file)) (λ other f. ap SaysWords (sym (a.only_ok (Audit.contents_of other) f)));
+    })
 
 pub bad_words : (bytes : List ℕ) (n : ℕ) → length bytes ≤ limit → Lines.Answers Audit.says bytes Audit.nothing (Err (line_errors.BadLine n)) → IsParsed formats.Words bytes (Err (faults.Line n))
-bad_words bytes n l a = bad_line formats.Words bytes n l a.bad (λ m bad. a.only_bad m bad) never
-  where
-    never : (other : Input) → format_of other ≡ formats.Words → IsText bytes other → ⊥
-    never (inputs.Words other) kind f = a.only_ok (Audit.contents_of other) f
-    never (inputs.Items other) kind f = absurd cc
-    never (inputs.Listing other) kind f = absurd cc
+bad_words bytes n l a =
+    bad_line formats.Words bytes n l a.bad (λ m bad. a.only_bad m bad) (at_words (λ other. IsText bytes other → ⊥) (λ other f. a.only_ok (Audit.contents_of other) f))
 
 pub parsed_listing : (bytes : List ℕ) (file : ShownFile) → length bytes ≤ limit → Lines.Answers Shown.says bytes [] (Ok (Shown.words_of file)) → Shown.IsShownFile bytes file → IsParsed formats.Listing bytes (Ok (inputs.Listing file))
-parsed_listing bytes file l a is = record {
-  kind = refl;
-  ok = is;
-  few = tt;
-  held = tt;
-  cause = tt;
-  due_ok = record { short = l; good = λ n bad. a.only_bad n bad; same = same };
-  due_err = tt;
-}
-  where
-    same : (other : Input) → format_of other ≡ formats.Listing → IsText bytes other → IsLike other (inputs.Listing file)
-    same (inputs.Listing other) kind f = sym (a.only_ok (Shown.words_of other) f.lines)
-    same (inputs.Items other) kind f = absurd cc
-    same (inputs.Words other) kind f = absurd cc
+parsed_listing bytes file l a is =
+    parsed formats.Listing bytes (inputs.Listing file) l refl is tt (record {
+      good = λ n bad. a.only_bad n bad;
+      same = at_listing (λ other. IsText bytes other → said_of other ≡ said_of (inputs.Listing file)) (λ other f. ap SaysListing (sym (a.only_ok (Shown.words_of other) f.lines)));
+    })
 
 pub bad_listing : (bytes : List ℕ) (n : ℕ) → length bytes ≤ limit → Lines.Answers Shown.says bytes [] (Err (line_errors.BadLine n)) → IsParsed formats.Listing bytes (Err (faults.Line n))
-bad_listing bytes n l a = bad_line formats.Listing bytes n l a.bad (λ m bad. a.only_bad m bad) never
-  where
-    never : (other : Input) → format_of other ≡ formats.Listing → IsText bytes other → ⊥
-    never (inputs.Listing other) kind f = a.only_ok (Shown.words_of other) f.lines
-    never (inputs.Items other) kind f = absurd cc
-    never (inputs.Words other) kind f = absurd cc
+bad_listing bytes n l a =
+    bad_line formats.Listing bytes n l a.bad (λ m bad. a.only_bad m bad) (at_listing (λ other. IsText bytes other → ⊥) (λ other f. a.only_ok (Shown.words_of other) f.lines))
 
 -- ---- what the source told
 

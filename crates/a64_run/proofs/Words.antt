@@ -164,17 +164,17 @@ gen_alone = record { some = tt; only = λ command is. absurd (let g = only_gen [
 
 -- ---- commands of one word alone
 
--- their names differ in the sum of the first two letters
+-- their names differ in the sum of the first letter and the third
 abbrev tag : List ℕ → ℕ
-tag name = get_or name 0 0 + get_or name 1 0
+tag name = get_or name 0 0 + get_or name 2 0
 
 abbrev by_tag : ℕ → Option Command
 by_tag n =
-    if n == 213 then Some commands.List else
-    if n == 225 then Some commands.Roles else
-    if n == 214 then Some commands.Audit else
-    if n == 205 then Some commands.Dis else
-    if n == 227 then Some commands.Undis else None
+    if n == 223 then Some commands.List else
+    if n == 222 then Some commands.Roles else
+    if n == 197 then Some commands.Audit else
+    if n == 215 then Some commands.Dis else
+    if n == 217 then Some commands.Undis else None
 
 found : (command : Command) (name : List ℕ) → alone_name command ≡ Some name → by_tag (tag name) ≡ Some command
 found (Asm force) name is = absurd cc

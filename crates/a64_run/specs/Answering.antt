@@ -1,19 +1,18 @@
 -- What a run promises, whatever its source and sinks are.
 use Rattle.std.specs.Prelude.{ℕ, ◌≡◌, ◌⊎◌, ◌<◌, ◌↔◌, List, false, Option, None, Some, IfSome}
-use Rattle.a64_emit.specs.declared.code.Code.{Code}
 use Rattle.a64_io.specs.Streams.{HasFailed, Takes, TakesPart}
 use Rattle.a64_run.specs.declared.command.Command.{Command}
 use Rattle.a64_run.specs.declared.ran.Fault.{Fault}
 use Rattle.a64_run.specs.declared.ran.Fault.TheVariants as faults
 use Rattle.a64_run.specs.Commands.{OfAsked, IsNoneAsked, reads_source, works_on}
-use Rattle.a64_run.specs.Run.{Files, files_of, fault_line, KeepsFiles, Held, FailsOnlyAt, Untouched, TakesFew, IsDueAnswer}
+use Rattle.a64_run.specs.Run.{Kept, nothing_kept, fault_line, KeepsAll, Held, FailsOnlyAt, Untouched, TakesFew, IsDueAnswer}
 
--- what a run promises of its source and its sink, of the file and the code that it keeps, and of its answer, for what was asked for:
--- one command, or those that words are, which are one at most
-pub record Answers {S K : Type 0} (left : S → Option (List ℕ)) (read_faults : S → ℕ) (taken : K → Option (List ℕ)) (write_faults : K → ℕ) (source source' : S) (sink sink' : K) (asked : Command → Type 0) (files : Files) (fault : Option Fault) (code : Option Code) : Type 0 where
+-- what a run promises of its source and its sink, of what it keeps, and of its answer, for what was asked for: one command, or those
+-- that words are, which are one at most
+pub record Answers {S K : Type 0} (left : S → Option (List ℕ)) (read_faults : S → ℕ) (taken : K → Option (List ℕ)) (write_faults : K → ℕ) (source source' : S) (sink sink' : K) (asked : Command → Type 0) (kept : Kept) (fault : Option Fault) : Type 0 where
   -- the headline, where all was done, and what is kept at the other answers; nothing where no command was asked for
-  pub keeps : OfAsked asked (λ command. KeepsFiles command (left source) (left source') (taken sink) (taken sink') files fault code)
-  pub nothing : fault ≡ Some faults.Usage → (files ≡ files_of None) × (code ≡ None)
+  pub keeps : OfAsked asked (λ command. KeepsAll command (left source) (left source') (taken sink) (taken sink') kept fault)
+  pub nothing : fault ≡ Some faults.Usage → kept ≡ nothing_kept
   -- the causes of the answers; where a count of failures rose, the answer is that failure
   pub usage : (fault ≡ Some faults.Usage) ↔ IsNoneAsked asked
   pub read : fault ≡ Some faults.Read → HasFailed (read_faults source) (read_faults source')

@@ -4,6 +4,8 @@ use Rattle.std.specs.Fmt.{decimal}
 use Rattle.a64_buffer.specs.declared.force.ForceVeneers.{ForceVeneers}
 use Rattle.a64_buffer.specs.declared.force.ForceVeneers.TheVariants.{No, Yes}
 use Rattle.a64_emit.specs.declared.code.Code.{Code}
+use Rattle.a64_run.specs.declared.product.Product.{Product}
+use Rattle.a64_run.specs.declared.product.Product.TheVariants as products
 use Rattle.a64_emit.specs.declared.error.EmitError.{EmitError}
 use Rattle.a64_assemble.specs.Assembled.{IsAssembled}
 use Rattle.a64_emit.specs.Faults.{own_fault, fault_of}
@@ -97,6 +99,17 @@ format_of (inputs.Items file) = formats.Items
 format_of (inputs.Words file) = formats.Words
 format_of (inputs.Listing file) = formats.Listing
 
+-- what the lines of a file say, in each format
+pub data Said : Type 0 where
+  SaysItems : Contents → Said
+  SaysWords : Audit.Contents → Said
+  SaysListing : List ℕ → Said
+
+abbrev pub said_of : Input → Said
+said_of (inputs.Items file) = SaysItems (contents_of file)
+said_of (inputs.Words file) = SaysWords (Audit.contents_of file)
+said_of (inputs.Listing file) = SaysListing (Shown.words_of file)
+
 -- the bytes are this
 abbrev pub IsText : List ℕ → Input → Type 0
 IsText bytes (inputs.Items file) = FileText.IsFile bytes file
@@ -125,18 +138,25 @@ contents_fault command file = None
 abbrev pub file_fault : Command → File → Option EmitError
 file_fault command file = contents_fault command (contents_of file)
 
--- the fault that the command finds first in what it works on: of a file of items that of the assembler, of words what an audit
+-- the fault that the command finds first in what the lines of a file say: in items that of the assembler, in words what an audit
 -- finds first
-abbrev pub IsFaultOf : Command → Input → Fault → Type 0
-IsFaultOf command (inputs.Items file) (faults.Assembly error) = file_fault command file ≡ Some error
-IsFaultOf commands.Audit (inputs.Words file) (faults.Audit verdict) = IsVerdict (Audit.contents_of file) verdict × (verdict ≢ Clean)
-IsFaultOf command input fault = ⊥
+abbrev pub FindsFault : Command → Said → Fault → Type 0
+FindsFault command (SaysItems file) (faults.Assembly error) = contents_fault command file ≡ Some error
+FindsFault commands.Audit (SaysWords words) (faults.Audit verdict) = IsVerdict words verdict × (verdict ≢ Clean)
+FindsFault command said fault = ⊥
 
--- it finds none
+-- it finds none there
+abbrev pub FindsNone : Command → Said → Type 0
+FindsNone command (SaysItems file) = contents_fault command file ≡ None
+FindsNone commands.Audit (SaysWords words) = IsClean words
+FindsNone command said = ⊤
+
+-- the same of what the command works on
+abbrev pub IsFaultOf : Command → Input → Fault → Type 0
+IsFaultOf command input fault = FindsFault command (said_of input) fault
+
 abbrev pub IsFaultless : Command → Input → Type 0
-IsFaultless command (inputs.Items file) = file_fault command file ≡ None
-IsFaultless commands.Audit (inputs.Words file) = IsClean (Audit.contents_of file)
-IsFaultless command input = ⊤
+IsFaultless command input = FindsNone command (said_of input)
 
 -- each item of a file is right by itself: none has a fault that stands in it alone
 abbrev pub HasRightItems : File → Type 0
@@ -175,18 +195,18 @@ abbrev pub IsInput : Command → Option (List ℕ) → Option (List ℕ) → Inp
 IsInput (Gen count force) left left' input = IsGenFile count input
 IsInput command left left' input = WasRead (works_on command) left left' input
 
--- what the command makes of it: the code that is kept, if any, and the bytes that are written
-abbrev pub IsOutput : Command → Input → Option Code → List ℕ → Type 0
-IsOutput (Asm force) (inputs.Items file) code output = IsSomeAnd code (λ c. IsCodeOf (Asm force) file c × (output ≡ report_of c))
-IsOutput (Gen count force) (inputs.Items file) code output = IsSomeAnd code (λ c. IsCodeOf (Gen count force) file c × (output ≡ summary_of (length file.items.items) c))
-IsOutput commands.List (inputs.Items file) code output = (code ≡ None) × (output ≡ listing_of file.frame file.items.items)
-IsOutput commands.Roles (inputs.Items file) code output = (code ≡ None) × (output ≡ role_listing_of file.items.items)
-IsOutput commands.Audit (inputs.Words file) code output = (code ≡ None) × (output ≡ codes "clean\n")
-IsOutput commands.Dis (inputs.Words file) code output = (code ≡ None) × Shown.IsListing file.words.items output
-IsOutput commands.Undis (inputs.Listing file) code output = (code ≡ None) × (output ≡ words_text file.words.items)
-IsOutput command input code output = ⊥
+-- what the command makes of it: what is kept of that, if anything, and the bytes that are written
+abbrev pub IsOutput : Command → Input → Option Product → List ℕ → Type 0
+IsOutput (Asm force) (inputs.Items file) (Some (products.Code c)) output = IsCodeOf (Asm force) file c × (output ≡ report_of c)
+IsOutput (Gen count force) (inputs.Items file) (Some (products.Code c)) output = IsCodeOf (Gen count force) file c × (output ≡ summary_of (length file.items.items) c)
+IsOutput commands.List (inputs.Items file) None output = output ≡ listing_of file.frame file.items.items
+IsOutput commands.Roles (inputs.Items file) None output = output ≡ role_listing_of file.items.items
+IsOutput commands.Audit (inputs.Words file) None output = output ≡ codes "clean\n"
+IsOutput commands.Dis (inputs.Words file) None output = Shown.IsListing file.words.items output
+IsOutput commands.Undis (inputs.Listing file) None output = output ≡ words_text file.words.items
+IsOutput command input product output = ⊥
 
 -- the same, where the command finds no fault
-pub record IsMade (command : Command) (input : Input) (code : Option Code) (output : List ℕ) : Type 0 where
+pub record IsMade (command : Command) (input : Input) (product : Option Product) (output : List ℕ) : Type 0 where
   pub no_fault : IsFaultless command input
-  pub output_is : IsOutput command input code output
+  pub output_is : IsOutput command input product output

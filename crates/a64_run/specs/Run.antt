@@ -10,6 +10,8 @@ use Rattle.a64_run.specs.declared.command.Format.{Format}
 use Rattle.a64_run.specs.declared.input.Input.{Input}
 use Rattle.a64_run.specs.declared.input.Input.TheVariants as inputs
 use Rattle.a64_run.specs.declared.ran.Ran.{Ran}
+use Rattle.a64_run.specs.declared.product.Product.{Product}
+use Rattle.a64_run.specs.declared.product.Product.TheVariants as products
 use Rattle.a64_text.specs.declared.file.File.{File}
 use Rattle.a64_audit.specs.declared.file.AuditFile.{AuditFile}
 use Rattle.a64_audit.specs.declared.verdict.Verdict.{Verdict}
@@ -86,17 +88,17 @@ module _ (command : Command) (left left' : Option (List ℕ)) (taken taken' : Op
   -- `list`, it was the listing of such a file, of which each item may be shown; for `roles`, the lines of the roles of any such
   -- file. For `audit` it was the one word `clean`, of words that are; for `dis` the texts of words, and for `undis` the words
   -- that have such texts
-  pub record IsDone (input : Input) (code : Option Code) : Type 0 where
+  pub record IsDone (input : Input) (product : Option Product) : Type 0 where
     pub is_input : IsInput command left left' input
     pub output : List ℕ
-    pub made : IsMade command input code output
+    pub made : IsMade command input product output
     pub written : Takes taken taken' output
 
   -- the same, where a write failed: a proper prefix was written
-  pub record IsCutOff (input : Input) (code : Option Code) : Type 0 where
+  pub record IsCutOff (input : Input) (product : Option Product) : Type 0 where
     pub is_input : IsInput command left left' input
     pub output : List ℕ
-    pub made : IsMade command input code output
+    pub made : IsMade command input product output
     pub written : TakesPart taken taken' output
 
   -- what the command works on is refused, for the fault that it finds first; want of memory is an answer of its own
@@ -110,33 +112,45 @@ module _ (command : Command) (left left' : Option (List ℕ)) (taken taken' : Op
     pub is_input : IsInput command left left' input
     pub right : HasNoItemFault command input
 
-  -- what is kept at each answer: what the command works on, and its code
-  abbrev pub Keeps : Option Fault → Option Input → Option Code → Type 0
-  Keeps None input code = IsSomeAnd input (λ i. IsDone i code)
-  Keeps (Some faults.Write) input code = IsSomeAnd input (λ i. IsCutOff i code)
-  Keeps (Some (faults.Assembly error)) input code = IsSomeAnd input (IsRefused (faults.Assembly error)) × (code ≡ None)
-  Keeps (Some (faults.Audit verdict)) input code = IsSomeAnd input (IsRefused (faults.Audit verdict)) × (code ≡ None)
-  Keeps (Some faults.Memory) input code = IfSome input IsUndone × (code ≡ None)
-  Keeps (Some _) input code = (input ≡ None) × (code ≡ None)
+  -- what is kept at each answer: what the command works on, and what it made
+  abbrev pub Keeps : Option Fault → Option Input → Option Product → Type 0
+  Keeps None input product = IsSomeAnd input (λ i. IsDone i product)
+  Keeps (Some faults.Write) input product = IsSomeAnd input (λ i. IsCutOff i product)
+  Keeps (Some (faults.Assembly error)) input product = IsSomeAnd input (IsRefused (faults.Assembly error)) × (product ≡ None)
+  Keeps (Some (faults.Audit verdict)) input product = IsSomeAnd input (IsRefused (faults.Audit verdict)) × (product ≡ None)
+  Keeps (Some faults.Memory) input product = IfSome input IsUndone × (product ≡ None)
+  Keeps (Some _) input product = (input ≡ None) × (product ≡ None)
 
--- the files in which that is kept
-pub record Files : Type 0 where
+-- the fields in which that is kept
+pub record Kept : Type 0 where
   pub file : Option File
   pub audit : Option AuditFile
   pub shown : Option ShownFile
+  pub code : Option Code
 
-abbrev pub files_of : Option Input → Files
-files_of None = record { file = None; audit = None; shown = None }
-files_of (Some (inputs.Items file)) = record { file = Some file; audit = None; shown = None }
-files_of (Some (inputs.Words file)) = record { file = None; audit = Some file; shown = None }
-files_of (Some (inputs.Listing file)) = record { file = None; audit = None; shown = Some file }
+-- none of them
+abbrev pub nothing_kept : Kept
+nothing_kept = record { file = None; audit = None; shown = None; code = None }
+
+abbrev pub with_input : Option Input → Kept → Kept
+with_input None kept = kept
+with_input (Some (inputs.Items file)) kept = record kept { file = Some file }
+with_input (Some (inputs.Words file)) kept = record kept { audit = Some file }
+with_input (Some (inputs.Listing file)) kept = record kept { shown = Some file }
+
+abbrev pub with_product : Option Product → Kept → Kept
+with_product None kept = kept
+with_product (Some (products.Code code)) kept = record kept { code = Some code }
+
+abbrev pub kept_for : Option Input → Option Product → Kept
+kept_for input product = with_input input (with_product product nothing_kept)
 
 -- what a run keeps
-abbrev pub kept_files : Ran → Files
-kept_files ran = record { file = ran.file; audit = ran.audit; shown = ran.shown }
+abbrev pub kept_in : Ran → Kept
+kept_in ran = record { file = ran.file; audit = ran.audit; shown = ran.shown; code = ran.code }
 
-abbrev pub KeepsFiles : Command → Option (List ℕ) → Option (List ℕ) → Option (List ℕ) → Option (List ℕ) → Files → Option Fault → Option Code → Type 0
-KeepsFiles command left left' taken taken' files fault code = (input : Option Input) × (files ≡ files_of input) × Keeps command left left' taken taken' fault input code
+abbrev pub KeepsAll : Command → Option (List ℕ) → Option (List ℕ) → Option (List ℕ) → Option (List ℕ) → Kept → Option Fault → Type 0
+KeepsAll command left left' taken taken' kept fault = (input : Option Input) × (product : Option Product) × (kept ≡ kept_for input product) × Keeps command left left' taken taken' fault input product
 
 -- which answer is due for a source that tells this text, where the command reads it
 pub record IsDueForText (command : Command) (text : List ℕ) (fault : Option Fault) : Type 0 where

@@ -2,7 +2,8 @@
 use Rattle.std.specs.Prelude.{ℕ, codes, ◌≡◌, ◌≢◌, ◌<◌, ◌≤◌, ◌^◌, ◌++◌, List, [], take, drop, length, Option, None, Some, IfSome, Result, IfOk, IfErr, ⊤}
 use Rattle.std.specs.Fmt.{decimal}
 use Rattle.std.specs.String.{string_bytes}
-use Rattle.a64_emit.specs.declared.code.Code.{Code}
+use Rattle.a64_run.specs.declared.product.Product.{Product}
+use Rattle.a64_run.specs.declared.product.Product.TheVariants as products
 use Rattle.a64_emit.specs.declared.error.EmitError.TheVariants as errors
 use Rattle.a64_run.specs.declared.command.Command.{Command}
 use Rattle.a64_run.specs.declared.command.Command.TheVariants.{Gen}
@@ -20,7 +21,7 @@ use Rattle.a64_run.specs.declared.making.Made.TheVariants.{Report, Summary, List
 use Rattle.a64_report.specs.Report.{report_of, words_in, words_text}
 use Rattle.a64_report.specs.Summary.{summary_of}
 use Rattle.a64_io.specs.Streams.{HasFailed, Takes, TakesPart}
-use Rattle.a64_run.specs.Commands.{limit, works_on, format_of, IsText, IsFirstBad, IsCommand, OfAsked, HasRightItems, HasNoItemFault, IsFaultOf, assembly_fault, IsMade}
+use Rattle.a64_run.specs.Commands.{limit, works_on, format_of, said_of, IsText, IsFirstBad, IsCommand, OfAsked, HasRightItems, HasNoItemFault, IsFaultOf, assembly_fault, IsMade}
 use Rattle.a64_run.specs.Run.{Held, IsDueForText}
 
 -- what is answered for words: Some exactly for the command that they are
@@ -77,10 +78,7 @@ IsInputFault old new _ = ⊥
 
 -- two say the same
 abbrev pub IsLike : Input → Input → Type 0
-IsLike (inputs.Items one) (inputs.Items two) = contents_of one ≡ contents_of two
-IsLike (inputs.Words one) (inputs.Words two) = Audit.contents_of one ≡ Audit.contents_of two
-IsLike (inputs.Listing one) (inputs.Listing two) = Shown.words_of one ≡ Shown.words_of two
-IsLike _ _ = ⊥
+IsLike one two = said_of one ≡ said_of two
 
 -- a text within the limit has no bad line, and is at most what says what this one says
 pub record IsInputOf (format : Format) (text : List ℕ) (input : Input) : Type 0 where
@@ -126,9 +124,9 @@ IsAssemblyFault command file faults.Memory = HasRightItems file
 IsAssemblyFault command file _ = ⊥
 
 -- what is kept of what a command made, and what is written of it
-abbrev pub kept_of : Made → Option Code
-kept_of (Report code) = Some code
-kept_of (Summary items code) = Some code
+abbrev pub kept_of : Made → Option Product
+kept_of (Report code) = Some (products.Code code)
+kept_of (Summary items code) = Some (products.Code code)
 kept_of _ = None
 
 abbrev pub text_of : Made → List ℕ
@@ -145,31 +143,31 @@ IsMakingFault command input (faults.Assembly error) = IsFaultOf command input (f
 IsMakingFault command input (faults.Audit verdict) = IsFaultOf command input (faults.Audit verdict)
 IsMakingFault command input _ = ⊥
 
--- how the writing of what was made ends: what the sink has taken, and the code that is kept
-abbrev pub EndsWriting : Option (List ℕ) → Option (List ℕ) → Made → Option Fault → Option Code → Type 0
-EndsWriting taken taken' made None code = Takes taken taken' (text_of made) × (code ≡ kept_of made)
-EndsWriting taken taken' made (Some faults.Write) code = TakesPart taken taken' (text_of made) × (code ≡ kept_of made)
-EndsWriting taken taken' made (Some faults.Memory) code = (taken' ≡ taken) × (code ≡ None)
-EndsWriting taken taken' made (Some _) code = ⊥
+-- how the writing of what was made ends: what the sink has taken, and what is kept of that
+abbrev pub EndsWriting : Option (List ℕ) → Option (List ℕ) → Made → Option Fault → Option Product → Type 0
+EndsWriting taken taken' made None product = Takes taken taken' (text_of made) × (product ≡ kept_of made)
+EndsWriting taken taken' made (Some faults.Write) product = TakesPart taken taken' (text_of made) × (product ≡ kept_of made)
+EndsWriting taken taken' made (Some faults.Memory) product = (taken' ≡ taken) × (product ≡ None)
+EndsWriting taken taken' made (Some _) product = ⊥
 
 module _ (command : Command) (taken taken' : Option (List ℕ)) (input : Input) where
   -- what the command makes was written
-  pub record IsWritten (code : Option Code) : Type 0 where
+  pub record IsWritten (product : Option Product) : Type 0 where
     pub output : List ℕ
-    pub made : IsMade command input code output
+    pub made : IsMade command input product output
     pub written : Takes taken taken' output
 
   -- the same, in part
-  pub record IsPartWritten (code : Option Code) : Type 0 where
+  pub record IsPartWritten (product : Option Product) : Type 0 where
     pub output : List ℕ
-    pub made : IsMade command input code output
+    pub made : IsMade command input product output
     pub written : TakesPart taken taken' output
 
-  -- how a command ends, for what it works on: what the sink has taken, and the code that is kept
-  abbrev pub Ends : Option Fault → Option Code → Type 0
-  Ends None code = IsWritten code
-  Ends (Some faults.Write) code = IsPartWritten code
-  Ends (Some fault) code = IsMakingFault command input fault × (code ≡ None) × (taken' ≡ taken)
+  -- how a command ends, for what it works on: what the sink has taken, and what is kept of that
+  abbrev pub Ends : Option Fault → Option Product → Type 0
+  Ends None product = IsWritten product
+  Ends (Some faults.Write) product = IsPartWritten product
+  Ends (Some fault) product = IsMakingFault command input fault × (product ≡ None) × (taken' ≡ taken)
 
 -- a text, a number, and a text
 abbrev pub numbered_text : List ℕ → ℕ → List ℕ → List ℕ

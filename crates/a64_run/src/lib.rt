@@ -13,6 +13,7 @@ mod input;
 mod listing;
 mod making;
 mod memory;
+mod product;
 mod ran;
 mod roles;
 mod running;

@@ -12,6 +12,7 @@ use crate::code_words::{audit_words, bytes_of, show_words};
 use crate::command::Command;
 use crate::input::Input;
 use crate::listing::list_file;
+use crate::product::Product;
 use crate::ran::Fault;
 use crate::roles::list_roles;
 use a64_audit::AuditFile;
@@ -61,12 +62,12 @@ impl Made {
         }
     }
 
-    /// The code that is kept.
-    pub fn into_code(self) -> Option<Code>
+    /// What is kept of it.
+    pub fn into_product(self) -> Option<Product>
         ensures { result ≡ kept_of self }
     {
         match self {
-            Made::Report(code) | Made::Summary { code, .. } => Some(code),
+            Made::Report(code) | Made::Summary { code, .. } => Some(Product::Code(code)),
             Made::Listing(_) => None,
             Made::Words(_) => None,
             Made::Clean => None,
@@ -106,7 +107,7 @@ fn make_of_items(alloc: Global, command: Command, file: &File) -> Result<Made, F
             Ok(text) => Ok(Made::Listing(text)),
             Err(fault) => Err(fault),
         },
-        Command::Audit | Command::Dis | Command::Undis => unreachable!(),
+        _ => unreachable!(),
     }
 }
 

@@ -1,9 +1,10 @@
 //! How a run ended.
 
 ghost use Rattle.std.specs.Prelude.{◌≡◌, None, Some};
-ghost use Rattle.a64_run.specs.Run.{files_of, kept_files, status_of};
+ghost use Rattle.a64_run.specs.Run.{kept_for, kept_in, nothing_kept, status_of, with_input, with_product};
 
 use crate::input::Input;
+use crate::product::Product;
 use a64_audit::{AuditFile, Verdict};
 use a64_emit::{Code, EmitError};
 use a64_formtext::ShownFile;
@@ -36,7 +37,8 @@ impl Fault {
         ensures { result ≡ status_of (Some self) }
     {
         match self {
-            Fault::TooLong | Fault::Line(_) | Fault::Assembly(_) | Fault::Audit(_) => 1,
+            Fault::TooLong | Fault::Line(_) => 1,
+            Fault::Assembly(_) | Fault::Audit(_) => 1,
             Fault::Usage => 2,
             Fault::Read => 3,
             Fault::Write => 4,
@@ -50,22 +52,22 @@ impl Fault {
 pub struct Ended {
     /// What the command worked on.
     pub input: Option<Input>,
-    /// The code that was assembled.
-    pub code: Option<Code>,
+    /// What was made that is kept.
+    pub product: Option<Product>,
     /// Why not all was written.
     pub fault: Option<Fault>,
 }
 
 impl Ended {
-    /// The end of a command that made no code, by this fault.
+    /// The end of a command by this fault, where nothing is kept of what it made.
     pub fn refused(input: Option<Input>, fault: Fault) -> Ended
         ensures input { result.input ≡ input }
-        ensures code { result.code ≡ None }
+        ensures product { result.product ≡ None }
         ensures fault { result.fault ≡ Some fault }
     {
         Ended {
             input,
-            code: None,
+            product: None,
             fault: Some(fault),
         }
     }
@@ -102,27 +104,68 @@ pub struct Ran {
     pub shown: Option<ShownFile>,
 }
 
+/// What is kept, where nothing is.
+fn nothing_kept(status: u8, fault: Option<Fault>) -> Ran
+    ensures status { result.status ≡ status }
+    ensures kept { kept_in result ≡ nothing_kept }
+    ensures fault { result.fault ≡ fault }
+{
+    Ran {
+        status,
+        file: None,
+        code: None,
+        fault,
+        audit: None,
+        shown: None,
+    }
+}
+
+impl Ran {
+    /// What is kept, and this product.
+    fn with_product(self, product: Option<Product>) -> Ran
+        ensures status { result.status ≡ self.status }
+        ensures kept { kept_in result ≡ with_product product (kept_in self) }
+        ensures fault { result.fault ≡ self.fault }
+    {
+        let mut ran = self;
+        match product {
+            None => {}
+            Some(Product::Code(code)) => ran.code = Some(code),
+        }
+        ran
+    }
+
+    /// What is kept, and what the command worked on.
+    fn with_input(self, input: Option<Input>) -> Ran
+        ensures status { result.status ≡ self.status }
+        ensures kept { kept_in result ≡ with_input input (kept_in self) }
+        ensures fault { result.fault ≡ self.fault }
+    {
+        let mut ran = self;
+        match input {
+            None => {}
+            Some(Input::Items(file)) => ran.file = Some(file),
+            Some(Input::Words(file)) => ran.audit = Some(file),
+            Some(Input::Listing(file)) => ran.shown = Some(file),
+        }
+        ran
+    }
+}
+
 impl From<Ended> for Ran {
     ghost from_gives = { λ ended ran.
-        (ran.status ≡ status_of ended.fault) × (kept_files ran ≡ files_of ended.input)
-        × (ran.code ≡ ended.code) × (ran.fault ≡ ended.fault) };
+        (ran.status ≡ status_of ended.fault)
+        × (kept_in ran ≡ kept_for ended.input ended.product) × (ran.fault ≡ ended.fault) };
 
     fn from(ended: Ended) -> Ran {
         let status = ended.status();
-        let Ended { input, code, fault } = ended;
-        let (file, audit, shown) = match input {
-            None => (None, None, None),
-            Some(Input::Items(file)) => (Some(file), None, None),
-            Some(Input::Words(file)) => (None, Some(file), None),
-            Some(Input::Listing(file)) => (None, None, Some(file)),
-        };
-        Ran {
-            status,
-            file,
-            code,
+        let Ended {
+            input,
+            product,
             fault,
-            audit,
-            shown,
-        }
+        } = ended;
+        nothing_kept(status, fault)
+            .with_product(product)
+            .with_input(input)
     }
 }

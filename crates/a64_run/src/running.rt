@@ -6,7 +6,7 @@ ghost use Rattle.a64_run.specs.declared.ran.Fault.TheVariants as faults;
 ghost use Rattle.a64_io.specs.Streams.{HasFailed};
 ghost use Rattle.a64_run.specs.Answering.{Answers, TellsFault};
 ghost use Rattle.a64_run.specs.Commands.{HasWords, IsCommand, format_of, works_on};
-ghost use Rattle.a64_run.specs.Run.{status_of, files_of, kept_files, FailsOnlyAt};
+ghost use Rattle.a64_run.specs.Run.{status_of, kept_for, kept_in, FailsOnlyAt};
 ghost use Rattle.a64_run.specs.Stages.{IsFew, Ends, EndsWriting};
 
 use crate::command::{Command, command_of};
@@ -21,7 +21,8 @@ use std::alloc::Global;
 /// Writes what was made. The memory for that is taken before the first write.
 fn write_made<K: Sink>(alloc: Global, sink: &mut K, input: Input, made: Made) -> Ended
     ensures input { result.input ≡ Some input }
-    ensures ends { EndsWriting (K.taken sink.old) (K.taken sink.new) made result.fault result.code }
+    ensures ends { EndsWriting (K.taken sink.old) (K.taken sink.new) made
+        result.fault result.product }
     ensures write { result.fault ≡ Some faults.Write
         → HasFailed (K.faults sink.old) (K.faults sink.new) }
     ensures writes { FailsOnlyAt faults.Write result.fault
@@ -36,7 +37,7 @@ fn write_made<K: Sink>(alloc: Global, sink: &mut K, input: Input, made: Made) ->
     };
     Ended {
         input: Some(input),
-        code: made.into_code(),
+        product: made.into_product(),
         fault,
     }
 }
@@ -47,7 +48,7 @@ fn run_input<K: Sink>(alloc: Global, command: Command, sink: &mut K, input: Inpu
     requires few { IsFew input }
     ensures input { result.input ≡ Some input }
     ensures ends { Ends command (K.taken sink.old)
-        (K.taken sink.new) input result.fault result.code }
+        (K.taken sink.new) input result.fault result.product }
     ensures write { result.fault ≡ Some faults.Write
         → HasFailed (K.faults sink.old) (K.faults sink.new) }
     ensures writes { FailsOnlyAt faults.Write result.fault
@@ -68,7 +69,7 @@ fn run_command<S: Source, K: Sink>(
 ) -> Ended
     requires { HasWords command }
     ensures { Answers S.left S.faults K.taken K.faults source.old source.new sink.old sink.new
-        (λ asked. command ≡ asked) (files_of result.input) result.fault result.code }
+        (λ asked. command ≡ asked) (kept_for result.input result.product) result.fault }
 {
     match input_of(alloc, command, source) {
         Ok(input) => run_input(alloc, command, sink, input),
@@ -85,7 +86,7 @@ fn run_words<S: Source, K: Sink>(
 ) -> Ended
     ensures { Answers S.left S.faults K.taken K.faults source.old source.new sink.old sink.new
         (IsCommand (map string_bytes words.now))
-        (files_of result.input) result.fault result.code }
+        (kept_for result.input result.product) result.fault }
 {
     match command_of(words) {
         Some(command) => run_command(alloc, command, source, sink),
@@ -143,7 +144,7 @@ pub fn run<S: Source, K: Sink, E: Sink>(
     // and the sink gave and took.
     ensures answers { Answers S.left S.faults K.taken K.faults source.old source.new
         sink.old sink.new (IsCommand (map string_bytes words.now))
-        (kept_files result) result.fault result.code }
+        (kept_in result) result.fault }
 
     // `errs` gets the line of the fault, and at status 0 nothing.
     ensures tells { TellsFault E.taken E.faults errs.old errs.new result.fault }

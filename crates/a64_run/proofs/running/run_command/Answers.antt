@@ -9,8 +9,8 @@ returns-in-Ok g c =
     record {
       keeps = λ other same.
           let k = ends_keeps c.args.command (g.S.Source.left c.args.source.now) (g.S.Source.left c.input_of.new.source) (g.K.Sink.taken c.args.sink.now) (g.K.Sink.taken c.run_input.new.sink) c.in-Ok.input
-          c.run_input.result.fault c.run_input.result.code c.in-Ok.ensures.ok c.run_input.ensures.ends in
-          rw (sym same) (c.run_input.result.input, refl, rw c.run_input.ensures.input k);
+          c.run_input.result.fault c.run_input.result.product c.in-Ok.ensures.ok c.run_input.ensures.ends in
+          rw (sym same) (c.run_input.result.input, c.run_input.result.product, refl, rw c.run_input.ensures.input k);
       nothing = λ usage. absurd (no_usage usage);
       usage = (λ usage. absurd (no_usage usage), λ none. absurd (none c.args.command refl));
       read = search rules;
@@ -21,7 +21,7 @@ returns-in-Ok g c =
       due = λ other same.
           rw (sym same)
           (ends_due c.args.command (g.S.Source.left c.args.source.now) (g.S.Source.left c.input_of.new.source) (g.K.Sink.taken c.args.sink.now) (g.K.Sink.taken c.run_input.new.sink) c.in-Ok.input
-          c.run_input.result.fault c.run_input.result.code c.requires c.in-Ok.ensures.ok c.in-Ok.ensures.due_ok c.run_input.ensures.ends);
+          c.run_input.result.fault c.run_input.result.product c.requires c.in-Ok.ensures.ok c.in-Ok.ensures.due_ok c.run_input.ensures.ends);
       few = search rules;
       unread = λ none. let unread = none c.args.command refl in search rules;
       untouched = search rules;

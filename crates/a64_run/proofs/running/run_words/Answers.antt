@@ -1,18 +1,17 @@
 use Rattle.std.proofs.Common.{ℕ, ◌≡◌, List, Option, map, refl, subst}
 use Rattle.std.specs.Prelude.{IfSome}
 use Rattle.std.specs.String.{string_bytes}
-use Rattle.a64_emit.specs.declared.code.Code.{Code}
 use Rattle.a64_run.specs.declared.command.Command.{Command}
 use Rattle.a64_run.specs.declared.ran.Fault.{Fault}
 use Rattle.a64_run.specs.Answering.{Answers}
 use Rattle.a64_run.specs.Commands.{IsCommand}
-use Rattle.a64_run.specs.Run.{Files}
+use Rattle.a64_run.specs.Run.{Kept}
 use Rattle.a64_run.proofs.running.run_words.Goals as goal
 
 -- the same commands may be asked for in other words
-asked_answers : {S K : Type 0} {left : S → Option (List ℕ)} {read_faults : S → ℕ} {taken : K → Option (List ℕ)} {write_faults : K → ℕ} {source source' : S} {sink sink' : K} {asked asked' : Command → Type 0} {files : Files} {fault : Option Fault} {code : Option Code}
+asked_answers : {S K : Type 0} {left : S → Option (List ℕ)} {read_faults : S → ℕ} {taken : K → Option (List ℕ)} {write_faults : K → ℕ} {source source' : S} {sink sink' : K} {asked asked' : Command → Type 0} {kept : Kept} {fault : Option Fault}
     → ((command : Command) → asked' command → asked command) → ((command : Command) → asked command → asked' command)
-    → Answers left read_faults taken write_faults source source' sink sink' asked files fault code → Answers left read_faults taken write_faults source source' sink sink' asked' files fault code
+    → Answers left read_faults taken write_faults source source' sink sink' asked kept fault → Answers left read_faults taken write_faults source source' sink sink' asked' kept fault
 asked_answers from to answers = record {
   keeps = λ command is. answers.keeps command (from command is);
   nothing = answers.nothing;
