@@ -7,3 +7,4 @@ pub mod SectionLists
 pub mod Overlaps
 pub mod KeptLines
 pub mod LineRuns
+pub mod StubsLeft

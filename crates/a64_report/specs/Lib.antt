@@ -3,3 +3,4 @@ pub mod Summary
 pub mod Sections
 pub mod Kept
 pub mod Putting
+pub mod StubLines

@@ -7,8 +7,10 @@ mod line;
 mod piece;
 mod report;
 mod report_lines;
+mod stubs;
 mod summary;
 
 pub use piece::Piece;
 pub use report::{write_report, write_words};
+pub use stubs::write_stubs;
 pub use summary::write_summary;
