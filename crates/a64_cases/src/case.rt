@@ -183,10 +183,10 @@ impl<'a> Case<'a> {
         }
     }
 
-    /// Whether the command lists something, audits words or reads them, and so makes no code.
+    /// Whether the command is none of those that assemble, and so makes no code of items.
     pub fn lists(&self) -> bool {
         match self.command.first() {
-            Some(word) => matches!(word.as_str(), "list" | "roles" | "audit" | "dis" | "undis"),
+            Some(word) => !matches!(word.as_str(), "asm" | "gen"),
             None => false,
         }
     }

@@ -40,7 +40,10 @@ pub struct Outcome {
 impl Outcome {
     /// What cases say of what a run answered and wrote.
     fn new(ran: Ran, sink: MemSink, errs: MemSink) -> Outcome {
-        let keeps_file = ran.file.is_some() || ran.audit.is_some() || ran.shown.is_some();
+        let keeps_file = ran.file.is_some()
+            || ran.audit.is_some()
+            || ran.shown.is_some()
+            || ran.stub_file.is_some();
         Outcome {
             status: ran.status,
             keeps_file,

@@ -68,11 +68,11 @@ module _ (command : Command) (taken taken' : Option (List ℕ)) (input : Input) 
 
 -- what was made, and how the writing of it ended, is how the command ends
 pub written_ends : (command : Command) (taken taken' : Option (List ℕ)) (input : Input) (made : Made) (fault : Option Fault) (product : Option Product)
-    → IsMade command input (kept_of made) (text_of made) → EndsWriting taken taken' made fault product → Ends command taken taken' input fault product
+    → IsMade command input (kept_of made) (text_of input made) → EndsWriting taken taken' input made fault product → Ends command taken taken' input fault product
 written_ends command taken taken' input made None product m e =
-    record { output = text_of made; made = subst (λ (c : Option Product). IsMade command input c (text_of made)) (sym e.1) m; written = e.0 }
+    record { output = text_of input made; made = subst (λ (c : Option Product). IsMade command input c (text_of input made)) (sym e.1) m; written = e.0 }
 written_ends command taken taken' input made (Some faults.Write) product m e =
-    record { output = text_of made; made = subst (λ (c : Option Product). IsMade command input c (text_of made)) (sym e.1) m; written = e.0 }
+    record { output = text_of input made; made = subst (λ (c : Option Product). IsMade command input c (text_of input made)) (sym e.1) m; written = e.0 }
 written_ends command taken taken' input made (Some faults.Memory) product m e = (right_faultless command input m.no_fault, e.1, e.0)
 written_ends command taken taken' input made (Some faults.Usage) product m e = absurd e
 written_ends command taken taken' input made (Some faults.Read) product m e = absurd e
@@ -115,6 +115,7 @@ ends_due (Gen count force) left left' taken taken' (inputs.Items file) fault pro
     done_always (Gen count force) taken taken' (inputs.Items file) fault product e (ap (contents_fault (Gen count force)) i ∙ gen_faultless count force w)
 ends_due (Gen count force) left left' taken taken' (inputs.Words file) fault product w i o e = absurd i
 ends_due (Gen count force) left left' taken taken' (inputs.Listing file) fault product w i o e = absurd i
+ends_due (Gen count force) left left' taken taken' (inputs.Addresses file) fault product w i o e = absurd i
 ends_due (Asm force) None left' taken taken' input fault product w i o e = tt
 ends_due (Asm force) (Some text) left' taken taken' input fault product w i o e = text_ends_due (Asm force) taken taken' input text fault product o e
 ends_due commands.List None left' taken taken' input fault product w i o e = tt
@@ -127,3 +128,5 @@ ends_due commands.Dis None left' taken taken' input fault product w i o e = tt
 ends_due commands.Dis (Some text) left' taken taken' input fault product w i o e = text_ends_due commands.Dis taken taken' input text fault product o e
 ends_due commands.Undis None left' taken taken' input fault product w i o e = tt
 ends_due commands.Undis (Some text) left' taken taken' input fault product w i o e = text_ends_due commands.Undis taken taken' input text fault product o e
+ends_due commands.Stubs None left' taken taken' input fault product w i o e = tt
+ends_due commands.Stubs (Some text) left' taken taken' input fault product w i o e = text_ends_due commands.Stubs taken taken' input text fault product o e

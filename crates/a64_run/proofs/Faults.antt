@@ -13,7 +13,7 @@ use Rattle.a64_run.specs.declared.command.Command.TheVariants as commands
 use Rattle.a64_run.specs.declared.input.Input.{Input}
 use Rattle.a64_run.specs.declared.ran.Fault.{Fault}
 use Rattle.a64_run.specs.declared.ran.Fault.TheVariants as faults
-use Rattle.a64_run.specs.Commands.{contents_fault, said_of, Said, SaysItems, SaysWords, SaysListing, FindsFault, FindsNone, IsFaultOf, IsFaultless}
+use Rattle.a64_run.specs.Commands.{contents_fault, said_of, Said, SaysItems, SaysWords, SaysListing, SaysAddresses, FindsFault, FindsNone, IsFaultOf, IsFaultless}
 use Rattle.a64_run.specs.Stages.{IsLike}
 
 -- the fault of a file of items is one of the assembler
@@ -62,11 +62,13 @@ module _ (P : Command → Said → Type 0)
   at_words commands.Audit words = audits words
   at_words commands.Dis words = never commands.Dis (SaysWords words) (λ fault h. h)
   at_words commands.Undis words = never commands.Undis (SaysWords words) (λ fault h. h)
+  at_words commands.Stubs words = never commands.Stubs (SaysWords words) (λ fault h. h)
 
   in_each : (command : Command) (said : Said) → P command said
   in_each command (SaysItems file) = items command file
   in_each command (SaysWords words) = at_words command words
   in_each command (SaysListing words) = never command (SaysListing words) (λ fault h. h)
+  in_each command (SaysAddresses addresses) = never command (SaysAddresses addresses) (λ fault h. h)
 
 -- where there is none, there is no fault
 abbrev HasNone : Command → Said → Type 0

@@ -4,6 +4,8 @@ use Rattle.a64_audit.specs.declared.file.AuditFile.{AuditFile}
 use Rattle.a64_audit.specs.Entries as Audit
 use Rattle.a64_formtext.specs.declared.file.ShownFile.{ShownFile}
 use Rattle.a64_formtext.specs.Shown as Shown
+use Rattle.a64_stubs.specs.declared.file.StubFile.{StubFile}
+use Rattle.a64_stubs.specs.Files as Stubs
 use Rattle.a64_lines.specs.declared.error.LinesError.TheVariants as line_errors
 use Rattle.a64_lines.specs.Lines as Lines
 use Rattle.a64_text.specs.declared.file.File.{File}
@@ -19,7 +21,7 @@ use Rattle.a64_run.specs.declared.input.Input.TheVariants as inputs
 use Rattle.a64_run.specs.declared.ran.Fault.{Fault}
 use Rattle.a64_run.specs.declared.ran.Fault.TheVariants as faults
 use Rattle.a64_buffer.specs.declared.force.ForceVeneers.{ForceVeneers}
-use Rattle.a64_run.specs.Commands.{limit, works_on, format_of, said_of, Said, SaysItems, SaysWords, SaysListing, IsText, IsFirstBad, IsInput, WasRead}
+use Rattle.a64_run.specs.Commands.{limit, works_on, format_of, said_of, Said, SaysItems, SaysWords, SaysListing, SaysAddresses, IsText, IsFirstBad, IsInput, WasRead}
 use Rattle.a64_run.specs.Run.{Held, FailsOnlyAt, IsDueAnswer}
 use Rattle.a64_run.specs.Stages.{IsWhole, IsFew, IsInputOf, IsDueInput, IsTextDue, IsParsed, IsTextFault, IsInputFault}
 
@@ -65,16 +67,25 @@ at_items : (P : Input → Type 0) → ((file : File) → P (inputs.Items file)) 
 at_items P p (inputs.Items file) kind = p file
 at_items P p (inputs.Words file) kind = absurd cc
 at_items P p (inputs.Listing file) kind = absurd cc
+at_items P p (inputs.Addresses file) kind = absurd cc
 
 at_words : (P : Input → Type 0) → ((file : AuditFile) → P (inputs.Words file)) → (other : Input) → format_of other ≡ formats.Words → P other
 at_words P p (inputs.Words file) kind = p file
 at_words P p (inputs.Items file) kind = absurd cc
 at_words P p (inputs.Listing file) kind = absurd cc
+at_words P p (inputs.Addresses file) kind = absurd cc
 
 at_listing : (P : Input → Type 0) → ((file : ShownFile) → P (inputs.Listing file)) → (other : Input) → format_of other ≡ formats.Listing → P other
 at_listing P p (inputs.Listing file) kind = p file
 at_listing P p (inputs.Items file) kind = absurd cc
 at_listing P p (inputs.Words file) kind = absurd cc
+at_listing P p (inputs.Addresses file) kind = absurd cc
+
+at_addresses : (P : Input → Type 0) → ((file : StubFile) → P (inputs.Addresses file)) → (other : Input) → format_of other ≡ formats.Addresses → P other
+at_addresses P p (inputs.Addresses file) kind = p file
+at_addresses P p (inputs.Items file) kind = absurd cc
+at_addresses P p (inputs.Words file) kind = absurd cc
+at_addresses P p (inputs.Listing file) kind = absurd cc
 
 -- ---- items
 
@@ -112,6 +123,17 @@ parsed_listing bytes file l a is =
 pub bad_listing : (bytes : List ℕ) (n : ℕ) → length bytes ≤ limit → Lines.Answers Shown.says bytes [] (Err (line_errors.BadLine n)) → IsParsed formats.Listing bytes (Err (faults.Line n))
 bad_listing bytes n l a =
     bad_line formats.Listing bytes n l a.bad (λ m bad. a.only_bad m bad) (at_listing (λ other. IsText bytes other → ⊥) (λ other f. a.only_ok (Shown.words_of other) f.lines))
+
+pub parsed_addresses : (bytes : List ℕ) (file : StubFile) → length bytes ≤ limit → Lines.Answers Stubs.says bytes [] (Ok (Stubs.addresses_of file)) → length file.addresses.items ≤ length bytes → IsParsed formats.Addresses bytes (Ok (inputs.Addresses file))
+parsed_addresses bytes file l a few =
+    parsed formats.Addresses bytes (inputs.Addresses file) l refl a.ok (omega arith) (record {
+      good = λ n bad. a.only_bad n bad;
+      same = at_addresses (λ other. IsText bytes other → said_of other ≡ said_of (inputs.Addresses file)) (λ other f. ap SaysAddresses (sym (a.only_ok (Stubs.addresses_of other) f)));
+    })
+
+pub bad_addresses : (bytes : List ℕ) (n : ℕ) → length bytes ≤ limit → Lines.Answers Stubs.says bytes [] (Err (line_errors.BadLine n)) → IsParsed formats.Addresses bytes (Err (faults.Line n))
+bad_addresses bytes n l a =
+    bad_line formats.Addresses bytes n l a.bad (λ m bad. a.only_bad m bad) (at_addresses (λ other. IsText bytes other → ⊥) (λ other f. a.only_ok (Stubs.addresses_of other) f))
 
 -- ---- what the source told
 
@@ -215,6 +237,7 @@ module _ (left left' : Option (List ℕ)) where
   read_is_input commands.Audit (Ok input) apart h = h
   read_is_input commands.Dis (Ok input) apart h = h
   read_is_input commands.Undis (Ok input) apart h = h
+  read_is_input commands.Stubs (Ok input) apart h = h
 
   pub read_is_due : (command : Command) (r : Result Input Fault) → IsNoGen command → IfOk r (λ input. IfSome left (λ text. IsInputOf (works_on command) text input)) → IfOk r (IsDueInput command left)
   read_is_due command (Err fault) apart h = tt
@@ -225,6 +248,7 @@ module _ (left left' : Option (List ℕ)) where
   read_is_due commands.Audit (Ok input) apart h = h
   read_is_due commands.Dis (Ok input) apart h = h
   read_is_due commands.Undis (Ok input) apart h = h
+  read_is_due commands.Stubs (Ok input) apart h = h
 
   due_for : (command : Command) (fault : Fault) (left : Option (List ℕ)) → IsNoGen command → IfSome left (λ text. IsTextDue (works_on command) text fault) → IsDueAnswer command left (Some fault)
   due_for (Asm force) fault None apart h = tt
@@ -240,6 +264,8 @@ module _ (left left' : Option (List ℕ)) where
   due_for commands.Dis fault (Some text) apart h = h commands.Dis refl
   due_for commands.Undis fault None apart h = tt
   due_for commands.Undis fault (Some text) apart h = h commands.Undis refl
+  due_for commands.Stubs fault None apart h = tt
+  due_for commands.Stubs fault (Some text) apart h = h commands.Stubs refl
 
   pub read_fault_due : (command : Command) (r : Result Input Fault) → IsNoGen command → IfErr r (λ fault. IfSome left (λ text. IsTextDue (works_on command) text fault)) → IfErr r (λ fault. IsDueAnswer command left (Some fault))
   read_fault_due command (Ok input) apart h = tt

@@ -6,3 +6,4 @@ pub mod Ending
 pub mod Inputs
 pub mod Taking
 pub mod Faults
+pub mod StepForms

@@ -95,6 +95,7 @@ only_asm rest commands.Roles h = absurd (let first = ap (λ ws. get_or (get_or w
 only_asm rest commands.Audit h = absurd (let first = ap (λ ws. get_or (get_or ws 0 []) 1 0) h in omega arith)
 only_asm rest commands.Dis h = absurd (let first = ap (λ ws. get_or (get_or ws 0 []) 0 0) h in omega arith)
 only_asm rest commands.Undis h = absurd (let first = ap (λ ws. get_or (get_or ws 0 []) 0 0) h in omega arith)
+only_asm rest commands.Stubs h = absurd (let first = ap (λ ws. get_or (get_or ws 0 []) 0 0) h in omega arith)
 
 pub asm_read : (rest : List (List ℕ)) (force : ForceVeneers) → Reads Always force_words rest (Some force) → ReadsCommand (codes "asm" ∷ rest) (Some (Asm force))
 asm_read rest force h =
@@ -124,6 +125,7 @@ only_gen rest commands.Roles h = absurd (let first = ap (λ ws. get_or (get_or w
 only_gen rest commands.Audit h = absurd (let first = ap (λ ws. get_or (get_or ws 0 []) 0 0) h in omega arith)
 only_gen rest commands.Dis h = absurd (let first = ap (λ ws. get_or (get_or ws 0 []) 0 0) h in omega arith)
 only_gen rest commands.Undis h = absurd (let first = ap (λ ws. get_or (get_or ws 0 []) 0 0) h in omega arith)
+only_gen rest commands.Stubs h = absurd (let first = ap (λ ws. get_or (get_or ws 0 []) 0 0) h in omega arith)
 
 pub gen_read : (token : List ℕ) (rest : List (List ℕ)) (count : ℕ) (force : ForceVeneers) → Reads IsCount decimal token (Some count) → Reads Always force_words rest (Some force) → ReadsCommand (codes "gen" ∷ token ∷ rest) (Some (Gen count force))
 gen_read token rest count force h k =
@@ -174,7 +176,8 @@ by_tag n =
     if n == 222 then Some commands.Roles else
     if n == 197 then Some commands.Audit else
     if n == 215 then Some commands.Dis else
-    if n == 217 then Some commands.Undis else None
+    if n == 217 then Some commands.Undis else
+    if n == 232 then Some commands.Stubs else None
 
 found : (command : Command) (name : List ℕ) → alone_name command ≡ Some name → by_tag (tag name) ≡ Some command
 found (Asm force) name is = absurd cc
@@ -184,6 +187,7 @@ found commands.Roles name is = let same : codes "roles" ≡ name = cc in ap (λ 
 found commands.Audit name is = let same : codes "audit" ≡ name = cc in ap (λ t. by_tag (tag t)) (sym same)
 found commands.Dis name is = let same : codes "dis" ≡ name = cc in ap (λ t. by_tag (tag t)) (sym same)
 found commands.Undis name is = let same : codes "undis" ≡ name = cc in ap (λ t. by_tag (tag t)) (sym same)
+found commands.Stubs name is = let same : codes "stubs" ≡ name = cc in ap (λ t. by_tag (tag t)) (sym same)
 
 -- a command whose first word is that name is that one, and has no words behind the name
 record IsThat (rest : List (List ℕ)) (command other : Command) : Type 0 where
@@ -211,6 +215,7 @@ module _ (name : List ℕ) (rest : List (List ℕ)) (command : Command) (is : al
   only_alone commands.Audit h = one_name commands.Audit (codes "audit") refl h
   only_alone commands.Dis h = one_name commands.Dis (codes "dis") refl h
   only_alone commands.Undis h = one_name commands.Undis (codes "undis") refl h
+  only_alone commands.Stubs h = one_name commands.Stubs (codes "stubs") refl h
 
 is_command : (name : List ℕ) (command : Command) → alone_name command ≡ Some name → IsCommand (name ∷ []) command
 is_command name (Asm force) is = absurd cc
@@ -220,6 +225,7 @@ is_command name commands.Roles is = let same : name ≡ codes "roles" = cc in ap
 is_command name commands.Audit is = let same : name ≡ codes "audit" = cc in ap (λ t. t ∷ []) same
 is_command name commands.Dis is = let same : name ≡ codes "dis" = cc in ap (λ t. t ∷ []) same
 is_command name commands.Undis is = let same : name ≡ codes "undis" = cc in ap (λ t. t ∷ []) same
+is_command name commands.Stubs is = let same : name ≡ codes "stubs" = cc in ap (λ t. t ∷ []) same
 
 -- no words are `asm`
 empty_read : ReadsCommand [] (Some (Asm No))
@@ -234,11 +240,12 @@ empty_read = record { some = inl (refl, refl); only = only }
     only commands.Audit h = absurd cc
     only commands.Dis h = absurd cc
     only commands.Undis h = absurd cc
+    only commands.Stubs h = absurd cc
 
 -- another name is no command's
 pub name_unread : (name : List ℕ) (rest : List (List ℕ)) → name ≢ codes "asm" → name ≢ codes "gen" → name ≢ codes "list" → name ≢ codes "roles"
-    → name ≢ codes "audit" → name ≢ codes "dis" → name ≢ codes "undis" → ReadsCommand (name ∷ rest) None
-name_unread name rest no_asm no_gen no_list no_roles no_audit no_dis no_undis = record { some = tt; only = only }
+    → name ≢ codes "audit" → name ≢ codes "dis" → name ≢ codes "undis" → name ≢ codes "stubs" → ReadsCommand (name ∷ rest) None
+name_unread name rest no_asm no_gen no_list no_roles no_audit no_dis no_undis no_stubs = record { some = tt; only = only }
   where
     only : (command : Command) → IsCommand (name ∷ rest) command → None ≡ Some command
     only (Asm force) (inl h) = absurd (let empty = h.1 in cc)
@@ -249,6 +256,7 @@ name_unread name rest no_asm no_gen no_list no_roles no_audit no_dis no_undis = 
     only commands.Audit h = absurd (no_audit (ap (λ ws. get_or ws 0 []) h))
     only commands.Dis h = absurd (no_dis (ap (λ ws. get_or ws 0 []) h))
     only commands.Undis h = absurd (no_undis (ap (λ ws. get_or ws 0 []) h))
+    only commands.Stubs h = absurd (no_stubs (ap (λ ws. get_or ws 0 []) h))
 
 -- ---- words as they are held
 

@@ -1,11 +1,19 @@
 -- What the commands are: a line for each in each table.
-use Rattle.std.specs.Prelude.{ℕ, ◌≡◌, ◌≢◌, ◌⊎◌, ◌≤◌, List, [], ◌∷◌, codes, length, Bool, true, false, Option, None, Some, IfSome, IsSomeAnd, ⊤}
+use Rattle.std.specs.Prelude.{All, ℕ, ◌≡◌, ◌≢◌, ◌⊎◌, ◌≤◌, List, [], ◌∷◌, codes, length, Bool, true, false, Option, None, Some, IfSome, IsSomeAnd, ⊤}
 use Rattle.std.specs.Fmt.{decimal}
 use Rattle.a64_buffer.specs.declared.force.ForceVeneers.{ForceVeneers}
 use Rattle.a64_buffer.specs.declared.force.ForceVeneers.TheVariants.{No, Yes}
+use Rattle.a64_base.specs.Registers.{integer_register}
+use Rattle.a64_plan.specs.declared.step.ConstStep.{ConstStep}
 use Rattle.a64_emit.specs.declared.code.Code.{Code}
+use Rattle.a64_emit.specs.MemoryForms as emission
 use Rattle.a64_run.specs.declared.product.Product.{Product}
 use Rattle.a64_run.specs.declared.product.Product.TheVariants as products
+use Rattle.a64_stubs.specs.declared.file.Stubs.{Stubs}
+use Rattle.a64_stubs.specs.Files as StubFiles
+use Rattle.a64_stubs.specs.Runs.{IsTrampoline}
+use Rattle.a64_stubs.specs.Words.{AreStubs, step_form}
+use Rattle.a64_report.specs.StubLines.{stubs_text}
 use Rattle.a64_emit.specs.declared.error.EmitError.{EmitError}
 use Rattle.a64_assemble.specs.Assembled.{IsAssembled}
 use Rattle.a64_emit.specs.Faults.{own_fault, fault_of}
@@ -51,6 +59,7 @@ alone_name commands.Roles = Some (codes "roles")
 alone_name commands.Audit = Some (codes "audit")
 alone_name commands.Dis = Some (codes "dis")
 alone_name commands.Undis = Some (codes "undis")
+alone_name commands.Stubs = Some (codes "stubs")
 
 -- the words of the command
 abbrev pub IsCommand : List (List ℕ) → Command → Type 0
@@ -80,6 +89,7 @@ works_on commands.Roles = formats.Items
 works_on commands.Audit = formats.Words
 works_on commands.Dis = formats.Words
 works_on commands.Undis = formats.Listing
+works_on commands.Stubs = formats.Addresses
 
 -- the command reads that from the source
 abbrev pub reads_source : Command → Bool
@@ -98,29 +108,34 @@ abbrev pub format_of : Input → Format
 format_of (inputs.Items file) = formats.Items
 format_of (inputs.Words file) = formats.Words
 format_of (inputs.Listing file) = formats.Listing
+format_of (inputs.Addresses file) = formats.Addresses
 
 -- what the lines of a file say, in each format
 pub data Said : Type 0 where
   SaysItems : Contents → Said
   SaysWords : Audit.Contents → Said
   SaysListing : List ℕ → Said
+  SaysAddresses : List ℕ → Said
 
 abbrev pub said_of : Input → Said
 said_of (inputs.Items file) = SaysItems (contents_of file)
 said_of (inputs.Words file) = SaysWords (Audit.contents_of file)
 said_of (inputs.Listing file) = SaysListing (Shown.words_of file)
+said_of (inputs.Addresses file) = SaysAddresses (StubFiles.addresses_of file)
 
 -- the bytes are this
 abbrev pub IsText : List ℕ → Input → Type 0
 IsText bytes (inputs.Items file) = FileText.IsFile bytes file
 IsText bytes (inputs.Words file) = Audit.IsAuditFile bytes file
 IsText bytes (inputs.Listing file) = Shown.IsShownFile bytes file
+IsText bytes (inputs.Addresses file) = StubFiles.IsStubFile bytes file
 
 -- line n, counted from 1, is the first that is no entry which may stand there
 abbrev pub IsFirstBad : Format → List ℕ → ℕ → Type 0
 IsFirstBad formats.Items bytes n = FileText.IsFirstBad bytes n
 IsFirstBad formats.Words bytes n = Lines.IsFirstBad Audit.says Audit.nothing bytes n
 IsFirstBad formats.Listing bytes n = Lines.IsFirstBad Shown.says [] bytes n
+IsFirstBad formats.Addresses bytes n = Lines.IsFirstBad StubFiles.says [] bytes n
 
 -- ---- faults
 
@@ -195,6 +210,14 @@ abbrev pub IsInput : Command → Option (List ℕ) → Option (List ℕ) → Inp
 IsInput (Gen count force) left left' input = IsGenFile count input
 IsInput command left left' input = WasRead (works_on command) left left' input
 
+-- stubs to these addresses, and their lines. Each arrives at its address and changes x16 alone, and none that does is shorter; its
+-- steps have the forms that they have in code
+pub record AreStubsTo (addresses : List ℕ) (stubs : Stubs) (output : List ℕ) : Type 0 where
+  pub stand : AreStubs addresses stubs.words.items stubs.places.items
+  pub arrive : All IsTrampoline addresses
+  pub forms : (step : ConstStep) → step_form step ≡ emission.step_form (integer_register 16) step
+  pub lines : output ≡ stubs_text addresses stubs.places.items stubs.words.items
+
 -- what the command makes of it: what is kept of that, if anything, and the bytes that are written
 abbrev pub IsOutput : Command → Input → Option Product → List ℕ → Type 0
 IsOutput (Asm force) (inputs.Items file) (Some (products.Code c)) output = IsCodeOf (Asm force) file c × (output ≡ report_of c)
@@ -204,6 +227,7 @@ IsOutput commands.Roles (inputs.Items file) None output = output ≡ role_listin
 IsOutput commands.Audit (inputs.Words file) None output = output ≡ codes "clean\n"
 IsOutput commands.Dis (inputs.Words file) None output = Shown.IsListing file.words.items output
 IsOutput commands.Undis (inputs.Listing file) None output = output ≡ words_text file.words.items
+IsOutput commands.Stubs (inputs.Addresses file) (Some (products.Stubs stubs)) output = AreStubsTo file.addresses.items stubs output
 IsOutput command input product output = ⊥
 
 -- the same, where the command finds no fault

@@ -12,6 +12,8 @@ use Rattle.a64_run.specs.declared.input.Input.TheVariants as inputs
 use Rattle.a64_run.specs.declared.ran.Ran.{Ran}
 use Rattle.a64_run.specs.declared.product.Product.{Product}
 use Rattle.a64_run.specs.declared.product.Product.TheVariants as products
+use Rattle.a64_stubs.specs.declared.file.StubFile.{StubFile}
+use Rattle.a64_stubs.specs.declared.file.Stubs.{Stubs}
 use Rattle.a64_text.specs.declared.file.File.{File}
 use Rattle.a64_audit.specs.declared.file.AuditFile.{AuditFile}
 use Rattle.a64_audit.specs.declared.verdict.Verdict.{Verdict}
@@ -126,28 +128,32 @@ pub record Kept : Type 0 where
   pub file : Option File
   pub audit : Option AuditFile
   pub shown : Option ShownFile
+  pub stub_file : Option StubFile
   pub code : Option Code
+  pub stubs : Option Stubs
 
 -- none of them
 abbrev pub nothing_kept : Kept
-nothing_kept = record { file = None; audit = None; shown = None; code = None }
+nothing_kept = record { file = None; audit = None; shown = None; stub_file = None; code = None; stubs = None }
 
 abbrev pub with_input : Option Input → Kept → Kept
 with_input None kept = kept
 with_input (Some (inputs.Items file)) kept = record kept { file = Some file }
 with_input (Some (inputs.Words file)) kept = record kept { audit = Some file }
 with_input (Some (inputs.Listing file)) kept = record kept { shown = Some file }
+with_input (Some (inputs.Addresses file)) kept = record kept { stub_file = Some file }
 
 abbrev pub with_product : Option Product → Kept → Kept
 with_product None kept = kept
 with_product (Some (products.Code code)) kept = record kept { code = Some code }
+with_product (Some (products.Stubs stubs)) kept = record kept { stubs = Some stubs }
 
 abbrev pub kept_for : Option Input → Option Product → Kept
 kept_for input product = with_input input (with_product product nothing_kept)
 
 -- what a run keeps
 abbrev pub kept_in : Ran → Kept
-kept_in ran = record { file = ran.file; audit = ran.audit; shown = ran.shown; code = ran.code }
+kept_in ran = record { file = ran.file; audit = ran.audit; shown = ran.shown; stub_file = ran.stub_file; code = ran.code; stubs = ran.stubs }
 
 abbrev pub KeepsAll : Command → Option (List ℕ) → Option (List ℕ) → Option (List ℕ) → Option (List ℕ) → Kept → Option Fault → Type 0
 KeepsAll command left left' taken taken' kept fault = (input : Option Input) × (product : Option Product) × (kept ≡ kept_for input product) × Keeps command left left' taken taken' fault input product

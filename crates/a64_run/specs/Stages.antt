@@ -2,6 +2,7 @@
 use Rattle.std.specs.Prelude.{ℕ, codes, ◌≡◌, ◌≢◌, ◌<◌, ◌≤◌, ◌^◌, ◌++◌, List, [], take, drop, length, Option, None, Some, IfSome, Result, IfOk, IfErr, ⊤}
 use Rattle.std.specs.Fmt.{decimal}
 use Rattle.std.specs.String.{string_bytes}
+use Rattle.a64_report.specs.StubLines.{stubs_text}
 use Rattle.a64_run.specs.declared.product.Product.{Product}
 use Rattle.a64_run.specs.declared.product.Product.TheVariants as products
 use Rattle.a64_emit.specs.declared.error.EmitError.TheVariants as errors
@@ -17,7 +18,7 @@ use Rattle.a64_text.specs.States.{contents_of}
 use Rattle.a64_audit.specs.Entries as Audit
 use Rattle.a64_formtext.specs.Shown as Shown
 use Rattle.a64_run.specs.declared.making.Made.{Made}
-use Rattle.a64_run.specs.declared.making.Made.TheVariants.{Report, Summary, Listing, Words, Clean}
+use Rattle.a64_run.specs.declared.making.Made.TheVariants.{Report, Summary, Listing, Words, Clean, Stubs}
 use Rattle.a64_report.specs.Report.{report_of, words_in, words_text}
 use Rattle.a64_report.specs.Summary.{summary_of}
 use Rattle.a64_io.specs.Streams.{HasFailed, Takes, TakesPart}
@@ -101,6 +102,7 @@ abbrev pub IsFew : Input → Type 0
 IsFew (inputs.Items file) = length file.items.items < 2 ^ 32
 IsFew (inputs.Words file) = length file.words.items < 2 ^ 29
 IsFew (inputs.Listing file) = ⊤
+IsFew (inputs.Addresses file) = length file.addresses.items ≤ 100000000
 
 -- what is answered for bytes
 pub record IsParsed (format : Format) (bytes : List ℕ) (result : Result Input Fault) : Type 0 where
@@ -123,18 +125,25 @@ IsAssemblyFault command file (faults.Assembly error) = (assembly_fault command (
 IsAssemblyFault command file faults.Memory = HasRightItems file
 IsAssemblyFault command file _ = ⊥
 
--- what is kept of what a command made, and what is written of it
+-- the addresses of a file of stubs
+abbrev pub addresses_in : Input → List ℕ
+addresses_in (inputs.Addresses file) = file.addresses.items
+addresses_in _ = []
+
+-- what is kept of what a command made of an input, and what is written of it
 abbrev pub kept_of : Made → Option Product
 kept_of (Report code) = Some (products.Code code)
 kept_of (Summary items code) = Some (products.Code code)
+kept_of (Stubs stubs) = Some (products.Stubs stubs)
 kept_of _ = None
 
-abbrev pub text_of : Made → List ℕ
-text_of (Report code) = report_of code
-text_of (Summary items code) = summary_of items code
-text_of (Listing text) = string_bytes text
-text_of (Words bytes) = words_text (words_in bytes.items)
-text_of Clean = codes "clean\n"
+abbrev pub text_of : Input → Made → List ℕ
+text_of input (Report code) = report_of code
+text_of input (Summary items code) = summary_of items code
+text_of input (Listing text) = string_bytes text
+text_of input (Words bytes) = words_text (words_in bytes.items)
+text_of input Clean = codes "clean\n"
+text_of input (Stubs stubs) = stubs_text (addresses_in input) stubs.places.items stubs.words.items
 
 -- why a command makes nothing of what it works on; want of memory is an answer only where it finds no fault in one item alone
 abbrev pub IsMakingFault : Command → Input → Fault → Type 0
@@ -144,11 +153,11 @@ IsMakingFault command input (faults.Audit verdict) = IsFaultOf command input (fa
 IsMakingFault command input _ = ⊥
 
 -- how the writing of what was made ends: what the sink has taken, and what is kept of that
-abbrev pub EndsWriting : Option (List ℕ) → Option (List ℕ) → Made → Option Fault → Option Product → Type 0
-EndsWriting taken taken' made None product = Takes taken taken' (text_of made) × (product ≡ kept_of made)
-EndsWriting taken taken' made (Some faults.Write) product = TakesPart taken taken' (text_of made) × (product ≡ kept_of made)
-EndsWriting taken taken' made (Some faults.Memory) product = (taken' ≡ taken) × (product ≡ None)
-EndsWriting taken taken' made (Some _) product = ⊥
+abbrev pub EndsWriting : Option (List ℕ) → Option (List ℕ) → Input → Made → Option Fault → Option Product → Type 0
+EndsWriting taken taken' input made None product = Takes taken taken' (text_of input made) × (product ≡ kept_of made)
+EndsWriting taken taken' input made (Some faults.Write) product = TakesPart taken taken' (text_of input made) × (product ≡ kept_of made)
+EndsWriting taken taken' input made (Some faults.Memory) product = (taken' ≡ taken) × (product ≡ None)
+EndsWriting taken taken' input made (Some _) product = ⊥
 
 module _ (command : Command) (taken taken' : Option (List ℕ)) (input : Input) where
   -- what the command makes was written

@@ -34,6 +34,8 @@ pub enum Command {
     Dis,
     /// Reads words from the texts of their forms.
     Undis,
+    /// Makes stubs.
+    Stubs,
 }
 
 /// What the bytes are on which a command works.
@@ -45,6 +47,8 @@ pub enum Format {
     Words,
     /// The texts of words.
     Listing,
+    /// The lines of stubs.
+    Addresses,
 }
 
 impl Command {
@@ -56,6 +60,7 @@ impl Command {
             Command::Asm(_) | Command::Gen { .. } | Command::List | Command::Roles => Format::Items,
             Command::Audit | Command::Dis => Format::Words,
             Command::Undis => Format::Listing,
+            Command::Stubs => Format::Addresses,
         }
     }
 
@@ -67,6 +72,7 @@ impl Command {
             Command::Asm(force) | Command::Gen { force, .. } => force,
             Command::List | Command::Roles => ForceVeneers::No,
             Command::Audit | Command::Dis | Command::Undis => ForceVeneers::No,
+            Command::Stubs => ForceVeneers::No,
         }
     }
 }
@@ -152,6 +158,8 @@ fn read_named(name: &str, words: &[String]) -> Option<Command>
         read_alone(name, words, Command::Dis)
     } else if is_word(name, "undis") {
         read_alone(name, words, Command::Undis)
+    } else if is_word(name, "stubs") {
+        read_alone(name, words, Command::Stubs)
     } else {
         None
     }

@@ -7,7 +7,7 @@ ghost use Rattle.a64_run.specs.declared.command.Format.{Format};
 ghost use Rattle.a64_run.specs.declared.ran.Fault.TheVariants as faults;
 ghost use Rattle.a64_run.specs.Commands.{limit, WasRead, IsCount, IsGenFile, IsInput, HasWords, reads_source, works_on};
 ghost use Rattle.a64_run.specs.Run.{Held, TakesFew, IsDueAnswer};
-ghost use Rattle.a64_run.specs.Stages.{HasRead, TakesBehind, TakesAtMost, IsWhole, IsFew, IsInputOf, IsTextDue, IsParsed, IsReadFault, IsTextFault, IsInputFault, IsDueInput};
+ghost use Rattle.a64_run.specs.Stages.{addresses_in, HasRead, TakesBehind, TakesAtMost, IsWhole, IsFew, IsInputOf, IsTextDue, IsParsed, IsReadFault, IsTextFault, IsInputFault, IsDueInput};
 
 use crate::command::{Command, Format};
 use crate::ran::Fault;
@@ -15,6 +15,7 @@ use crate::turns::gen_file;
 use a64_audit::{AuditFile, AuditFileError, read_audit};
 use a64_formtext::{ShownFile, ShownFileError, read_shown};
 use a64_io::Source;
+use a64_stubs::{StubFile, StubFileError, read_stubs};
 use a64_text::{File, FileError, read_file};
 use std::alloc::Global;
 
@@ -27,6 +28,20 @@ pub enum Input {
     Words(AuditFile),
     /// The words of a listing.
     Listing(ShownFile),
+    /// The addresses of stubs.
+    Addresses(StubFile),
+}
+
+impl Input {
+    /// The addresses of a file of stubs; of another file there are none.
+    pub fn addresses(&self) -> &[u64]
+        ensures { result.now ≡ addresses_in self.now }
+    {
+        match self {
+            Input::Addresses(file) => &file.addresses,
+            _ => &[],
+        }
+    }
 }
 
 /// The most bytes that a file may have.
@@ -158,6 +173,18 @@ fn parse_listing(alloc: Global, bytes: &[u8]) -> Result<Input, Fault>
     }
 }
 
+/// The addresses of stubs that some bytes are.
+fn parse_addresses(alloc: Global, bytes: &[u8]) -> Result<Input, Fault>
+    requires { length bytes.now ≤ limit }
+    ensures { IsParsed formats.Addresses bytes.now result }
+{
+    match read_stubs(alloc, bytes) {
+        Ok(file) => Ok(Input::Addresses(file)),
+        Err(StubFileError::BadLine(number)) => Err(Fault::Line(number)),
+        Err(StubFileError::OutOfMemory) => Err(Fault::Memory),
+    }
+}
+
 /// What some bytes are in a format.
 fn parse(alloc: Global, format: Format, bytes: &[u8]) -> Result<Input, Fault>
     requires { length bytes.now ≤ limit }
@@ -167,6 +194,7 @@ fn parse(alloc: Global, format: Format, bytes: &[u8]) -> Result<Input, Fault>
         Format::Items => parse_items(alloc, bytes),
         Format::Words => parse_words(alloc, bytes),
         Format::Listing => parse_listing(alloc, bytes),
+        Format::Addresses => parse_addresses(alloc, bytes),
     }
 }
 

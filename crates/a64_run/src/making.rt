@@ -1,6 +1,6 @@
 //! What each command makes of what it works on, and how that is written.
 
-ghost use Rattle.std.specs.Prelude.{◌≡◌, ◌^◌, ◌<◌, [], length, IfOk, IfErr};
+ghost use Rattle.std.specs.Prelude.{◌≡◌, ◌^◌, ◌<◌, ◌≤◌, [], length, IfOk, IfErr};
 ghost use Rattle.a64_run.specs.declared.command.Format.TheVariants as formats;
 ghost use Rattle.a64_run.specs.declared.input.Input.TheVariants as inputs;
 ghost use Rattle.a64_report.specs.Putting.{WritesOrFails};
@@ -19,7 +19,8 @@ use a64_audit::AuditFile;
 use a64_emit::Code;
 use a64_formtext::ShownFile;
 use a64_io::{Failed, Sink, write_all};
-use a64_report::{Piece, write_report, write_summary, write_words};
+use a64_report::{Piece, write_report, write_stubs, write_summary, write_words};
+use a64_stubs::{StubFile, Stubs, make_stubs};
 use a64_text::File;
 use std::alloc::Global;
 
@@ -41,17 +42,25 @@ pub enum Made {
     Words(Vec<u8>),
     /// That words are clean.
     Clean,
+    /// Stubs, of which the lines are written.
+    Stubs(Stubs),
 }
 
 impl Made {
-    /// Writes it, by way of an empty piece. No memory is asked for.
+    /// Writes what was made of an input, by way of an empty piece. No memory is asked for.
     ///
     /// # Errors
     ///
     /// A write failed; some first bytes may have been taken, but not all.
-    pub fn write<K: Sink>(&self, sink: &mut K, piece: &mut Piece) -> Result<(), Failed>
+    pub fn write<K: Sink>(
+        &self,
+        sink: &mut K,
+        piece: &mut Piece,
+        input: &Input,
+    ) -> Result<(), Failed>
         requires { piece.old ≡ [] }
-        ensures { WritesOrFails K.taken K.faults sink.old sink.new (text_of self.now) result }
+        ensures { WritesOrFails K.taken K.faults sink.old sink.new
+            (text_of input.now self.now) result }
     {
         match self {
             Made::Report(code) => write_report(sink, piece, code),
@@ -59,6 +68,13 @@ impl Made {
             Made::Listing(text) => write_all(sink, text.as_bytes()),
             Made::Words(bytes) => write_words(sink, piece, bytes),
             Made::Clean => write_all(sink, b"clean\n"),
+            Made::Stubs(stubs) => write_stubs(
+                sink,
+                piece,
+                input.addresses(),
+                &stubs.places,
+                &stubs.words,
+            ),
         }
     }
 
@@ -71,6 +87,7 @@ impl Made {
             Made::Listing(_) => None,
             Made::Words(_) => None,
             Made::Clean => None,
+            Made::Stubs(stubs) => Some(Product::Stubs(stubs)),
         }
     }
 }
@@ -84,7 +101,7 @@ fn make_of_items(alloc: Global, command: Command, file: &File) -> Result<Made, F
     requires kind { works_on command ≡ formats.Items }
     requires few { length file.now.items.items < 2 ^ 32 }
     ensures ok { IfOk result (λ made. IsMade command (inputs.Items file.now) (kept_of made)
-        (text_of made)) }
+        (text_of (inputs.Items file.now) made)) }
     ensures err { IfErr result (IsMakingFault command (inputs.Items file.now)) }
 {
     match command {
@@ -120,7 +137,7 @@ fn make_of_words(alloc: Global, command: Command, file: &AuditFile) -> Result<Ma
     requires kind { works_on command ≡ formats.Words }
     requires few { length file.now.words.items < 2 ^ 29 }
     ensures ok { IfOk result (λ made. IsMade command (inputs.Words file.now) (kept_of made)
-        (text_of made)) }
+        (text_of (inputs.Words file.now) made)) }
     ensures err { IfErr result (IsMakingFault command (inputs.Words file.now)) }
 {
     match command {
@@ -144,12 +161,34 @@ fn make_of_words(alloc: Global, command: Command, file: &AuditFile) -> Result<Ma
 fn make_of_listing(alloc: Global, command: Command, file: &ShownFile) -> Result<Made, Fault>
     requires kind { works_on command ≡ formats.Listing }
     ensures ok { IfOk result (λ made. IsMade command (inputs.Listing file.now) (kept_of made)
-        (text_of made)) }
+        (text_of (inputs.Listing file.now) made)) }
     ensures err { IfErr result (IsMakingFault command (inputs.Listing file.now)) }
 {
     match command {
         Command::Undis => match bytes_of(alloc, &file.words) {
             Ok(bytes) => Ok(Made::Words(bytes)),
+            Err(_) => Err(Fault::Memory),
+        },
+        _ => unreachable!(),
+    }
+}
+
+/// What `stubs` makes of addresses.
+///
+/// # Errors
+///
+/// Want of memory.
+#[tactic(auto, using(crate::proofs::StepForms::same_form))]
+fn make_of_addresses(alloc: Global, command: Command, file: &StubFile) -> Result<Made, Fault>
+    requires kind { works_on command ≡ formats.Addresses }
+    requires few { length file.now.addresses.items ≤ 100000000 }
+    ensures ok { IfOk result (λ made. IsMade command (inputs.Addresses file.now) (kept_of made)
+        (text_of (inputs.Addresses file.now) made)) }
+    ensures err { IfErr result (IsMakingFault command (inputs.Addresses file.now)) }
+{
+    match command {
+        Command::Stubs => match make_stubs(alloc, &file.addresses) {
+            Ok(stubs) => Ok(Made::Stubs(stubs)),
             Err(_) => Err(Fault::Memory),
         },
         _ => unreachable!(),
@@ -164,12 +203,14 @@ fn make_of_listing(alloc: Global, command: Command, file: &ShownFile) -> Result<
 pub fn make(alloc: Global, command: Command, input: &Input) -> Result<Made, Fault>
     requires kind { format_of input.now ≡ works_on command }
     requires few { IsFew input.now }
-    ensures ok { IfOk result (λ made. IsMade command input.now (kept_of made) (text_of made)) }
+    ensures ok { IfOk result (λ made. IsMade command input.now (kept_of made)
+        (text_of input.now made)) }
     ensures err { IfErr result (IsMakingFault command input.now) }
 {
     match input {
         Input::Items(file) => make_of_items(alloc, command, file),
         Input::Words(file) => make_of_words(alloc, command, file),
         Input::Listing(file) => make_of_listing(alloc, command, file),
+        Input::Addresses(file) => make_of_addresses(alloc, command, file),
     }
 }

@@ -1,10 +1,13 @@
 //! What is kept of what a command makes.
 
 use a64_emit::Code;
+use a64_stubs::Stubs;
 
 /// What a command makes that is kept.
 #[derive(Drop)]
 pub enum Product {
     /// Assembled code.
     Code(Code),
+    /// Stubs.
+    Stubs(Stubs),
 }

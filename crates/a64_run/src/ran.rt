@@ -8,6 +8,7 @@ use crate::product::Product;
 use a64_audit::{AuditFile, Verdict};
 use a64_emit::{Code, EmitError};
 use a64_formtext::ShownFile;
+use a64_stubs::{StubFile, Stubs};
 use a64_text::File;
 
 /// Why a run did not end with status 0.
@@ -102,6 +103,10 @@ pub struct Ran {
     pub audit: Option<AuditFile>,
     /// The words of the listing that was read.
     pub shown: Option<ShownFile>,
+    /// The addresses that were read.
+    pub stub_file: Option<StubFile>,
+    /// The stubs.
+    pub stubs: Option<Stubs>,
 }
 
 /// What is kept, where nothing is.
@@ -117,6 +122,8 @@ fn nothing_kept(status: u8, fault: Option<Fault>) -> Ran
         fault,
         audit: None,
         shown: None,
+        stub_file: None,
+        stubs: None,
     }
 }
 
@@ -131,6 +138,7 @@ impl Ran {
         match product {
             None => {}
             Some(Product::Code(code)) => ran.code = Some(code),
+            Some(Product::Stubs(stubs)) => ran.stubs = Some(stubs),
         }
         ran
     }
@@ -147,6 +155,7 @@ impl Ran {
             Some(Input::Items(file)) => ran.file = Some(file),
             Some(Input::Words(file)) => ran.audit = Some(file),
             Some(Input::Listing(file)) => ran.shown = Some(file),
+            Some(Input::Addresses(file)) => ran.stub_file = Some(file),
         }
         ran
     }

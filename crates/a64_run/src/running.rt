@@ -21,7 +21,7 @@ use std::alloc::Global;
 /// Writes what was made. The memory for that is taken before the first write.
 fn write_made<K: Sink>(alloc: Global, sink: &mut K, input: Input, made: Made) -> Ended
     ensures input { result.input ≡ Some input }
-    ensures ends { EndsWriting (K.taken sink.old) (K.taken sink.new) made
+    ensures ends { EndsWriting (K.taken sink.old) (K.taken sink.new) input made
         result.fault result.product }
     ensures write { result.fault ≡ Some faults.Write
         → HasFailed (K.faults sink.old) (K.faults sink.new) }
@@ -31,7 +31,7 @@ fn write_made<K: Sink>(alloc: Global, sink: &mut K, input: Input, made: Made) ->
     let Ok(mut piece) = Piece::new(alloc) else {
         return Ended::refused(Some(input), Fault::Memory);
     };
-    let fault = match made.write(sink, &mut piece) {
+    let fault = match made.write(sink, &mut piece, &input) {
         Ok(()) => None,
         Err(Failed) => Some(Fault::Write),
     };
@@ -109,12 +109,14 @@ fn tell<E: Sink>(errs: &mut E, fault: Fault)
 /// one too, and writes for each instruction the roles of its registers and the answers to queries; it
 /// refuses no item. `audit` reads the words of a report, and writes `clean` where nothing is wrong with them.
 /// `dis` reads them too, and writes each as the text of its form; `undis` reads such texts, and writes the
-/// words. What `undis` writes for what `dis` wrote are the same words at the same places.
+/// words. What `undis` writes for what `dis` wrote are the same words at the same places. `stubs` reads
+/// addresses, and writes a stub to each: the shortest words of their kind that jump there, and change x16
+/// alone.
 ///
 /// The answer tells how that ended, by its fault:
 ///
 /// - None: all was written, and nothing is offered to `errs`. What the command works on is kept, and the code
-///   of `asm` and `gen`.
+///   of `asm` and `gen`, and the stubs of `stubs`.
 /// - [`Fault::Usage`]: the words are no command. Nothing is read, and no memory is taken.
 /// - [`Fault::Read`]: a read failed. It is not tried again.
 /// - [`Fault::TooLong`]: the source holds more than 16,777,216 bytes, and no read failed before.
@@ -124,7 +126,7 @@ fn tell<E: Sink>(errs: &mut E, fault: Fault)
 /// - [`Fault::Audit`]: that is what `audit` finds first in the words, and not that they are clean. They are
 ///   kept.
 /// - [`Fault::Write`]: a write failed, and is not tried again. The sink has taken a proper prefix of what
-///   is written of the file that is kept, and of its code where there is one.
+///   is written of what is kept.
 /// - [`Fault::Memory`]: want of memory. Where a file of items is kept, each is right by itself, or for `list`
 ///   may be shown; for `roles` it may be any. Where words are kept for `audit`, they are clean.
 ///
