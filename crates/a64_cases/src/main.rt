@@ -1,4 +1,5 @@
-//! Runs cases that are given as text, and prints each that does not pass, and last how many there were.
+//! Runs cases that are given as text, and prints each that does not pass, and last how many there were. It ends
+//! with status 0 only where there were some, and each passed.
 //!
 //! A case says what the program over a file is to write: the words of its code, its report, or the line on
 //! standard error. `docs/FORMAT.md` says how cases are written.
@@ -17,6 +18,32 @@ use problem::Problem;
 use runs::run_case;
 use std::alloc::Global;
 use std::io::{self, Read};
+use std::process::ExitCode;
+
+/// How many cases there were, and how many of them did not pass.
+#[derive(Clone, Copy)]
+struct Tally {
+    cases: u64,
+    failed: u64,
+}
+
+impl Tally {
+    /// No cases.
+    fn none() -> Tally {
+        Tally {
+            cases: 0,
+            failed: 0,
+        }
+    }
+
+    /// These and others.
+    fn plus(self, others: Tally) -> Tally {
+        Tally {
+            cases: self.cases.saturating_add(others.cases),
+            failed: self.failed.saturating_add(others.failed),
+        }
+    }
+}
 
 /// Whether a line means nothing.
 fn is_idle(line: &str) -> bool {
@@ -44,43 +71,43 @@ fn run_line(alloc: Global, line: &str) -> Result<(), Problem> {
     run_case(alloc, &Case::of_line(alloc, line)?)
 }
 
-/// Prints how a case went, if it did not pass.
-fn print_problem(rt: &impl Print, title: &str, went: Result<(), Problem>) -> io::Result<()> {
-    match went {
-        Ok(()) => Ok(()),
-        Err(problem) => println!(rt; "{title}: {problem}"),
+/// Prints how a case went, if it did not pass, and tallies it.
+fn tally_case(rt: &impl Print, title: &str, went: Result<(), Problem>) -> io::Result<Tally> {
+    let mut failed = 0;
+    if let Err(problem) = went {
+        println!(rt; "{title}: {problem}")?;
+        failed = 1;
     }
+    Ok(Tally { cases: 1, failed })
 }
 
-/// Runs the cases of a block: one of several lines, or any number of one line each. Answers how many.
-fn run_block(rt: &HostRuntime, block: &str) -> Result<u64, Problem> {
+/// Runs the cases of a block: one of several lines, or any number of one line each.
+fn run_block(rt: &HostRuntime, block: &str) -> Result<Tally, Problem> {
     let alloc = rt.alloc();
     let lines = lines_of(alloc, block)?;
     if let [first, rest @ ..] = lines.as_slice()
         && let Some(title) = first.strip_prefix("case ")
     {
-        print_problem(rt, title, run_lines(alloc, rest))?;
-        return Ok(1);
+        return Ok(tally_case(rt, title, run_lines(alloc, rest))?);
     }
-    let mut count: u64 = 0;
+    let mut tally = Tally::none();
     for line in &lines {
-        print_problem(rt, *line, run_line(alloc, *line))?;
-        count = count.saturating_add(1);
+        tally = tally.plus(tally_case(rt, *line, run_line(alloc, *line))?);
     }
-    Ok(count)
+    Ok(tally)
 }
 
 /// Runs all cases of a text. Blank lines stand between blocks.
-fn run_text(rt: &HostRuntime, text: &str) -> Result<u64, Problem> {
-    let mut count: u64 = 0;
+fn run_text(rt: &HostRuntime, text: &str) -> Result<Tally, Problem> {
+    let mut tally = Tally::none();
     for block in text.split("\n\n") {
-        count = count.saturating_add(run_block(rt, block)?);
+        tally = tally.plus(run_block(rt, block)?);
     }
-    Ok(count)
+    Ok(tally)
 }
 
-/// Reads the cases and runs them. Answers how many.
-fn run_input(rt: &HostRuntime) -> Result<u64, Problem> {
+/// Reads the cases and runs them.
+fn run_input(rt: &HostRuntime) -> Result<Tally, Problem> {
     let mut bytes = Vec::new(rt.alloc());
     rt.stdin().read_to_end(&mut bytes)?;
     match std::str::from_utf8(&bytes) {
@@ -89,10 +116,27 @@ fn run_input(rt: &HostRuntime) -> Result<u64, Problem> {
     }
 }
 
-fn main(rt: HostRuntime) -> io::Result<()> {
-    match run_input(&rt) {
-        Ok(0) => println!(rt; "no cases"),
-        Ok(count) => println!(rt; "{count} cases"),
-        Err(problem) => println!(rt; "the cases: {problem}"),
+/// Runs the cases of the standard input, and prints how many there were. Answers whether there were some, and each passed.
+fn run_all(rt: &HostRuntime) -> io::Result<bool> {
+    match run_input(rt) {
+        Ok(tally) if tally.cases > 0 => {
+            println!(rt; "{} cases", tally.cases)?;
+            Ok(tally.failed == 0)
+        }
+        Ok(_) => {
+            println!(rt; "no cases")?;
+            Ok(false)
+        }
+        Err(problem) => {
+            println!(rt; "the cases: {problem}")?;
+            Ok(false)
+        }
+    }
+}
+
+fn main(rt: HostRuntime) -> ExitCode {
+    match run_all(&rt) {
+        Ok(true) => ExitCode::SUCCESS,
+        Ok(false) | Err(_) => ExitCode::FAILURE,
     }
 }
