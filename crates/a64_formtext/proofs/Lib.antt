@@ -4,3 +4,5 @@ pub mod FormReads
 pub mod Prints
 pub mod Words
 pub mod ShownLines
+pub mod OneLine
+pub mod OneListing

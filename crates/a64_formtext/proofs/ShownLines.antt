@@ -38,13 +38,13 @@ every_row_begins = refl
 row_begins : (row : Row) → line_test row ≡ true
 row_begins row = rw (placed row).is at (every_at line_test all_rows (placed row).place AddSubReg every_row_begins (inside row))
 
-record RowName (row : Row) : Type 0 where
+pub record RowName (row : Row) : Type 0 where
   plain : HasNo 10 (name_of row)
-  fields : fields_test 10 (fields_of row) ≡ true
+  pub fields : fields_test 10 (fields_of row) ≡ true
   meant : is_blank (name_of row) ≡ false
   no_data : name_of row ≡ codes "Data" → ⊥
 
-row_name : (row : Row) → RowName row
+pub row_name : (row : Row) → RowName row
 row_name row =
     let one = and_parts (names_test 10 row) (not (is_blank (name_of row)) && not (pointwise eqb (name_of row) (codes "Data"))) (row_begins row) in
     let two = and_parts (not (is_blank (name_of row))) (not (pointwise eqb (name_of row) (codes "Data"))) one.1 in

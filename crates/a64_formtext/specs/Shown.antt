@@ -1,11 +1,12 @@
 -- How words are shown: as the text of their form, or as data.
-use Rattle.std.specs.Prelude.{ℕ, ◌≡◌, ◌⊎◌, List, [], ◌∷◌, ◌++◌, codes}
-use Rattle.std.specs.List.{AllByRecursion}
+use Rattle.std.specs.Prelude.{ℕ, ◌≡◌, ◌⊎◌, not, List, [], ◌∷◌, ◌++◌, codes}
+use Rattle.std.specs.List.{AllByRecursion, AllZip, filter}
 use Rattle.a64_formtext.specs.declared.file.ShownFile.{ShownFile}
 use Rattle.a64_formtext.specs.Texts.{form_text}
 use Rattle.a64_lines.specs.Lines as Lines
 use Rattle.a64_read.specs.Hex.{hex_word}
 use Rattle.a64_read.specs.Reads.{IsU32}
+use Rattle.a64_read.specs.Splitting.{is_blank, lines_of}
 use Rattle.a64_rows.specs.declared.row_table.Row.{Row}
 use Rattle.a64_rows.specs.Forms.{Form, IsWordOf, Matches}
 
@@ -32,6 +33,28 @@ IsShown word line = IsShownForm word line ⊎ IsShownData word line
 abbrev pub IsListing : List ℕ → List ℕ → Type 0
 IsListing [] text = text ≡ []
 IsListing (word ∷ words) text = (line : List ℕ) × (rest : List ℕ) × IsShown word line × (text ≡ line ++ codes "\n" ++ rest) × IsListing words rest
+
+-- the line is the one line as which the word is shown, and the word is the one that is shown as this line
+pub record IsOneLine (word : ℕ) (line : List ℕ) : Type 0 where
+  pub shown : IsShown word line
+  pub one_line : (other : List ℕ) → IsShown word other → other ≡ line
+  pub one_word : (other : ℕ) → IsU32 other → IsShown other line → other ≡ word
+
+-- the lines of a file that mean something
+abbrev pub meant_lines : List ℕ → List (List ℕ)
+meant_lines bytes = filter (λ line. not (is_blank line)) (lines_of bytes)
+
+-- lines, each with a line feed behind it
+abbrev pub with_feeds : List (List ℕ) → List ℕ
+with_feeds [] = []
+with_feeds (line ∷ lines) = line ++ codes "\n" ++ with_feeds lines
+
+-- the lines are those of the words, in order, each the one line of its word; and with their line feeds they are the one listing of
+-- the words
+pub record IsOneListing (words : List ℕ) (lines : List (List ℕ)) : Type 0 where
+  pub each : AllZip IsOneLine words lines
+  pub listing : IsListing words (with_feeds lines)
+  pub one : (text : List ℕ) → IsListing words text → text ≡ with_feeds lines
 
 -- a line says the word as which it is shown
 abbrev pub says : List ℕ → List ℕ → List ℕ → Type 0

@@ -1,8 +1,8 @@
 //! Reads listings of words.
 
-ghost use Rattle.std.specs.Prelude.{◌≡◌, [], ℕ, List, Some, IfSome};
+ghost use Rattle.std.specs.Prelude.{◌≡◌, [], ℕ, List, Some, IfSome, IfOk};
 ghost use Rattle.std.specs.List.{AllByRecursion};
-ghost use Rattle.a64_formtext.specs.Shown.{IsData, IsShown, IsListing, says, words_of};
+ghost use Rattle.a64_formtext.specs.Shown.{IsData, IsShown, IsListing, IsOneListing, meant_lines, says, words_of};
 ghost use Rattle.a64_lines.specs.Lines.{Answers, Gives, told_by};
 ghost use Rattle.a64_read.specs.Hex.{hex_word};
 ghost use Rattle.a64_read.specs.Reads.{IsU32, Reads};
@@ -49,6 +49,9 @@ pub(crate) fn read_shown_word(line: &[u8]) -> Option<u32>
 /// The number of the first line as which no word is shown, or want of memory.
 pub fn read_shown(alloc: Global, bytes: &[u8]) -> Result<ShownFile, ShownFileError>
     ensures answers { Answers says bytes.now [] (told_by words_of result) }
+
+    // The lines that mean something are the one listing of the words.
+    ensures listing { IfOk result (λ file. IsOneListing (words_of file) (meant_lines bytes.now)) }
 
     // The listing of some words is read back as these words.
     ensures back { (words : List ℕ) → AllByRecursion IsU32 words → IsListing words bytes.now
