@@ -1,5 +1,5 @@
 -- The lines of a file that mean something are the one listing of the words that it says.
-use Rattle.std.proofs.Common.{◌≡◌, ℕ, inl, inr, Bool, true, false, List, [], ◌∷◌, ◌++◌, refl, sym, ap, ap₂, ◌∙◌, subst, append_assoc, append-nil}
+use Rattle.std.proofs.Common.{◌≡◌, ℕ, inl, inr, List, [], ◌∷◌, ◌++◌, refl, sym, ap, ap₂, ◌∙◌, subst, append_assoc, append-nil}
 use Rattle.std.specs.Prelude.{codes, not}
 use Rattle.std.specs.List.{AllZip, filter}
 use Rattle.a64_formtext.specs.Shown.{IsListing, IsOneLine, IsOneListing, meant_lines, says, with_feeds}

@@ -34,7 +34,7 @@ abbrev pub IsListing : List ℕ → List ℕ → Type 0
 IsListing [] text = text ≡ []
 IsListing (word ∷ words) text = (line : List ℕ) × (rest : List ℕ) × IsShown word line × (text ≡ line ++ codes "\n" ++ rest) × IsListing words rest
 
--- the line is the one line as which the word is shown, and the word is the one that is shown as this line
+-- the line is the one as which the word is shown, and no other word is shown as it
 pub record IsOneLine (word : ℕ) (line : List ℕ) : Type 0 where
   pub shown : IsShown word line
   pub one_line : (other : List ℕ) → IsShown word other → other ≡ line
@@ -49,8 +49,8 @@ abbrev pub with_feeds : List (List ℕ) → List ℕ
 with_feeds [] = []
 with_feeds (line ∷ lines) = line ++ codes "\n" ++ with_feeds lines
 
--- the lines are those of the words, in order, each the one line of its word; and with their line feeds they are the one listing of
--- the words
+-- the lines are those of the words, in order, each the one line of its word; and with a line feed
+-- behind each they are the one listing of the words
 pub record IsOneListing (words : List ℕ) (lines : List (List ℕ)) : Type 0 where
   pub each : AllZip IsOneLine words lines
   pub listing : IsListing words (with_feeds lines)
