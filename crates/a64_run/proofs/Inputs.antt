@@ -21,7 +21,7 @@ use Rattle.a64_run.specs.declared.input.Input.TheVariants as inputs
 use Rattle.a64_run.specs.declared.ran.Fault.{Fault}
 use Rattle.a64_run.specs.declared.ran.Fault.TheVariants as faults
 use Rattle.a64_buffer.specs.declared.force.ForceVeneers.{ForceVeneers}
-use Rattle.a64_run.specs.Commands.{limit, works_on, format_of, said_of, Said, SaysItems, SaysWords, SaysListing, SaysAddresses, IsText, IsFirstBad, IsInput, WasRead}
+use Rattle.a64_run.specs.Commands.{limit, works_on, format_of, said_of, Said, SaysItems, SaysWords, SaysListing, SaysAddresses, IsText, IsAsWritten, IsFirstBad, IsInput, WasRead}
 use Rattle.a64_run.specs.Run.{Held, FailsOnlyAt, IsDueAnswer}
 use Rattle.a64_run.specs.Stages.{IsWhole, IsFew, IsInputOf, IsDueInput, IsTextDue, IsParsed, IsTextFault, IsInputFault}
 
@@ -33,6 +33,7 @@ bad_line : (format : Format) (bytes : List ℕ) (n : ℕ) → length bytes ≤ l
 bad_line format bytes n l bad one never = record {
   kind = tt;
   ok = tt;
+  as_written = tt;
   few = tt;
   held = (l, bad);
   cause = tt;
@@ -50,11 +51,12 @@ record Parses (format : Format) (bytes : List ℕ) (told : Said) : Type 0 where
   good : (n : ℕ) → IsFirstBad format bytes n → ⊥
   same : (other : Input) → format_of other ≡ format → IsText bytes other → said_of other ≡ told
 
-parsed : (format : Format) (bytes : List ℕ) (input : Input) → length bytes ≤ limit → format_of input ≡ format → IsText bytes input → IsFew input → Parses format bytes (said_of input)
+parsed : (format : Format) (bytes : List ℕ) (input : Input) → length bytes ≤ limit → format_of input ≡ format → IsText bytes input → IsAsWritten bytes input → IsFew input → Parses format bytes (said_of input)
     → IsParsed format bytes (Ok input)
-parsed format bytes input l kind is few p = record {
+parsed format bytes input l kind is written few p = record {
   kind = kind;
   ok = is;
+  as_written = written;
   few = few;
   held = tt;
   cause = tt;
@@ -91,7 +93,7 @@ at_addresses P p (inputs.Listing file) kind = absurd cc
 
 pub parsed_items : (bytes : List ℕ) (file : File) → length bytes ≤ limit → Answers bytes (Ok file) → length file.items.items ≤ length bytes + 1 → IsParsed formats.Items bytes (Ok (inputs.Items file))
 parsed_items bytes file l a few =
-    parsed formats.Items bytes (inputs.Items file) l refl a.ok (omega arith) (record {
+    parsed formats.Items bytes (inputs.Items file) l refl a.ok tt (omega arith) (record {
       good = λ n bad. a.only_bad n bad;
       same = at_items (λ other. IsText bytes other → said_of other ≡ said_of (inputs.Items file)) (λ other f. ap SaysItems (f.holds ∙ sym (a.only_ok f.es f.state f.written f.chain)));
     })
@@ -104,7 +106,7 @@ bad_items bytes n l a =
 
 pub parsed_words : (bytes : List ℕ) (file : AuditFile) → length bytes ≤ limit → Lines.Answers Audit.says bytes Audit.nothing (Ok (Audit.contents_of file)) → length file.words.items ≤ length bytes → IsParsed formats.Words bytes (Ok (inputs.Words file))
 parsed_words bytes file l a few =
-    parsed formats.Words bytes (inputs.Words file) l refl a.ok (omega arith) (record {
+    parsed formats.Words bytes (inputs.Words file) l refl a.ok tt (omega arith) (record {
       good = λ n bad. a.only_bad n bad;
       same = at_words (λ other. IsText bytes other → said_of other ≡ said_of (inputs.Words file)) (λ other f. ap SaysWords (sym (a.only_ok (Audit.contents_of other) f)));
     })
@@ -113,9 +115,9 @@ pub bad_words : (bytes : List ℕ) (n : ℕ) → length bytes ≤ limit → Line
 bad_words bytes n l a =
     bad_line formats.Words bytes n l a.bad (λ m bad. a.only_bad m bad) (at_words (λ other. IsText bytes other → ⊥) (λ other f. a.only_ok (Audit.contents_of other) f))
 
-pub parsed_listing : (bytes : List ℕ) (file : ShownFile) → length bytes ≤ limit → Lines.Answers Shown.says bytes [] (Ok (Shown.words_of file)) → Shown.IsShownFile bytes file → IsParsed formats.Listing bytes (Ok (inputs.Listing file))
-parsed_listing bytes file l a is =
-    parsed formats.Listing bytes (inputs.Listing file) l refl is tt (record {
+pub parsed_listing : (bytes : List ℕ) (file : ShownFile) → length bytes ≤ limit → Lines.Answers Shown.says bytes [] (Ok (Shown.words_of file)) → Shown.IsShownFile bytes file → Shown.IsOneListing (Shown.words_of file) (Shown.meant_lines bytes) → IsParsed formats.Listing bytes (Ok (inputs.Listing file))
+parsed_listing bytes file l a is written =
+    parsed formats.Listing bytes (inputs.Listing file) l refl is written tt (record {
       good = λ n bad. a.only_bad n bad;
       same = at_listing (λ other. IsText bytes other → said_of other ≡ said_of (inputs.Listing file)) (λ other f. ap SaysListing (sym (a.only_ok (Shown.words_of other) f.lines)));
     })
@@ -126,7 +128,7 @@ bad_listing bytes n l a =
 
 pub parsed_addresses : (bytes : List ℕ) (file : StubFile) → length bytes ≤ limit → Lines.Answers Stubs.says bytes [] (Ok (Stubs.addresses_of file)) → length file.addresses.items ≤ length bytes → IsParsed formats.Addresses bytes (Ok (inputs.Addresses file))
 parsed_addresses bytes file l a few =
-    parsed formats.Addresses bytes (inputs.Addresses file) l refl a.ok (omega arith) (record {
+    parsed formats.Addresses bytes (inputs.Addresses file) l refl a.ok tt (omega arith) (record {
       good = λ n bad. a.only_bad n bad;
       same = at_addresses (λ other. IsText bytes other → said_of other ≡ said_of (inputs.Addresses file)) (λ other f. ap SaysAddresses (sym (a.only_ok (Stubs.addresses_of other) f)));
     })
@@ -148,6 +150,7 @@ module _ (format : Format) (left left' : Option (List ℕ)) (bytes : List ℕ) w
   input_ok (Ok input) w p = record {
     kind = p.kind;
     bytes = told left bytes (λ text. IsText text input) w.same p.ok;
+    as_written = told left bytes (λ text. IsAsWritten text input) w.same p.as_written;
     short = told left bytes (λ text. length text ≤ limit) w.same w.short;
     nothing_left = w.nothing_left;
   }

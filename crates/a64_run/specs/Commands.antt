@@ -130,6 +130,11 @@ IsText bytes (inputs.Words file) = Audit.IsAuditFile bytes file
 IsText bytes (inputs.Listing file) = Shown.IsShownFile bytes file
 IsText bytes (inputs.Addresses file) = StubFiles.IsStubFile bytes file
 
+-- what stands in the bytes of a listing beside lines that mean nothing is what `dis` writes for its words
+abbrev pub IsAsWritten : List ℕ → Input → Type 0
+IsAsWritten bytes (inputs.Listing file) = Shown.IsOneListing (Shown.words_of file) (Shown.meant_lines bytes)
+IsAsWritten bytes input = ⊤
+
 -- line n, counted from 1, is the first that is no entry which may stand there
 abbrev pub IsFirstBad : Format → List ℕ → ℕ → Type 0
 IsFirstBad formats.Items bytes n = FileText.IsFirstBad bytes n
@@ -197,6 +202,7 @@ limit = 16777216
 pub record WasRead (format : Format) (left left' : Option (List ℕ)) (input : Input) : Type 0 where
   pub kind : format_of input ≡ format
   pub bytes : IfSome left (λ text. IsText text input)
+  pub as_written : IfSome left (λ text. IsAsWritten text input)
   pub short : IfSome left (λ text. length text ≤ limit)
   pub nothing_left : IfSome left (λ text. left' ≡ Some [])
 

@@ -22,7 +22,7 @@ use Rattle.a64_run.specs.declared.making.Made.TheVariants.{Report, Summary, List
 use Rattle.a64_report.specs.Report.{report_of, words_in, words_text}
 use Rattle.a64_report.specs.Summary.{summary_of}
 use Rattle.a64_io.specs.Streams.{HasFailed, Takes, TakesPart}
-use Rattle.a64_run.specs.Commands.{limit, works_on, format_of, said_of, IsText, IsFirstBad, IsCommand, OfAsked, HasRightItems, HasNoItemFault, IsFaultOf, assembly_fault, IsMade}
+use Rattle.a64_run.specs.Commands.{limit, works_on, format_of, said_of, IsText, IsAsWritten, IsFirstBad, IsCommand, OfAsked, HasRightItems, HasNoItemFault, IsFaultOf, assembly_fault, IsMade}
 use Rattle.a64_run.specs.Run.{Held, IsDueForText}
 
 -- what is answered for words: Some exactly for the command that they are
@@ -108,6 +108,7 @@ IsFew (inputs.Addresses file) = length file.addresses.items ≤ 100000000
 pub record IsParsed (format : Format) (bytes : List ℕ) (result : Result Input Fault) : Type 0 where
   pub kind : IfOk result (λ input. format_of input ≡ format)
   pub ok : IfOk result (IsText bytes)
+  pub as_written : IfOk result (IsAsWritten bytes)
   pub few : IfOk result IsFew
   pub held : IfErr result (λ fault. Held format (Some bytes) (Some fault))
   pub cause : IfErr result IsLineFault
