@@ -1,9 +1,9 @@
 -- The fault that a command finds first in what it works on is one.
-use Rattle.std.proofs.Common.{◌≡◌, ◌≢◌, refl, sym, ap, ◌∙◌, subst, Option, None, Some}
+use Rattle.std.proofs.Common.{◌≡◌, ◌≢◌, refl, sym, ap, ◌∙◌, subst, Option, Some}
 use Rattle.a64_audit.specs.declared.verdict.Verdict.{Verdict}
 use Rattle.a64_audit.specs.declared.verdict.Verdict.TheVariants.{Clean}
 use Rattle.a64_audit.specs.Entries as Audit
-use Rattle.a64_audit.specs.Verdicts.{IsClean, IsVerdict}
+use Rattle.a64_audit.specs.Verdicts.{IsVerdict}
 use Rattle.a64_audit.proofs.OneVerdict.{one_verdict}
 use Rattle.a64_emit.specs.declared.error.EmitError.{EmitError}
 use Rattle.a64_text.specs.States.{Contents}

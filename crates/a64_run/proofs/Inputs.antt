@@ -1,5 +1,5 @@
 -- What is answered for bytes, from what reading them answers.
-use Rattle.std.proofs.Common.{◌≡◌, ℕ, ◌+◌, ◌<◌, ◌≤◌, ◌^◌, List, [], length, refl, sym, ap, ◌∙◌, subst, inl, inr, arith, Option, None, Some, IfSome, Result, Ok, Err, IfOk, IfErr}
+use Rattle.std.proofs.Common.{◌≡◌, ℕ, ◌+◌, ◌≤◌, List, [], length, refl, sym, ap, ◌∙◌, subst, inl, inr, arith, Option, None, Some, IfSome, Result, Ok, Err, IfOk, IfErr}
 use Rattle.a64_audit.specs.declared.file.AuditFile.{AuditFile}
 use Rattle.a64_audit.specs.Entries as Audit
 use Rattle.a64_formtext.specs.declared.file.ShownFile.{ShownFile}

@@ -15,8 +15,6 @@ use Rattle.a64_text.specs.declared.file.File.{File}
 use Rattle.a64_run.specs.declared.ran.Fault.{Fault}
 use Rattle.a64_run.specs.declared.ran.Fault.TheVariants as faults
 use Rattle.a64_text.specs.States.{contents_of}
-use Rattle.a64_audit.specs.Entries as Audit
-use Rattle.a64_formtext.specs.Shown as Shown
 use Rattle.a64_run.specs.declared.making.Made.{Made}
 use Rattle.a64_run.specs.declared.making.Made.TheVariants.{Report, Summary, Listing, Words, Clean, Stubs}
 use Rattle.a64_report.specs.Report.{report_of, words_in, words_text}
