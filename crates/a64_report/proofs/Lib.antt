@@ -8,3 +8,4 @@ pub mod Overlaps
 pub mod KeptLines
 pub mod LineRuns
 pub mod StubsLeft
+pub mod ZeroRuns

@@ -3,10 +3,10 @@ use Rattle.std.proofs.Common.{◌≡◌, ℕ, ◌+◌, ◌<◌, List, ◌++◌, 
 use Rattle.std.specs.List.{flat_map, enumerate_from}
 use Rattle.std.proofs.lemmas.List.{drop_more}
 
--- the lines of those that are left are the next line and those of the rest
-pub lines_left : {X : Type 0} (f : ℕ × X → List ℕ) (xs : List X) (i : ℕ) (d : X) → i < length xs
-    → flat_map f (enumerate_from i (drop i xs)) ≡ f (i, get_or xs i d) ++ flat_map f (enumerate_from (i + 1) (drop (i + 1) xs))
-lines_left f xs i d h = rw (drop_more xs i d h) refl
+-- the lines of those that are left, numbered from one on, are the next line and those of the rest
+pub lines_left : {X : Type 0} (f : ℕ × X → List ℕ) (number : ℕ) (xs : List X) (i : ℕ) (d : X) → i < length xs
+    → flat_map f (enumerate_from number (drop i xs)) ≡ f (number, get_or xs i d) ++ flat_map f (enumerate_from (number + 1) (drop (i + 1) xs))
+lines_left f number xs i d h = rw (drop_more xs i d h) refl
 
 -- the same, where they have no numbers
 pub plain_lines_left : {X : Type 0} (f : X → List ℕ) (xs : List X) (i : ℕ) (d : X) → i < length xs

@@ -4,3 +4,4 @@ pub mod Sections
 pub mod Kept
 pub mod Putting
 pub mod StubLines
+pub mod LinkLines

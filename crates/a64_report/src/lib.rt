@@ -4,12 +4,15 @@
 mod hundred;
 mod kept;
 mod line;
+mod linked;
 mod piece;
 mod report;
 mod report_lines;
 mod stubs;
 mod summary;
+mod word_lines;
 
+pub use linked::write_linked;
 pub use piece::Piece;
 pub use report::{write_report, write_words};
 pub use stubs::write_stubs;

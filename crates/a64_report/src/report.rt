@@ -19,7 +19,7 @@ use a64_io::{Failed, Sink};
 /// Puts the lines of one kind, in order. Like the other loops over lines it is not inlined: alone, it
 /// has the registers to itself.
 #[inline(never)]
-fn put_lines<L: LineKind, K: Sink>(
+pub fn put_lines<L: LineKind, K: Sink>(
     sink: &mut K,
     piece: &mut Piece,
     subjects: &[L::Subject],

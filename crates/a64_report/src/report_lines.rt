@@ -36,13 +36,13 @@ pub fn compose_one(buffer: &mut LineBuffer, name: &[u8], number: u32) -> usize
 
 /// Composes a line: a name and two numbers.
 #[inline(always)]
-pub fn compose_two(buffer: &mut LineBuffer, name: &[u8], first: u64, second: u32) -> usize
+pub fn compose_two(buffer: &mut LineBuffer, name: &[u8], first: u64, second: u64) -> usize
     requires { length name.now ≤ 80 }
     ensures text { drop result buffer.new ≡ line_of_two name.now first second }
     ensures shorter { (0 < result) × (result ≤ 128) }
 {
     let start = put_text(buffer, SIZE, b"\n");
-    let start = put_decimal(buffer, start, u64::from(second));
+    let start = put_decimal(buffer, start, second);
     let start = put_text(buffer, start, b" ");
     let start = put_decimal(buffer, start, first);
     let start = put_text(buffer, start, b" ");
@@ -77,7 +77,7 @@ impl LineKind for IslandLines {
 
     fn compose(buffer: &mut LineBuffer, subject: &(u32, u32)) -> usize {
         let (begin, end) = subject;
-        compose_two(buffer, b"island", u64::from(*begin), *end)
+        compose_two(buffer, b"island", u64::from(*begin), u64::from(*end))
     }
 }
 
@@ -142,7 +142,7 @@ impl LineKind for TrapLines {
 
     fn compose(buffer: &mut LineBuffer, subject: &(u32, TrapCode)) -> usize {
         let (place, code) = subject;
-        compose_two(buffer, b"trap", u64::from(*place), u32::from(code.0))
+        compose_two(buffer, b"trap", u64::from(*place), u64::from(code.0))
     }
 }
 
@@ -169,7 +169,7 @@ impl LineKind for PatchableLines {
 
     fn compose(buffer: &mut LineBuffer, subject: &(u32, u32)) -> usize {
         let (place, len) = subject;
-        compose_two(buffer, b"patchable", u64::from(*place), *len)
+        compose_two(buffer, b"patchable", u64::from(*place), u64::from(*len))
     }
 }
 
@@ -183,6 +183,6 @@ impl LineKind for MapLines {
 
     fn compose(buffer: &mut LineBuffer, subject: &(u32, UserStackMap)) -> usize {
         let (place, map) = subject;
-        compose_two(buffer, b"map", u64::from(*place), map.0)
+        compose_two(buffer, b"map", u64::from(*place), u64::from(map.0))
     }
 }

@@ -1,12 +1,12 @@
 //! Writes stubs.
 
-ghost use Rattle.std.specs.Prelude.{◌≡◌, ◌<◌, ◌≤◌, ◌^◌, [], drop, length};
+ghost use Rattle.std.specs.Prelude.{◌≡◌, ◌<◌, ◌≤◌, [], drop};
 ghost use Rattle.a64_report.specs.Putting.{PutsOrCuts, WritesOrFails};
-ghost use Rattle.a64_report.specs.Report.{word_line, words_text};
 ghost use Rattle.a64_report.specs.StubLines.{stub_line, stub_lines, stubs_text};
 
-use crate::line::{LineBuffer, SIZE, put_decimal, put_hex, put_text, text_from};
+use crate::line::{LineBuffer, SIZE, put_decimal, put_text, text_from};
 use crate::piece::Piece;
+use crate::word_lines::put_word_lines;
 use a64_io::{Failed, Sink};
 
 /// Composes the line of a stub at the end of the buffer, and answers where it begins.
@@ -42,34 +42,6 @@ fn put_stubs<K: Sink>(
     Ok(())
 }
 
-/// Composes the line of a word at the end of the buffer, and answers where it begins.
-#[inline(always)]
-fn compose_word(buffer: &mut LineBuffer, index: u64, word: u32) -> usize
-    requires { index < 2 ^ 61 }
-    ensures text { drop result buffer.new ≡ word_line (index, word) }
-    ensures shorter { (0 < result) × (result ≤ 128) }
-{
-    let start = put_text(buffer, SIZE, b"\n");
-    let start = put_hex(buffer, start, word);
-    let start = put_text(buffer, start, b" ");
-    let start = put_decimal(buffer, start, 4 * index);
-    put_text(buffer, start, b"word ")
-}
-
-/// Puts the lines of words.
-#[inline(never)]
-fn put_word_lines<K: Sink>(sink: &mut K, piece: &mut Piece, words: &[u32]) -> Result<(), Failed>
-    ensures { PutsOrCuts K.taken K.faults sink.old sink.new piece.old piece.new
-        (words_text words.now) result }
-{
-    let mut buffer = [0; SIZE];
-    for index in 0..words.len() {
-        let start = compose_word(&mut buffer, index as u64, words[index]);
-        piece.put(sink, text_from(&buffer, start))?;
-    }
-    Ok(())
-}
-
 /// Writes the lines of stubs and of their words, by way of an empty piece. No memory is asked for.
 ///
 /// # Errors
@@ -87,6 +59,6 @@ pub fn write_stubs<K: Sink>(
         (stubs_text addresses.now places.now words.now) result }
 {
     put_stubs(sink, piece, addresses, places)?;
-    put_word_lines(sink, piece, words)?;
+    put_word_lines(sink, piece, 0, words)?;
     piece.flush(sink)
 }

@@ -4,5 +4,5 @@ use Rattle.a64_report.proofs.report_lines.compose_two.Goals as goal
 
 pub returns-clause-text : goal.returns-clause-text
 returns-clause-text c =
-    rw (c.put_text.ensures.written, c.put_text-start-3.ensures.written, c.put_decimal-start-2.ensures.written, c.put_text-start-2.ensures.written, c.put_decimal-start.ensures.written, c.put_text-start.ensures.written, c.from.ensures, drop_all 128 c.args.buffer.now (omega arith))
+    rw (c.put_text.ensures.written, c.put_text-start-3.ensures.written, c.put_decimal-start-2.ensures.written, c.put_text-start-2.ensures.written, c.put_decimal-start.ensures.written, c.put_text-start.ensures.written, drop_all 128 c.args.buffer.now (omega arith))
     (simp append_assoc refl)

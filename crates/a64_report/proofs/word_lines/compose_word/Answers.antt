@@ -1,6 +1,6 @@
 use Rattle.std.proofs.Common.{refl, arith, append_assoc}
 use Rattle.std.proofs.lemmas.List.{drop_all}
-use Rattle.a64_report.proofs.stubs.compose_word.Goals as goal
+use Rattle.a64_report.proofs.word_lines.compose_word.Goals as goal
 
 pub returns-clause-text : goal.returns-clause-text
 returns-clause-text c =
