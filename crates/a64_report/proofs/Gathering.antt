@@ -67,6 +67,11 @@ pub front_start : (taken : Option (List ℕ)) (faults : ℕ) (waits whole : List
 front_start taken faults waits whole =
     record { done = []; puts = puts_nothing taken faults waits; parts = refl }
 
+-- the rest, said in another way
+pub front_same : {taken taken' : Option (List ℕ)} {faults faults' : ℕ} {waits waits' rest rest' whole : List ℕ}
+    → PutsFront taken faults waits taken' faults' waits' rest whole → rest ≡ rest' → PutsFront taken faults waits taken' faults' waits' rest' whole
+front_same h e = record { done = h.done; puts = h.puts; parts = ap (λ t. h.done ++ t) (sym e) ∙ h.parts }
+
 pub front_more : {taken mid taken' : Option (List ℕ)} {faults f faults' : ℕ} {waits w waits' a todo whole : List ℕ} (rest : List ℕ)
     → PutsFront taken faults waits mid f w todo whole → Puts mid f w taken' faults' waits' a → todo ≡ a ++ rest
     → PutsFront taken faults waits taken' faults' waits' rest whole

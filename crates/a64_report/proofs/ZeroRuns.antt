@@ -1,7 +1,7 @@
 -- The lines of words of which some are zeros that stand together.
-use Rattle.std.proofs.Common.{◌≡◌, ℕ, zero, suc, ◌+◌, ◌-◌, ◌<◌, ◌≤◌, Bool, true, false, cond, not, ◌||◌, nat_eq, nat_lt, if◌then◌else◌, List, [], ◌∷◌, ◌++◌, length, take, drop, replicate, reverse, get_or, refl, sym, ap, ◌∙◌, arith, append_assoc, append-nil, add-zero, length-drop}
+use Rattle.std.proofs.Common.{◌≡◌, inl, inr, ℕ, zero, suc, ◌+◌, ◌-◌, ◌<◌, ◌≤◌, Bool, true, false, cond, not, ◌||◌, nat_eq, nat_lt, if◌then◌else◌, List, [], ◌∷◌, ◌++◌, length, take, drop, replicate, reverse, get_or, refl, sym, ap, ◌∙◌, arith, append_assoc, append-nil, add-zero, length-drop}
 use Rattle.std.specs.List.{flat_map, enumerate_from, prefix_len, suffix_len}
-use Rattle.std.proofs.lemmas.Bool.{lt-ltb, le-ltb, cases_lt}
+use Rattle.std.proofs.lemmas.Bool.{lt-ltb, le-ltb, ne_eqb, cases_lt}
 use Rattle.std.proofs.lemmas.List.{drop_more, drop_all, take_more, take-replicate, replicate_more, reverse-append}
 use Rattle.a64_report.specs.LinkLines.{line_among, data_line, data_text, zeros_line, zeros_text}
 use Rattle.a64_report.specs.Report.{word_line}
@@ -43,7 +43,7 @@ own : (before from index : ℕ) → before + from < 16 → line_among before fro
 own before from index h = rw (lt-ltb (before + from) 16 h) refl
 
 silent : (before from index : ℕ) → 16 ≤ suc before + from → line_among (suc before) from (index, 0) ≡ []
-silent before from index h = rw (le-ltb (suc before + from) 16 h) refl
+silent before from index h = rw (le-ltb (suc before + from) 16 h, ne_eqb (suc before) 0 (λ e. omega (arith, e))) refl
 
 leading : (from index : ℕ) → 16 ≤ from → line_among 0 from (index, 0) ≡ zeros_line index from
 leading from index h = rw (le-ltb (0 + from) 16 (omega (arith, h))) refl
@@ -131,10 +131,11 @@ left_zero words from index low within e =
     ∙ ap (λ xs. xs ++ drop (index + 1) words) (replicate_more (index - from) 0 ∙ ap (λ n. replicate n 0) more))
 
 -- a word that is not zero
-pub left_word : (words : List ℕ) (from index : ℕ) → from ≤ index → index < length words → nat_eq 0 (get_or words index 0) ≡ false
+pub left_word : (words : List ℕ) (from index : ℕ) → from ≤ index → index < length words → (get_or words index 0 ≡ 0 → ⊥)
     → lines_left_from words from index ≡ zeros_text from (index - from) ++ (word_line (index, get_or words index 0) ++ lines_left_from words (index + 1) (index + 1))
-left_word words from index low within e =
+left_word words from index low within some =
     let word = get_or words index 0 in
+    let e : nat_eq 0 word ≡ false = ne_eqb 0 word (λ is. some (sym is)) in
     let n = index - from in
     let rest = drop (index + 1) words in
     let place : from + n ≡ index = omega arith in
@@ -148,10 +149,11 @@ left_word words from index low within e =
     ∙ ap (λ m. word_line (index, word) ++ lines_behind (index + 1) 0 (replicate m 0 ++ rest)) (sym none))
 
 -- at the end, zero words alone
-pub left_end : (words : List ℕ) (from index : ℕ) → length words ≤ index → lines_left_from words from index ≡ zeros_text from (index - from) ++ []
+pub left_end : (words : List ℕ) (from index : ℕ) → index ≡ length words → lines_left_from words from index ≡ zeros_text from (length words - from) ++ []
 left_end words from index over =
-    ap (λ xs. lines_behind from 0 (replicate (index - from) 0 ++ xs)) (drop_all index words over)
-    ∙ run_of (index - from) from [] refl
+    ap (λ xs. lines_behind from 0 (replicate (index - from) 0 ++ xs)) (drop_all index words (omega (arith, over)))
+    ∙ ap (λ n. lines_behind from 0 (replicate (n - from) 0 ++ [])) over
+    ∙ run_of (length words - from) from [] refl
 
 -- fewer than 16 zero words
 pub few_zeros : (from count : ℕ) → count < 16 → zeros_text from count ≡ flat_map word_line (enumerate_from from (take count (replicate 16 0)))
