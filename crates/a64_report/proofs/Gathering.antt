@@ -89,6 +89,12 @@ front_cut {taken} {mid} {taken'} {faults} {f} {faults'} {waits} {w} {a} rest h k
     rw (← h.parts, e, ← append_assoc h.done a rest)
     (cut_more taken taken' faults faults' waits (h.done ++ a) rest (puts_cut taken mid taken' faults f faults' waits w h.done a h.puts k))
 
+-- none is to come, so all were put
+pub all_put : {taken taken' : Option (List ℕ)} {faults faults' : ℕ} {waits waits' rest whole : List ℕ}
+    → PutsFront taken faults waits taken' faults' waits' rest whole → rest ≡ [] → Puts taken faults waits taken' faults' waits' whole
+all_put {taken} {taken'} {faults} {faults'} {waits} {waits'} {rest} {whole} h none =
+    subst (λ (t : List ℕ). Puts taken faults waits taken' faults' waits' t) (sym (append-nil h.done) ∙ ap (λ (r : List ℕ). h.done ++ r) (sym none) ∙ h.parts) h.puts
+
 -- what is put behind nothing is taken, where what waits of it is
 pub puts_taken : (taken mid taken' : Option (List ℕ)) (faults f : ℕ) (waits whole : List ℕ)
     → Puts taken faults [] mid f waits whole → Takes mid taken' waits → Takes taken taken' whole

@@ -1,8 +1,6 @@
 -- The lines of the stubs that are left.
-use Rattle.std.proofs.Common.{◌≡◌, ◌⊎◌, inl, inr, ℕ, ◌+◌, ◌<◌, ◌≤◌, Option, List, [], ◌∷◌, ◌++◌, length, drop, get_or, refl, sym, ap, ◌∙◌, subst, append-nil, drop_of_length-le}
+use Rattle.std.proofs.Common.{◌≡◌, ◌⊎◌, inl, inr, ℕ, ◌+◌, ◌<◌, ◌≤◌, List, [], ◌∷◌, ◌++◌, length, drop, get_or, refl, drop_of_length-le}
 use Rattle.std.proofs.lemmas.List.{drop_more}
-use Rattle.a64_io.specs.Streams.{Puts}
-use Rattle.a64_report.proofs.Gathering.{PutsFront}
 use Rattle.a64_report.specs.StubLines.{stub_line, stub_lines}
 
 -- they are the next line and those of the rest
@@ -18,9 +16,3 @@ no_addresses index (place ∷ places) = refl
 pub stubs_done : (places addresses : List ℕ) (i : ℕ) → (length places ≤ i) ⊎ (length addresses ≤ i) → stub_lines i (drop i places) (drop i addresses) ≡ []
 stubs_done places addresses i (inl over) = rw (drop_of_length-le places over) refl
 stubs_done places addresses i (inr over) = rw (drop_of_length-le addresses over) (no_addresses i (drop i places))
-
--- so all were put
-pub all_put : {taken taken' : Option (List ℕ)} {faults faults' : ℕ} {waits waits' rest whole : List ℕ}
-    → PutsFront taken faults waits taken' faults' waits' rest whole → rest ≡ [] → Puts taken faults waits taken' faults' waits' whole
-all_put {taken} {taken'} {faults} {faults'} {waits} {waits'} {rest} {whole} h none =
-    subst (λ (t : List ℕ). Puts taken faults waits taken' faults' waits' t) (sym (append-nil h.done) ∙ ap (λ (r : List ℕ). h.done ++ r) (sym none) ∙ h.parts) h.puts

@@ -1,5 +1,5 @@
 -- The lines of words of which some are zeros that stand together.
-use Rattle.std.proofs.Common.{◌≡◌, inl, inr, ℕ, zero, suc, ◌+◌, ◌-◌, ◌<◌, ◌≤◌, Bool, true, false, cond, not, ◌||◌, nat_eq, nat_lt, if◌then◌else◌, List, [], ◌∷◌, ◌++◌, length, take, drop, replicate, reverse, get_or, refl, sym, ap, ◌∙◌, arith, append_assoc, append-nil, add-zero, length-drop}
+use Rattle.std.proofs.Common.{◌≡◌, inl, inr, ℕ, zero, suc, ◌+◌, ◌-◌, ◌<◌, ◌≤◌, false, cond, nat_eq, List, [], ◌∷◌, ◌++◌, length, take, drop, replicate, get_or, refl, sym, ap, ◌∙◌, arith, append_assoc, add-zero, length-drop}
 use Rattle.std.specs.List.{flat_map, enumerate_from, prefix_len, suffix_len}
 use Rattle.std.proofs.lemmas.Bool.{lt-ltb, le-ltb, ne_eqb, cases_lt}
 use Rattle.std.proofs.lemmas.List.{drop_more, drop_all, take_more, take-replicate, replicate_more, reverse-append}
@@ -106,7 +106,7 @@ long_run (suc n) index rest h e =
 run_of : (n index : ℕ) (rest : List ℕ) → prefix_len (nat_eq 0) rest ≡ 0
     → lines_behind index 0 (replicate n 0 ++ rest) ≡ zeros_text index n ++ lines_behind (index + n) n rest
 run_of n index rest e = elim (cases_lt n 16) [
-  inl few ↦ short_run n index 0 rest (omega (arith, few)) e
+  | inl few ↦ short_run n index 0 rest (omega (arith, few)) e
       ∙ rw (lt-ltb n 16 few) (ap (λ b. flat_map word_line (enumerate_from index (replicate n 0)) ++ lines_behind (index + n) b rest) (omega arith))
   | inr many ↦ long_run n index rest many e ∙ rw (le-ltb n 16 many) refl
 ]
@@ -121,14 +121,18 @@ pub left_all : (words : List ℕ) → lines_left_from words 0 0 ≡ data_text wo
 left_all words = sym (lines_from words 0 words refl)
 
 -- one more zero word
+zero_next : (n : ℕ) (rest : List ℕ) → replicate n 0 ++ (0 ∷ rest) ≡ replicate (n + 1) 0 ++ rest
+zero_next n rest = sym (append_assoc (replicate n 0) (0 ∷ []) rest) ∙ ap (λ (xs : List ℕ). xs ++ rest) (replicate_more n 0)
+
 pub left_zero : (words : List ℕ) (from index : ℕ) → from ≤ index → index < length words → get_or words index 0 ≡ 0
     → lines_left_from words from index ≡ lines_left_from words from (index + 1)
 left_zero words from index low within e =
+    let rest : List ℕ = drop (index + 1) words in
+    let next : drop index words ≡ 0 ∷ rest = drop_more words index 0 within ∙ ap (λ w. w ∷ rest) e in
     let more : index - from + 1 ≡ index + 1 - from = omega arith in
-    ap (lines_behind from 0)
-    (ap (λ xs. replicate (index - from) 0 ++ xs) (drop_more words index 0 within ∙ ap (λ w. w ∷ drop (index + 1) words) e)
-    ∙ sym (append_assoc (replicate (index - from) 0) (0 ∷ []) (drop (index + 1) words))
-    ∙ ap (λ xs. xs ++ drop (index + 1) words) (replicate_more (index - from) 0 ∙ ap (λ n. replicate n 0) more))
+    ap (λ xs. lines_behind from 0 (replicate (index - from) 0 ++ xs)) next
+    ∙ ap (lines_behind from 0) (zero_next (index - from) rest)
+    ∙ ap (λ n. lines_behind from 0 (replicate n 0 ++ rest)) more
 
 -- a word that is not zero
 pub left_word : (words : List ℕ) (from index : ℕ) → from ≤ index → index < length words → (get_or words index 0 ≡ 0 → ⊥)

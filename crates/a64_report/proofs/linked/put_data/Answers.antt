@@ -1,8 +1,7 @@
-use Rattle.std.proofs.Common.{◌+◌, ◌-◌, ◌++◌, [], refl, sym, arith, get_or, rules}
+use Rattle.std.proofs.Common.{◌+◌, ◌++◌, [], refl, sym, arith, get_or, rules}
 use Rattle.std.proofs.lemmas.Result.{on_ok_weaker, on_err_weaker}
 use Rattle.a64_report.specs.Report.{word_line}
-use Rattle.a64_report.proofs.Gathering.{front_start, front_same, front_more, front_cut, on_err}
-use Rattle.a64_report.proofs.StubsLeft.{all_put}
+use Rattle.a64_report.proofs.Gathering.{front_start, front_same, front_more, front_cut, all_put, on_err}
 use Rattle.a64_report.proofs.ZeroRuns.{lines_left_from, left_all, left_zero, left_word, left_end}
 use Rattle.a64_report.proofs.linked.put_data.Goals.{then-words-index-ne0+in_ok-put_zeros+in_ok-put, else-words-index-ne0}
 use Rattle.a64_report.proofs.linked.put_data.Goals as goal
@@ -20,9 +19,9 @@ loop-index-preserved g c =
       | then-words-index-ne0+in_ok-put_zeros+in_ok-put w ↦
           rw (w.sink-is, w.piece-is, w.from-is) (
             front_more rest
-            (front_more (word_line (i, get_or words i 0) ++ rest) c.loop-index.invariant.0 w.in_ok-put_zeros.ensures.ok
-            (left_word words from i c.loop-index.invariant.1 c.loop-index-test.true w.if-words-index-ne0.true))
-            (rw (w.text_from.ensures, w.compose_word-start.ensures.text) at w.in_ok-put.ensures.puts.ok) refl,
+                (front_more (word_line (i, get_or words i 0) ++ rest) c.loop-index.invariant.0 w.in_ok-put_zeros.ensures.ok
+                (left_word words from i c.loop-index.invariant.1 c.loop-index-test.true w.if-words-index-ne0.true))
+                (rw (w.text_from.ensures, w.compose_word-start.ensures.text) at w.in_ok-put.ensures.puts.ok) refl,
             omega arith,
           )
       | else-words-index-ne0 w ↦

@@ -2,8 +2,7 @@ use Rattle.std.proofs.Common.{◌≡◌, ℕ, List, [], ◌++◌, refl, rules, s
 use Rattle.std.specs.List.{flat_map, enumerate_from}
 use Rattle.std.proofs.lemmas.Result.{on_ok_weaker, on_err_weaker}
 use Rattle.a64_report.specs.LinkLines.{unit_line, symbol_line, thunk_line, data_text}
-use Rattle.a64_report.proofs.Gathering.{front_start, front_more, front_cut, puts_taken, puts_part, on_err}
-use Rattle.a64_report.proofs.StubsLeft.{all_put}
+use Rattle.a64_report.proofs.Gathering.{front_start, front_more, front_cut, all_put, puts_taken, puts_part, on_err}
 use Rattle.a64_report.proofs.linked.write_linked.Goals as goal
 
 in_order : (units symbols thunks words : List ℕ) → units ++ symbols ++ thunks ++ words ≡ units ++ (symbols ++ (thunks ++ words))

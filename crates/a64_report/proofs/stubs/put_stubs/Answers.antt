@@ -1,8 +1,8 @@
 use Rattle.std.proofs.Common.{rules, ◌+◌, ◌<◌, ◌≤◌, ◌⊎◌, inl, inr, drop, length, arith}
 use Rattle.std.proofs.lemmas.Bool.{cases_lt}
 use Rattle.a64_report.specs.StubLines.{stub_lines}
-use Rattle.a64_report.proofs.StubsLeft.{stubs_left, stubs_done, all_put}
-use Rattle.a64_report.proofs.Gathering.{front_more, front_cut, on_err}
+use Rattle.a64_report.proofs.StubsLeft.{stubs_left, stubs_done}
+use Rattle.a64_report.proofs.Gathering.{front_more, front_cut, all_put, on_err}
 use Rattle.a64_report.proofs.stubs.put_stubs.Goals as goal
 
 pub loop-index-preserved : goal.loop-index-preserved
@@ -42,4 +42,4 @@ returns g c =
     let over = c.loop-index-test.false in
     let end = c.min-index-end.ensures in
     let some : (length places ≤ i) ⊎ (length addresses ≤ i) = elim (cases_lt i (length places)) [ inl within ↦ inr (omega arith) | inr past ↦ inl past ] in
-    record { ok = all_put c.loop-index.invariant (stubs_done places addresses i some); err = tt }
+    record { ok = all_put {rest = stub_lines i (drop i places) (drop i addresses)} c.loop-index.invariant (stubs_done places addresses i some); err = tt }

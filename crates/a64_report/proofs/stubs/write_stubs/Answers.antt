@@ -1,8 +1,7 @@
-use Rattle.std.proofs.Common.{◌≡◌, [], refl, rules, sym, append-nil}
+use Rattle.std.proofs.Common.{[], refl, rules, sym, append-nil}
 use Rattle.std.proofs.lemmas.Result.{on_ok_weaker, on_err_weaker}
 use Rattle.a64_report.specs.Report.{words_text}
-use Rattle.a64_report.proofs.Gathering.{front_start, front_more, front_cut, puts_taken, puts_part, on_err}
-use Rattle.a64_report.proofs.StubsLeft.{all_put}
+use Rattle.a64_report.proofs.Gathering.{front_start, front_more, front_cut, all_put, puts_taken, puts_part, on_err}
 use Rattle.a64_report.proofs.stubs.write_stubs.Goals as goal
 
 pub returns-in_err-put_word_lines : goal.returns-in_err-put_word_lines
