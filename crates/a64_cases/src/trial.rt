@@ -43,6 +43,7 @@ impl Outcome {
         let keeps_file = ran.file.is_some()
             || ran.audit.is_some()
             || ran.shown.is_some()
+            || ran.link_file.is_some()
             || ran.stub_file.is_some();
         Outcome {
             status: ran.status,

@@ -24,6 +24,7 @@ module _ (command : Command) (taken taken' : Option (List ℕ)) (input : Input) 
   refused_due (Some faults.Write) product first e h = absurd (no_fault command input first e.made.no_fault h)
   refused_due (Some (faults.Assembly error)) product first e h = inl (ap (λ f. Some f) (one_fault command input (faults.Assembly error) first e.0.0 h))
   refused_due (Some (faults.Audit verdict)) product first e h = inl (ap (λ f. Some f) (one_fault command input (faults.Audit verdict) first e.0 h))
+  refused_due (Some (faults.Link error)) product first e h = inl (ap (λ f. Some f) (one_fault command input (faults.Link error) first e.0.0 h))
   refused_due (Some faults.Memory) product first e h = inr (inr refl)
   refused_due (Some faults.Usage) product first e h = absurd e.0
   refused_due (Some faults.Read) product first e h = absurd e.0
@@ -37,6 +38,7 @@ module _ (command : Command) (taken taken' : Option (List ℕ)) (input : Input) 
   done_due (Some faults.Write) product e h = inr refl
   done_due (Some (faults.Assembly error)) product e h = absurd (no_fault command input (faults.Assembly error) h e.0.0)
   done_due (Some (faults.Audit verdict)) product e h = absurd (no_fault command input (faults.Audit verdict) h e.0)
+  done_due (Some (faults.Link error)) product e h = absurd (no_fault command input (faults.Link error) h e.0.0)
   done_due (Some faults.Memory) product e h = inl (inr (inr refl))
   done_due (Some faults.Usage) product e h = absurd e.0
   done_due (Some faults.Read) product e h = absurd e.0
@@ -60,6 +62,7 @@ module _ (command : Command) (taken taken' : Option (List ℕ)) (input : Input) 
   done_always (Some faults.Write) product e h = inr (inl refl)
   done_always (Some (faults.Assembly error)) product e h = absurd (no_fault command input (faults.Assembly error) h e.0.0)
   done_always (Some (faults.Audit verdict)) product e h = absurd (no_fault command input (faults.Audit verdict) h e.0)
+  done_always (Some (faults.Link error)) product e h = absurd (no_fault command input (faults.Link error) h e.0.0)
   done_always (Some faults.Memory) product e h = inr (inr refl)
   done_always (Some faults.Usage) product e h = absurd e.0
   done_always (Some faults.Read) product e h = absurd e.0
@@ -80,12 +83,14 @@ written_ends command taken taken' input made (Some faults.TooLong) product m e =
 written_ends command taken taken' input made (Some (faults.Line n)) product m e = absurd e
 written_ends command taken taken' input made (Some (faults.Assembly error)) product m e = absurd e
 written_ends command taken taken' input made (Some (faults.Audit verdict)) product m e = absurd e
+written_ends command taken taken' input made (Some (faults.Link error)) product m e = absurd e
 
 -- why nothing is made is how the command ends
 pub refused_ends : (command : Command) (taken : Option (List ℕ)) (input : Input) (fault : Fault)
     → IsMakingFault command input fault → Ends command taken taken input (Some fault) None
 refused_ends command taken input (faults.Assembly error) h = (h, refl, refl)
 refused_ends command taken input (faults.Audit verdict) h = (h, refl, refl)
+refused_ends command taken input (faults.Link error) h = (h, refl, refl)
 refused_ends command taken input faults.Memory h = (h, refl, refl)
 refused_ends command taken input faults.Usage h = absurd h
 refused_ends command taken input faults.Read h = absurd h
@@ -99,9 +104,11 @@ pub ends_keeps : (command : Command) (left left' taken taken' : Option (List ℕ
 ends_keeps command left left' taken taken' input None product i e = record { is_input = i; output = e.output; made = e.made; written = e.written }
 ends_keeps command left left' taken taken' input (Some faults.Write) product i e = record { is_input = i; output = e.output; made = e.made; written = e.written }
 ends_keeps command left left' taken taken' input (Some (faults.Assembly error)) product i e =
-    (record { is_input = i; is_fault = e.0.0; no_memory = λ same. e.0.1 (let k = same in cc) }, e.1)
+    (record { is_input = i; is_fault = e.0.0; no_memory = (λ same. e.0.1 (let k = same in cc), λ same. (let k = same in cc)) }, e.1)
 ends_keeps command left left' taken taken' input (Some (faults.Audit verdict)) product i e =
-    (record { is_input = i; is_fault = e.0; no_memory = λ same. (let k = same in cc) }, e.1)
+    (record { is_input = i; is_fault = e.0; no_memory = (λ same. (let k = same in cc), λ same. (let k = same in cc)) }, e.1)
+ends_keeps command left left' taken taken' input (Some (faults.Link error)) product i e =
+    (record { is_input = i; is_fault = e.0.0; no_memory = (λ same. (let k = same in cc), λ same. e.0.1 (let k = same in cc)) }, e.1)
 ends_keeps command left left' taken taken' input (Some faults.Memory) product i e = (record { is_input = i; right = e.0 }, e.1)
 ends_keeps command left left' taken taken' input (Some faults.Usage) product i e = absurd e.0
 ends_keeps command left left' taken taken' input (Some faults.Read) product i e = absurd e.0
@@ -115,6 +122,7 @@ ends_due (Gen count force) left left' taken taken' (inputs.Items file) fault pro
     done_always (Gen count force) taken taken' (inputs.Items file) fault product e (ap (contents_fault (Gen count force)) i ∙ gen_faultless count force w)
 ends_due (Gen count force) left left' taken taken' (inputs.Words file) fault product w i o e = absurd i
 ends_due (Gen count force) left left' taken taken' (inputs.Listing file) fault product w i o e = absurd i
+ends_due (Gen count force) left left' taken taken' (inputs.Units file) fault product w i o e = absurd i
 ends_due (Gen count force) left left' taken taken' (inputs.Addresses file) fault product w i o e = absurd i
 ends_due (Asm force) None left' taken taken' input fault product w i o e = tt
 ends_due (Asm force) (Some text) left' taken taken' input fault product w i o e = text_ends_due (Asm force) taken taken' input text fault product o e
@@ -128,5 +136,7 @@ ends_due commands.Dis None left' taken taken' input fault product w i o e = tt
 ends_due commands.Dis (Some text) left' taken taken' input fault product w i o e = text_ends_due commands.Dis taken taken' input text fault product o e
 ends_due commands.Undis None left' taken taken' input fault product w i o e = tt
 ends_due commands.Undis (Some text) left' taken taken' input fault product w i o e = text_ends_due commands.Undis taken taken' input text fault product o e
+ends_due commands.Link None left' taken taken' input fault product w i o e = tt
+ends_due commands.Link (Some text) left' taken taken' input fault product w i o e = text_ends_due commands.Link taken taken' input text fault product o e
 ends_due commands.Stubs None left' taken taken' input fault product w i o e = tt
 ends_due commands.Stubs (Some text) left' taken taken' input fault product w i o e = text_ends_due commands.Stubs taken taken' input text fault product o e

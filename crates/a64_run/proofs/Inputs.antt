@@ -1,9 +1,14 @@
 -- What is answered for bytes, from what reading them answers.
-use Rattle.std.proofs.Common.{◌≡◌, ℕ, ◌+◌, ◌≤◌, List, [], length, refl, sym, ap, ◌∙◌, subst, inl, inr, arith, Option, None, Some, IfSome, Result, Ok, Err, IfOk, IfErr}
+use Rattle.std.proofs.Common.{◌≡◌, ℕ, ◌+◌, ◌<◌, ◌≤◌, ◌^◌, List, [], length, refl, sym, ap, ◌∙◌, subst, inl, inr, arith, Option, None, Some, IfSome, Result, Ok, Err, IfOk, IfErr}
 use Rattle.a64_audit.specs.declared.file.AuditFile.{AuditFile}
 use Rattle.a64_audit.specs.Entries as Audit
 use Rattle.a64_formtext.specs.declared.file.ShownFile.{ShownFile}
 use Rattle.a64_formtext.specs.Shown as Shown
+use Rattle.std.specs.List.{sum_by}
+use Rattle.a64_link.specs.Units.{word_count}
+use Rattle.a64_link_file.specs.declared.file.LinkFile.{LinkFile}
+use Rattle.a64_link_file.specs.Entries as LinkFiles
+use Rattle.a64_link_file.proofs.Likeness.{like_fault}
 use Rattle.a64_stubs.specs.declared.file.StubFile.{StubFile}
 use Rattle.a64_stubs.specs.Files as Stubs
 use Rattle.a64_lines.specs.declared.error.LinesError.TheVariants as line_errors
@@ -21,7 +26,7 @@ use Rattle.a64_run.specs.declared.input.Input.TheVariants as inputs
 use Rattle.a64_run.specs.declared.ran.Fault.{Fault}
 use Rattle.a64_run.specs.declared.ran.Fault.TheVariants as faults
 use Rattle.a64_buffer.specs.declared.force.ForceVeneers.{ForceVeneers}
-use Rattle.a64_run.specs.Commands.{limit, works_on, format_of, said_of, Said, SaysItems, SaysWords, SaysListing, SaysAddresses, IsText, IsAsWritten, IsFirstBad, IsInput, WasRead}
+use Rattle.a64_run.specs.Commands.{limit, works_on, format_of, said_of, Said, SaysItems, SaysWords, SaysListing, SaysUnits, SaysAddresses, IsText, IsAsWritten, IsFirstBad, IsInput, WasRead}
 use Rattle.a64_run.specs.Run.{Held, FailsOnlyAt, IsDueAnswer}
 use Rattle.a64_run.specs.Stages.{IsWhole, IsFew, IsInputOf, IsDueInput, IsTextDue, IsParsed, IsTextFault, IsInputFault}
 
@@ -69,25 +74,36 @@ at_items : (P : Input → Type 0) → ((file : File) → P (inputs.Items file)) 
 at_items P p (inputs.Items file) kind = p file
 at_items P p (inputs.Words file) kind = absurd cc
 at_items P p (inputs.Listing file) kind = absurd cc
+at_items P p (inputs.Units file) kind = absurd cc
 at_items P p (inputs.Addresses file) kind = absurd cc
 
 at_words : (P : Input → Type 0) → ((file : AuditFile) → P (inputs.Words file)) → (other : Input) → format_of other ≡ formats.Words → P other
 at_words P p (inputs.Words file) kind = p file
 at_words P p (inputs.Items file) kind = absurd cc
 at_words P p (inputs.Listing file) kind = absurd cc
+at_words P p (inputs.Units file) kind = absurd cc
 at_words P p (inputs.Addresses file) kind = absurd cc
 
 at_listing : (P : Input → Type 0) → ((file : ShownFile) → P (inputs.Listing file)) → (other : Input) → format_of other ≡ formats.Listing → P other
 at_listing P p (inputs.Listing file) kind = p file
 at_listing P p (inputs.Items file) kind = absurd cc
 at_listing P p (inputs.Words file) kind = absurd cc
+at_listing P p (inputs.Units file) kind = absurd cc
 at_listing P p (inputs.Addresses file) kind = absurd cc
+
+at_units : (P : Input → Type 0) → ((file : LinkFile) → P (inputs.Units file)) → (other : Input) → format_of other ≡ formats.Units → P other
+at_units P p (inputs.Units file) kind = p file
+at_units P p (inputs.Items file) kind = absurd cc
+at_units P p (inputs.Words file) kind = absurd cc
+at_units P p (inputs.Listing file) kind = absurd cc
+at_units P p (inputs.Addresses file) kind = absurd cc
 
 at_addresses : (P : Input → Type 0) → ((file : StubFile) → P (inputs.Addresses file)) → (other : Input) → format_of other ≡ formats.Addresses → P other
 at_addresses P p (inputs.Addresses file) kind = p file
 at_addresses P p (inputs.Items file) kind = absurd cc
 at_addresses P p (inputs.Words file) kind = absurd cc
 at_addresses P p (inputs.Listing file) kind = absurd cc
+at_addresses P p (inputs.Units file) kind = absurd cc
 
 -- ---- items
 
@@ -126,6 +142,17 @@ pub bad_listing : (bytes : List ℕ) (n : ℕ) → length bytes ≤ limit → Li
 bad_listing bytes n l a =
     bad_line formats.Listing bytes n l a.bad (λ m bad. a.only_bad m bad) (at_listing (λ other. IsText bytes other → ⊥) (λ other f. a.only_ok (Shown.words_of other) f.lines))
 
+pub parsed_units : (bytes : List ℕ) (file : LinkFile) → length bytes ≤ limit → Lines.Answers LinkFiles.says bytes LinkFiles.nothing (Ok (LinkFiles.contents_of file)) → sum_by word_count file.units.items < 2 ^ 29 → IsParsed formats.Units bytes (Ok (inputs.Units file))
+parsed_units bytes file l a few =
+    parsed formats.Units bytes (inputs.Units file) l refl a.ok tt few (record {
+      good = λ n bad. a.only_bad n bad;
+      same = at_units (λ other. IsText bytes other → said_of other ≡ said_of (inputs.Units file)) (λ other f. ap SaysUnits (like_fault other file (sym (a.only_ok (LinkFiles.contents_of other) f))));
+    })
+
+pub bad_units : (bytes : List ℕ) (n : ℕ) → length bytes ≤ limit → Lines.Answers LinkFiles.says bytes LinkFiles.nothing (Err (line_errors.BadLine n)) → IsParsed formats.Units bytes (Err (faults.Line n))
+bad_units bytes n l a =
+    bad_line formats.Units bytes n l a.bad (λ m bad. a.only_bad m bad) (at_units (λ other. IsText bytes other → ⊥) (λ other f. a.only_ok (LinkFiles.contents_of other) f))
+
 pub parsed_addresses : (bytes : List ℕ) (file : StubFile) → length bytes ≤ limit → Lines.Answers Stubs.says bytes [] (Ok (Stubs.addresses_of file)) → length file.addresses.items ≤ length bytes → IsParsed formats.Addresses bytes (Ok (inputs.Addresses file))
 parsed_addresses bytes file l a few =
     parsed formats.Addresses bytes (inputs.Addresses file) l refl a.ok tt (omega arith) (record {
@@ -163,6 +190,7 @@ module _ (format : Format) (left left' : Option (List ℕ)) (bytes : List ℕ) w
   input_held (Err faults.Read) w p = tt
   input_held (Err (faults.Assembly error)) w p = tt
   input_held (Err (faults.Audit verdict)) w p = tt
+  input_held (Err (faults.Link error)) w p = tt
   input_held (Err faults.Write) w p = tt
   input_held (Err faults.Memory) w p = tt
 
@@ -184,6 +212,7 @@ input_cause format old new bytes (Err faults.Read) e p = absurd p.cause
 input_cause format old new bytes (Err faults.TooLong) e p = absurd p.cause
 input_cause format old new bytes (Err (faults.Assembly error)) e p = absurd p.cause
 input_cause format old new bytes (Err (faults.Audit verdict)) e p = absurd p.cause
+input_cause format old new bytes (Err (faults.Link error)) e p = absurd p.cause
 input_cause format old new bytes (Err faults.Write) e p = absurd p.cause
 
 -- where nothing was read, a read failed only if that is the answer
@@ -195,6 +224,7 @@ input_fails old new (faults.Line n) c = inl c
 input_fails old new faults.Usage c = absurd c
 input_fails old new (faults.Assembly error) c = absurd c
 input_fails old new (faults.Audit verdict) c = absurd c
+input_fails old new (faults.Link error) c = absurd c
 input_fails old new faults.Write c = absurd c
 
 -- a failed read and want of memory are free, and too long a text is told by itself
@@ -222,6 +252,7 @@ text_due format (Some text) old new faults.Usage c h = absurd c
 text_due format (Some text) old new (faults.Line n) c h = absurd c
 text_due format (Some text) old new (faults.Assembly error) c h = absurd c
 text_due format (Some text) old new (faults.Audit verdict) c h = absurd c
+text_due format (Some text) old new (faults.Link error) c h = absurd c
 text_due format (Some text) old new faults.Write c h = absurd c
 
 -- ---- what was read for a command: a line for each
@@ -240,6 +271,7 @@ module _ (left left' : Option (List ℕ)) where
   read_is_input commands.Audit (Ok input) apart h = h
   read_is_input commands.Dis (Ok input) apart h = h
   read_is_input commands.Undis (Ok input) apart h = h
+  read_is_input commands.Link (Ok input) apart h = h
   read_is_input commands.Stubs (Ok input) apart h = h
 
   pub read_is_due : (command : Command) (r : Result Input Fault) → IsNoGen command → IfOk r (λ input. IfSome left (λ text. IsInputOf (works_on command) text input)) → IfOk r (IsDueInput command left)
@@ -251,6 +283,7 @@ module _ (left left' : Option (List ℕ)) where
   read_is_due commands.Audit (Ok input) apart h = h
   read_is_due commands.Dis (Ok input) apart h = h
   read_is_due commands.Undis (Ok input) apart h = h
+  read_is_due commands.Link (Ok input) apart h = h
   read_is_due commands.Stubs (Ok input) apart h = h
 
   due_for : (command : Command) (fault : Fault) (left : Option (List ℕ)) → IsNoGen command → IfSome left (λ text. IsTextDue (works_on command) text fault) → IsDueAnswer command left (Some fault)
@@ -267,6 +300,8 @@ module _ (left left' : Option (List ℕ)) where
   due_for commands.Dis fault (Some text) apart h = h commands.Dis refl
   due_for commands.Undis fault None apart h = tt
   due_for commands.Undis fault (Some text) apart h = h commands.Undis refl
+  due_for commands.Link fault None apart h = tt
+  due_for commands.Link fault (Some text) apart h = h commands.Link refl
   due_for commands.Stubs fault None apart h = tt
   due_for commands.Stubs fault (Some text) apart h = h commands.Stubs refl
 

@@ -95,6 +95,7 @@ only_asm rest commands.Roles h = absurd (let first = ap (λ ws. get_or (get_or w
 only_asm rest commands.Audit h = absurd (let first = ap (λ ws. get_or (get_or ws 0 []) 1 0) h in omega arith)
 only_asm rest commands.Dis h = absurd (let first = ap (λ ws. get_or (get_or ws 0 []) 0 0) h in omega arith)
 only_asm rest commands.Undis h = absurd (let first = ap (λ ws. get_or (get_or ws 0 []) 0 0) h in omega arith)
+only_asm rest commands.Link h = absurd (let first = ap (λ ws. get_or (get_or ws 0 []) 0 0) h in omega arith)
 only_asm rest commands.Stubs h = absurd (let first = ap (λ ws. get_or (get_or ws 0 []) 0 0) h in omega arith)
 
 pub asm_read : (rest : List (List ℕ)) (force : ForceVeneers) → Reads Always force_words rest (Some force) → ReadsCommand (codes "asm" ∷ rest) (Some (Asm force))
@@ -125,6 +126,7 @@ only_gen rest commands.Roles h = absurd (let first = ap (λ ws. get_or (get_or w
 only_gen rest commands.Audit h = absurd (let first = ap (λ ws. get_or (get_or ws 0 []) 0 0) h in omega arith)
 only_gen rest commands.Dis h = absurd (let first = ap (λ ws. get_or (get_or ws 0 []) 0 0) h in omega arith)
 only_gen rest commands.Undis h = absurd (let first = ap (λ ws. get_or (get_or ws 0 []) 0 0) h in omega arith)
+only_gen rest commands.Link h = absurd (let first = ap (λ ws. get_or (get_or ws 0 []) 0 0) h in omega arith)
 only_gen rest commands.Stubs h = absurd (let first = ap (λ ws. get_or (get_or ws 0 []) 0 0) h in omega arith)
 
 pub gen_read : (token : List ℕ) (rest : List (List ℕ)) (count : ℕ) (force : ForceVeneers) → Reads IsCount decimal token (Some count) → Reads Always force_words rest (Some force) → ReadsCommand (codes "gen" ∷ token ∷ rest) (Some (Gen count force))
@@ -177,6 +179,7 @@ by_tag n =
     if n == 197 then Some commands.Audit else
     if n == 215 then Some commands.Dis else
     if n == 217 then Some commands.Undis else
+    if n == 218 then Some commands.Link else
     if n == 232 then Some commands.Stubs else None
 
 found : (command : Command) (name : List ℕ) → alone_name command ≡ Some name → by_tag (tag name) ≡ Some command
@@ -187,6 +190,7 @@ found commands.Roles name is = let same : codes "roles" ≡ name = cc in ap (λ 
 found commands.Audit name is = let same : codes "audit" ≡ name = cc in ap (λ t. by_tag (tag t)) (sym same)
 found commands.Dis name is = let same : codes "dis" ≡ name = cc in ap (λ t. by_tag (tag t)) (sym same)
 found commands.Undis name is = let same : codes "undis" ≡ name = cc in ap (λ t. by_tag (tag t)) (sym same)
+found commands.Link name is = let same : codes "link" ≡ name = cc in ap (λ t. by_tag (tag t)) (sym same)
 found commands.Stubs name is = let same : codes "stubs" ≡ name = cc in ap (λ t. by_tag (tag t)) (sym same)
 
 -- a command whose first word is that name is that one, and has no words behind the name
@@ -215,6 +219,7 @@ module _ (name : List ℕ) (rest : List (List ℕ)) (command : Command) (is : al
   only_alone commands.Audit h = one_name commands.Audit (codes "audit") refl h
   only_alone commands.Dis h = one_name commands.Dis (codes "dis") refl h
   only_alone commands.Undis h = one_name commands.Undis (codes "undis") refl h
+  only_alone commands.Link h = one_name commands.Link (codes "link") refl h
   only_alone commands.Stubs h = one_name commands.Stubs (codes "stubs") refl h
 
 is_command : (name : List ℕ) (command : Command) → alone_name command ≡ Some name → IsCommand (name ∷ []) command
@@ -225,6 +230,7 @@ is_command name commands.Roles is = let same : name ≡ codes "roles" = cc in ap
 is_command name commands.Audit is = let same : name ≡ codes "audit" = cc in ap (λ t. t ∷ []) same
 is_command name commands.Dis is = let same : name ≡ codes "dis" = cc in ap (λ t. t ∷ []) same
 is_command name commands.Undis is = let same : name ≡ codes "undis" = cc in ap (λ t. t ∷ []) same
+is_command name commands.Link is = let same : name ≡ codes "link" = cc in ap (λ t. t ∷ []) same
 is_command name commands.Stubs is = let same : name ≡ codes "stubs" = cc in ap (λ t. t ∷ []) same
 
 -- no words are `asm`
@@ -240,12 +246,13 @@ empty_read = record { some = inl (refl, refl); only = only }
     only commands.Audit h = absurd cc
     only commands.Dis h = absurd cc
     only commands.Undis h = absurd cc
+    only commands.Link h = absurd cc
     only commands.Stubs h = absurd cc
 
 -- another name is no command's
 pub name_unread : (name : List ℕ) (rest : List (List ℕ)) → name ≢ codes "asm" → name ≢ codes "gen" → name ≢ codes "list" → name ≢ codes "roles"
-    → name ≢ codes "audit" → name ≢ codes "dis" → name ≢ codes "undis" → name ≢ codes "stubs" → ReadsCommand (name ∷ rest) None
-name_unread name rest no_asm no_gen no_list no_roles no_audit no_dis no_undis no_stubs = record { some = tt; only = only }
+    → name ≢ codes "audit" → name ≢ codes "dis" → name ≢ codes "undis" → name ≢ codes "link" → name ≢ codes "stubs" → ReadsCommand (name ∷ rest) None
+name_unread name rest no_asm no_gen no_list no_roles no_audit no_dis no_undis no_link no_stubs = record { some = tt; only = only }
   where
     only : (command : Command) → IsCommand (name ∷ rest) command → None ≡ Some command
     only (Asm force) (inl h) = absurd (let empty = h.1 in cc)
@@ -256,6 +263,7 @@ name_unread name rest no_asm no_gen no_list no_roles no_audit no_dis no_undis no
     only commands.Audit h = absurd (no_audit (ap (λ ws. get_or ws 0 []) h))
     only commands.Dis h = absurd (no_dis (ap (λ ws. get_or ws 0 []) h))
     only commands.Undis h = absurd (no_undis (ap (λ ws. get_or ws 0 []) h))
+    only commands.Link h = absurd (no_link (ap (λ ws. get_or ws 0 []) h))
     only commands.Stubs h = absurd (no_stubs (ap (λ ws. get_or ws 0 []) h))
 
 -- ---- words as they are held

@@ -9,6 +9,13 @@ use Rattle.a64_emit.specs.declared.code.Code.{Code}
 use Rattle.a64_emit.specs.MemoryForms as emission
 use Rattle.a64_run.specs.declared.product.Product.{Product}
 use Rattle.a64_run.specs.declared.product.Product.TheVariants as products
+use Rattle.a64_link.specs.declared.error.LinkError.{LinkError}
+use Rattle.a64_link.specs.declared.unit.Linked.{Linked}
+use Rattle.a64_link.specs.declared.unit.Unit.{Unit}
+use Rattle.a64_link.specs.Faults as Link
+use Rattle.a64_link.specs.Linked.{IsLinked, CallsArrive}
+use Rattle.a64_link_file.specs.Entries as LinkFiles
+use Rattle.a64_report.specs.LinkLines.{linked_text}
 use Rattle.a64_stubs.specs.declared.file.Stubs.{Stubs}
 use Rattle.a64_stubs.specs.Files as StubFiles
 use Rattle.a64_stubs.specs.Runs.{IsTrampoline}
@@ -59,6 +66,7 @@ alone_name commands.Roles = Some (codes "roles")
 alone_name commands.Audit = Some (codes "audit")
 alone_name commands.Dis = Some (codes "dis")
 alone_name commands.Undis = Some (codes "undis")
+alone_name commands.Link = Some (codes "link")
 alone_name commands.Stubs = Some (codes "stubs")
 
 -- the words of the command
@@ -89,6 +97,7 @@ works_on commands.Roles = formats.Items
 works_on commands.Audit = formats.Words
 works_on commands.Dis = formats.Words
 works_on commands.Undis = formats.Listing
+works_on commands.Link = formats.Units
 works_on commands.Stubs = formats.Addresses
 
 -- the command reads that from the source
@@ -108,19 +117,22 @@ abbrev pub format_of : Input → Format
 format_of (inputs.Items file) = formats.Items
 format_of (inputs.Words file) = formats.Words
 format_of (inputs.Listing file) = formats.Listing
+format_of (inputs.Units file) = formats.Units
 format_of (inputs.Addresses file) = formats.Addresses
 
--- what the lines of a file say, in each format
+-- what the lines of a file say, in each format; of units, what keeps them from being linked, if anything does
 pub data Said : Type 0 where
   SaysItems : Contents → Said
   SaysWords : Audit.Contents → Said
   SaysListing : List ℕ → Said
+  SaysUnits : Option LinkError → Said
   SaysAddresses : List ℕ → Said
 
 abbrev pub said_of : Input → Said
 said_of (inputs.Items file) = SaysItems (contents_of file)
 said_of (inputs.Words file) = SaysWords (Audit.contents_of file)
 said_of (inputs.Listing file) = SaysListing (Shown.words_of file)
+said_of (inputs.Units file) = SaysUnits (Link.fault_of file.units.items)
 said_of (inputs.Addresses file) = SaysAddresses (StubFiles.addresses_of file)
 
 -- the bytes are this
@@ -128,6 +140,7 @@ abbrev pub IsText : List ℕ → Input → Type 0
 IsText bytes (inputs.Items file) = FileText.IsFile bytes file
 IsText bytes (inputs.Words file) = Audit.IsAuditFile bytes file
 IsText bytes (inputs.Listing file) = Shown.IsShownFile bytes file
+IsText bytes (inputs.Units file) = LinkFiles.IsLinkFile bytes file
 IsText bytes (inputs.Addresses file) = StubFiles.IsStubFile bytes file
 
 -- what stands in the bytes of a listing beside lines that mean nothing is what `dis` writes for its words
@@ -140,6 +153,7 @@ abbrev pub IsFirstBad : Format → List ℕ → ℕ → Type 0
 IsFirstBad formats.Items bytes n = FileText.IsFirstBad bytes n
 IsFirstBad formats.Words bytes n = Lines.IsFirstBad Audit.says Audit.nothing bytes n
 IsFirstBad formats.Listing bytes n = Lines.IsFirstBad Shown.says [] bytes n
+IsFirstBad formats.Units bytes n = Lines.IsFirstBad LinkFiles.says LinkFiles.nothing bytes n
 IsFirstBad formats.Addresses bytes n = Lines.IsFirstBad StubFiles.says [] bytes n
 
 -- ---- faults
@@ -163,12 +177,14 @@ file_fault command file = contents_fault command (contents_of file)
 abbrev pub FindsFault : Command → Said → Fault → Type 0
 FindsFault command (SaysItems file) (faults.Assembly error) = contents_fault command file ≡ Some error
 FindsFault commands.Audit (SaysWords words) (faults.Audit verdict) = IsVerdict words verdict × (verdict ≢ Clean)
+FindsFault commands.Link (SaysUnits found) (faults.Link error) = found ≡ Some error
 FindsFault command said fault = ⊥
 
 -- it finds none there
 abbrev pub FindsNone : Command → Said → Type 0
 FindsNone command (SaysItems file) = contents_fault command file ≡ None
 FindsNone commands.Audit (SaysWords words) = IsClean words
+FindsNone commands.Link (SaysUnits found) = found ≡ None
 FindsNone command said = ⊤
 
 -- the same of what the command works on
@@ -186,6 +202,7 @@ HasRightItems file = own_fault file.frame file.info file.constants file.items.it
 abbrev pub HasNoItemFault : Command → Input → Type 0
 HasNoItemFault (Asm force) (inputs.Items file) = HasRightItems file
 HasNoItemFault (Gen count force) (inputs.Items file) = HasRightItems file
+HasNoItemFault commands.Link (inputs.Units file) = ⊤
 HasNoItemFault command input = IsFaultless command input
 
 -- ---- what a command makes
@@ -216,6 +233,12 @@ abbrev pub IsInput : Command → Option (List ℕ) → Option (List ℕ) → Inp
 IsInput (Gen count force) left left' input = IsGenFile count input
 IsInput command left left' input = WasRead (works_on command) left left' input
 
+-- linked code of these units, and its lines. Each call leads to the place of its symbol
+pub record AreLinkedTo (units : List Unit) (base : ℕ) (linked : Linked) (output : List ℕ) : Type 0 where
+  pub layout : IsLinked units base linked
+  pub calls : CallsArrive units linked
+  pub lines : output ≡ linked_text linked.starts.items linked.symbols.items linked.thunks.items linked.words.items
+
 -- stubs to these addresses, and their lines. Each arrives at its address and changes x16 alone, and none that does is shorter; its
 -- steps have the forms that they have in code
 pub record AreStubsTo (addresses : List ℕ) (stubs : Stubs) (output : List ℕ) : Type 0 where
@@ -233,6 +256,7 @@ IsOutput commands.Roles (inputs.Items file) None output = output ≡ role_listin
 IsOutput commands.Audit (inputs.Words file) None output = output ≡ codes "clean\n"
 IsOutput commands.Dis (inputs.Words file) None output = Shown.IsListing file.words.items output
 IsOutput commands.Undis (inputs.Listing file) None output = output ≡ words_text file.words.items
+IsOutput commands.Link (inputs.Units file) (Some (products.Linked linked)) output = AreLinkedTo file.units.items file.base linked output
 IsOutput commands.Stubs (inputs.Addresses file) (Some (products.Stubs stubs)) output = AreStubsTo file.addresses.items stubs output
 IsOutput command input product output = ⊥
 

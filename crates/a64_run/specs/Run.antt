@@ -12,6 +12,10 @@ use Rattle.a64_run.specs.declared.input.Input.TheVariants as inputs
 use Rattle.a64_run.specs.declared.ran.Ran.{Ran}
 use Rattle.a64_run.specs.declared.product.Product.{Product}
 use Rattle.a64_run.specs.declared.product.Product.TheVariants as products
+use Rattle.a64_link.specs.declared.error.LinkError.TheVariants as link_errors
+use Rattle.a64_link.specs.declared.unit.Linked.{Linked}
+use Rattle.a64_link.specs.ErrorTexts as LinkTexts
+use Rattle.a64_link_file.specs.declared.file.LinkFile.{LinkFile}
 use Rattle.a64_stubs.specs.declared.file.StubFile.{StubFile}
 use Rattle.a64_stubs.specs.declared.file.Stubs.{Stubs}
 use Rattle.a64_text.specs.declared.file.File.{File}
@@ -31,6 +35,7 @@ status_of (Some faults.TooLong) = 1
 status_of (Some (faults.Line n)) = 1
 status_of (Some (faults.Assembly error)) = 1
 status_of (Some (faults.Audit verdict)) = 1
+status_of (Some (faults.Link error)) = 1
 status_of (Some faults.Usage) = 2
 status_of (Some faults.Read) = 3
 status_of (Some faults.Write) = 4
@@ -52,6 +57,7 @@ fault_text faults.TooLong = codes "input too large"
 fault_text (faults.Line n) = codes "line " ++ decimal n ++ codes ": not an entry"
 fault_text (faults.Assembly error) = error_text error
 fault_text (faults.Audit verdict) = verdict_text verdict
+fault_text (faults.Link error) = LinkTexts.error_text error
 fault_text faults.Write = codes "write fault"
 fault_text faults.Memory = codes "out of memory"
 
@@ -107,7 +113,7 @@ module _ (command : Command) (left left' : Option (List ℕ)) (taken taken' : Op
   pub record IsRefused (fault : Fault) (input : Input) : Type 0 where
     pub is_input : IsInput command left left' input
     pub is_fault : IsFaultOf command input fault
-    pub no_memory : fault ≢ faults.Assembly errors.OutOfMemory
+    pub no_memory : (fault ≢ faults.Assembly errors.OutOfMemory) × (fault ≢ faults.Link link_errors.OutOfMemory)
 
   -- there was no memory for it, though the command finds no fault in an item of it alone
   pub record IsUndone (input : Input) : Type 0 where
@@ -120,6 +126,7 @@ module _ (command : Command) (left left' : Option (List ℕ)) (taken taken' : Op
   Keeps (Some faults.Write) input product = IsSomeAnd input (λ i. IsCutOff i product)
   Keeps (Some (faults.Assembly error)) input product = IsSomeAnd input (IsRefused (faults.Assembly error)) × (product ≡ None)
   Keeps (Some (faults.Audit verdict)) input product = IsSomeAnd input (IsRefused (faults.Audit verdict)) × (product ≡ None)
+  Keeps (Some (faults.Link error)) input product = IsSomeAnd input (IsRefused (faults.Link error)) × (product ≡ None)
   Keeps (Some faults.Memory) input product = IfSome input IsUndone × (product ≡ None)
   Keeps (Some _) input product = (input ≡ None) × (product ≡ None)
 
@@ -128,24 +135,28 @@ pub record Kept : Type 0 where
   pub file : Option File
   pub audit : Option AuditFile
   pub shown : Option ShownFile
+  pub link_file : Option LinkFile
   pub stub_file : Option StubFile
   pub code : Option Code
+  pub linked : Option Linked
   pub stubs : Option Stubs
 
 -- none of them
 abbrev pub nothing_kept : Kept
-nothing_kept = record { file = None; audit = None; shown = None; stub_file = None; code = None; stubs = None }
+nothing_kept = record { file = None; audit = None; shown = None; link_file = None; stub_file = None; code = None; linked = None; stubs = None }
 
 abbrev pub with_input : Option Input → Kept → Kept
 with_input None kept = kept
 with_input (Some (inputs.Items file)) kept = record kept { file = Some file }
 with_input (Some (inputs.Words file)) kept = record kept { audit = Some file }
 with_input (Some (inputs.Listing file)) kept = record kept { shown = Some file }
+with_input (Some (inputs.Units file)) kept = record kept { link_file = Some file }
 with_input (Some (inputs.Addresses file)) kept = record kept { stub_file = Some file }
 
 abbrev pub with_product : Option Product → Kept → Kept
 with_product None kept = kept
 with_product (Some (products.Code code)) kept = record kept { code = Some code }
+with_product (Some (products.Linked linked)) kept = record kept { linked = Some linked }
 with_product (Some (products.Stubs stubs)) kept = record kept { stubs = Some stubs }
 
 abbrev pub kept_for : Option Input → Option Product → Kept
@@ -153,7 +164,7 @@ kept_for input product = with_input input (with_product product nothing_kept)
 
 -- what a run keeps
 abbrev pub kept_in : Ran → Kept
-kept_in ran = record { file = ran.file; audit = ran.audit; shown = ran.shown; stub_file = ran.stub_file; code = ran.code; stubs = ran.stubs }
+kept_in ran = record { file = ran.file; audit = ran.audit; shown = ran.shown; link_file = ran.link_file; stub_file = ran.stub_file; code = ran.code; linked = ran.linked; stubs = ran.stubs }
 
 abbrev pub KeepsAll : Command → Option (List ℕ) → Option (List ℕ) → Option (List ℕ) → Option (List ℕ) → Kept → Option Fault → Type 0
 KeepsAll command left left' taken taken' kept fault = (input : Option Input) × (product : Option Product) × (kept ≡ kept_for input product) × Keeps command left left' taken taken' fault input product

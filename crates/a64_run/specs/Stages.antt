@@ -2,6 +2,10 @@
 use Rattle.std.specs.Prelude.{ℕ, codes, ◌≡◌, ◌≢◌, ◌<◌, ◌≤◌, ◌^◌, ◌++◌, List, [], take, drop, length, Option, None, Some, IfSome, Result, IfOk, IfErr, ⊤}
 use Rattle.std.specs.Fmt.{decimal}
 use Rattle.std.specs.String.{string_bytes}
+use Rattle.std.specs.List.{sum_by}
+use Rattle.a64_link.specs.declared.error.LinkError.TheVariants as link_errors
+use Rattle.a64_link.specs.Units.{word_count}
+use Rattle.a64_report.specs.LinkLines.{linked_text}
 use Rattle.a64_report.specs.StubLines.{stubs_text}
 use Rattle.a64_run.specs.declared.product.Product.{Product}
 use Rattle.a64_run.specs.declared.product.Product.TheVariants as products
@@ -16,7 +20,7 @@ use Rattle.a64_run.specs.declared.ran.Fault.{Fault}
 use Rattle.a64_run.specs.declared.ran.Fault.TheVariants as faults
 use Rattle.a64_text.specs.States.{contents_of}
 use Rattle.a64_run.specs.declared.making.Made.{Made}
-use Rattle.a64_run.specs.declared.making.Made.TheVariants.{Report, Summary, Listing, Words, Clean, Stubs}
+use Rattle.a64_run.specs.declared.making.Made.TheVariants.{Report, Summary, Listing, Words, Clean, Linked, Stubs}
 use Rattle.a64_report.specs.Report.{report_of, words_in, words_text}
 use Rattle.a64_report.specs.Summary.{summary_of}
 use Rattle.a64_io.specs.Streams.{HasFailed, Takes, TakesPart}
@@ -95,11 +99,12 @@ IsLineFault (faults.Line n) = ⊤
 IsLineFault faults.Memory = ⊤
 IsLineFault _ = ⊥
 
--- how many items or words there may be
+-- how many items, words or addresses there may be
 abbrev pub IsFew : Input → Type 0
 IsFew (inputs.Items file) = length file.items.items < 2 ^ 32
 IsFew (inputs.Words file) = length file.words.items < 2 ^ 29
 IsFew (inputs.Listing file) = ⊤
+IsFew (inputs.Units file) = sum_by word_count file.units.items < 2 ^ 29
 IsFew (inputs.Addresses file) = length file.addresses.items ≤ 100000000
 
 -- what is answered for bytes
@@ -133,6 +138,7 @@ addresses_in _ = []
 abbrev pub kept_of : Made → Option Product
 kept_of (Report code) = Some (products.Code code)
 kept_of (Summary items code) = Some (products.Code code)
+kept_of (Linked linked) = Some (products.Linked linked)
 kept_of (Stubs stubs) = Some (products.Stubs stubs)
 kept_of _ = None
 
@@ -142,6 +148,7 @@ text_of input (Summary items code) = summary_of items code
 text_of input (Listing text) = string_bytes text
 text_of input (Words bytes) = words_text (words_in bytes.items)
 text_of input Clean = codes "clean\n"
+text_of input (Linked linked) = linked_text linked.starts.items linked.symbols.items linked.thunks.items linked.words.items
 text_of input (Stubs stubs) = stubs_text (addresses_in input) stubs.places.items stubs.words.items
 
 -- why a command makes nothing of what it works on; want of memory is an answer only where it finds no fault in one item alone
@@ -149,6 +156,7 @@ abbrev pub IsMakingFault : Command → Input → Fault → Type 0
 IsMakingFault command input faults.Memory = HasNoItemFault command input
 IsMakingFault command input (faults.Assembly error) = IsFaultOf command input (faults.Assembly error) × (error ≢ errors.OutOfMemory)
 IsMakingFault command input (faults.Audit verdict) = IsFaultOf command input (faults.Audit verdict)
+IsMakingFault command input (faults.Link error) = IsFaultOf command input (faults.Link error) × (error ≢ link_errors.OutOfMemory)
 IsMakingFault command input _ = ⊥
 
 -- how the writing of what was made ends: what the sink has taken, and what is kept of that
@@ -176,6 +184,10 @@ module _ (command : Command) (taken taken' : Option (List ℕ)) (input : Input) 
   Ends None product = IsWritten product
   Ends (Some faults.Write) product = IsPartWritten product
   Ends (Some fault) product = IsMakingFault command input fault × (product ≡ None) × (taken' ≡ taken)
+
+-- a text, a number, a text, and another number
+abbrev pub paired_text : List ℕ → ℕ → List ℕ → ℕ → List ℕ
+paired_text before number between last = before ++ decimal number ++ between ++ decimal last
 
 -- a text, a number, and a text
 abbrev pub numbered_text : List ℕ → ℕ → List ℕ → List ℕ

@@ -34,6 +34,8 @@ pub enum Command {
     Dis,
     /// Reads words from the texts of their forms.
     Undis,
+    /// Links units.
+    Link,
     /// Makes stubs.
     Stubs,
 }
@@ -47,6 +49,8 @@ pub enum Format {
     Words,
     /// The texts of words.
     Listing,
+    /// The lines of units.
+    Units,
     /// The lines of stubs.
     Addresses,
 }
@@ -60,6 +64,7 @@ impl Command {
             Command::Asm(_) | Command::Gen { .. } | Command::List | Command::Roles => Format::Items,
             Command::Audit | Command::Dis => Format::Words,
             Command::Undis => Format::Listing,
+            Command::Link => Format::Units,
             Command::Stubs => Format::Addresses,
         }
     }
@@ -72,7 +77,7 @@ impl Command {
             Command::Asm(force) | Command::Gen { force, .. } => force,
             Command::List | Command::Roles => ForceVeneers::No,
             Command::Audit | Command::Dis | Command::Undis => ForceVeneers::No,
-            Command::Stubs => ForceVeneers::No,
+            Command::Link | Command::Stubs => ForceVeneers::No,
         }
     }
 }
@@ -158,6 +163,8 @@ fn read_named(name: &str, words: &[String]) -> Option<Command>
         read_alone(name, words, Command::Dis)
     } else if is_word(name, "undis") {
         read_alone(name, words, Command::Undis)
+    } else if is_word(name, "link") {
+        read_alone(name, words, Command::Link)
     } else if is_word(name, "stubs") {
         read_alone(name, words, Command::Stubs)
     } else {

@@ -3,12 +3,14 @@
 ghost use Rattle.std.specs.Prelude.{◌≡◌, ◌+◌, ◌≤◌, ◌++◌, codes, length};
 ghost use Rattle.arrayvec.specs.ArrayVec.{array_vec_len};
 ghost use Rattle.a64_emit.specs.ErrorTexts.{error_text};
+ghost use Rattle.a64_link.specs.ErrorTexts as LinkTexts;
 ghost use Rattle.a64_run.specs.Run.{fault_text, fault_line, verdict_text};
-ghost use Rattle.a64_run.specs.Stages.{numbered_text};
+ghost use Rattle.a64_run.specs.Stages.{numbered_text, paired_text};
 
 use crate::ran::Fault;
 use a64_audit::Verdict;
 use a64_emit::EmitError;
+use a64_link::LinkError;
 use arrayvec::ArrayVec;
 use itoa::Buffer;
 
@@ -45,6 +47,21 @@ fn numbered(before: &[u8], number: u64, after: &[u8]) -> Line
     push(&mut line, before);
     push(&mut line, buffer.format(number).as_bytes());
     push(&mut line, after);
+    line
+}
+
+/// A text, a number, a text, and a number of 32 bits.
+fn paired(before: &[u8], number: u64, between: &[u8], last: u32) -> Line
+    requires { length before.now + length between.now ≤ 33 }
+    ensures text { result.items ≡ paired_text before.now number between.now last }
+    ensures short { length result.items ≤ 63 }
+{
+    let mut buffer = Buffer::new();
+    let mut line = Line::new();
+    push(&mut line, before);
+    push(&mut line, buffer.format(number).as_bytes());
+    push(&mut line, between);
+    push(&mut line, buffer.format(last).as_bytes());
     line
 }
 
@@ -86,6 +103,32 @@ fn text_of_verdict(verdict: Verdict) -> Line
     }
 }
 
+/// The text of a refusal to link.
+fn text_of_link_error(error: LinkError) -> Line
+    ensures text { result.items ≡ LinkTexts.error_text error }
+    ensures short { length result.items ≤ 63 }
+{
+    match error {
+        LinkError::BadDefine(unit, name) => paired(b"unit ", unit as u64, b": bad symbol ", name.0),
+        LinkError::UnsupportedReloc(unit, place) => paired(
+            b"unit ",
+            unit as u64,
+            b": unsupported relocation ",
+            place,
+        ),
+        LinkError::BadSite(unit, place) => paired(b"unit ", unit as u64, b": bad site ", place),
+        LinkError::DefinedTwice(name) => numbered(
+            b"symbol ",
+            u64::from(name.0),
+            b": defined twice",
+        ),
+        LinkError::Undefined(name) => numbered(b"symbol ", u64::from(name.0), b": not defined"),
+        LinkError::UnitTooLarge(unit) => numbered(b"unit ", unit as u64, b": too large"),
+        LinkError::TooLarge => plain(b"code too large"),
+        LinkError::OutOfMemory => plain(b"out of memory"),
+    }
+}
+
 /// The text of a fault.
 fn text_of_fault(fault: Fault) -> Line
     ensures text { result.items ≡ fault_text fault }
@@ -98,6 +141,7 @@ fn text_of_fault(fault: Fault) -> Line
         Fault::Line(number) => numbered(b"line ", number, b": not an entry"),
         Fault::Assembly(error) => text_of_error(error),
         Fault::Audit(verdict) => text_of_verdict(verdict),
+        Fault::Link(error) => text_of_link_error(error),
         Fault::Write => plain(b"write fault"),
         Fault::Memory => plain(b"out of memory"),
     }

@@ -15,6 +15,7 @@ use crate::turns::gen_file;
 use a64_audit::{AuditFile, AuditFileError, read_audit};
 use a64_formtext::{ShownFile, ShownFileError, read_shown};
 use a64_io::Source;
+use a64_link_file::{LinkFile, LinkFileError, read_link};
 use a64_stubs::{StubFile, StubFileError, read_stubs};
 use a64_text::{File, FileError, read_file};
 use std::alloc::Global;
@@ -28,6 +29,8 @@ pub enum Input {
     Words(AuditFile),
     /// The words of a listing.
     Listing(ShownFile),
+    /// Units.
+    Units(LinkFile),
     /// The addresses of stubs.
     Addresses(StubFile),
 }
@@ -173,6 +176,18 @@ fn parse_listing(alloc: Global, bytes: &[u8]) -> Result<Input, Fault>
     }
 }
 
+/// The units that some bytes are.
+fn parse_units(alloc: Global, bytes: &[u8]) -> Result<Input, Fault>
+    requires { length bytes.now ≤ limit }
+    ensures { IsParsed formats.Units bytes.now result }
+{
+    match read_link(alloc, bytes) {
+        Ok(file) => Ok(Input::Units(file)),
+        Err(LinkFileError::BadLine(number)) => Err(Fault::Line(number)),
+        Err(LinkFileError::OutOfMemory) => Err(Fault::Memory),
+    }
+}
+
 /// The addresses of stubs that some bytes are.
 fn parse_addresses(alloc: Global, bytes: &[u8]) -> Result<Input, Fault>
     requires { length bytes.now ≤ limit }
@@ -194,6 +209,7 @@ fn parse(alloc: Global, format: Format, bytes: &[u8]) -> Result<Input, Fault>
         Format::Items => parse_items(alloc, bytes),
         Format::Words => parse_words(alloc, bytes),
         Format::Listing => parse_listing(alloc, bytes),
+        Format::Units => parse_units(alloc, bytes),
         Format::Addresses => parse_addresses(alloc, bytes),
     }
 }

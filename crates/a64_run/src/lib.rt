@@ -10,6 +10,7 @@ mod code_words;
 mod command;
 mod fault_lines;
 mod input;
+mod linking;
 mod listing;
 mod making;
 mod memory;

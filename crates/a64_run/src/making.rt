@@ -3,6 +3,8 @@
 ghost use Rattle.std.specs.Prelude.{◌≡◌, ◌^◌, ◌<◌, ◌≤◌, [], length, IfOk, IfErr};
 ghost use Rattle.a64_run.specs.declared.command.Format.TheVariants as formats;
 ghost use Rattle.a64_run.specs.declared.input.Input.TheVariants as inputs;
+ghost use Rattle.std.specs.List.{sum_by};
+ghost use Rattle.a64_link.specs.Units.{word_count};
 ghost use Rattle.a64_report.specs.Putting.{WritesOrFails};
 ghost use Rattle.a64_run.specs.Commands.{IsMade, format_of, works_on};
 ghost use Rattle.a64_run.specs.Stages.{IsFew, IsMakingFault, kept_of, text_of};
@@ -11,6 +13,7 @@ use crate::assembling::assemble_file;
 use crate::code_words::{audit_words, bytes_of, show_words};
 use crate::command::Command;
 use crate::input::Input;
+use crate::linking::link_units;
 use crate::listing::list_file;
 use crate::product::Product;
 use crate::ran::Fault;
@@ -19,7 +22,9 @@ use a64_audit::AuditFile;
 use a64_emit::Code;
 use a64_formtext::ShownFile;
 use a64_io::{Failed, Sink, write_all};
-use a64_report::{Piece, write_report, write_stubs, write_summary, write_words};
+use a64_link::Linked;
+use a64_link_file::LinkFile;
+use a64_report::{Piece, write_linked, write_report, write_stubs, write_summary, write_words};
 use a64_stubs::{StubFile, Stubs, make_stubs};
 use a64_text::File;
 use std::alloc::Global;
@@ -42,6 +47,8 @@ pub enum Made {
     Words(Vec<u8>),
     /// That words are clean.
     Clean,
+    /// Linked code, of which the lines are written.
+    Linked(Linked),
     /// Stubs, of which the lines are written.
     Stubs(Stubs),
 }
@@ -68,6 +75,14 @@ impl Made {
             Made::Listing(text) => write_all(sink, text.as_bytes()),
             Made::Words(bytes) => write_words(sink, piece, bytes),
             Made::Clean => write_all(sink, b"clean\n"),
+            Made::Linked(linked) => write_linked(
+                sink,
+                piece,
+                &linked.starts,
+                &linked.symbols,
+                &linked.thunks,
+                &linked.words,
+            ),
             Made::Stubs(stubs) => write_stubs(
                 sink,
                 piece,
@@ -87,6 +102,7 @@ impl Made {
             Made::Listing(_) => None,
             Made::Words(_) => None,
             Made::Clean => None,
+            Made::Linked(linked) => Some(Product::Linked(linked)),
             Made::Stubs(stubs) => Some(Product::Stubs(stubs)),
         }
     }
@@ -173,6 +189,27 @@ fn make_of_listing(alloc: Global, command: Command, file: &ShownFile) -> Result<
     }
 }
 
+/// What `link` makes of units.
+///
+/// # Errors
+///
+/// Why they are refused, or want of memory.
+fn make_of_units(alloc: Global, command: Command, file: &LinkFile) -> Result<Made, Fault>
+    requires kind { works_on command ≡ formats.Units }
+    requires few { sum_by word_count file.now.units.items < 2 ^ 29 }
+    ensures ok { IfOk result (λ made. IsMade command (inputs.Units file.now) (kept_of made)
+        (text_of (inputs.Units file.now) made)) }
+    ensures err { IfErr result (IsMakingFault command (inputs.Units file.now)) }
+{
+    match command {
+        Command::Link => match link_units(alloc, file) {
+            Ok(linked) => Ok(Made::Linked(linked)),
+            Err(fault) => Err(fault),
+        },
+        _ => unreachable!(),
+    }
+}
+
 /// What `stubs` makes of addresses.
 ///
 /// # Errors
@@ -211,6 +248,7 @@ pub fn make(alloc: Global, command: Command, input: &Input) -> Result<Made, Faul
         Input::Items(file) => make_of_items(alloc, command, file),
         Input::Words(file) => make_of_words(alloc, command, file),
         Input::Listing(file) => make_of_listing(alloc, command, file),
+        Input::Units(file) => make_of_units(alloc, command, file),
         Input::Addresses(file) => make_of_addresses(alloc, command, file),
     }
 }

@@ -8,6 +8,8 @@ use crate::product::Product;
 use a64_audit::{AuditFile, Verdict};
 use a64_emit::{Code, EmitError};
 use a64_formtext::ShownFile;
+use a64_link::{LinkError, Linked};
+use a64_link_file::LinkFile;
 use a64_stubs::{StubFile, Stubs};
 use a64_text::File;
 
@@ -26,6 +28,8 @@ pub enum Fault {
     Assembly(EmitError),
     /// The words are refused, for what an audit finds first: status 1. It is never that they are clean.
     Audit(Verdict),
+    /// The units are refused, for this fault of theirs: status 1. It is never want of memory.
+    Link(LinkError),
     /// A write to the sink failed, and none came after it: status 4.
     Write,
     /// Want of memory: status 5.
@@ -39,7 +43,7 @@ impl Fault {
     {
         match self {
             Fault::TooLong | Fault::Line(_) => 1,
-            Fault::Assembly(_) | Fault::Audit(_) => 1,
+            Fault::Assembly(_) | Fault::Audit(_) | Fault::Link(_) => 1,
             Fault::Usage => 2,
             Fault::Read => 3,
             Fault::Write => 4,
@@ -101,6 +105,10 @@ pub struct Ran {
     pub fault: Option<Fault>,
     /// The words that were read to be audited or shown.
     pub audit: Option<AuditFile>,
+    /// The units that were read.
+    pub link_file: Option<LinkFile>,
+    /// The linked code.
+    pub linked: Option<Linked>,
     /// The words of the listing that was read.
     pub shown: Option<ShownFile>,
     /// The addresses that were read.
@@ -121,6 +129,8 @@ fn nothing_kept(status: u8, fault: Option<Fault>) -> Ran
         code: None,
         fault,
         audit: None,
+        link_file: None,
+        linked: None,
         shown: None,
         stub_file: None,
         stubs: None,
@@ -138,6 +148,7 @@ impl Ran {
         match product {
             None => {}
             Some(Product::Code(code)) => ran.code = Some(code),
+            Some(Product::Linked(linked)) => ran.linked = Some(linked),
             Some(Product::Stubs(stubs)) => ran.stubs = Some(stubs),
         }
         ran
@@ -155,6 +166,7 @@ impl Ran {
             Some(Input::Items(file)) => ran.file = Some(file),
             Some(Input::Words(file)) => ran.audit = Some(file),
             Some(Input::Listing(file)) => ran.shown = Some(file),
+            Some(Input::Units(file)) => ran.link_file = Some(file),
             Some(Input::Addresses(file)) => ran.stub_file = Some(file),
         }
         ran

@@ -109,14 +109,15 @@ fn tell<E: Sink>(errs: &mut E, fault: Fault)
 /// one too, and writes for each instruction the roles of its registers and the answers to queries; it
 /// refuses no item. `audit` reads the words of a report, and writes `clean` where nothing is wrong with them.
 /// `dis` reads them too, and writes each as the text of its form; `undis` reads such texts, and writes the
-/// words. What `undis` writes for what `dis` wrote are the same words at the same places. `stubs` reads
+/// words. What `undis` writes for what `dis` wrote are the same words at the same places. `link` reads units,
+/// and writes their code as one, in which each call leads to the symbol that it names. `stubs` reads
 /// addresses, and writes a stub to each: the shortest words of their kind that jump there, and change x16
 /// alone.
 ///
 /// The answer tells how that ended, by its fault:
 ///
 /// - None: all was written, and nothing is offered to `errs`. What the command works on is kept, and the code
-///   of `asm` and `gen`, and the stubs of `stubs`.
+///   of `asm` and `gen`, the linked code of `link`, and the stubs of `stubs`.
 /// - [`Fault::Usage`]: the words are no command. Nothing is read, and no memory is taken.
 /// - [`Fault::Read`]: a read failed. It is not tried again.
 /// - [`Fault::TooLong`]: the source holds more than 16,777,216 bytes, and no read failed before.
@@ -125,6 +126,7 @@ fn tell<E: Sink>(errs: &mut E, fault: Fault)
 ///   kept.
 /// - [`Fault::Audit`]: that is what `audit` finds first in the words, and not that they are clean. They are
 ///   kept.
+/// - [`Fault::Link`]: that is the first thing that is wrong with the units. They are kept.
 /// - [`Fault::Write`]: a write failed, and is not tried again. The sink has taken a proper prefix of what
 ///   is written of what is kept.
 /// - [`Fault::Memory`]: want of memory. Where a file of items is kept, each is right by itself, or for `list`
