@@ -5,6 +5,5 @@ pub mod OneVerdict
 pub mod Parts
 pub mod EntryReads
 pub mod Standing
-pub mod Fronts
 pub mod Takings
 pub mod Counts

@@ -1,10 +1,11 @@
 -- The lines that an auditor reads: those of a report that tell of words, of traps and of data.
-use Rattle.std.specs.Prelude.{ℕ, ◌≡◌, ◌⊎◌, ◌*◌, ◌<◌, List, [], ◌∷◌, ◌++◌, codes, length, None, IfSome, ⊤}
+use Rattle.std.specs.Prelude.{ℕ, ◌≡◌, ◌*◌, ◌<◌, List, [], ◌∷◌, ◌++◌, codes, length, None, IfSome, ⊤}
 use Rattle.std.specs.Fmt.{decimal}
-use Rattle.std.specs.List.{Contains, last_or}
+use Rattle.std.specs.List.{last_or}
 use Rattle.a64_audit.specs.declared.entry.Entry.{Entry}
 use Rattle.a64_audit.specs.declared.entry.Entry.TheVariants.{Word, Trap, Data}
 use Rattle.a64_audit.specs.declared.file.AuditFile.{AuditFile}
+use Rattle.a64_lines.specs.Entries.{SaysBut}
 use Rattle.a64_lines.specs.Lines as Lines
 use Rattle.a64_read.specs.Hex.{hex_word}
 use Rattle.a64_read.specs.Reads.{IsU8, IsU32}
@@ -31,9 +32,6 @@ passed_words =
     codes "item " ∷ codes "label " ∷ codes "island " ∷ codes "pool " ∷ codes "reloc " ∷ codes "call "
     ∷ codes "patchable " ∷ codes "map " ∷ []
 
-abbrev pub IsPassed : List ℕ → Type 0
-IsPassed line = (word : List ℕ) × Contains passed_words word × ((rest : List ℕ) × (line ≡ word ++ rest))
-
 -- what the lines of a file say: the words of code, the places of traps, and where data begins and ends
 pub record Contents : Type 0 where
   pub words : List ℕ
@@ -59,17 +57,9 @@ said (Word place word) old = record old { words = old.words ++ word ∷ [] }
 said (Trap place code) old = record old { traps = old.traps ++ place ∷ [] }
 said (Data begin end) old = record old { ranges = old.ranges ++ (begin, end) ∷ [] }
 
--- the line is this entry, which may stand there
-pub record SaysEntry (line : List ℕ) (old new : Contents) : Type 0 where
-  pub entry : Entry
-  pub fits : IsEntry entry
-  pub text : line ≡ entry_line entry
-  pub stands : MayStand old entry
-  pub is : new ≡ said entry old
-
 -- what a line says
 abbrev pub says : List ℕ → Contents → Contents → Type 0
-says line old new = (IsPassed line × (new ≡ old)) ⊎ SaysEntry line old new
+says = SaysBut IsEntry entry_line MayStand said passed_words
 
 -- the bytes are this file
 abbrev pub IsAuditFile : List ℕ → AuditFile → Type 0

@@ -1,16 +1,16 @@
 //! Reads what is audited.
 
-ghost use Rattle.std.specs.Prelude.{◌≡◌, ◌≤◌, length, nat_eq, IfOk, OnOk};
-ghost use Rattle.std.specs.List.{starts_with};
+ghost use Rattle.std.specs.Prelude.{◌≡◌, ◌≤◌, length, IfOk, OnOk};
 ghost use Rattle.std.specs.Bool.{Decides};
-ghost use Rattle.a64_audit.specs.Entries.{IsEntry, IsPassed, MayStand, Contents, contents_of, entry_line, nothing, said, says};
+ghost use Rattle.a64_audit.specs.Entries.{IsEntry, MayStand, Contents, contents_of, entry_line, nothing, passed_words, said, says};
 ghost use Rattle.a64_audit.specs.LineParts.{AreParts, entry_parts};
+ghost use Rattle.a64_lines.specs.Entries.{BeginsWith};
 ghost use Rattle.a64_lines.specs.Lines.{Answers, told_by};
 ghost use Rattle.a64_read.specs.Reads.{Reads};
 
 use crate::entry::Entry;
 use crate::file::{AuditFile, AuditFileError};
-use a64_lines::{Lines, read_lines};
+use a64_lines::{Lines, begins_with_any, read_lines};
 use a64_read::decimal::{read_u8, read_u32};
 use a64_read::hex::read_word;
 use a64_read::split::cut;
@@ -41,13 +41,9 @@ struct LineParts<'t> {
 
 /// Whether a line means nothing here: it begins with the name of something else that reports tell.
 fn is_passed(line: &[u8]) -> bool
-    ensures { Decides result (IsPassed line.now) }
+    ensures { Decides result (BeginsWith line.now passed_words) }
 {
-    PASSED.iter().any(
-        |word: &&[u8]| -> bool
-            ensures { result ≡ starts_with nat_eq line.entry.now word.now.now }
-        { line.starts_with(word) },
-    )
+    begins_with_any(line, &PASSED)
 }
 
 /// The parts of a line, where it has two spaces.

@@ -3,6 +3,8 @@
 
 mod error;
 mod lines;
+mod passed;
 
 pub use error::LinesError;
 pub use lines::{Lines, read_lines};
+pub use passed::begins_with_any;

@@ -142,16 +142,16 @@ pub bad_listing : (bytes : List ℕ) (n : ℕ) → length bytes ≤ limit → Li
 bad_listing bytes n l a =
     bad_line formats.Listing bytes n l a.bad (λ m bad. a.only_bad m bad) (at_listing (λ other. IsText bytes other → ⊥) (λ other f. a.only_ok (Shown.words_of other) f.lines))
 
-pub parsed_units : (bytes : List ℕ) (file : LinkFile) → length bytes ≤ limit → Lines.Answers LinkFiles.says bytes LinkFiles.nothing (Ok (LinkFiles.contents_of file)) → sum_by word_count file.units.items < 2 ^ 29 → IsParsed formats.Units bytes (Ok (inputs.Units file))
+pub parsed_units : (bytes : List ℕ) (file : LinkFile) → length bytes ≤ limit → LinkFiles.AnswersFile bytes (Ok file) → sum_by word_count file.units.items < 2 ^ 29 → IsParsed formats.Units bytes (Ok (inputs.Units file))
 parsed_units bytes file l a few =
-    parsed formats.Units bytes (inputs.Units file) l refl a.ok tt few (record {
-      good = λ n bad. a.only_bad n bad;
-      same = at_units (λ other. IsText bytes other → said_of other ≡ said_of (inputs.Units file)) (λ other f. ap SaysUnits (like_fault other file (sym (a.only_ok (LinkFiles.contents_of other) f))));
+    parsed formats.Units bytes (inputs.Units file) l refl (a.state, a.answers.ok, a.file) tt few (record {
+      good = λ n bad. a.answers.only_bad n bad;
+      same = at_units (λ other. IsText bytes other → said_of other ≡ said_of (inputs.Units file)) (λ other f. ap SaysUnits (like_fault other file (f.2 ∙ ap LinkFiles.contents_told (sym (a.answers.only_ok f.0 f.1)) ∙ sym a.file)));
     })
 
-pub bad_units : (bytes : List ℕ) (n : ℕ) → length bytes ≤ limit → Lines.Answers LinkFiles.says bytes LinkFiles.nothing (Err (line_errors.BadLine n)) → IsParsed formats.Units bytes (Err (faults.Line n))
+pub bad_units : (bytes : List ℕ) (n : ℕ) → length bytes ≤ limit → LinkFiles.AnswersFile bytes (Err (line_errors.BadLine n)) → IsParsed formats.Units bytes (Err (faults.Line n))
 bad_units bytes n l a =
-    bad_line formats.Units bytes n l a.bad (λ m bad. a.only_bad m bad) (at_units (λ other. IsText bytes other → ⊥) (λ other f. a.only_ok (LinkFiles.contents_of other) f))
+    bad_line formats.Units bytes n l a.answers.bad (λ m bad. a.answers.only_bad m bad) (at_units (λ other. IsText bytes other → ⊥) (λ other f. a.answers.only_ok f.0 f.1))
 
 pub parsed_addresses : (bytes : List ℕ) (file : StubFile) → length bytes ≤ limit → Lines.Answers Stubs.says bytes [] (Ok (Stubs.addresses_of file)) → length file.addresses.items ≤ length bytes → IsParsed formats.Addresses bytes (Ok (inputs.Addresses file))
 parsed_addresses bytes file l a few =

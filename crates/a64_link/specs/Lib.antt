@@ -1,0 +1,9 @@
+pub mod Units
+pub mod Layout
+pub mod Linking
+pub mod Faults
+pub mod Symbols
+pub mod Linked
+pub mod Lists
+pub mod Sites
+pub mod ErrorTexts

@@ -1,0 +1,2 @@
+pub mod Relocs
+pub mod Halves
