@@ -58,4 +58,5 @@ refuse "$work/report" dis
 "$program" dis < "$work/report" > "$work/listing"
 refuse "$work/listing" undis
 refuse /dev/null gen 3
+refuse examples/link.txt link
 refuse examples/stubs.txt stubs

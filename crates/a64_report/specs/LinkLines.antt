@@ -3,6 +3,7 @@ use Rattle.std.specs.Prelude.{ℕ, ◌+◌, ◌*◌, ◌||◌, not, nat_eq, nat_
 use Rattle.std.specs.Fmt.{decimal}
 use Rattle.std.specs.List.{flat_map, enumerate_from, prefix_len, suffix_len}
 use Rattle.a64_base.specs.declared.entity.ExternalName.{ExternalName}
+use Rattle.a64_reloc.specs.Relocs.{symbol_text}
 use Rattle.a64_report.specs.Report.{line_of_one, line_of_two, word_line}
 
 -- the line of a unit: its number and its start
@@ -11,7 +12,7 @@ unit_line (index, start) = line_of_two (codes "unit") index start
 
 -- that of a symbol: its name and its place
 abbrev pub symbol_line : ExternalName × ℕ → List ℕ
-symbol_line (name, place) = codes "symbol userextname" ++ decimal name.0 ++ codes " " ++ decimal place ++ codes "\n"
+symbol_line (name, place) = codes "symbol " ++ symbol_text name ++ codes " " ++ decimal place ++ codes "\n"
 
 -- that of a thunk: its place
 abbrev pub thunk_line : ℕ → List ℕ

@@ -2,29 +2,20 @@
 use Rattle.std.specs.Prelude.{ℕ, ℤ, ◌*◌, ◌/◌, ◌%◌, List, [], ◌∷◌, ◌++◌, map, codes}
 use Rattle.std.specs.Int.{w32, from_le_bytes}
 use Rattle.std.specs.List.{flat_map, enumerate_from}
-use Rattle.std.specs.Fmt.{decimal, signed_decimal}
+use Rattle.std.specs.Fmt.{decimal}
 use Rattle.a64_base.specs.declared.entity.ExternalName.{ExternalName}
 use Rattle.a64_base.specs.declared.entity.MachLabel.{MachLabel}
 use Rattle.a64_base.specs.declared.entity.Reloc.{Reloc}
-use Rattle.a64_base.specs.declared.entity.Reloc.TheVariants.{Arm64Call, Abs8, Aarch64AdrGotPage21, Aarch64Ld64GotLo12Nc, Aarch64AdrPrelPgHi21, Aarch64AddAbsLo12Nc}
 use Rattle.a64_base.specs.declared.entity.TrapCode.{TrapCode}
 use Rattle.a64_base.specs.declared.entity.UserStackMap.{UserStackMap}
 use Rattle.a64_emit.specs.declared.code.Code.{Code}
 use Rattle.a64_read.specs.Hex.{hex_digit, hex_word}
+use Rattle.a64_reloc.specs.Relocs as Relocs
 
 -- the words of code, each with its least byte first
 abbrev pub words_in : List ℕ → List ℕ
 words_in (a ∷ b ∷ c ∷ d ∷ bytes) = from_le_bytes w32 (a ∷ b ∷ c ∷ d ∷ []) ∷ words_in bytes
 words_in _ = []
-
--- the name of a kind of relocation
-abbrev pub reloc_text : Reloc → List ℕ
-reloc_text Arm64Call = codes "Arm64Call"
-reloc_text Abs8 = codes "Abs8"
-reloc_text Aarch64AdrGotPage21 = codes "Aarch64AdrGotPage21"
-reloc_text Aarch64Ld64GotLo12Nc = codes "Aarch64Ld64GotLo12Nc"
-reloc_text Aarch64AdrPrelPgHi21 = codes "Aarch64AdrPrelPgHi21"
-reloc_text Aarch64AddAbsLo12Nc = codes "Aarch64AddAbsLo12Nc"
 
 -- a line with a number, and one with two
 abbrev pub line_of_one : List ℕ → ℕ → List ℕ
@@ -54,8 +45,7 @@ abbrev pub words_text : List ℕ → List ℕ
 words_text words = flat_map word_line (enumerate_from 0 words)
 
 abbrev pub reloc_line : ℕ × Reloc × ExternalName × ℤ → List ℕ
-reloc_line (place, kind, name, addend) =
-    codes "reloc " ++ decimal place ++ codes " " ++ reloc_text kind ++ codes " userextname" ++ decimal name.0 ++ codes " " ++ signed_decimal addend ++ codes "\n"
+reloc_line reloc = Relocs.reloc_line reloc ++ codes "\n"
 
 abbrev pub trap_line : ℕ × TrapCode → List ℕ
 trap_line (place, code) = line_of_two (codes "trap") place code.0

@@ -1,10 +1,11 @@
 //! The lines of a report, one kind after another.
 
 ghost use Rattle.std.specs.Prelude.{◌≡◌, ◌≤◌, ◌<◌, List, ℕ, drop, length};
-ghost use Rattle.a64_report.specs.Report.{line_of_one, line_of_two, label_line, island_line, reloc_text, reloc_line, trap_line, call_line, patchable_line, map_line};
+ghost use Rattle.a64_report.specs.Report.{line_of_one, line_of_two, label_line, island_line, reloc_line, trap_line, call_line, patchable_line, map_line};
 
 use crate::line::{LineBuffer, SIZE, put_decimal, put_signed, put_text};
 use a64_base::{ExternalName, MachLabel, Reloc, TrapCode, UserStackMap};
+use a64_reloc::reloc_name;
 
 /// A kind of line.
 pub trait LineKind {
@@ -78,21 +79,6 @@ impl LineKind for IslandLines {
     fn compose(buffer: &mut LineBuffer, subject: &(u32, u32)) -> usize {
         let (begin, end) = subject;
         compose_two(buffer, b"island", u64::from(*begin), u64::from(*end))
-    }
-}
-
-/// The name of a kind of relocation.
-fn reloc_name(kind: Reloc) -> &'static [u8]
-    ensures name { result.now ≡ reloc_text kind }
-    ensures short { length result.now ≤ 20 }
-{
-    match kind {
-        Reloc::Arm64Call => b"Arm64Call",
-        Reloc::Abs8 => b"Abs8",
-        Reloc::Aarch64AdrGotPage21 => b"Aarch64AdrGotPage21",
-        Reloc::Aarch64Ld64GotLo12Nc => b"Aarch64Ld64GotLo12Nc",
-        Reloc::Aarch64AdrPrelPgHi21 => b"Aarch64AdrPrelPgHi21",
-        Reloc::Aarch64AddAbsLo12Nc => b"Aarch64AddAbsLo12Nc",
     }
 }
 
