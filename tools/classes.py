@@ -6,8 +6,9 @@ Usage: tools/classes.py [--check]
 A line of LINES is an instruction with a right operand in each field, and behind it its words as GNU as gives
 them, or the line on the standard error. A variant has a line, or one for each of its forms that differ in
 which registers they take or where these stand. Each register has before its name what the field takes (a
-letter of CLASSES) and where its number stands: bits of the first word, or `word.bit`. The loads and stores of
-one register are made of ACCESSES and MODES, whose words lack the bits of operator and registers.
+sign of CLASSES, or `=` for the register of the field in front) and where its number stands: bits of the first
+word, or `word.bit`. The loads and stores of one register are made of ACCESSES and MODES, whose words lack the
+bits of operator and registers.
 
 One field at a time has x16, xzr, sp, a vector register and a virtual register of each class in its place, and
 two fields that have to be one register also both at once. Where the field takes it, the words are those of
