@@ -5,7 +5,7 @@ use Rattle.a64_lines.specs.Lines.{Takes}
 use Rattle.a64_read.specs.Reads.{Reads}
 
 module _ {E T : Type 0} (fits : E → Type 0) (line_of : E → List ℕ) (stands_behind : T → E → Type 0) (said : E → T → T) (passed : List (List ℕ))
-  (never_both : (line : List ℕ) (e : E) → BeginsWith line passed → line ≡ line_of e → ⊥) (line : List ℕ) (old : T) where
+    (never_both : (line : List ℕ) (e : E) → BeginsWith line passed → line ≡ line_of e → ⊥) (line : List ℕ) (old : T) where
   abbrev says : List ℕ → T → T → Type 0
   says = SaysBut fits line_of stands_behind said passed
 

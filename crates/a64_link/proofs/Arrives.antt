@@ -41,7 +41,7 @@ loaded_place bytes words h place whole lt =
     ap (loaded_at bytes) e ∙ loaded_word bytes 0 words h (place / 4) lt
 
 -- a machine runs through a thunk, wherever the words are loaded
-pub thunk_runs : (words : List ℕ) (thunk goal : ℕ) → thunk % 4 ≡ 0 → thunk + 20 ≤ 4 * length words → IsThunk words thunk goal → RunsTo words thunk goal
+thunk_runs : (words : List ℕ) (thunk goal : ℕ) → thunk % 4 ≡ 0 → thunk + 20 ≤ 4 * length words → IsThunk words thunk goal → RunsTo words thunk goal
 unfolding LeadFar
 thunk_runs words thunk goal whole within t code old loaded at = t.runs code old thunk refl at there
   where
@@ -83,22 +83,22 @@ module _ (units : List Unit) (base : ℕ) (sums : List ℕ) (symbols : FinMap na
   leads b e = stands.branch.leads ∙ ap (λ (f : Bool). pos (cond f (thunk_of units starts i unit k) (start_of starts j + own))) e
 
   -- its word is a branch
-  pub call_branches : Matches rows.Branch26 (word_at words (start_of starts i + r.0))
+  call_branches : Matches rows.Branch26 (word_at words (start_of starts i + r.0))
   call_branches = branch_kept _ _ stands.branch.rest (call_of units faultless i unit c.unit_is k r c.reloc_is c.call).0
 
   -- a near call leads to its goal
-  pub call_straight : span units i j ≤ near → BranchesTo words (start_of starts i + r.0) (start_of starts j + own)
+  call_straight : span units i j ≤ near → BranchesTo words (start_of starts i + r.0) (start_of starts j + own)
   call_straight le = leads false (far_by ∙ le-ltb near (span units i j) le)
 
   -- a far one leads to its thunk, and that to the goal
   module _ (lt : near < span units i j) where
-    pub call_far : is_far units i r ≡ true
+    call_far : is_far units i r ≡ true
     call_far = far_by ∙ lt-ltb near (span units i j) lt
 
-    pub call_to_thunk : BranchesTo words (start_of starts i + r.0) (thunk_of units starts i unit k)
+    call_to_thunk : BranchesTo words (start_of starts i + r.0) (thunk_of units starts i unit k)
     call_to_thunk = leads true call_far
 
-    pub call_runs : RunsTo words (thunk_of units starts i unit k) (start_of starts j + own)
+    call_runs : RunsTo words (thunk_of units starts i unit k) (start_of starts j + own)
     call_runs =
         let whole = start_whole units sums starts p.sums_are p.starts_are i unit c.unit_is in
         let before = thunk_before units base sums symbols starts p i unit c.unit_is k (length unit.relocs.items) r c.reloc_is.within (omega arith) c.reloc_is call_far in

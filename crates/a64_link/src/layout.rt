@@ -1,9 +1,9 @@
 //! Where units stand.
 
-ghost use Rattle.std.specs.Prelude.{◌≡◌, ◌+◌, ◌*◌, ◌-◌, ◌<◌, ◌≤◌, ◌^◌, ◌⊎◌, length, IfOk, IfErr, IfSome, get_or};
+ghost use Rattle.std.specs.Prelude.{◌≡◌, ◌+◌, ◌*◌, ◌-◌, ◌<◌, ◌≤◌, ◌^◌, ◌⊎◌, length, IfOk, IfErr};
 ghost use Rattle.std.specs.List.{count_by, sum_by};
 ghost use Rattle.a64_link.specs.declared.error.LinkError.TheVariants.{TooLarge, OutOfMemory};
-ghost use Rattle.a64_link.specs.Units.{is_call as calls, room, rooms, round_up as up16, size, span, near, word_count};
+ghost use Rattle.a64_link.specs.Units.{is_call as calls, room, rooms, round_up as up16, size, span, word_count};
 ghost use Rattle.a64_link.specs.Layout.{AreSums, AreSymbols, AreStarts, IsUnit, is_far as far, extent};
 
 use crate::error::LinkError;

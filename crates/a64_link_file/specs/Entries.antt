@@ -10,7 +10,7 @@ use Rattle.a64_link.specs.declared.unit.Unit.{Unit}
 use Rattle.a64_link_file.specs.declared.entry.Entry.{Entry}
 use Rattle.a64_link_file.specs.declared.entry.Entry.TheVariants as entries
 use Rattle.a64_link_file.specs.declared.entry.Part.{Part}
-use Rattle.a64_link_file.specs.declared.entry.Part.TheVariants.{Define, Word, Space, Reloc} 
+use Rattle.a64_link_file.specs.declared.entry.Part.TheVariants.{Define, Word, Space, Reloc}
 use Rattle.a64_link_file.specs.declared.file.LinkFile.{LinkFile}
 use Rattle.a64_lines.specs.declared.error.LinesError.{LinesError}
 use Rattle.a64_read.specs.Hex.{hex_word}
@@ -69,7 +69,7 @@ IsEntry (entries.Base base) = IsU64 base
 IsEntry entries.Unit = ⊤
 IsEntry (entries.Inside part) = IsPart part
 
--- what the other lines of a report begin with; they mean nothing here
+-- what lines begin with that tell something else, as those of a report do; they mean nothing here
 abbrev pub passed_words : List (List ℕ)
 passed_words =
     codes "item " ∷ codes "label " ∷ codes "island " ∷ codes "pool " ∷ codes "trap " ∷ codes "call "
@@ -89,13 +89,17 @@ pub record Contents : Type 0 where
   pub units : List UnitContents
 
 abbrev pub unit_contents : Unit → UnitContents
-unit_contents unit = record { words = unit.words.items; defines = unit.defines.items; relocs = unit.relocs.items }
+unit_contents unit = record {
+  words = unit.words.items;
+  defines = unit.defines.items;
+  relocs = unit.relocs.items;
+}
 
 abbrev pub contents_of : LinkFile → Contents
 contents_of file = record { base = file.base; units = map unit_contents file.units.items }
 
 -- what was said so far: the base, and whether one was given; the units before the one in which the
--- lines are, and that one; and the number of the words of all
+-- lines are, and that one, where one has begun; and how many words all have
 pub record State : Type 0 where
   pub base : ℕ
   pub given : Bool
@@ -119,13 +123,14 @@ abbrev pub StandsBehind : UnitContents → Part → Type 0
 StandsBehind unit (Word placed) = placed.0 ≡ 4 * length unit.words
 StandsBehind unit _ = ⊤
 
--- an entry may stand there: a base where none was given, and what is inside a unit where one has begun, as
--- long as all units have fewer than 2 ^ 29 words
+-- an entry may stand there: a base where none was given, and what is inside a unit where one has
+-- begun, as long as all units have fewer than 2 ^ 29 words with it
 abbrev pub MayStand : State → Entry → Type 0
 MayStand state (entries.Base base) = state.given ≡ false
 MayStand state entries.Unit = ⊤
 MayStand state (entries.Inside part) =
-    MatchOption state.current ⊥ (λ unit. StandsBehind unit part × (state.total + words_brought part < 2 ^ 29))
+    MatchOption state.current ⊥
+    (λ unit. StandsBehind unit part × (state.total + words_brought part < 2 ^ 29))
 
 -- what a unit says with the entry too
 abbrev pub with_part : Part → UnitContents → UnitContents
@@ -146,7 +151,10 @@ abbrev pub said : Entry → State → State
 said (entries.Base base) old = record old { base = base; given = true }
 said entries.Unit old = record (closed old) { current = Some no_words }
 said (entries.Inside part) old =
-    record old { current = option_map (with_part part) old.current; total = old.total + words_brought part }
+    record old {
+      current = option_map (with_part part) old.current;
+      total = old.total + words_brought part;
+    }
 
 -- what the file says of which the lines are
 abbrev pub contents_told : State → Contents
@@ -159,7 +167,8 @@ says = SaysBut IsEntry entry_line MayStand said passed_words
 -- the bytes are this file
 abbrev pub IsLinkFile : List ℕ → LinkFile → Type 0
 IsLinkFile bytes file =
-    (state : State) × Lines.IsFile says nothing bytes state × (contents_of file ≡ contents_told state)
+    (state : State) × Lines.IsFile says nothing bytes state
+    × (contents_of file ≡ contents_told state)
 
 -- what reading answers, in both directions
 pub record AnswersFile (bytes : List ℕ) (result : Result LinkFile LinesError) : Type 0 where

@@ -22,6 +22,7 @@ pub(crate) enum Part {
     Word((u32, u32)),
     /// So many words that are zero.
     Space(u32),
-    /// A relocation: its place, in bytes, its kind, its symbol, and what is added to that symbol's place.
+    /// A relocation: its place, in bytes, its kind, its symbol, and what is added to that symbol's
+    /// place.
     Reloc((u32, Reloc, ExternalName, i64)),
 }

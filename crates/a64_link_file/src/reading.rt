@@ -174,8 +174,8 @@ impl Lines for LinkLines {
     }
 }
 
-/// The units that these lines tell, and the base. Empty lines, those that begin with a semicolon, and the
-/// lines of a report that tell of other things mean nothing.
+/// The units that these lines tell, and the base. Empty lines, those that begin with a semicolon, and
+/// the lines of a report that tell of other things mean nothing.
 ///
 /// # Errors
 ///

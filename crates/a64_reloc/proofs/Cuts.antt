@@ -35,6 +35,9 @@ more_cut : (text first second : List ℕ) → cuts text ≡ first ∷ cuts secon
 more_cut text first second whole =
     sym (join text) ∙ ap (λ (ws : List (List ℕ)). join_with_byte 32 ws) whole ∙ more_joined first (cuts second) (some_token 32 second) ∙ ap (λ (t : List ℕ). first ++ 32 ∷ t) (join second)
 
+same_cuts : (one two : List ℕ) → cuts one ≡ cuts two → one ≡ two
+same_cuts one two same = sym (join one) ∙ ap (λ (ws : List (List ℕ)). join_with_byte 32 ws) same ∙ join two
+
 -- a text with one
 pub is_cut : (text first second : List ℕ) → cuts text ≡ first ∷ cuts second → Reads IsPlainFirst halves_text text (Some (first, second))
 is_cut text first second whole = record {
@@ -44,7 +47,7 @@ is_cut text first second whole = record {
       let at : cuts text ≡ halves.0 ∷ cuts halves.1 = ap cuts same ∙ split_at 32 halves.0 halves.1 plain in
       let fronts : first ≡ halves.0 = cc in
       let cut : cuts second ≡ cuts halves.1 = cc in
-      let rests : second ≡ halves.1 = sym (join second) ∙ ap (λ (ws : List (List ℕ)). join_with_byte 32 ws) cut ∙ join halves.1 in
+      let rests : second ≡ halves.1 = same_cuts second halves.1 cut in
       ap (λ (f : List ℕ). Some (f, second)) fronts ∙ ap (λ (r : List ℕ). Some (halves.0, r)) rests;
 }
 
@@ -58,7 +61,7 @@ second_of (Some halves) = halves.1
 
 -- two values, the text of the first without a space
 module _ {A B : Type 0} (fits_first : A → Type 0) (text_first : A → List ℕ) (fits_second : B → Type 0) (text_second : B → List ℕ)
-  (plain : (a : A) → fits_first a → HasNo 32 (text_first a)) (text : List ℕ) where
+    (plain : (a : A) → fits_first a → HasNo 32 (text_first a)) (text : List ℕ) where
   abbrev IsRead : Option (A × B) → Type 0
   IsRead result = Reads (AreBoth fits_first fits_second) (pair_text text_first text_second) text result
 

@@ -22,8 +22,8 @@ symbol_text name = codes "userextname" ++ decimal name.0
 abbrev pub IsSymbol : ExternalName → Type 0
 IsSymbol name = IsU32 name.0
 
--- the line of a relocation, without the line feed: its place, its kind, its symbol, and the number that is
--- added to that symbol's place
+-- the line of a relocation, without the line feed: its place, its kind, its symbol, and the number
+-- that is added to that symbol's place
 abbrev pub reloc_line : ℕ × Reloc × ExternalName × ℤ → List ℕ
 reloc_line (place, kind, name, addend) =
     codes "reloc " ++ decimal place ++ codes " " ++ reloc_text kind

@@ -61,8 +61,8 @@ fn read_kind_and_goal(text: &[u8]) -> Option<(Reloc, Goal)>
     Some((kind, goal))
 }
 
-/// The relocation whose line this is: its place, in bytes, its kind, its symbol, and the number that is
-/// added to that symbol's place.
+/// The relocation whose line this is: its place, in bytes, its kind, its symbol, and the number that
+/// is added to that symbol's place.
 pub fn read_reloc(line: &[u8]) -> Option<(u32, Reloc, ExternalName, i64)>
     ensures { Reads IsReloc reloc_line line.now result }
 {
