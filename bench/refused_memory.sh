@@ -46,8 +46,13 @@ if [ -n "$given" ]; then
     refuse "$given" "$@"
     exit
 fi
+# Two far veneers in an island, and a function with pairs and a trap.
+printf '%s\n' 'CondBr L1 L1 Cond(Eq)' 'EmitIsland 0' 'bind L1' Ret > "$work/two_far_veneers"
+printf '%s\n' 'StoreP64 x29 x30 SPPreIndexed(-16) -' 'Mov 64 x29 sp' 'AluRRR SubS 64 xzr x0 x1' 'TrapIf Cond(Eq) 5' \
+    'LoadP64 x29 x30 SPPostIndexed(16) -' Ret > "$work/function_with_a_frame"
+refuse "$work/two_far_veneers" asm force
+refuse "$work/function_with_a_frame" asm
 refuse examples/jump.txt asm
-refuse examples/islands.txt asm force
 refuse examples/constants.txt asm
 refuse examples/live.txt list
 refuse examples/calls.txt roles
@@ -59,4 +64,5 @@ refuse "$work/report" dis
 refuse "$work/listing" undis
 refuse /dev/null gen 3
 refuse examples/link.txt link
+refuse examples/link_far.txt link
 refuse examples/stubs.txt stubs

@@ -1,5 +1,5 @@
 // What tools/run_example makes of stubs: code at the address of each, a jump there through the stub, and back. Behind it
-// all registers but x16 are compared, and the flags. The status is 0, or 1 and the number of the first stub behind which
+// the general registers but x16 are compared, sp and the flags. The status is 0, or 1 and the number of the first stub behind which
 // one differs.
 
         // Puts code at the address of a stub, and jumps there through the stub, which stands at a place.

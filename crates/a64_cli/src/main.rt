@@ -1,5 +1,5 @@
-//! The program: `asm` reads a file of items from the standard input, and writes the report of its code
-//! to the standard output; `gen` makes a file of its own, and writes a summary of its code.
+//! The program: a command reads the standard input, and writes what it makes of that to the standard output,
+//! as `asm` the report of the code of a file of items. `gen` makes a file of its own.
 #![tactic(auto)]
 
 use a64_run::{ReadSource, WriteSink, run};

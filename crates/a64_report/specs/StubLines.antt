@@ -8,7 +8,7 @@ abbrev pub stub_line : ℕ → ℕ → ℕ → List ℕ
 stub_line index place address =
     codes "stub " ++ decimal index ++ codes " " ++ decimal place ++ codes " " ++ decimal address ++ codes "\n"
 
--- those of stubs, numbered from one on
+-- those of stubs, numbered from this number on
 abbrev pub stub_lines : ℕ → List ℕ → List ℕ → List ℕ
 stub_lines index (place ∷ places) (address ∷ addresses) = stub_line index place address ++ stub_lines (index + 1) places addresses
 stub_lines index _ _ = []

@@ -173,7 +173,7 @@ abbrev pub file_fault : Command → File → Option EmitError
 file_fault command file = contents_fault command (contents_of file)
 
 -- the fault that the command finds first in what the lines of a file say: in items that of the assembler, in words what an audit
--- finds first
+-- finds first, in units what keeps them from being linked
 abbrev pub FindsFault : Command → Said → Fault → Type 0
 FindsFault command (SaysItems file) (faults.Assembly error) = contents_fault command file ≡ Some error
 FindsFault commands.Audit (SaysWords words) (faults.Audit verdict) = IsVerdict words verdict × (verdict ≢ Clean)
@@ -198,7 +198,7 @@ IsFaultless command input = FindsNone command (said_of input)
 abbrev pub HasRightItems : File → Type 0
 HasRightItems file = own_fault file.frame file.info file.constants file.items.items ≡ None
 
--- the command finds no fault that stands in one item of a file alone, and none in words
+-- the command finds no fault that stands in one item of a file alone, and none in words; of units it may find any
 abbrev pub HasNoItemFault : Command → Input → Type 0
 HasNoItemFault (Asm force) (inputs.Items file) = HasRightItems file
 HasNoItemFault (Gen count force) (inputs.Items file) = HasRightItems file

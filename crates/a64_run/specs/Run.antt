@@ -95,7 +95,8 @@ module _ (command : Command) (left left' : Option (List ℕ)) (taken taken' : Op
   -- islands between them that no item runs into and one pool behind them, and each use of a label or constant leads to it. For
   -- `list`, it was the listing of such a file, of which each item may be shown; for `roles`, the lines of the roles of any such
   -- file. For `audit` it was the one word `clean`, of words that are; for `dis` the texts of words, and for `undis` the words
-  -- that have such texts
+  -- that have such texts. For `link` it was the code of units, in which each call leads to the place of its symbol, and for
+  -- `stubs` words that arrive at addresses and change x16 alone
   pub record IsDone (input : Input) (product : Option Product) : Type 0 where
     pub is_input : IsInput command left left' input
     pub output : List ℕ

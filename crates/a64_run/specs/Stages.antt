@@ -99,7 +99,7 @@ IsLineFault (faults.Line n) = ⊤
 IsLineFault faults.Memory = ⊤
 IsLineFault _ = ⊥
 
--- how many items, words or addresses there may be
+-- how many items, words, words of units, or addresses there may be
 abbrev pub IsFew : Input → Type 0
 IsFew (inputs.Items file) = length file.items.items < 2 ^ 32
 IsFew (inputs.Words file) = length file.words.items < 2 ^ 29

@@ -1,7 +1,8 @@
 //! The whole program but its `main`: a command over any source of bytes and any sinks.
 //!
-//! [`run`] reads a file of items, assembles it, and writes the report of its code. Its clauses carry the
-//! promise of this workspace from the bytes that are read to the bytes that are written.
+//! [`run`] reads what the command works on (a file of items, words, a listing of words, units, or addresses),
+//! and writes what it makes of that, as the report of code. Its clauses carry the promise of this workspace
+//! from the bytes that are read to the bytes that are written.
 #![tactic(auto)]
 
 mod adapter;

@@ -88,7 +88,7 @@ impl Ended {
     }
 }
 
-/// How a run ended, and what is kept of it. Of the three files one at most is kept, the one that the
+/// How a run ended, and what is kept of it. Of the five files one at most is kept, the one that the
 /// command works on: where all was written, where a write failed, where it is refused for what stands in
 /// it, and perhaps at want of memory.
 #[derive(Drop)]

@@ -131,6 +131,7 @@ fn tell<E: Sink>(errs: &mut E, fault: Fault)
 ///   is written of what is kept.
 /// - [`Fault::Memory`]: want of memory. Where a file of items is kept, each is right by itself, or for `list`
 ///   may be shown; for `roles` it may be any. Where words are kept for `audit`, they are clean.
+///   Of units that are kept nothing is said.
 ///
 /// But for the first, the line of the fault is offered to `errs`. A failed write there changes nothing,
 /// and is not tried again. But for the first and [`Fault::Write`], the sink has taken nothing.
