@@ -1,12 +1,19 @@
 //! Adapters over readers and writers, and streams in memory whose calls fail where they are to.
 
-ghost use Rattle.std.specs.Prelude.{◌≢◌};
+ghost use Rattle.std.specs.Prelude.{◌≡◌, ◌≢◌};
 
 use a64_run::{
-    Failed, MemSink, MemSource, ReadSource, Sink, Source, SureSink, SureSource, WriteSink, run,
+    Failed, MemSink, MemSource, Ran, ReadSource, Sink, Source, SureSink, SureSource, WriteSink, run,
 };
 use std::alloc::Global;
 use std::test::Fail;
+
+/// The status of a run.
+fn status_of(ran: Ran) -> u8
+    ensures { result ≡ ran.status }
+{
+    ran.status
+}
 
 /// The status of a run over a source and sinks that never fail: neither a failed read nor a failed
 /// write.
@@ -17,7 +24,7 @@ fn status_of_sure_run(alloc: Global, words: &[String], bytes: Vec<u8>) -> u8
     let mut source = SureSource::new(bytes);
     let mut sink = SureSink::new();
     let mut errs = SureSink::new();
-    run(alloc, words, &mut source, &mut sink, &mut errs).status
+    status_of(run(alloc, words, &mut source, &mut sink, &mut errs))
 }
 
 #[test]
