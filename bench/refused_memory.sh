@@ -1,6 +1,7 @@
 #!/usr/bin/env bash
 # Runs the program with its first allocation refused, then its second, and so on, until a run needs no more of them.
-# Each run must end with status 5, say `out of memory` and write nothing, or end and write as with enough memory.
+# Each run must end with status 5 and write nothing, and say `out of memory`, or nothing where it found none for its
+# words; or it must end and write as with enough memory.
 # It installs gcc where it is missing, and builds the program. With PROGRAM=FILE it asks that program.
 # Usage: [PROGRAM=FILE] bench/refused_memory.sh [FILE [WORD..]]
 # Without a file the runs are those below.
@@ -29,7 +30,7 @@ refuse() {
         LD_PRELOAD="$work/refuse.so" REFUSED=$call REFUSED_TOLD="$work/told" \
             "$program" "$@" < "$file" > "$work/said" 2> "$work/line" || status=$?
         [ -e "$work/told" ] || break
-        if [ "$status" = 5 ] && [ ! -s "$work/said" ] && grep -qx 'out of memory' "$work/line"; then continue; fi
+        if [ "$status" = 5 ] && [ ! -s "$work/said" ] && { [ ! -s "$work/line" ] || grep -qx 'out of memory' "$work/line"; }; then continue; fi
         if [ "$status" = "$wanted" ] && cmp -s "$work/said" "$work/wanted" && cmp -s "$work/line" "$work/wanted_line"; then continue; fi
         echo "$*, $(basename "$file"): allocation $call refused: status $status" >&2
         exit 1
