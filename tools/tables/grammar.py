@@ -1,0 +1,168 @@
+"""What the tables of tables/ have in common: records of lines, their expressions, and how an error is told.
+
+A record begins at the first column; the lines behind it that are indented belong to it. Blank lines, and lines
+that begin with `#`, say nothing. A bar stands between what a line names and what it says of that in words.
+"""
+from __future__ import annotations
+
+import re
+from dataclasses import dataclass, field
+from typing import NoReturn
+
+NAME = re.compile(r"[A-Za-z]\w*")
+NUMBER = re.compile(r"0x[0-9a-f]+|[0-9]+")
+TOKEN = re.compile(r"\s*(?:([A-Za-z]\w*|0x[0-9a-f]+|[0-9]+|&&|[!<>=]=)|([(),])|(\S))")
+
+
+class TableError(Exception):
+    """What is wrong with a table, behind the file and the line where it stands."""
+
+
+@dataclass(frozen=True)
+class Line:
+    """A line of a table: its file, its number from 1 on, and its text without the spaces around it."""
+
+    file: str
+    number: int
+    text: str
+
+    def fail(self, what: str) -> NoReturn:
+        """Ends the reading, and says what is wrong here."""
+        raise TableError(f"{self.file}:{self.number}: {what}")
+
+    def halves(self) -> tuple[str, str]:
+        """What stands before the bar, and what stands behind it."""
+        name, bar, words = (half.strip() for half in self.text.partition("|"))
+        if not name or not words:
+            self.fail("`NAME | WORDS` is wanted")
+        return name, words
+
+    def behind(self) -> Line:
+        """The same line from its second word on."""
+        return Line(self.file, self.number, self.text.partition(" ")[2].strip())
+
+    def name(self, text: str) -> str:
+        """The text, which has to be a name."""
+        if not NAME.fullmatch(text):
+            self.fail(f"`{text}` is no name")
+        return text
+
+
+@dataclass
+class Record:
+    """A line at the first column, and the lines that belong to it."""
+
+    head: Line
+    lines: list[Line] = field(default_factory=list)
+
+
+def records_of(text: str, file: str) -> list[Record]:
+    """The records of a table's text, in their order."""
+    records: list[Record] = []
+    for number, row in enumerate(text.split("\n"), start=1):
+        line = Line(file, number, row.strip())
+        if not line.text or line.text.startswith("#"):
+            continue
+        if not row.startswith(" "):
+            records.append(Record(line))
+        elif records:
+            records[-1].lines.append(line)
+        else:
+            line.fail("the first line is indented, and belongs to no record")
+    return records
+
+
+class Names(dict):
+    """What a table names, by its name: no name stands for two things."""
+
+    def __init__(self, kind: str):
+        super().__init__()
+        self.kind = kind
+
+    def add(self, name: str, value, line: Line) -> None:
+        """Puts one more in."""
+        if name in self:
+            line.fail(f"the {self.kind} `{name}` stands here a second time")
+        self[name] = value
+
+    def find(self, name: str, line: Line):
+        """What stands for the name."""
+        if name not in self:
+            line.fail(f"there is no {self.kind} `{name}`")
+        return self[name]
+
+
+# ---- expressions: tests that are called, and comparisons with a number, joined by `&&`
+
+@dataclass(frozen=True)
+class Call:
+    """A test of values, each the name of a field."""
+
+    name: str
+    values: tuple[str, ...]
+
+
+@dataclass(frozen=True)
+class Compare:
+    """A value beside a number: `==`, `!=`, `<=` or `>=`."""
+
+    value: str
+    sign: str
+    number: str
+
+    @property
+    def values(self) -> tuple[str, ...]:
+        return (self.value,)
+
+
+Test = Call | Compare
+
+
+class _Tokens:
+    """The tokens of an expression, taken one after another."""
+
+    def __init__(self, line: Line):
+        self.line = line
+        self.items: list[str] = []
+        for word, sign, other in TOKEN.findall(line.text):
+            if other:
+                line.fail(f"`{other}` is no word of an expression")
+            self.items.append(word or sign)
+
+    def take(self, *wanted: str) -> str:
+        """The next token, which has to be one of those that are wanted, where some are named."""
+        token = self.items.pop(0) if self.items else "the end"
+        if wanted and token not in wanted:
+            self.line.fail(f"{' or '.join(f'`{w}`' for w in wanted)} is wanted, and {token} stands there")
+        return token
+
+    def name(self) -> str:
+        return self.line.name(self.take())
+
+    def number(self) -> str:
+        token = self.take()
+        if not NUMBER.fullmatch(token):
+            self.line.fail(f"a number is wanted, and {token} stands there")
+        return token
+
+
+def _test_of(tokens: _Tokens) -> Test:
+    """One test: a call, or a comparison."""
+    name = tokens.name()
+    sign = tokens.take("(", "==", "!=", "<=", ">=")
+    if sign != "(":
+        return Compare(name, sign, tokens.number())
+    values = [tokens.name()]
+    while tokens.take(",", ")") == ",":
+        values.append(tokens.name())
+    return Call(name, tuple(values))
+
+
+def tests_of(line: Line) -> list[Test]:
+    """The tests of an expression."""
+    tokens = _Tokens(line)
+    tests = [_test_of(tokens)]
+    while tokens.items:
+        tokens.take("&&")
+        tests.append(_test_of(tokens))
+    return tests

@@ -1,0 +1,56 @@
+"""How what is written is laid out: as `rt fmt` lays out code, and one definition to a line."""
+from __future__ import annotations
+
+from typing import Iterable
+
+# A list of code whose items are longer than this together has one item to a line, and so has a tuple.
+LIST_WIDTH = 60
+
+# A line of code is no longer than this, where it can be broken.
+LINE_WIDTH = 100
+
+INDENT = "    "
+
+
+def indented(lines: Iterable[str], times: int = 1) -> list[str]:
+    """The lines, further to the right."""
+    return [INDENT * times + line if line else line for line in lines]
+
+
+def bracketed(opening: str, items: list[str], closing: str) -> list[str]:
+    """A list of code, on a line where it has room, else with one item to a line."""
+    inner = ", ".join(items)
+    if len(inner) <= LIST_WIDTH:
+        return [f"{opening}{inner}{closing}"]
+    return [opening, *indented(f"{item}," for item in items), closing]
+
+
+def conjunction(head: str, tests: list[str], tail: str, indent: int) -> list[str]:
+    """Tests of code joined by `&&`, on a line where they have room, else with one to a line."""
+    line = f"{head}{' && '.join(tests)}{tail}"
+    if len(INDENT) * indent + len(line) <= LINE_WIDTH:
+        return [line]
+    return [f"{head}{tests[0]}", *indented(f"&& {test}" for test in tests[1:-1]), f"{INDENT}&& {tests[-1]}{tail}"]
+
+
+def chain(items: Iterable[str]) -> str:
+    """A list of definitions: its items, one before the other, before the empty list."""
+    return " ∷ ".join([*items, "[]"])
+
+
+def argument(items: list[str]) -> str:
+    """Such a list as an argument."""
+    return f"({chain(items)})" if items else "[]"
+
+
+def spaced(blocks: Iterable[list[str]]) -> list[str]:
+    """The blocks with an empty line between them."""
+    lines: list[str] = []
+    for block in blocks:
+        lines += ["", *block] if lines else block
+    return lines
+
+
+def use(module: str, names: Iterable[str]) -> str:
+    """The line that imports names from a module of definitions."""
+    return f"use Rattle.{module}.{{{', '.join(names)}}}"
