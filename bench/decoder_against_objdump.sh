@@ -22,7 +22,7 @@ def without_comments(name):
 
 def read_rows():
     """The fixed word and the slots of each row; a slot is its lowest bit and width, or None where it stands twice."""
-    text = without_comments("Rows.antt")
+    text = without_comments("Entries.antt")
     places = {
         field: (int(lowest), int(width)) if lowest else None
         for field, lowest, width in re.findall(r"^(\w+) = \(name\.\w+, (?:Bits (\d+) (\d+)|Doubled)\)$", text, re.M)
@@ -96,7 +96,8 @@ def read_limits():
         "negated": lambda test: not test,
     }
     limits = {}
-    text = re.sub(r"\n    +", " ", re.sub(r"=\n +", "= ", without_comments("Limits.antt")))
+    definitions = without_comments("Limits.antt") + "\n" + without_comments("RowLimits.antt")
+    text = re.sub(r"\n    +", " ", re.sub(r"=\n +", "= ", definitions))
     for name, parameters, body in re.findall(r"^(\w+) ([\w ]+) = (.*)$", text, re.M):
         words = parameters.split()
         if "_" in words or name == "field":

@@ -5,8 +5,8 @@ Usage: tools/recipe.py
 
 A recipe is a table with the columns crate, file and what. Each file has to be there, below the folder of its
 crate (an empty crate is the one above it; a crate that is no folder of crates/ is a folder of the repository),
-and each name that stands in backticks in the last column has to stand in that file as a word. Prints what is
-missing, and ends with status 1 where something is.
+and each name that stands in backticks in the last column has to stand in that file as a word. No script may
+write the file. Prints what is missing, and ends with status 1 where something is.
 """
 import pathlib
 import re
@@ -40,12 +40,14 @@ def folder_of(crate):
 
 
 def missing_in(crate, file, what):
-    """What of a row is not there."""
+    """What of a row is not there, or not by hand."""
     path = folder_of(crate) / file
     if not path.is_file():
         yield f"no file {path.relative_to(ROOT)}"
         return
     text = path.read_text()
+    if "Written by `" in text.split("\n", 1)[0]:
+        yield f"{path.relative_to(ROOT)} is written by a script"
     for name in re.findall(r"`([^`]+)`", what):
         if not re.search(rf"(?<!\w){re.escape(name)}(?!\w)", text):
             yield f"no `{name}` in {path.relative_to(ROOT)}"

@@ -8,13 +8,16 @@ wrong tables of tools/tables/wrong_rows are read, and the status is 1 where one 
 """
 import re
 import sys
+from functools import partial
+from typing import Callable
 
-from tables import files, row_code, row_specs, wrong_tables
+from tables import files, row_code, row_proofs, row_specs, wrong_tables
 from tables.grammar import TableError
 from tables.row_table import RowTable, row_table_of
 
 TABLE = "tables/rows.txt"
 CRATE = "crates/a64_rows"
+COMMAND = "python3 tools/rows.py"
 
 
 def known_tests() -> dict[str, int]:
@@ -32,12 +35,29 @@ def read(text: str, file: str) -> RowTable:
 def written(table: RowTable) -> files.Files:
     """The files that are written, and what writes each."""
     crate = {
-        "src/field.rt": lambda: row_code.field(table),
-        "specs/Places.antt": lambda: row_specs.places(table),
+        "src/candidate_rows.rt": row_code.candidate_rows,
+        "src/entries.rt": row_code.entries,
+        "src/field.rt": row_code.field,
+        "src/row_limits.rt": row_code.row_limits,
+        "src/row_table.rt": row_code.row_table,
+        "specs/Entries.antt": row_specs.entries,
+        "specs/Fields.antt": row_specs.fields,
+        "specs/Order.antt": row_specs.order,
+        "specs/Places.antt": row_specs.places,
+        "specs/RowLimits.antt": row_specs.row_limits,
+        "proofs/CandidateLists.antt": row_proofs.candidate_lists,
+        "proofs/Numbers.antt": row_proofs.numbers,
+        "proofs/Places.antt": row_proofs.places,
     }
     for module in table.modules:
-        crate[f"specs/{module}.antt"] = lambda module=module: row_specs.forms(table, module)
-    return {f"{CRATE}/{path}": lines for path, lines in crate.items()}
+        crate[f"specs/{module}.antt"] = partial(row_specs.forms, module=module)
+    return {f"{CRATE}/{path}": partial(marked, path, lines, table) for path, lines in crate.items()}
+
+
+def marked(path: str, lines: Callable[[RowTable], list[str]], table: RowTable) -> list[str]:
+    """What a file has to be, behind a line that says who wrote it."""
+    sign = "//" if path.endswith(".rt") else "--"
+    return [f"{sign} Written by `{COMMAND}` from {TABLE}.", *lines(table)]
 
 
 def main(words: list[str]) -> int:
@@ -52,7 +72,7 @@ def main(words: list[str]) -> int:
         print(error)
         return 1
     if words == ["--check"]:
-        return 1 if files.check(written(table), "python3 tools/rows.py") else 0
+        return 1 if files.check(written(table), COMMAND) else 0
     files.write(written(table))
     return 0
 

@@ -70,7 +70,6 @@ class Row:
     about: str
     group: str
     module: str
-    manual: str = ""
     places: list[Place] = field(default_factory=list)
     called: list[str] = field(default_factory=list)
     fixed: int = 0
@@ -83,9 +82,18 @@ class Row:
         return re.sub(r"(?<=[a-z0-9])(?=[A-Z])|(?<=[A-Z])(?=[A-Z][a-z])", "_", self.name).lower()
 
     @property
+    def record(self) -> str:
+        """The name of the record of its fields."""
+        return f"{self.name}Fields"
+
+    @property
     def fields(self) -> list[str]:
         """The names of its fields, whatever their places."""
         return [place.field for place in self.places]
+
+    def agrees(self, number: int) -> bool:
+        """Whether it fixes no bit of 28 to 24 otherwise than in this number."""
+        return (self.fixed ^ number << 24) & self.fixed_bits & 0b11111 << 24 == 0
 
     def number_of(self, name: str) -> int:
         """The number of a field among the values of the row."""
@@ -109,6 +117,11 @@ class RowTable:
     def names(self) -> list[Field]:
         """The fields, in the order in which rows have them first."""
         return [self.fields[name] for name in dict.fromkeys(place.field for place in self.places)]
+
+    @property
+    def candidates(self) -> list[list[Row]]:
+        """The rows that a word can match, by its bits 28 to 24."""
+        return [[row for row in self.rows if row.agrees(number)] for number in range(32)]
 
     def of_module(self, module: str) -> list[Row]:
         """The rows whose forms stand in a module."""
@@ -191,8 +204,6 @@ class _Reader:
                 row.limits = self.limits(row, line.behind())
             elif word == "order":
                 _reorder(row, line.behind())
-            elif word == "manual" and not row.manual:
-                row.manual = line.behind().text
             else:
                 line.fail(f"`{word}` is no word of a row, or stands here a second time")
 

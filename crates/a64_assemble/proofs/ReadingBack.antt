@@ -9,10 +9,10 @@ use Rattle.std.proofs.lemmas.Nat.{and_comm, and_assoc, and_mask, shl-shr}
 use Rattle.std.proofs.lemmas.Nat.Bits.{and_high}
 use Rattle.a64_rows.specs.declared.row_table.Row.{Row}
 use Rattle.a64_rows.specs.declared.row_table.Row.TheVariants as row
-use Rattle.a64_rows.specs.declared.row_table.Slot.{Slot}
-use Rattle.a64_rows.specs.declared.row_table.Slot.TheVariants.{Bits, Doubled}
+use Rattle.a64_rows.specs.declared.slots.Slot.{Slot}
+use Rattle.a64_rows.specs.declared.slots.Slot.TheVariants.{Bits, Doubled}
 use Rattle.a64_rows.specs.Rows.{fixed_of, slots_of}
-use Rattle.a64_rows.specs.Limits.{limits_of}
+use Rattle.a64_rows.specs.RowLimits.{limits_of}
 use Rattle.a64_rows.specs.Forms.{Form, form_word, IsFormOf, IsWordOf, Matches, HasTwins, value_in, mask_of, mask_of_all, fixed_mask}
 use Rattle.a64_rows.proofs.Masks.{under_both}
 use Rattle.a64_rows.proofs.Table.{row_sound}

@@ -1,6 +1,6 @@
 -- What is read back from finished words.
 use Rattle.std.specs.Prelude.{ℕ, ◌≡◌, ◌≢◌, ◌<◌, List, length, slice_index, slice_index_or, Option, None, Some, bit_and}
-use Rattle.a64_rows.specs.declared.row_table.Slot.{Slot}
+use Rattle.a64_rows.specs.declared.slots.Slot.{Slot}
 use Rattle.a64_rows.specs.Rows.{slots_of}
 use Rattle.a64_rows.specs.Forms.{Form, IsWordOf, IsOnlyFormOf, mask_of}
 use Rattle.a64_words.specs.Word.{word_at}

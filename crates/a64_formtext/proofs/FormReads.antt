@@ -11,7 +11,7 @@ use Rattle.a64_read.specs.Reads.{Reads}
 use Rattle.a64_read.proofs.Splits.{heads}
 use Rattle.a64_rows.specs.declared.row_table.Row.{Row}
 use Rattle.a64_rows.specs.Forms.{Form, form, IsFormOf}
-use Rattle.a64_rows.specs.Limits.{limits_of}
+use Rattle.a64_rows.specs.RowLimits.{limits_of}
 use Rattle.a64_rows.specs.Rows.{fields_of, name_of}
 
 module _ (text name : List ℕ) (tokens : List (List ℕ)) (found : Option Row) (cut : space_tokens text ≡ name ∷ tokens) (only : (row : Row) → name_of row ≡ name → found ≡ Some row) where

@@ -12,10 +12,11 @@ use Rattle.a64_formtext.specs.Tokens.{FitFields, HasBits, field_token, field_tok
 use Rattle.a64_read.specs.Reads.{Reads, IsU32}
 use Rattle.a64_read.specs.Splitting.{of_text}
 use Rattle.a64_read.proofs.Splits.{IsFront}
-use Rattle.a64_rows.specs.declared.row_table.Slot.{Slot}
-use Rattle.a64_rows.specs.declared.row_table.Slot.TheVariants.{Bits, Doubled}
-use Rattle.a64_rows.specs.declared.row_table.FieldAt.{FieldAt}
-use Rattle.a64_rows.specs.Fields.{text_of, field_of}
+use Rattle.a64_rows.specs.declared.slots.Slot.{Slot}
+use Rattle.a64_rows.specs.declared.slots.Slot.TheVariants.{Bits, Doubled}
+use Rattle.a64_rows.specs.declared.slots.FieldAt.{FieldAt}
+use Rattle.a64_rows.specs.Fields.{text_of}
+use Rattle.a64_rows.specs.Slots.{field_of}
 use Rattle.a64_rows.specs.Forms.{width_of}
 use Rattle.a64_rows.specs.Rows.{Field}
 

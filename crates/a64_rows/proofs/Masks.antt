@@ -5,8 +5,8 @@ use Rattle.std.proofs.Math.Nat.{mod-eq_of_lt}
 use Rattle.std.specs.Int.Bits.{and_zero_l, and_zero_r}
 use Rattle.std.proofs.lemmas.Nat.{and_comm, and_assoc, or_disjoint, and_or_apart, and_le_r, shl-shr, mod_below, pow_pos}
 use Rattle.std.proofs.lemmas.Nat.Bits.{and_high, bit_at_and, bit_at_or, same_from_bits}
-use Rattle.a64_rows.specs.declared.row_table.Slot.{Slot}
-use Rattle.a64_rows.specs.declared.row_table.Slot.TheVariants.{Bits, Doubled}
+use Rattle.a64_rows.specs.declared.slots.Slot.{Slot}
+use Rattle.a64_rows.specs.declared.slots.Slot.TheVariants.{Bits, Doubled}
 use Rattle.a64_rows.specs.Forms.{place_of, width_of, weight_of, sum_of, FitSlots, value_in, mask_of, mask_of_all, HasTwins}
 
 -- ---- numbers that share no bits

@@ -8,7 +8,8 @@ use Rattle.a64_rows.specs.declared.row_table.Row.{Row}
 use Rattle.a64_rows.specs.declared.row_table.Row.TheVariants.{VecShift, VecImm}
 use Rattle.a64_rows.specs.Order.{placed}
 use Rattle.a64_rows.specs.Rows.{fixed_of, slots_of}
-use Rattle.a64_rows.specs.Limits.{limits_of, is_vector_shift}
+use Rattle.a64_rows.specs.Limits.{is_vector_shift}
+use Rattle.a64_rows.specs.RowLimits.{limits_of}
 use Rattle.a64_rows.specs.Forms.{row_word, sum_of, FitSlots, IsWordOf, IsOnlyFormOf, value_in, mask_of_all, fixed_mask, Matches}
 use Rattle.a64_rows.proofs.Masks.{Holds, sum_holds, values_held, twins_held, sum_clear, sum_below, add_apart, sum_of_values, values_fit, under_both, clear_of_all}
 use Rattle.a64_rows.proofs.Table.{IsSound, row_sound, differ, share, two_differ, same_place}

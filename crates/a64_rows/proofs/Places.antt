@@ -1,23 +1,13 @@
--- The named fields of each row stand at the places of their names, and each adds to the word what it says there.
-use Rattle.std.proofs.Common.{◌≡◌, ◌+◌, ◌*◌, List, [], ◌∷◌, refl, ap, ap₂, ◌∙◌, map}
-use Rattle.a64_rows.specs.declared.row_table.Row.{Row}
-use Rattle.a64_rows.specs.Rows.{fixed_of}
-use Rattle.a64_rows.specs.Forms.{weight_of, sum_of, Form, form_word, NamedValue, IsPlaced, named_sum}
+-- Written by `python3 tools/rows.py` from tables/rows.txt.
+-- The named fields of each row stand at the places of their names.
+use Rattle.std.proofs.Common.{[], ◌∷◌, refl}
+use Rattle.a64_rows.specs.Forms.{IsPlaced}
 use Rattle.a64_rows.specs.Places as place
 use Rattle.a64_rows.specs.DataProcessing.{AddSubRegFields, add_sub_reg, LogicRegFields, logic_reg, AddSubExtFields, add_sub_ext, AddSubCarryFields, add_sub_carry, DataProc2Fields, data_proc2, MulHighFields, mul_high, MulAddFields, mul_add, MulAddLongFields, mul_add_long, AddSubImmFields, add_sub_imm, LogicImmFields, logic_imm, BitfieldFields, bitfield, ExtractFields, extract, DataProc1Fields, data_proc1, MoveWideFields, move_wide, CondSelectFields, cond_select, CondCompareFields, cond_compare, AdrFields, adr}
 use Rattle.a64_rows.specs.Control.{Branch26Fields, branch26, BranchCondFields, branch_cond, CompareBranchFields, compare_branch, TestBranchFields, test_branch, BranchRegFields, branch_reg, RetAuthFields, ret_auth, HintFields, hint, barrier, brk, NzcvFields, nzcv}
 use Rattle.a64_rows.specs.Memory.{LdStImm9Fields, ld_st_imm9, LdStUnsignedFields, ld_st_unsigned, LdStRegFields, ld_st_reg, LdLiteralFields, ld_literal, LdStPairFields, ld_st_pair, LdReplicateFields, ld_replicate, AtomicOpFields, atomic_op, LoadAcqFields, load_acq, StoreRelFields, store_rel, LoadExFields, load_ex, StoreExFields, store_ex, CasFields, cas, CaspFields, casp}
 use Rattle.a64_rows.specs.Floats.{FpOneFields, fp_one, FpTwoFields, fp_two, FpThreeFields, fp_three, FpCompareFields, fp_compare, FpSelectFields, fp_select, FpImmFields, fp_imm, FpIntFields, fp_int}
 use Rattle.a64_rows.specs.Vectors.{VecThreeFields, vec_three, VecPermuteFields, vec_permute, VecDotFields, vec_dot, VecElemFields, vec_elem, VecTwoFields, vec_two, VecScalarPairFields, vec_scalar_pair, VecAcrossFields, vec_across, VecLong3Fields, vec_long3, VecShiftFields, vec_shift, VecImmFields, vec_imm, ScalarShiftFields, scalar_shift, VecCopyFields, vec_copy, ScalarCopyFields, scalar_copy, VecInsElemFields, vec_ins_elem, VecExtFields, vec_ext, VecTableFields, vec_table}
-
-sum_placed : (row : Row) (named : List NamedValue) → sum_of (map (λ v. v.1 row) named) (map (λ v. v.0) named) ≡ named_sum row named
-sum_placed row [] = refl
-sum_placed row (v ∷ named) = ap (λ n. v.0 * weight_of (v.1 row) + n) (sum_placed row named)
-
--- the word of a form is the row's fixed word plus each value times what a one adds at the place of its name
-pub placed_word : (form : Form) (named : List NamedValue) → IsPlaced form named → form_word form ≡ fixed_of form.row + named_sum form.row named
-placed_word form named p =
-    ap (λ n. fixed_of form.row + n) (ap₂ sum_of p.slots p.values ∙ sum_placed form.row named)
 
 -- ---- data processing
 

@@ -1,3 +1,4 @@
+-- Written by `python3 tools/rows.py` from tables/rows.txt.
 -- Control: the forms of "Branches, Exception Generating and System instructions"
 -- (Arm Architecture Reference Manual, DDI 0487, C4.1), by the names of their fields.
 use Rattle.std.specs.Prelude.{ℕ, [], ◌∷◌}
@@ -41,7 +42,7 @@ pub record TestBranchFields : Type 0 where
 abbrev pub test_branch : TestBranchFields → Form
 test_branch f = form TestBranch (f.b5 ∷ f.nz ∷ f.b40 ∷ f.imm14 ∷ f.rt ∷ [])
 
--- Branches, Exception Generating and System instructions, Unconditional branch (register)
+-- Branches, Exception Generating and System instructions, Unconditional branch (register): BR, BLR and RET
 pub record BranchRegFields : Type 0 where
   pub opc : ℕ
   pub rn : ℕ
@@ -49,7 +50,7 @@ pub record BranchRegFields : Type 0 where
 abbrev pub branch_reg : BranchRegFields → Form
 branch_reg f = form BranchReg (f.opc ∷ f.rn ∷ [])
 
--- Branches, Exception Generating and System instructions, Unconditional branch (register), RETAA and RETAB
+-- Branches, Exception Generating and System instructions, Unconditional branch (register): RETAA and RETAB
 pub record RetAuthFields : Type 0 where
   pub b : ℕ
 
@@ -64,15 +65,15 @@ pub record HintFields : Type 0 where
 abbrev pub hint : HintFields → Form
 hint f = form Hint (f.crm ∷ f.op2 ∷ [])
 
--- Branches, Exception Generating and System instructions, Barriers, DMB ISH
+-- Branches, Exception Generating and System instructions, Barriers: DMB ISH
 abbrev pub barrier : Form
 barrier = form Barrier []
 
--- Branches, Exception Generating and System instructions, Exception generation, BRK
+-- Branches, Exception Generating and System instructions, Exception generation: BRK #0xf000
 abbrev pub brk : Form
 brk = form Brk []
 
--- Branches, Exception Generating and System instructions, System register move, NZCV
+-- Branches, Exception Generating and System instructions, System register move: MSR and MRS of NZCV
 pub record NzcvFields : Type 0 where
   pub read : ℕ
   pub rt : ℕ

@@ -1,3 +1,4 @@
+-- Written by `python3 tools/rows.py` from tables/rows.txt.
 -- Data processing: the forms of "Data Processing -- Immediate" and "Data Processing -- Register"
 -- (Arm Architecture Reference Manual, DDI 0487, C4.1), by the names of their fields.
 use Rattle.std.specs.Prelude.{ℕ, [], ◌∷◌}
@@ -68,7 +69,7 @@ pub record DataProc2Fields : Type 0 where
 abbrev pub data_proc2 : DataProc2Fields → Form
 data_proc2 f = form DataProc2 (f.sf ∷ f.rm ∷ f.op6 ∷ f.rn ∷ f.rd ∷ [])
 
--- Data Processing -- Register, Data-processing (3 source), SMULH and UMULH
+-- Data Processing -- Register, Data-processing (3 source): SMULH and UMULH
 pub record MulHighFields : Type 0 where
   pub u : ℕ
   pub rm : ℕ
@@ -78,7 +79,7 @@ pub record MulHighFields : Type 0 where
 abbrev pub mul_high : MulHighFields → Form
 mul_high f = form MulHigh (f.u ∷ f.rm ∷ f.rn ∷ f.rd ∷ [])
 
--- Data Processing -- Register, Data-processing (3 source), MADD and MSUB
+-- Data Processing -- Register, Data-processing (3 source): MADD and MSUB
 pub record MulAddFields : Type 0 where
   pub sf : ℕ
   pub rm : ℕ
@@ -90,7 +91,7 @@ pub record MulAddFields : Type 0 where
 abbrev pub mul_add : MulAddFields → Form
 mul_add f = form MulAdd (f.sf ∷ f.rm ∷ f.sub ∷ f.ra ∷ f.rn ∷ f.rd ∷ [])
 
--- Data Processing -- Register, Data-processing (3 source), SMADDL and UMADDL
+-- Data Processing -- Register, Data-processing (3 source): SMADDL and UMADDL
 pub record MulAddLongFields : Type 0 where
   pub u : ℕ
   pub rm : ℕ
@@ -171,7 +172,7 @@ pub record MoveWideFields : Type 0 where
 abbrev pub move_wide : MoveWideFields → Form
 move_wide f = form MoveWide (f.sf ∷ f.opc ∷ f.hw ∷ f.imm16 ∷ f.rd ∷ [])
 
--- Data Processing -- Register, Conditional select
+-- Data Processing -- Register, Conditional select, of 64 bits
 pub record CondSelectFields : Type 0 where
   pub op : ℕ
   pub rm : ℕ
@@ -183,7 +184,7 @@ pub record CondSelectFields : Type 0 where
 abbrev pub cond_select : CondSelectFields → Form
 cond_select f = form CondSelect (f.op ∷ f.rm ∷ f.cond ∷ f.o2 ∷ f.rn ∷ f.rd ∷ [])
 
--- Data Processing -- Register, Conditional compare (register) and Conditional compare (immediate)
+-- Data Processing -- Register, Conditional compare, register and immediate: CCMP
 pub record CondCompareFields : Type 0 where
   pub sf : ℕ
   pub rm : ℕ

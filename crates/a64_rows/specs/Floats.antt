@@ -1,3 +1,4 @@
+-- Written by `python3 tools/rows.py` from tables/rows.txt.
 -- Floats: the forms of "Data Processing -- Scalar Floating-Point and Advanced SIMD" on one float
 -- (Arm Architecture Reference Manual, DDI 0487, C4.1), by the names of their fields.
 use Rattle.std.specs.Prelude.{ℕ, [], ◌∷◌}
@@ -38,7 +39,7 @@ pub record FpThreeFields : Type 0 where
 abbrev pub fp_three : FpThreeFields → Form
 fp_three f = form FpThree (f.ftype ∷ f.o1 ∷ f.rm ∷ f.o0 ∷ f.ra ∷ f.rn ∷ f.rd ∷ [])
 
--- Data Processing -- Scalar Floating-Point and Advanced SIMD, Floating-point compare
+-- Data Processing -- Scalar Floating-Point and Advanced SIMD, Floating-point compare: FCMP of registers
 pub record FpCompareFields : Type 0 where
   pub ftype : ℕ
   pub rm : ℕ

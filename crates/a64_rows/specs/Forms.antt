@@ -1,10 +1,10 @@
 -- The word of a row with values for its fields, and the rows and values of a word.
 use Rattle.std.specs.Prelude.{ℕ, ◌≡◌, ◌+◌, ◌-◌, ◌*◌, ◌/◌, ◌%◌, ◌^◌, ◌<◌, List, [], ◌∷◌, map, bit_and, IsTrue}
 use Rattle.a64_rows.specs.declared.row_table.Row.{Row}
-use Rattle.a64_rows.specs.declared.row_table.Slot.{Slot}
-use Rattle.a64_rows.specs.declared.row_table.Slot.TheVariants.{Bits, Doubled}
+use Rattle.a64_rows.specs.declared.slots.Slot.{Slot}
+use Rattle.a64_rows.specs.declared.slots.Slot.TheVariants.{Bits, Doubled}
 use Rattle.a64_rows.specs.Rows.{fixed_of, slots_of}
-use Rattle.a64_rows.specs.Limits.{limits_of}
+use Rattle.a64_rows.specs.RowLimits.{limits_of}
 
 -- where a field is read
 abbrev pub place_of : Slot → ℕ

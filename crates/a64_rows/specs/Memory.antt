@@ -1,10 +1,11 @@
+-- Written by `python3 tools/rows.py` from tables/rows.txt.
 -- Memory: the forms of "Loads and Stores"
 -- (Arm Architecture Reference Manual, DDI 0487, C4.1), by the names of their fields.
 use Rattle.std.specs.Prelude.{ℕ, [], ◌∷◌}
 use Rattle.a64_rows.specs.declared.row_table.Row.TheVariants.{LdStImm9, LdStUnsigned, LdStReg, LdLiteral, LdStPair, LdReplicate, AtomicOp, LoadAcq, StoreRel, LoadEx, StoreEx, Cas, Casp}
 use Rattle.a64_rows.specs.Forms.{Form, form}
 
--- Loads and Stores, Load/store register (unscaled immediate), (immediate post-indexed) and (immediate pre-indexed)
+-- Loads and Stores, Load/store register (unscaled immediate, immediate post-indexed and pre-indexed)
 pub record LdStImm9Fields : Type 0 where
   pub sz : ℕ
   pub v : ℕ
@@ -53,7 +54,7 @@ pub record LdLiteralFields : Type 0 where
 abbrev pub ld_literal : LdLiteralFields → Form
 ld_literal f = form LdLiteral (f.opc ∷ f.v ∷ f.imm19 ∷ f.rt ∷ [])
 
--- Loads and Stores, Load/store register pair (post-indexed), (offset) and (pre-indexed)
+-- Loads and Stores, Load/store register pair
 pub record LdStPairFields : Type 0 where
   pub opc : ℕ
   pub v : ℕ
@@ -67,7 +68,7 @@ pub record LdStPairFields : Type 0 where
 abbrev pub ld_st_pair : LdStPairFields → Form
 ld_st_pair f = form LdStPair (f.opc ∷ f.v ∷ f.idx ∷ f.load ∷ f.imm7 ∷ f.rt2 ∷ f.rn ∷ f.rt ∷ [])
 
--- Loads and Stores, Advanced SIMD load/store single structure, LD1R
+-- Loads and Stores, Advanced SIMD load/store single structure: LD1R
 pub record LdReplicateFields : Type 0 where
   pub q : ℕ
   pub sz : ℕ
@@ -77,7 +78,7 @@ pub record LdReplicateFields : Type 0 where
 abbrev pub ld_replicate : LdReplicateFields → Form
 ld_replicate f = form LdReplicate (f.q ∷ f.sz ∷ f.rn ∷ f.rt ∷ [])
 
--- Loads and Stores, Atomic memory operations
+-- Loads and Stores, Atomic memory operations, with acquire and release
 pub record AtomicOpFields : Type 0 where
   pub sz : ℕ
   pub rs : ℕ
@@ -89,7 +90,7 @@ pub record AtomicOpFields : Type 0 where
 abbrev pub atomic_op : AtomicOpFields → Form
 atomic_op f = form AtomicOp (f.sz ∷ f.rs ∷ f.swp ∷ f.op ∷ f.rn ∷ f.rt ∷ [])
 
--- Loads and Stores, Load/store ordered, LDAR
+-- Loads and Stores, Load/store ordered: LDAR
 pub record LoadAcqFields : Type 0 where
   pub sz : ℕ
   pub rn : ℕ
@@ -98,7 +99,7 @@ pub record LoadAcqFields : Type 0 where
 abbrev pub load_acq : LoadAcqFields → Form
 load_acq f = form LoadAcq (f.sz ∷ f.rn ∷ f.rt ∷ [])
 
--- Loads and Stores, Load/store ordered, STLR
+-- Loads and Stores, Load/store ordered: STLR
 pub record StoreRelFields : Type 0 where
   pub sz : ℕ
   pub rn : ℕ
@@ -107,7 +108,7 @@ pub record StoreRelFields : Type 0 where
 abbrev pub store_rel : StoreRelFields → Form
 store_rel f = form StoreRel (f.sz ∷ f.rn ∷ f.rt ∷ [])
 
--- Loads and Stores, Load/store exclusive register, LDAXR
+-- Loads and Stores, Load/store exclusive register: LDAXR
 pub record LoadExFields : Type 0 where
   pub sz : ℕ
   pub rn : ℕ
@@ -116,7 +117,7 @@ pub record LoadExFields : Type 0 where
 abbrev pub load_ex : LoadExFields → Form
 load_ex f = form LoadEx (f.sz ∷ f.rn ∷ f.rt ∷ [])
 
--- Loads and Stores, Load/store exclusive register, STLXR
+-- Loads and Stores, Load/store exclusive register: STLXR
 pub record StoreExFields : Type 0 where
   pub sz : ℕ
   pub rs : ℕ
@@ -126,7 +127,7 @@ pub record StoreExFields : Type 0 where
 abbrev pub store_ex : StoreExFields → Form
 store_ex f = form StoreEx (f.sz ∷ f.rs ∷ f.rn ∷ f.rt ∷ [])
 
--- Loads and Stores, Compare and swap, CASAL
+-- Loads and Stores, Compare and swap: CASAL
 pub record CasFields : Type 0 where
   pub sz : ℕ
   pub rs : ℕ
@@ -136,7 +137,7 @@ pub record CasFields : Type 0 where
 abbrev pub cas : CasFields → Form
 cas f = form Cas (f.sz ∷ f.rs ∷ f.rn ∷ f.rt ∷ [])
 
--- Loads and Stores, Compare and swap pair, CASPAL
+-- Loads and Stores, Compare and swap pair: CASPAL, of 64 bits
 pub record CaspFields : Type 0 where
   pub rs : ℕ
   pub rn : ℕ

@@ -1,21 +1,12 @@
+-- Written by `python3 tools/rows.py` from tables/rows.txt.
 -- The order of the rows in the table.
-use Rattle.std.specs.Prelude.{ℕ, ◌≡◌, List, [], ◌∷◌, true, ltb, length, get_or, refl}
+use Rattle.std.specs.Prelude.{refl}
 use Rattle.a64_rows.specs.declared.row_table.Row.{Row}
 use Rattle.a64_rows.specs.declared.row_table.Row.TheVariants.{AddSubReg, LogicReg, AddSubExt, AddSubCarry, DataProc2, MulHigh, MulAdd, MulAddLong, AddSubImm, LogicImm, Bitfield, Extract, DataProc1, MoveWide, CondSelect, CondCompare, Adr, Branch26, BranchCond, CompareBranch, TestBranch, BranchReg, RetAuth, Hint, Barrier, Brk, Nzcv, LdStImm9, LdStUnsigned, LdStReg, LdLiteral, LdStPair, LdReplicate, AtomicOp, LoadAcq, StoreRel, LoadEx, StoreEx, Cas, Casp, FpOne, FpTwo, FpThree, FpCompare, FpSelect, FpImm, FpInt, VecThree, VecPermute, VecDot, VecElem, VecTwo, VecScalarPair, VecAcross, VecLong3, VecShift, VecImm, ScalarShift, VecCopy, ScalarCopy, VecInsElem, VecExt, VecTable}
-
--- all rows
-abbrev pub all_rows : List Row
-all_rows = AddSubReg ∷ LogicReg ∷ AddSubExt ∷ AddSubCarry ∷ DataProc2 ∷ MulHigh ∷ MulAdd ∷ MulAddLong ∷ AddSubImm ∷ LogicImm ∷ Bitfield ∷ Extract ∷ DataProc1 ∷ MoveWide ∷ CondSelect ∷ CondCompare ∷ Adr ∷ Branch26 ∷ BranchCond ∷ CompareBranch ∷ TestBranch ∷ BranchReg ∷ RetAuth ∷ Hint ∷ Barrier ∷ Brk ∷ Nzcv ∷ LdStImm9 ∷ LdStUnsigned ∷ LdStReg ∷ LdLiteral ∷ LdStPair ∷ LdReplicate ∷ AtomicOp ∷ LoadAcq ∷ StoreRel ∷ LoadEx ∷ StoreEx ∷ Cas ∷ Casp ∷ FpOne ∷ FpTwo ∷ FpThree ∷ FpCompare ∷ FpSelect ∷ FpImm ∷ FpInt ∷ VecThree ∷ VecPermute ∷ VecDot ∷ VecElem ∷ VecTwo ∷ VecScalarPair ∷ VecAcross ∷ VecLong3 ∷ VecShift ∷ VecImm ∷ ScalarShift ∷ VecCopy ∷ ScalarCopy ∷ VecInsElem ∷ VecExt ∷ VecTable ∷ []
+use Rattle.a64_rows.specs.Placing.{Placed, at}
+pub use Rattle.a64_rows.specs.Entries.{all_rows}
 
 -- a row stands in the list of all rows
-pub record Placed (row : Row) : Type 0 where
-  pub place : ℕ
-  pub within : ltb place (length all_rows) ≡ true
-  pub is : get_or all_rows place AddSubReg ≡ row
-
-abbrev at : (i : ℕ) → ltb i (length all_rows) ≡ true → Placed (get_or all_rows i AddSubReg)
-at i h = record { place = i; within = h; is = refl }
-
 abbrev pub placed : (row : Row) → Placed row
 placed AddSubReg = at 0 refl
 placed LogicReg = at 1 refl

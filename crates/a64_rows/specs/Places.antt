@@ -1,9 +1,10 @@
+-- Written by `python3 tools/rows.py` from tables/rows.txt.
 -- Where the field of each name stands in the rows that have it (Arm Architecture Reference Manual, DDI 0487, C4.1). The name
 -- that the manual gives a field stands in front of what it says.
 use Rattle.a64_rows.specs.declared.row_table.Row.{Row}
 use Rattle.a64_rows.specs.declared.row_table.Row.TheVariants as row
-use Rattle.a64_rows.specs.declared.row_table.Slot.{Slot}
-use Rattle.a64_rows.specs.declared.row_table.Slot.TheVariants.{Bits, Doubled}
+use Rattle.a64_rows.specs.declared.slots.Slot.{Slot}
+use Rattle.a64_rows.specs.declared.slots.Slot.TheVariants.{Bits, Doubled}
 
 -- sf: 1 for operations of 64 bits; where it says the size of a bit field too (N), it stands twice
 abbrev pub sf : Row → Slot

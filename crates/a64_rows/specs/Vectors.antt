@@ -1,3 +1,4 @@
+-- Written by `python3 tools/rows.py` from tables/rows.txt.
 -- Vectors: the forms of "Data Processing -- Scalar Floating-Point and Advanced SIMD" on vectors and their elements
 -- (Arm Architecture Reference Manual, DDI 0487, C4.1), by the names of their fields.
 use Rattle.std.specs.Prelude.{ℕ, [], ◌∷◌}
@@ -17,7 +18,7 @@ pub record VecThreeFields : Type 0 where
 abbrev pub vec_three : VecThreeFields → Form
 vec_three f = form VecThree (f.q ∷ f.u ∷ f.size ∷ f.rm ∷ f.op ∷ f.rn ∷ f.rd ∷ [])
 
--- Data Processing -- Scalar Floating-Point and Advanced SIMD, Advanced SIMD permute
+-- Data Processing -- Scalar Floating-Point and Advanced SIMD, Advanced SIMD permute, of 128 bits
 pub record VecPermuteFields : Type 0 where
   pub size : ℕ
   pub rm : ℕ
@@ -28,7 +29,7 @@ pub record VecPermuteFields : Type 0 where
 abbrev pub vec_permute : VecPermuteFields → Form
 vec_permute f = form VecPermute (f.size ∷ f.rm ∷ f.op ∷ f.rn ∷ f.rd ∷ [])
 
--- Data Processing -- Scalar Floating-Point and Advanced SIMD, Advanced SIMD three-register extension
+-- Data Processing -- Scalar Floating-Point and Advanced SIMD, Advanced SIMD three-register extension: SDOT and USDOT
 pub record VecDotFields : Type 0 where
   pub q : ℕ
   pub us : ℕ
@@ -39,7 +40,7 @@ pub record VecDotFields : Type 0 where
 abbrev pub vec_dot : VecDotFields → Form
 vec_dot f = form VecDot (f.q ∷ f.us ∷ f.rm ∷ f.rn ∷ f.rd ∷ [])
 
--- Data Processing -- Scalar Floating-Point and Advanced SIMD, Advanced SIMD vector x indexed element
+-- Data Processing -- Scalar Floating-Point and Advanced SIMD, Advanced SIMD vector x indexed element: FMLA and FMLS
 pub record VecElemFields : Type 0 where
   pub q : ℕ
   pub sz : ℕ
@@ -65,7 +66,7 @@ pub record VecTwoFields : Type 0 where
 abbrev pub vec_two : VecTwoFields → Form
 vec_two f = form VecTwo (f.q ∷ f.u ∷ f.size ∷ f.op ∷ f.rn ∷ f.rd ∷ [])
 
--- Data Processing -- Scalar Floating-Point and Advanced SIMD, Advanced SIMD scalar pairwise, ADDP
+-- Data Processing -- Scalar Floating-Point and Advanced SIMD, Advanced SIMD scalar pairwise: ADDP
 pub record VecScalarPairFields : Type 0 where
   pub rn : ℕ
   pub rd : ℕ
@@ -85,7 +86,7 @@ pub record VecAcrossFields : Type 0 where
 abbrev pub vec_across : VecAcrossFields → Form
 vec_across f = form VecAcross (f.q ∷ f.u ∷ f.size ∷ f.op ∷ f.rn ∷ f.rd ∷ [])
 
--- Data Processing -- Scalar Floating-Point and Advanced SIMD, Advanced SIMD three different
+-- Data Processing -- Scalar Floating-Point and Advanced SIMD, Advanced SIMD three different: SMLAL, UMLAL, SMULL and UMULL
 pub record VecLong3Fields : Type 0 where
   pub q : ℕ
   pub u : ℕ
@@ -122,7 +123,7 @@ pub record VecImmFields : Type 0 where
 abbrev pub vec_imm : VecImmFields → Form
 vec_imm f = form VecImm (f.q ∷ f.op ∷ f.abc ∷ f.cmode ∷ f.defgh ∷ f.rd ∷ [])
 
--- Data Processing -- Scalar Floating-Point and Advanced SIMD, Advanced SIMD scalar shift by immediate
+-- Data Processing -- Scalar Floating-Point and Advanced SIMD, Advanced SIMD scalar shift by immediate: USHR and SLI
 pub record ScalarShiftFields : Type 0 where
   pub imm7 : ℕ
   pub op : ℕ
@@ -132,7 +133,7 @@ pub record ScalarShiftFields : Type 0 where
 abbrev pub scalar_shift : ScalarShiftFields → Form
 scalar_shift f = form ScalarShift (f.imm7 ∷ f.op ∷ f.rn ∷ f.rd ∷ [])
 
--- Data Processing -- Scalar Floating-Point and Advanced SIMD, Advanced SIMD copy
+-- Data Processing -- Scalar Floating-Point and Advanced SIMD, Advanced SIMD copy of one element or general register
 pub record VecCopyFields : Type 0 where
   pub q : ℕ
   pub imm5 : ℕ
@@ -143,7 +144,7 @@ pub record VecCopyFields : Type 0 where
 abbrev pub vec_copy : VecCopyFields → Form
 vec_copy f = form VecCopy (f.q ∷ f.imm5 ∷ f.op ∷ f.rn ∷ f.rd ∷ [])
 
--- Data Processing -- Scalar Floating-Point and Advanced SIMD, Advanced SIMD scalar copy, DUP (element)
+-- Data Processing -- Scalar Floating-Point and Advanced SIMD, Advanced SIMD scalar copy: DUP (element)
 pub record ScalarCopyFields : Type 0 where
   pub imm5 : ℕ
   pub rn : ℕ
@@ -152,7 +153,7 @@ pub record ScalarCopyFields : Type 0 where
 abbrev pub scalar_copy : ScalarCopyFields → Form
 scalar_copy f = form ScalarCopy (f.imm5 ∷ f.rn ∷ f.rd ∷ [])
 
--- Data Processing -- Scalar Floating-Point and Advanced SIMD, Advanced SIMD copy, INS (element)
+-- Data Processing -- Scalar Floating-Point and Advanced SIMD, Advanced SIMD copy: INS (element)
 pub record VecInsElemFields : Type 0 where
   pub imm5 : ℕ
   pub imm4 : ℕ
@@ -162,7 +163,7 @@ pub record VecInsElemFields : Type 0 where
 abbrev pub vec_ins_elem : VecInsElemFields → Form
 vec_ins_elem f = form VecInsElem (f.imm5 ∷ f.imm4 ∷ f.rn ∷ f.rd ∷ [])
 
--- Data Processing -- Scalar Floating-Point and Advanced SIMD, Advanced SIMD extract
+-- Data Processing -- Scalar Floating-Point and Advanced SIMD, Advanced SIMD extract: EXT
 pub record VecExtFields : Type 0 where
   pub rm : ℕ
   pub imm4 : ℕ

@@ -1,17 +1,10 @@
+// Written by `python3 tools/rows.py` from tables/rows.txt.
 //! The table of instruction words: each row has a fixed word, and named fields at places of their own.
 
-ghost use Rattle.std.specs.Prelude.{◌≡◌, map};
-ghost use Rattle.a64_rows.specs.Order.{all_rows};
-ghost use Rattle.a64_rows.specs.Rows.{fields_of, fixed_of};
-
 use crate::field::FieldName;
-use crate::row_table::{Row, Slot};
-
-/// A field: its name, and where it stands.
-pub(crate) type Field = (FieldName, Slot);
-
-/// A row, its bits outside the fields with zeros in the fields, and its fields in the order of its values.
-pub(crate) type Entry = (Row, u32, &'static [Field]);
+use crate::row_entry::{Entry, Field};
+use crate::row_table::Row;
+use crate::slots::Slot;
 
 // The fields. Where fields of one name stand at several places, the lowest bit and the width follow the name.
 const SF: Field = (FieldName::Sf, Slot::Bits(31, 1));
@@ -189,7 +182,7 @@ const LEN: Field = (FieldName::Len, Slot::Bits(13, 2));
 const EXT_12_1: Field = (FieldName::Ext, Slot::Bits(12, 1));
 
 /// The rows, in the order of `Row`.
-static ROWS: [Entry; 63] = [
+pub(crate) static ROWS: [Entry; 63] = [
     (
         Row::AddSubReg,
         0x0b000000,
@@ -310,13 +303,3 @@ static ROWS: [Entry; 63] = [
     (Row::VecExt, 0x6e000000, &[RM, IMM4, RN, RD]),
     (Row::VecTable, 0x4e000000, &[RM, LEN, EXT_12_1, RN, RD]),
 ];
-
-/// The table.
-#[inline(always)]
-pub(crate) fn rows() -> &'static [Entry]
-    ensures order { map (λ row. row.0) result.now ≡ all_rows }
-    ensures fixed { map (λ row. row.1) result.now ≡ map fixed_of all_rows }
-    ensures fields { map (λ row. row.2.now) result.now ≡ map fields_of all_rows }
-{
-    &ROWS
-}

@@ -1,3 +1,4 @@
+// Written by `python3 tools/rows.py` from tables/rows.txt.
 //! The names of fields.
 
 ghost use Rattle.std.specs.Prelude.{◌≡◌};

@@ -1,34 +1,31 @@
-//! What the values of a row's fields have to meet, besides their widths.
+//! The tests of which the limits of rows are made.
 
-ghost use Rattle.std.specs.Prelude.{◌≡◌, ◌+◌, ◌^◌, ◌<◌, ◌≤◌, length};
-ghost use Rattle.a64_rows.specs.Limits.{is_access, is_atomic, is_bit_number, is_bitmask, is_bitmask_of, is_copy, is_even, is_float_conversion, is_float_one, is_float_type, is_halfword, is_index_extend, is_one_source, is_pair, is_permute, is_run, is_scalar_shift, is_two_source, is_vector_shift, limits_of};
-ghost use Rattle.a64_rows.specs.Rows.{slots_of};
-
-use crate::row_table::Row;
+ghost use Rattle.std.specs.Prelude.{◌≡◌, ◌+◌, ◌^◌, ◌<◌, ◌≤◌};
+ghost use Rattle.a64_rows.specs.Limits.{is_access, is_atomic, is_bit_number, is_bitmask, is_bitmask_of, is_copy, is_even, is_float_conversion, is_float_one, is_float_type, is_halfword, is_index_extend, is_one_source, is_pair, is_permute, is_run, is_scalar_shift, is_two_source, is_vector_shift};
 
 /// Whether a bit's number or a shift lies within the register: below 32 where the size flag is 0.
-fn is_bit_number(sf: u32, number: u32) -> bool
+pub(crate) fn is_bit_number(sf: u32, number: u32) -> bool
     ensures { result ≡ is_bit_number sf number }
 {
     sf != 0 || number < 32
 }
 
 /// Whether an opcode of two sources is one of UDIV, SDIV, LSLV, LSRV, ASRV and RORV.
-fn is_two_source(opcode: u32) -> bool
+pub(crate) fn is_two_source(opcode: u32) -> bool
     ensures { result ≡ is_two_source opcode }
 {
     matches!(opcode, 2 | 3 | 8..=11)
 }
 
 /// Whether an opcode of one source is one of RBIT, REV16, REV, CLZ and CLS, with REV of 64 bits at 64 bits alone.
-fn is_one_source(sf: u32, opcode: u32) -> bool
+pub(crate) fn is_one_source(sf: u32, opcode: u32) -> bool
     ensures { result ≡ is_one_source sf opcode }
 {
     opcode <= 5 && (opcode != 3 || sf == 1)
 }
 
 /// Whether a 16-bit part lies within the register.
-fn is_halfword(sf: u32, hw: u32) -> bool
+pub(crate) fn is_halfword(sf: u32, hw: u32) -> bool
     ensures { result ≡ is_halfword sf hw }
 {
     sf != 0 || hw <= 1
@@ -56,14 +53,14 @@ fn is_bitmask(n: u32, immr: u32, imms: u32) -> bool
 }
 
 /// Whether the triple is that of a bitmask immediate of the register's size.
-fn is_bitmask_of(sf: u32, n: u32, immr: u32, imms: u32) -> bool
+pub(crate) fn is_bitmask_of(sf: u32, n: u32, immr: u32, imms: u32) -> bool
     ensures { result ≡ is_bitmask_of sf n immr imms }
 {
     is_bitmask(n, immr, imms) && (sf != 0 || n == 0)
 }
 
 /// Whether there is a load or store of one register with this size, kind of register and opcode.
-fn is_access(size: u32, vector: u32, opc: u32) -> bool
+pub(crate) fn is_access(size: u32, vector: u32, opc: u32) -> bool
     ensures { result ≡ is_access size vector opc }
 {
     if vector == 0 {
@@ -76,49 +73,49 @@ fn is_access(size: u32, vector: u32, opc: u32) -> bool
 }
 
 /// Whether an index may be extended so: UXTW, LSL, SXTW or SXTX.
-fn is_index_extend(option: u32) -> bool
+pub(crate) fn is_index_extend(option: u32) -> bool
     ensures { result ≡ is_index_extend option }
 {
     matches!(option, 2 | 3 | 6 | 7)
 }
 
 /// Whether pairs of this kind of register have this size: general of 64 bits, vector of 64 and 128.
-fn is_pair(opc: u32, vector: u32) -> bool
+pub(crate) fn is_pair(opc: u32, vector: u32) -> bool
     ensures { result ≡ is_pair opc vector }
 {
     opc == 2 || (opc == 1 && vector == 1)
 }
 
 /// Whether an atomic operation has this opcode: a swap has only 0.
-fn is_atomic(o3: u32, opc: u32) -> bool
+pub(crate) fn is_atomic(o3: u32, opc: u32) -> bool
     ensures { result ≡ is_atomic o3 opc }
 {
     o3 == 0 || opc == 0
 }
 
 /// Whether a register's number is even.
-fn is_even(register: u32) -> bool
+pub(crate) fn is_even(register: u32) -> bool
     ensures { result ≡ is_even register }
 {
     register % 2 == 0
 }
 
 /// Whether a float has this type: 0, 1 and 3 are 32, 64 and 16 bits.
-fn is_float_type(ftype: u32) -> bool
+pub(crate) fn is_float_type(ftype: u32) -> bool
     ensures { result ≡ is_float_type ftype }
 {
     ftype != 2
 }
 
 /// Whether a float operation of one source has this opcode.
-fn is_float_one(opcode: u32) -> bool
+pub(crate) fn is_float_one(opcode: u32) -> bool
     ensures { result ≡ is_float_one opcode }
 {
     matches!(opcode, 0..=5 | 8..=11)
 }
 
 /// Whether floats and integers of these sizes are converted or moved with this opcode.
-fn is_float_conversion(sf: u32, ftype: u32, opcode: u32) -> bool
+pub(crate) fn is_float_conversion(sf: u32, ftype: u32, opcode: u32) -> bool
     ensures { result ≡ is_float_conversion sf ftype opcode }
 {
     if opcode == 7 {
@@ -129,103 +126,29 @@ fn is_float_conversion(sf: u32, ftype: u32, opcode: u32) -> bool
 }
 
 /// Whether a permutation has this opcode: UZP1, TRN1, ZIP1, UZP2, TRN2 or ZIP2.
-fn is_permute(opcode: u32) -> bool
+pub(crate) fn is_permute(opcode: u32) -> bool
     ensures { result ≡ is_permute opcode }
 {
     matches!(opcode, 1 | 2 | 3 | 5 | 6 | 7)
 }
 
 /// Whether a vector shift has this opcode: right, left or insert, or widening.
-fn is_vector_shift(opcode: u32) -> bool
+pub(crate) fn is_vector_shift(opcode: u32) -> bool
     ensures { result ≡ is_vector_shift opcode }
 {
     matches!(opcode, 0 | 10 | 20)
 }
 
 /// Whether a scalar shift has this opcode: USHR or SLI.
-fn is_scalar_shift(opcode: u32) -> bool
+pub(crate) fn is_scalar_shift(opcode: u32) -> bool
     ensures { result ≡ is_scalar_shift opcode }
 {
     matches!(opcode, 0 | 10)
 }
 
 /// Whether a copy has this `imm4`: DUP (element), DUP (general), INS (general), SMOV or UMOV.
-fn is_copy(imm4: u32) -> bool
+pub(crate) fn is_copy(imm4: u32) -> bool
     ensures { result ≡ is_copy imm4 }
 {
     matches!(imm4, 0 | 1 | 3 | 5 | 7)
-}
-
-/// Whether the values of a row's fields meet its limits.
-pub fn meets(row: Row, fields: &[u32]) -> bool
-    requires { length fields.now ≡ length (slots_of row) }
-    ensures { result ≡ limits_of row fields.now }
-{
-    match row {
-        Row::AddSubReg => fields[3] != 3 && is_bit_number(fields[0], fields[5]),
-        Row::LogicReg => is_bit_number(fields[0], fields[5]),
-        Row::AddSubExt => true,
-        Row::AddSubCarry => true,
-        Row::DataProc2 => is_two_source(fields[2]),
-        Row::MulHigh => true,
-        Row::MulAdd => true,
-        Row::MulAddLong => true,
-        Row::AddSubImm => true,
-        Row::LogicImm => is_bitmask_of(fields[0], fields[2], fields[3], fields[4]),
-        Row::Bitfield => fields[1] != 3
-            && is_bit_number(fields[0], fields[2])
-            && is_bit_number(fields[0], fields[3]),
-        Row::Extract => is_bit_number(fields[0], fields[2]),
-        Row::DataProc1 => is_one_source(fields[0], fields[1]),
-        Row::MoveWide => fields[1] != 1 && is_halfword(fields[0], fields[2]),
-        Row::CondSelect => true,
-        Row::CondCompare => true,
-        Row::Adr => true,
-        Row::Branch26 => true,
-        Row::BranchCond => true,
-        Row::CompareBranch => true,
-        Row::TestBranch => true,
-        Row::BranchReg => fields[0] <= 2,
-        Row::RetAuth => true,
-        Row::Hint => true,
-        Row::Barrier => true,
-        Row::Brk => true,
-        Row::Nzcv => true,
-        Row::LdStImm9 => is_access(fields[0], fields[1], fields[2]) && fields[4] != 2,
-        Row::LdStUnsigned => is_access(fields[0], fields[1], fields[2]),
-        Row::LdStReg => is_access(fields[0], fields[1], fields[2]) && is_index_extend(fields[4]),
-        Row::LdLiteral => fields[0] <= 2,
-        Row::LdStPair => fields[2] != 0 && is_pair(fields[0], fields[1]),
-        Row::LdReplicate => true,
-        Row::AtomicOp => is_atomic(fields[2], fields[3]),
-        Row::LoadAcq => true,
-        Row::StoreRel => true,
-        Row::LoadEx => true,
-        Row::StoreEx => true,
-        Row::Cas => true,
-        Row::Casp => is_even(fields[0]) && is_even(fields[2]),
-        Row::FpOne => is_float_type(fields[0]) && is_float_one(fields[1]),
-        Row::FpTwo => is_float_type(fields[0]) && fields[2] <= 5,
-        Row::FpThree => is_float_type(fields[0]),
-        Row::FpCompare => is_float_type(fields[0]),
-        Row::FpSelect => is_float_type(fields[0]),
-        Row::FpImm => is_float_type(fields[0]),
-        Row::FpInt => is_float_conversion(fields[0], fields[1], fields[2]),
-        Row::VecThree => true,
-        Row::VecPermute => is_permute(fields[2]),
-        Row::VecDot => true,
-        Row::VecElem => true,
-        Row::VecTwo => true,
-        Row::VecScalarPair => true,
-        Row::VecAcross => true,
-        Row::VecLong3 => true,
-        Row::VecShift => fields[2] >= 8 && is_vector_shift(fields[3]),
-        Row::VecImm => true,
-        Row::ScalarShift => is_scalar_shift(fields[1]),
-        Row::VecCopy => is_copy(fields[2]),
-        Row::ScalarCopy => true,
-        Row::VecInsElem => true,
-        Row::VecExt => true,
-        Row::VecTable => fields[1] <= 1,
-    }
 }

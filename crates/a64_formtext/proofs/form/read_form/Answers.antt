@@ -4,7 +4,7 @@ use Rattle.a64_formtext.proofs.Readings.{ReadsFields, cut_tokens, fit_long}
 use Rattle.a64_formtext.proofs.FormReads.{no_row, no_fields, limits_missed, is_form}
 use Rattle.a64_formtext.specs.Tokens.{space_tokens}
 use Rattle.a64_read.specs.Splitting.{of_text}
-use Rattle.a64_rows.specs.Limits.{limits_of}
+use Rattle.a64_rows.specs.RowLimits.{limits_of}
 use Rattle.a64_rows.specs.Rows.{fields_of}
 use Rattle.a64_rows.proofs.Table.{fields_long}
 use Rattle.a64_formtext.proofs.form.read_form.Goals as goal

@@ -3,9 +3,9 @@ use Rattle.std.proofs.lemmas.Bool.{both_ways}
 use Rattle.std.proofs.lemmas.List.{length-map, length-take-le}
 use Rattle.a64_rows.specs.declared.row_table.Row.{Row}
 use Rattle.a64_rows.specs.declared.field.FieldName.TheVariants.{Sf}
-use Rattle.a64_rows.specs.declared.row_table.Slot.TheVariants.{Bits}
+use Rattle.a64_rows.specs.declared.slots.Slot.TheVariants.{Bits}
 use Rattle.a64_rows.specs.Rows.{Field, fields_of, slots_of}
-use Rattle.a64_rows.specs.Limits.{limits_of}
+use Rattle.a64_rows.specs.RowLimits.{limits_of}
 use Rattle.a64_rows.specs.Forms.{value_in, row_word, IsForm, IsWordOf}
 use Rattle.a64_rows.proofs.Masks.{values_fit}
 use Rattle.a64_rows.proofs.Table.{field_in_word, few, fields_long}

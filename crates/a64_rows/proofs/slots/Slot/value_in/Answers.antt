@@ -2,7 +2,7 @@
 use Rattle.std.proofs.Common.{◌-◌, ◌/◌, ◌^◌, ◌<◌, ap, sym, ◌∙◌, bit_and}
 use Rattle.std.proofs.lemmas.Nat.{one_shl, and_mask}
 use Rattle.a64_rows.specs.Forms.{value_in}
-use Rattle.a64_rows.proofs.row_table.Slot.value_in.Goals as goal
+use Rattle.a64_rows.proofs.slots.Slot.value_in.Goals as goal
 
 pub returns-in-Bits : goal.returns-in-Bits
 returns-in-Bits c =
