@@ -13,13 +13,19 @@ use Rattle.a64_rows.specs.Vectors.{vec_across, vec_imm, vec_long3, vec_scalar_pa
 use Rattle.a64_enc_int.specs.Named.{rrr_number}
 use Rattle.a64_enc_int.specs.Operators.{bit_of, simm7_field}
 use Rattle.a64_enc_int.specs.Registers.{register_field}
-use Rattle.a64_enc_vec.specs.RawBits.{fp_int_of, fp_one_of, fp_three_of, fp_two_of}
+use Rattle.a64_enc_vec.specs.Named.{fp_rrr_number, vec_rr_number}
+use Rattle.a64_enc_vec.specs.RawBits.{fp_int_of, fp_three_of}
 
-abbrev pub fp_one_form : ℕ → Reg → Reg → Form
-fp_one_form top22 rd rn = fp_one_of top22 (register_field rd) (register_field rn)
+-- the numbers of raw bits and two or three vector registers
+abbrev pub vector_two_number : ℕ → Reg → Reg → ℕ
+vector_two_number top22 rd rn = vec_rr_number top22 (register_field rd) (register_field rn)
 
-abbrev pub fp_two_form : ℕ → Reg → Reg → Reg → Form
-fp_two_form top22 rd rn rm = fp_two_of top22 (register_field rd) (register_field rn) (register_field rm)
+abbrev pub vector_number : ℕ → Reg → ℕ → Reg → Reg → ℕ
+vector_number top11 rm bit15_10 rn rd =
+    rrr_number top11 bit15_10 (register_field rd) (register_field rn) (register_field rm)
+
+abbrev pub float_number : ℕ → Reg → Reg → Reg → ℕ
+float_number top22 rd rn rm = fp_rrr_number top22 (register_field rd) (register_field rn) (register_field rm)
 
 abbrev pub fp_three_form : ℕ → Reg → Reg → Reg → Reg → Form
 fp_three_form top17 rd rn rm ra =
@@ -149,8 +155,3 @@ table_form is_extension len rd rn rm =
       rn = register_field rn;
       rd = register_field rd;
     })
-
--- the number of raw bits and three vector registers
-abbrev pub vector_number : ℕ → Reg → ℕ → Reg → Reg → ℕ
-vector_number top11 rm bit15_10 rn rd =
-    rrr_number top11 bit15_10 (register_field rd) (register_field rn) (register_field rm)

@@ -1,16 +1,7 @@
 -- The forms of encoders to which raw bits of the word give some fields, and numbers of registers the others.
 use Rattle.std.specs.Prelude.{ℕ, ◌/◌, ◌%◌, ◌^◌, ◌||◌, ◌==◌, IsTrue}
 use Rattle.a64_rows.specs.Forms.{Form}
-use Rattle.a64_rows.specs.Floats.{fp_int, fp_one, fp_three, fp_two}
-
--- an operation on one float, Rd and Rn: the word's bits 31 to 10 give ftype and opcode
-abbrev pub fp_one_of : ℕ → ℕ → ℕ → Form
-fp_one_of top22 rd rn = fp_one (record { ftype = top22 / 2 ^ 12 % 2 ^ 2; op = top22 / 2 ^ 5 % 2 ^ 6; rn = rn; rd = rd })
-
--- an operation on two floats, Rd, Rn and Rm: the word's bits 31 to 10 give ftype and opcode
-abbrev pub fp_two_of : ℕ → ℕ → ℕ → ℕ → Form
-fp_two_of top22 rd rn rm =
-    fp_two (record { ftype = top22 / 2 ^ 12 % 2 ^ 2; rm = rm; op = top22 / 2 ^ 2 % 2 ^ 4; rn = rn; rd = rd })
+use Rattle.a64_rows.specs.Floats.{fp_int, fp_three}
 
 -- an operation on three floats, Rd, Rn, Rm and Ra: the word's bits 31 to 15 give ftype, o1 and o0
 abbrev pub fp_three_of : ℕ → ℕ → ℕ → ℕ → ℕ → Form

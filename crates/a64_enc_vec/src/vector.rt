@@ -2,7 +2,7 @@
 
 ghost use Rattle.std.specs.Prelude.{◌≡◌, ◌<◌, ◌^◌};
 ghost use Rattle.a64_rows.specs.Forms.{form_word, IsFormOf};
-ghost use Rattle.a64_enc_int.specs.Named.{rrr_number, AreParts, NamedForm};
+ghost use Rattle.a64_enc_int.specs.Named.{NamedForm};
 ghost use Rattle.a64_enc_vec.specs.Named.{rows_of_vec_rrr};
 ghost use Rattle.a64_enc_vec.specs.Operands.{
   long_form,
@@ -17,33 +17,17 @@ ghost use Rattle.a64_enc_vec.specs.Operands.{
 };
 ghost use Rattle.a64_enc_vec.specs.Registers.{IsVector};
 
+use crate::fields::{
+    vec_across_word, vec_imm_word, vec_long3_word, vec_scalar_pair_word, vec_table_word,
+    vec_three_word, vec_two_word,
+};
+use crate::raw_bits::pack_vec_rrr;
 use crate::register::vector_field;
 use a64_base::{Reg, Writable};
-use a64_rows::{Row, pack};
 
-/// The word of the row that raw bits tell, with three registers.
-#[inline(always)]
-fn pack_vec_rrr(top: u32, low: u32, rm: u32, rn: u32, rd: u32) -> u32
-    requires below { AreParts top low rd rn rm }
-    requires form { NamedForm rows_of_vec_rrr (rrr_number top low rd rn rm) }
-    ensures { result ≡ rrr_number top low rd rn rm }
-{
-    let (q, u, size) = ((top >> 9) % 2, (top >> 8) % 2, (top >> 1) % 4);
-    if (top >> 3) % 2 == 1 {
-        let (sz, l) = ((top >> 1) % 2, top % 2);
-        let (o2, h) = ((low >> 4) % 2, (low >> 1) % 2);
-        pack(Row::VecElem, &[q, sz, l, rm, o2, h, rn, rd])
-    } else if top % 2 == 1 {
-        pack(Row::VecThree, &[q, u, size, rm, low >> 1, rn, rd])
-    } else if low % 2 == 1 {
-        pack(Row::VecDot, &[q, (low >> 1) % 2, rm, rn, rd])
-    } else {
-        pack(Row::VecPermute, &[size, rm, (low >> 2) % 8, rn, rd])
-    }
-}
-
-/// Encodes an operation on two vectors, or on a vector and an element: `top11` and `bit15_10` are the word's bits 31 to 21
-/// and 15 to 10 (rows `VecThree`, `VecPermute`, `VecDot` and `VecElem`).
+/// Encodes an operation on two vector registers: `top11` and `bit15_10` are the word's bits 31 to 21 and 15 to 10 (rows
+/// `VecThree`, `VecPermute`, `VecDot`, `VecElem`, `VecLong3`, `VecExt`, `VecTable`, `FpTwo`, `FpSelect`, and `FpThree`, whose
+/// third operand is then raw bits).
 pub fn enc_vec_rrr(top11: u32, rm: Reg, bit15_10: u32, rn: Reg, rd: Writable<Reg>) -> u32
     requires top11 { top11 < 2 ^ 11 }
     requires rm { IsVector rm }
@@ -85,7 +69,7 @@ pub fn enc_vec_rrr_long(
 {
     let (rm, rn) = (vector_field(rm), vector_field(rn));
     let rd = vector_field(rd.to_reg());
-    pack(Row::VecLong3, &[q, u, size, bit14, rm, rn, rd])
+    vec_long3_word(q, u, size, bit14, rm, rn, rd)
 }
 
 /// Encodes a move of 16 bytes, or of the lower 8: the or of a vector with itself (row `VecThree`).
@@ -96,7 +80,7 @@ pub fn enc_vecmov(is_16b: bool, rd: Writable<Reg>, rn: Reg) -> u32
     ensures word { result ≡ form_word (vector_mov_form is_16b rd rn) }
 {
     let (rn, rd) = (vector_field(rn), vector_field(rd.to_reg()));
-    pack(Row::VecThree, &[u32::from(is_16b), 0, 2, rn, 3, rn, rd])
+    vec_three_word(u32::from(is_16b), 0, 2, rn, 3, rn, rd)
 }
 
 /// Encodes an operation on one vector: `qu` is the bits Q and U (row `VecTwo`).
@@ -110,7 +94,7 @@ pub fn enc_vec_rr_misc(qu: u32, size: u32, bits_12_16: u32, rd: Writable<Reg>, r
     ensures word { result ≡ form_word (vector_misc_form qu size bits_12_16 rd rn) }
 {
     let (rn, rd) = (vector_field(rn), vector_field(rd.to_reg()));
-    pack(Row::VecTwo, &[qu / 2, qu % 2, size, bits_12_16, rn, rd])
+    vec_two_word(qu / 2, qu % 2, size, bits_12_16, rn, rd)
 }
 
 /// Encodes the sum of the two lanes of a vector: `bits_12_16` is 0b11011, the opcode of `addp` (row `VecScalarPair`).
@@ -123,7 +107,7 @@ pub fn enc_vec_rr_pair(bits_12_16: u32, rd: Writable<Reg>, rn: Reg) -> u32
 {
     prove!(bits_12_16 == 0b11011);
     let (rn, rd) = (vector_field(rn), vector_field(rd.to_reg()));
-    pack(Row::VecScalarPair, &[rn, rd])
+    vec_scalar_pair_word(rn, rd)
 }
 
 /// Encodes the sums of neighbouring lanes, each twice as long: `u` is 1 for unsigned lanes, and `enc_size` for those of
@@ -137,7 +121,7 @@ pub fn enc_vec_rr_pair_long(u: u32, enc_size: u32, rd: Writable<Reg>, rn: Reg) -
     ensures word { result ≡ form_word (vector_pair_long_form u enc_size rd rn) }
 {
     let (rn, rd) = (vector_field(rn), vector_field(rd.to_reg()));
-    pack(Row::VecTwo, &[1, u, enc_size, 2, rn, rd])
+    vec_two_word(1, u, enc_size, 2, rn, rd)
 }
 
 /// Encodes an operation over the lanes of a vector (row `VecAcross`).
@@ -152,7 +136,7 @@ pub fn enc_vec_lanes(q: u32, u: u32, size: u32, opcode: u32, rd: Writable<Reg>, 
     ensures word { result ≡ form_word (vector_lanes_form q u size opcode rd rn) }
 {
     let (rn, rd) = (vector_field(rn), vector_field(rd.to_reg()));
-    pack(Row::VecAcross, &[q, u, size, opcode, rn, rd])
+    vec_across_word(q, u, size, opcode, rn, rd)
 }
 
 /// Encodes a lookup in a table of one vector (`len` 0) or two (`len` 1), of which an extension keeps the result's
@@ -167,7 +151,7 @@ pub fn enc_tbl(is_extension: bool, len: u32, rd: Writable<Reg>, rn: Reg, rm: Reg
 {
     let (rm, rn) = (vector_field(rm), vector_field(rn));
     let rd = vector_field(rd.to_reg());
-    pack(Row::VecTable, &[rm, len, u32::from(is_extension), rn, rd])
+    vec_table_word(rm, len, u32::from(is_extension), rn, rd)
 }
 
 /// Encodes a modified immediate: `q_op` is the bits Q and op, and `imm` the fields abc and defgh in one (row `VecImm`).
@@ -179,15 +163,6 @@ pub fn enc_asimd_mod_imm(rd: Writable<Reg>, q_op: u32, cmode: u32, imm: u8) -> u
     ensures word { result ≡ form_word (mod_imm_form rd q_op cmode imm) }
 {
     let (abc, defgh) = (u32::from(imm / 32), u32::from(imm % 32));
-    pack(
-        Row::VecImm,
-        &[
-            q_op / 2,
-            q_op % 2,
-            abc,
-            cmode,
-            defgh,
-            vector_field(rd.to_reg()),
-        ],
-    )
+    let (q, op) = (q_op / 2, q_op % 2);
+    vec_imm_word(q, op, abc, cmode, defgh, vector_field(rd.to_reg()))
 }
