@@ -9,6 +9,10 @@ ghost use Rattle.a64_emit.specs.FloatForms as forms;
 
 use a64_base::{Reg, ScalarSize, VectorSize, Writable};
 use a64_enc_int::register_field;
+use a64_enc_vec::{
+    fp_int_word, fp_one_word, fp_three_word, fp_two_word, scalar_copy_word, scalar_shift_word,
+    vec_shift_word, vec_three_word,
+};
 use a64_imms::ASIMDFPModImm;
 use a64_inst::{FPUOpRI, FPUOpRIMod};
 use a64_ops::{FPUOp1, FPUOp2, FPUOp3, FpuRoundMode, FpuToIntOp, IntToFpuOp};
@@ -175,7 +179,7 @@ pub fn move_word(size: ScalarSize, rd: Writable<Reg>, rn: Reg) -> u32
     ensures { result ≡ form_word (forms.move_form size rd rn) }
 {
     let (rn, rd) = (register_field(rn), register_field(rd.to_reg()));
-    pack(Row::FpOne, &[size.ftype(), 0, rn, rd])
+    fp_one_word(size.ftype(), 0, rn, rd)
 }
 
 /// The word of a move of a whole vector register.
@@ -185,7 +189,7 @@ pub fn move_vector_word(rd: Writable<Reg>, rn: Reg) -> u32
     ensures { result ≡ form_word (forms.move_vector_form rd rn) }
 {
     let (rn, rd) = (register_field(rn), register_field(rd.to_reg()));
-    pack(Row::VecThree, &[1, 0, 2, rn, 3, rn, rd])
+    vec_three_word(1, 0, 2, rn, 3, rn, rd)
 }
 
 /// The word of a move of one lane.
@@ -197,10 +201,7 @@ pub fn move_lane_word(size: VectorSize, idx: u8, rd: Writable<Reg>, rn: Reg) -> 
     ensures { result ≡ form_word (forms.move_lane_form size idx rd rn) }
 {
     let (rn, rd) = (register_field(rn), register_field(rd.to_reg()));
-    pack(
-        Row::ScalarCopy,
-        &[lane_number(size.lane_size(), idx), rn, rd],
-    )
+    scalar_copy_word(lane_number(size.lane_size(), idx), rn, rd)
 }
 
 /// The word of an operation on one float.
@@ -212,7 +213,7 @@ pub fn one_float_word(op: FPUOp1, size: ScalarSize, rd: Writable<Reg>, rn: Reg) 
     ensures { result ≡ form_word (forms.one_float_form op size rd rn) }
 {
     let (rn, rd) = (register_field(rn), register_field(rd.to_reg()));
-    pack(Row::FpOne, &[size.ftype(), one_opcode(op), rn, rd])
+    fp_one_word(size.ftype(), one_opcode(op), rn, rd)
 }
 
 /// The word of a rounding.
@@ -223,7 +224,7 @@ pub fn round_word(op: FpuRoundMode, rd: Writable<Reg>, rn: Reg) -> u32
 {
     let (rn, rd) = (register_field(rn), register_field(rd.to_reg()));
     let ftype = round_size(op).ftype();
-    pack(Row::FpOne, &[ftype, round_opcode(op), rn, rd])
+    fp_one_word(ftype, round_opcode(op), rn, rd)
 }
 
 /// The word of an operation on two floats.
@@ -236,7 +237,7 @@ pub fn two_floats_word(op: FPUOp2, size: ScalarSize, rd: Writable<Reg>, rn: Reg,
 {
     let (rm, rn) = (register_field(rm), register_field(rn));
     let rd = register_field(rd.to_reg());
-    pack(Row::FpTwo, &[size.ftype(), rm, two_opcode(op), rn, rd])
+    fp_two_word(size.ftype(), rm, two_opcode(op), rn, rd)
 }
 
 /// The word of an operation on three floats.
@@ -258,7 +259,7 @@ pub fn three_floats_word(
     let (o1, o0) = (o1_bit(op), o0_bit(op));
     let (rm, ra) = (register_field(rm), register_field(ra));
     let (rn, rd) = (register_field(rn), register_field(rd.to_reg()));
-    pack(Row::FpThree, &[size.ftype(), o1, rm, o0, ra, rn, rd])
+    fp_three_word(size.ftype(), o1, rm, o0, ra, rn, rd)
 }
 
 /// The word of a shift to the right.
@@ -271,8 +272,8 @@ pub fn right_shift_word(op: FPUOpRI, rd: Writable<Reg>, rn: Reg) -> u32
 {
     let (rn, rd) = (register_field(rn), register_field(rd.to_reg()));
     match op {
-        FPUOpRI::UShr32(imm) => pack(Row::VecShift, &[0, 1, imm.enc(), 0, rn, rd]),
-        FPUOpRI::UShr64(imm) => pack(Row::ScalarShift, &[imm.enc(), 0, rn, rd]),
+        FPUOpRI::UShr32(imm) => vec_shift_word(0, 1, imm.enc(), 0, rn, rd),
+        FPUOpRI::UShr64(imm) => scalar_shift_word(imm.enc(), 0, rn, rd),
     }
 }
 
@@ -286,8 +287,8 @@ pub fn kept_shift_word(op: FPUOpRIMod, rd: Writable<Reg>, rn: Reg) -> u32
 {
     let (rn, rd) = (register_field(rn), register_field(rd.to_reg()));
     match op {
-        FPUOpRIMod::Sli32(imm) => pack(Row::VecShift, &[0, 1, imm.enc(), 10, rn, rd]),
-        FPUOpRIMod::Sli64(imm) => pack(Row::ScalarShift, &[imm.enc(), 10, rn, rd]),
+        FPUOpRIMod::Sli32(imm) => vec_shift_word(0, 1, imm.enc(), 10, rn, rd),
+        FPUOpRIMod::Sli64(imm) => scalar_shift_word(imm.enc(), 10, rn, rd),
     }
 }
 
@@ -313,5 +314,5 @@ pub fn conversion_word(conversion: Conversion, rd: Writable<Reg>, rn: Reg) -> u3
 {
     let Conversion { sf, ftype, op } = conversion;
     let (rn, rd) = (register_field(rn), register_field(rd.to_reg()));
-    pack(Row::FpInt, &[sf, ftype, op, rn, rd])
+    fp_int_word(sf, ftype, op, rn, rd)
 }

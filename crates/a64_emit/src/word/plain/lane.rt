@@ -12,9 +12,10 @@ use crate::word::plain::float::lane_number;
 use crate::word::plain::vector::float_bit;
 use a64_base::{OperandSize, Reg, ScalarSize, VectorSize, Writable};
 use a64_enc_int::register_field;
-use a64_enc_vec::lane_bits;
+use a64_enc_vec::{
+    lane_bits, vec_copy_word, vec_ext_word, vec_imm_word, vec_ins_elem_word, vec_table_word,
+};
 use a64_imms::{ASIMDFPModImm, ASIMDMovModImm};
-use a64_rows::{Row, pack};
 
 /// The word of a move of a general register to a lane.
 #[tactic(auto, using(crate::proofs::FloatForms::lane_below))]
@@ -26,7 +27,7 @@ pub fn insert_word(size: VectorSize, idx: u8, rd: Writable<Reg>, rn: Reg) -> u32
 {
     let imm5 = lane_number(size.lane_size(), idx);
     let (rn, rd) = (register_field(rn), register_field(rd.to_reg()));
-    pack(Row::VecCopy, &[1, imm5, 3, rn, rd])
+    vec_copy_word(1, imm5, 3, rn, rd)
 }
 
 /// The word of a move of a lane to a general register, with zeros above it.
@@ -40,7 +41,7 @@ pub fn unsigned_move_word(size: ScalarSize, idx: u8, rd: Writable<Reg>, rn: Reg)
     let q = size.operand_size().sf_bit();
     let imm5 = lane_number(size, idx);
     let (rn, rd) = (register_field(rn), register_field(rd.to_reg()));
-    pack(Row::VecCopy, &[q, imm5, 7, rn, rd])
+    vec_copy_word(q, imm5, 7, rn, rd)
 }
 
 /// The word of a move of a lane to a general register of a size, with its sign.
@@ -59,7 +60,7 @@ pub fn signed_move_word(
 {
     let imm5 = lane_number(size.lane_size(), idx);
     let (rn, rd) = (register_field(rn), register_field(rd.to_reg()));
-    pack(Row::VecCopy, &[to.sf_bit(), imm5, 5, rn, rd])
+    vec_copy_word(to.sf_bit(), imm5, 5, rn, rd)
 }
 
 /// The word of a copy of a general register to all lanes.
@@ -71,7 +72,7 @@ pub fn dup_word(size: VectorSize, rd: Writable<Reg>, rn: Reg) -> u32
 {
     let imm5 = lane_number(size.lane_size(), 0);
     let (rn, rd) = (register_field(rn), register_field(rd.to_reg()));
-    pack(Row::VecCopy, &[size.enc_size().0, imm5, 1, rn, rd])
+    vec_copy_word(size.enc_size().0, imm5, 1, rn, rd)
 }
 
 /// The word of a copy of one lane to all lanes.
@@ -84,7 +85,7 @@ pub fn dup_lane_word(size: VectorSize, idx: u8, rd: Writable<Reg>, rn: Reg) -> u
 {
     let imm5 = lane_number(size.lane_size(), idx);
     let (rn, rd) = (register_field(rn), register_field(rd.to_reg()));
-    pack(Row::VecCopy, &[size.enc_size().0, imm5, 0, rn, rd])
+    vec_copy_word(size.enc_size().0, imm5, 0, rn, rd)
 }
 
 /// The word of a move of one lane to another.
@@ -105,7 +106,7 @@ pub fn move_element_word(
     let imm5 = lane_number(size.lane_size(), dest_idx);
     let imm4 = u32::from(src_idx) * lane_bits(size) / 8;
     let (rn, rd) = (register_field(rn), register_field(rd.to_reg()));
-    pack(Row::VecInsElem, &[imm5, imm4, rn, rd])
+    vec_ins_elem_word(imm5, imm4, rn, rd)
 }
 
 /// The word of a copy of an immediate float to all lanes.
@@ -117,10 +118,7 @@ pub fn dup_float_word(size: VectorSize, imm: ASIMDFPModImm, rd: Writable<Reg>) -
 {
     let (abc, defgh) = (u32::from(imm.imm / 32), u32::from(imm.imm % 32));
     let (q, op) = (size.enc_size().0, float_bit(size));
-    pack(
-        Row::VecImm,
-        &[q, op, abc, 15, defgh, register_field(rd.to_reg())],
-    )
+    vec_imm_word(q, op, abc, 15, defgh, register_field(rd.to_reg()))
 }
 
 /// The field op of a copy of an immediate to lanes of this size, or of its complement.
@@ -165,7 +163,7 @@ pub fn dup_immediate_word(
     let lane = size.lane_size();
     let (op, cmode) = (mov_op(lane, invert), mov_cmode(lane, imm));
     let (q, rd) = (size.enc_size().0, register_field(rd.to_reg()));
-    pack(Row::VecImm, &[q, op, abc, cmode, defgh, rd])
+    vec_imm_word(q, op, abc, cmode, defgh, rd)
 }
 
 /// The word of an extract from two vectors.
@@ -178,7 +176,7 @@ pub fn extract_word(imm4: u8, rd: Writable<Reg>, rn: Reg, rm: Reg) -> u32
 {
     let (rm, rn) = (register_field(rm), register_field(rn));
     let rd = register_field(rd.to_reg());
-    pack(Row::VecExt, &[rm, u32::from(imm4), rn, rd])
+    vec_ext_word(rm, u32::from(imm4), rn, rd)
 }
 
 /// The word of a lookup in a table of one vector or two, which may keep the bytes that it does not find.
@@ -191,5 +189,5 @@ pub fn table_word(two_registers: bool, kept: bool, rd: Writable<Reg>, rn: Reg, r
     let (len, ext) = (u32::from(two_registers), u32::from(kept));
     let (rm, rn) = (register_field(rm), register_field(rn));
     let rd = register_field(rd.to_reg());
-    pack(Row::VecTable, &[rm, len, ext, rn, rd])
+    vec_table_word(rm, len, ext, rn, rd)
 }

@@ -11,11 +11,11 @@ ghost use Rattle.a64_emit.specs.VectorForms as forms;
 use a64_base::{Reg, ScalarSize, VectorSize, Writable};
 use a64_enc_int::register_field;
 use a64_enc_vec::{
-    LongFields, OpFields, ThreeOp, TwoFields, TwoOp, element_o2, left_shift_field, shift_field,
-    shift_fields,
+    ElementNumber, LongFields, OpFields, ThreeOp, TwoFields, TwoOp, element_o2, left_shift_field,
+    shift_field, shift_fields, vec_across_word, vec_dot_word, vec_elem_word, vec_long3_word,
+    vec_permute_word, vec_scalar_pair_word, vec_shift_word, vec_three_word, vec_two_word,
 };
 use a64_ops::{VecALUModOp, VecExtendOp, VecShiftImmOp};
-use a64_rows::{Row, pack};
 
 /// 1 where lanes have 64 bits, else 0: the field `sz` of operations on floats.
 pub fn float_bit(size: VectorSize) -> u32
@@ -40,14 +40,14 @@ pub fn three_word(op: ThreeOp, size: VectorSize, rd: Writable<Reg>, rn: Reg, rm:
     let (rm, rn) = (register_field(rm), register_field(rn));
     let rd = register_field(rd.to_reg());
     match op {
-        ThreeOp::Lanes { u, op } => pack(Row::VecThree, &[q, u, lanes, rm, op, rn, rd]),
-        ThreeOp::Bits { u, size } => pack(Row::VecThree, &[q, u, size, rm, 3, rn, rd]),
+        ThreeOp::Lanes { u, op } => vec_three_word(q, u, lanes, rm, op, rn, rd),
+        ThreeOp::Bits { u, size } => vec_three_word(q, u, size, rm, 3, rn, rd),
         ThreeOp::Floats { u, op, base } => {
             let floats = base + float_bit(size);
-            pack(Row::VecThree, &[q, u, floats, rm, op, rn, rd])
+            vec_three_word(q, u, floats, rm, op, rn, rd)
         }
-        ThreeOp::Permute { op } => pack(Row::VecPermute, &[lanes, rm, op, rn, rd]),
-        ThreeOp::Dot { us } => pack(Row::VecDot, &[q, us, rm, rn, rd]),
+        ThreeOp::Permute { op } => vec_permute_word(lanes, rm, op, rn, rd),
+        ThreeOp::Dot { us } => vec_dot_word(q, us, rm, rn, rd),
     }
 }
 
@@ -89,10 +89,11 @@ pub fn element_word(
     ensures { result ≡ form_word (forms.element_form op size idx rd rn rm) }
 {
     let (h, l) = (element_h(size, idx), element_l(size, idx));
+    let number = ElementNumber { h, l };
     let (sz, o2) = (float_bit(size), element_o2(op));
     let (rm, rn) = (register_field(rm), register_field(rn));
     let rd = register_field(rd.to_reg());
-    pack(Row::VecElem, &[1, sz, l, rm, o2, h, rn, rd])
+    vec_elem_word(1, sz, number, rm, o2, rn, rd)
 }
 
 /// The word of an operation on the halves of two vectors whose result has lanes twice as long.
@@ -106,7 +107,7 @@ pub fn long_product_word(fields: LongFields, high: bool, rd: Writable<Reg>, rn: 
     let LongFields { u, size, mul } = fields;
     let (rm, rn) = (register_field(rm), register_field(rn));
     let rd = register_field(rd.to_reg());
-    pack(Row::VecLong3, &[u32::from(high), u, size, mul, rm, rn, rd])
+    vec_long3_word(u32::from(high), u, size, mul, rm, rn, rd)
 }
 
 /// The word of an operation of Two-register miscellaneous.
@@ -118,7 +119,7 @@ pub fn misc_word(q: u32, fields: TwoFields, rd: Writable<Reg>, rn: Reg) -> u32
 {
     let TwoFields { u, size, op } = fields;
     let (rn, rd) = (register_field(rn), register_field(rd.to_reg()));
-    pack(Row::VecTwo, &[q, u, size, op, rn, rd])
+    vec_two_word(q, u, size, op, rn, rd)
 }
 
 /// The fields of an operation on one vector with these lanes.
@@ -157,7 +158,7 @@ pub fn pair_word(rd: Writable<Reg>, rn: Reg) -> u32
     ensures { result ≡ form_word (forms.pair_form rd rn) }
 {
     let (rn, rd) = (register_field(rn), register_field(rd.to_reg()));
-    pack(Row::VecScalarPair, &[rn, rd])
+    vec_scalar_pair_word(rn, rd)
 }
 
 /// The word of an operation over the lanes of a vector.
@@ -170,7 +171,7 @@ pub fn across_word(fields: OpFields, size: VectorSize, rd: Writable<Reg>, rn: Re
     let OpFields { u, op } = fields;
     let (q, lanes) = size.enc_size();
     let (rn, rd) = (register_field(rn), register_field(rd.to_reg()));
-    pack(Row::VecAcross, &[q, u, lanes, op, rn, rd])
+    vec_across_word(q, u, lanes, op, rn, rd)
 }
 
 /// The word of a shift of lanes.
@@ -182,7 +183,7 @@ pub fn shift_word(q: u32, fields: OpFields, imm7: u32, rd: Writable<Reg>, rn: Re
 {
     let OpFields { u, op } = fields;
     let (rn, rd) = (register_field(rn), register_field(rd.to_reg()));
-    pack(Row::VecShift, &[q, u, imm7, op, rn, rd])
+    vec_shift_word(q, u, imm7, op, rn, rd)
 }
 
 /// The word of a shift of lanes by an amount.
