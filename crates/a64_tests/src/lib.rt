@@ -17,6 +17,8 @@ mod label_map;
 #[cfg(test)]
 mod load;
 #[cfg(test)]
+mod raw_bits;
+#[cfg(test)]
 mod refusal;
 #[cfg(test)]
 mod registers;
