@@ -40,14 +40,14 @@ enum {
     A64_UNBOUND_LABEL = 8,
     A64_TOO_LARGE = 9,         /* the code could reach 2^31 bytes */
     A64_OUT_OF_REACH = 10,     /* a use that can have no veneer may be too far from the label */
-    A64_OUT_OF_MEMORY = 11,
+    A64_OUT_OF_MEMORY = 11,    /* subject: 1 where the text was read, and each item is right by itself */
     A64_NO_ROOM = 12           /* of a64_assemble_text alone: `length` is the room that the code needs */
 };
 
 /* What a64_assemble_text answers. */
 typedef struct {
     int32_t status;   /* one of the above */
-    uint64_t subject; /* the line, the item or the label that is refused, and else 0 */
+    uint64_t subject; /* the line, the item or the label that is refused, as above, and else 0 */
     size_t length;    /* the bytes of the code at A64_DONE and A64_NO_ROOM, and else 0 */
 } a64_answer;
 

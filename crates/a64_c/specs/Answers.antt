@@ -1,11 +1,11 @@
 -- What a call answers of the code of a text.
-use Rattle.std.specs.Prelude.{ℕ, ◌≡◌, ◌⊎◌, ◌<◌, ◌≤◌, ◌++◌, List, Bool, true, false, Some, drop, length, pos}
+use Rattle.std.specs.Prelude.{ℕ, ◌≡◌, ◌⊎◌, ◌<◌, ◌≤◌, ◌++◌, List, Bool, true, false, None, Some, drop, length, pos}
 use Rattle.a64_buffer.specs.declared.force.ForceVeneers.{ForceVeneers}
 use Rattle.a64_buffer.specs.declared.force.ForceVeneers.TheVariants.{No, Yes}
 use Rattle.a64_emit.specs.declared.code.Code.{Code}
 use Rattle.a64_emit.specs.declared.error.EmitError.{EmitError}
 use Rattle.a64_emit.specs.declared.error.EmitError.TheVariants as errors
-use Rattle.a64_emit.specs.Faults.{fault_of}
+use Rattle.a64_emit.specs.Faults.{fault_of, own_fault}
 use Rattle.a64_assemble.specs.Assembled.{IsAssembled}
 use Rattle.a64_text.specs.declared.file.File.{File}
 use Rattle.a64_text.specs.declared.file.FileError.{FileError}
@@ -13,7 +13,7 @@ use Rattle.a64_text.specs.declared.file.FileError.TheVariants.{BadLine, OutOfMem
 use Rattle.a64_text.specs.FileText.{IsFile, IsFirstBad}
 use Rattle.a64_c.specs.declared.answer.Answer.{Answer}
 use Rattle.a64_c.specs.declared.answer.Refusal.{Refusal}
-use Rattle.a64_c.specs.declared.answer.Refusal.TheVariants.{TooLong, Line, Assembly}
+use Rattle.a64_c.specs.declared.answer.Refusal.TheVariants.{TooLong, Line, Assembly, Unread}
 
 -- the most bytes that a text may have
 abbrev pub limit : ℕ
@@ -27,7 +27,7 @@ force_of false = No
 
 abbrev pub refusal_of_file_error : FileError → Refusal
 refusal_of_file_error (BadLine n) = Line n
-refusal_of_file_error OutOfMemory = Assembly errors.OutOfMemory
+refusal_of_file_error OutOfMemory = Unread
 
 -- the text is a file, and its first fault is this
 pub record IsFault (text : List ℕ) (force : ForceVeneers) (error : EmitError) : Type 0 where
@@ -35,12 +35,21 @@ pub record IsFault (text : List ℕ) (force : ForceVeneers) (error : EmitError) 
   pub read : IsFile text file
   pub first : fault_of file.frame file.info file.constants force file.items.items ≡ Some error
 
--- the cause of each refusal; want of memory has none in the text
+-- the text is a file, each item of which is right by itself
+pub record HasRightItems (text : List ℕ) : Type 0 where
+  pub file : File
+  pub read : IsFile text file
+  pub right : own_fault file.frame file.info file.constants file.items.items ≡ None
+
+-- the cause of each refusal; want of memory has none in the text, but it comes to code only where each item is
+-- right by itself
 abbrev pub IsCause : List ℕ → ForceVeneers → Refusal → Type 0
 IsCause text force TooLong = limit < length text
 IsCause text force (Line n) = (length text ≤ limit) × IsFirstBad text n
+IsCause text force Unread = length text ≤ limit
 IsCause text force (Assembly error) =
-    (length text ≤ limit) × (IsFault text force error ⊎ (error ≡ errors.OutOfMemory))
+    (length text ≤ limit)
+    × (IsFault text force error ⊎ ((error ≡ errors.OutOfMemory) × HasRightItems text))
 
 -- the status and the subject of each refusal
 abbrev pub refused : ℕ → ℕ → Answer
@@ -57,7 +66,8 @@ answer_of (Assembly (errors.LabelBoundTwice label)) = refused 7 label.0
 answer_of (Assembly (errors.UnboundLabel label)) = refused 8 label.0
 answer_of (Assembly errors.TooLarge) = refused 9 0
 answer_of (Assembly (errors.OutOfReach label)) = refused 10 label.0
-answer_of (Assembly errors.OutOfMemory) = refused 11 0
+answer_of Unread = refused 11 0
+answer_of (Assembly errors.OutOfMemory) = refused 11 1
 
 -- ---- the code
 

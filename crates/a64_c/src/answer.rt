@@ -14,7 +14,9 @@ pub enum Refusal {
     TooLong,
     /// The line of this number, counted from 1, is the first that is no entry.
     Line(u64),
-    /// The items are refused for this fault of theirs, or want of memory.
+    /// There was no memory to read the text.
+    Unread,
+    /// The items are refused for this fault of theirs, or, where each is right by itself, want of memory.
     Assembly(EmitError),
 }
 
@@ -24,7 +26,8 @@ pub enum Refusal {
 pub struct Answer {
     /// 0 where the code stands in the caller's buffer; a64_c.h has a name for each status.
     pub status: i32,
-    /// The line, the item or the label that is refused, and else 0.
+    /// The line, the item or the label that is refused; at want of memory 1 where the text was read, and each
+    /// item is right by itself; and else 0.
     pub subject: u64,
     /// How many bytes the code has, and 0 where there is none.
     pub length: usize,
@@ -36,7 +39,7 @@ impl From<FileError> for Refusal {
     fn from(error: FileError) -> Refusal {
         match error {
             FileError::BadLine(number) => Refusal::Line(number),
-            FileError::OutOfMemory => Refusal::Assembly(EmitError::OutOfMemory),
+            FileError::OutOfMemory => Refusal::Unread,
         }
     }
 }
@@ -57,6 +60,7 @@ impl Refusal {
         let (status, subject) = match self {
             Refusal::TooLong => (1, 0),
             Refusal::Line(number) => (2, number),
+            Refusal::Unread => (11, 0),
             Refusal::Assembly(error) => match error {
                 EmitError::BadOperand(index) => (3, index as u64),
                 EmitError::BadMode(index) => (4, index as u64),
@@ -66,7 +70,7 @@ impl Refusal {
                 EmitError::UnboundLabel(label) => (8, u64::from(label.0)),
                 EmitError::TooLarge => (9, 0),
                 EmitError::OutOfReach(label) => (10, u64::from(label.0)),
-                EmitError::OutOfMemory => (11, 0),
+                EmitError::OutOfMemory => (11, 1),
             },
         };
         Answer {

@@ -17,7 +17,7 @@ use std::alloc::Global;
 pub struct Counts {
     /// 0 where there is code; a64_c.h has a name for each status.
     pub status: i32,
-    /// The line, the item or the label that is refused, and else 0.
+    /// As of [`Answer`](crate::Answer).
     pub subject: u64,
     /// The bytes of the code.
     pub bytes: usize,

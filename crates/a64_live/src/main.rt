@@ -8,8 +8,8 @@
 //!
 //! - An item reads a register by a use and by a fixed use, and writes one by a definition of any kind. It
 //!   reads before it writes.
-//! - It writes what it clobbers too, and of a fixed role also the second register: the value is moved there
-//!   before the item, or comes from there.
+//! - It writes what it clobbers too, and of a fixed role also the second register, where that is a real one:
+//!   the value is moved there before the item, or comes from there.
 //! - A path goes from an item to the next one; from a branch to each label that it names instead; and nowhere
 //!   from what ends the function (`Rets`, returns, returns that call) and from `Udf`. A call comes back.
 //!

@@ -48,7 +48,8 @@ pub trait OperandVisitor {
     fn any_def(&mut self, reg: Reg) -> Result<(), AllocError>
         ensures { TellsOne told refusals self.old self.new (role.AnyDef reg) result };
 
-    /// It writes a register, which is that of the use with this index.
+    /// It writes a register, which is that of the role with this index: roles of the instruction are counted
+    /// from 0, whatever they are.
     ///
     /// # Errors
     ///

@@ -95,7 +95,7 @@ fn run_words<S: Source, K: Sink>(
 }
 
 /// Offers the line of a fault. Where that fails, nothing more is done.
-fn tell<E: Sink>(errs: &mut E, fault: Fault)
+pub fn tell<E: Sink>(errs: &mut E, fault: Fault)
     ensures { TellsFault E.taken E.faults errs.old errs.new (Some fault) }
 {
     let line = line_of_fault(fault);

@@ -1,5 +1,5 @@
 //! A run in which a call that finds no memory is made again, so that it ends as it does with enough
-//! memory, whichever one of its allocations is refused (bench/refused_memory_in_a_buffer.sh).
+//! memory, whichever one of its allocations is refused (tools/refused_memory_in_a_buffer).
 
 ghost use Rattle.std.specs.Prelude.{◌≡◌, ◌+◌, ◌%◌, ◌^◌, ◌<◌, OnOk, [], ◌∷◌, ◌++◌, IsSomeAnd};
 ghost use Rattle.std.specs.FinMap as finmap;

@@ -1,9 +1,9 @@
-use Rattle.std.proofs.Common.{◌≡◌, ℕ, List, Ok, Err, Some, IfErr, sym, subst, inl, inr, arith}
+use Rattle.std.proofs.Common.{◌≡◌, ℕ, List, Ok, Err, None, Some, IfErr, sym, subst, inl, inr, arith}
 use Rattle.std.specs.Prelude.{Result}
 use Rattle.std.specs.Result.{IsErr, IsErrAnd}
 use Rattle.a64_buffer.specs.declared.force.ForceVeneers.{ForceVeneers}
 use Rattle.a64_emit.specs.declared.code.Code.{Code}
-use Rattle.a64_emit.specs.Faults.{fault_of}
+use Rattle.a64_emit.specs.Faults.{fault_of, own_fault}
 use Rattle.a64_assemble.specs.Assembled.{IsAssembled}
 use Rattle.a64_c.specs.declared.answer.Refusal.{Refusal}
 use Rattle.a64_c.specs.Answers.{IsCause}
@@ -22,7 +22,9 @@ returns-in_err-code-clause-err c =
       | inl fault ↦
           let first = subst (λ items. fault_of file.frame file.info file.constants c.args.force items ≡ Some c.in_err-code.field-0.0) c.deref.ensures.value fault in
           (omega arith, inl (record { file = file; read = c.in_ok-file.ensures.answers.ok; first = first }))
-      | inr want ↦ (omega arith, inr want.0)
+      | inr want ↦
+          let right = subst (λ items. own_fault file.frame file.info file.constants items ≡ None) c.deref.ensures.value want.1 in
+          (omega arith, inr (want.0, record { file = file; read = c.in_ok-file.ensures.answers.ok; right = right }))
     ])
 
 pub returns-clause-ok : goal.returns-clause-ok
