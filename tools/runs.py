@@ -40,8 +40,9 @@ RUNS = (
     Run((b"asm",), ISLAND, written=(
         b"item 0 0\nitem 1 4\nitem 2 4\nitem 3 4\nlabel L1 4\npool 8\nword 0 14000001\nword 4 d65f03c0\n")),
     Run((b"asm", b"force"), ISLAND, written=(
-        b"item 0 0\nitem 1 4\nitem 2 20\nitem 3 20\nlabel L1 20\nisland 4 20\npool 24\n"
-        b"word 0 14000001\nword 4 14000004\nword 8 14000003\nword 12 d503201f\nword 16 d503201f\nword 20 d65f03c0\n")),
+        b"item 0 0\nitem 1 4\nitem 2 28\nitem 3 28\nlabel L1 28\nisland 4 28\npool 32\n"
+        b"word 0 14000002\nword 4 14000006\nword 8 98000090\nword 12 10000071\nword 16 8b110210\n"
+        b"word 20 d61f0200\nword 24 00000004\nword 28 d65f03c0\n")),
     Run((b"list",), b"Ret\n", written=b"ret\n"),
     Run((b"gen", b"1", b"force", b"more"), status=2, told=b"usage error\n"),
     Run((b"\xff",), status=2, told=b"usage error\n"),

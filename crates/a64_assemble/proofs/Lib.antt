@@ -63,6 +63,7 @@ pub mod ReadingBack
 pub mod WrongReadings
 pub mod WrongPieces
 pub mod WrongAreas
+pub mod WrongFronts
 pub mod OpenCells
 pub mod ItemsRead
 pub mod Made

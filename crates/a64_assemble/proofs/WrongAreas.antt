@@ -75,7 +75,7 @@ module _ (frame : FrameLayout) (flags : EmitFlags) (constants : FinMap nat_cmp (
         subst (λ n. HoldsPieces frame flags items constants code n n (length (in_bytes words)) (IsFarOff constants code)) is.pool_is
         (subst (λ n. HoldsPieces frame flags items constants code code.pool code.pool n (IsFarOff constants code)) (ap length is.bytes) a.pool)
 
-    island_holds : IsAssembled frame flags constants force items code → (i : ℕ) → i < length islands → IsFilledIsland frame flags items constants code (get_or islands i (0, 0))
+    pub island_holds : IsAssembled frame flags constants force items code → (i : ℕ) → i < length islands → IsFilledIsland frame flags items constants code (get_or islands i (0, 0))
     island_holds a i within =
         subst (IsFilledIsland frame flags items constants code) (ap (λ (is : List (ℕ × ℕ)). get_or is i (0, 0)) is.islands_are)
         (a.filled i (0, 0) (omega (arith, within, ap length is.islands_are)))

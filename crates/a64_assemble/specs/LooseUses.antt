@@ -6,19 +6,14 @@ use Rattle.a64_buffer.specs.Buffer.{Buffer, end_of, label_of}
 use Rattle.a64_buffer.specs.Classes.{third, cost, weigh, is_open}
 use Rattle.a64_label_use.specs.declared.label_use.LabelUse.{LabelUse}
 use Rattle.a64_emit.specs.declared.site.Site.{Site}
-use Rattle.a64_label_use.specs.LabelUses.{label_kinds, has_veneer}
+use Rattle.a64_label_use.specs.LabelUses.{label_kinds}
 use Rattle.a64_emit.specs.Cells.{sites_of}
 use Rattle.a64_assemble.specs.Elements.{Element, Binding, cells_in, charge_in, sizes_in, growths_in, is_bound_by, element_at}
-use Rattle.a64_emit.specs.Reach.{is_near}
+use Rattle.a64_emit.specs.Reach.{is_near, may_want}
 
 -- a branch to a label that passes a test, which no later element binds
 abbrev pub is_alive : (ℕ → Bool) → List Element → Site → Bool
-is_alive test later site = elim site.target [
-  | Label label ↦ has_veneer site.kind && (test label.0 && not (is_bound_by later label.0))
-  | Constant constant ↦ false
-  | Trap code ↦ false
-  | IslandEnd ↦ false
-]
+is_alive test later = may_want (λ label. test label.0 && not (is_bound_by later label.0)) false
 
 -- how many branches of elements are to labels that pass a test and that no element behind them binds
 abbrev pub alive : (ℕ → Bool) → List Element → ℕ

@@ -13,7 +13,7 @@ use Rattle.a64_emit.specs.declared.site.Site.{Site}
 use Rattle.a64_label_use.specs.LabelUses.{has_veneer}
 use Rattle.a64_emit.specs.Cells.{cells_of, sites_of}
 use Rattle.a64_emit.specs.Bounds.{whole}
-use Rattle.a64_emit.specs.Reach.{binds, binding_index, sizes, charges}
+use Rattle.a64_emit.specs.Reach.{binds, binding_index, may_want, sizes, charges}
 use Rattle.a64_assemble.specs.LooseUses.{is_load}
 use Rattle.a64_assemble.specs.declared.marks.Mark.{Mark}
 
@@ -28,12 +28,8 @@ branch_label site = elim site.target [
 
 -- a branch to a label that passes a test, unless one of the items between binds the label
 abbrev pub is_alive : (ℕ → Bool) → List Item → Site → Bool
-is_alive test between site = elim site.target [
-  | Label label ↦ has_veneer site.kind && (test label.0 && not (list_any (binds label) between))
-  | Constant constant ↦ false
-  | Trap code ↦ false
-  | IslandEnd ↦ false
-]
+is_alive test between =
+    may_want (λ label. test label.0 && not (list_any (binds label) between)) false
 
 abbrev pub every : ℕ → Bool
 every n = true

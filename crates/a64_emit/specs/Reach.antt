@@ -64,6 +64,16 @@ abbrev pub first_some : {X Y : Type 0} → (X → Option Y) → List X → Optio
 first_some f [] = None
 first_some f (x ∷ xs) = option_or (f x) (first_some f xs)
 
+-- a use may want something of an island: a branch to a label that passes a test, and, where they count, a load
+-- of a constant or a deferred trap
+abbrev pub may_want : (MachLabel → Bool) → Bool → Site → Bool
+may_want passes others site = elim site.target [
+  | Label label ↦ has_veneer site.kind && passes label
+  | Constant constant ↦ others
+  | Trap code ↦ others
+  | IslandEnd ↦ false
+]
+
 module _ (frame : FrameLayout) (flags : EmitFlags) where
   -- the bytes of the items' own words
   abbrev pub sizes : List Item → ℕ
@@ -81,12 +91,8 @@ module _ (frame : FrameLayout) (flags : EmitFlags) where
   -- a use may still want something of an island behind some items that stand between: a branch, unless one of
   -- them binds its label; a load of a constant or a deferred trap, unless they have 2^20 bytes
   abbrev pub is_loose : List Item → Site → Bool
-  is_loose between site = elim site.target [
-    | Label label ↦ has_veneer site.kind && not (list_any (binds label) between)
-    | Constant constant ↦ nat_lt (sizes between) (2 ^ 20)
-    | Trap code ↦ nat_lt (sizes between) (2 ^ 20)
-    | IslandEnd ↦ false
-  ]
+  is_loose between =
+      may_want (λ label. not (list_any (binds label) between)) (nat_lt (sizes between) (2 ^ 20))
 
   -- how many uses of items may still want something behind the last of them
   abbrev pub loose : List Item → ℕ
