@@ -66,6 +66,9 @@ def problem_of(run: Run) -> str | None:
 
 
 def main() -> int:
+    if not os.access(PROGRAM, os.X_OK):
+        print(f"{PROGRAM}: no program is built; rt ci builds it", file=sys.stderr)
+        return 1
     problems = [problem for problem in map(problem_of, RUNS) if problem]
     for problem in problems:
         print(problem, file=sys.stderr)
