@@ -11,13 +11,14 @@ import sys
 from functools import partial
 from typing import Callable
 
-from tables import files, row_code, row_proofs, row_specs, wrong_tables
-from tables.grammar import TableError
+from tables import files, row_code, row_proofs, row_specs
 from tables.row_table import RowTable, row_table_of
+from tables.script import Script
 
 TABLE = "tables/rows.txt"
 CRATE = "crates/a64_rows"
 COMMAND = "python3 tools/rows.py"
+MARK = files.mark_of(COMMAND, TABLE)
 
 
 def known_tests() -> dict[str, int]:
@@ -51,31 +52,14 @@ def written(table: RowTable) -> files.Files:
     }
     for module in table.modules:
         crate[f"specs/{module}.antt"] = partial(row_specs.forms, module=module)
-    return {f"{CRATE}/{path}": partial(marked, path, lines, table) for path, lines in crate.items()}
+    return {f"{CRATE}/{path}": partial(whole, path, lines, table) for path, lines in crate.items()}
 
 
-def marked(path: str, lines: Callable[[RowTable], list[str]], table: RowTable) -> list[str]:
-    """What a file has to be, behind a line that says who wrote it."""
-    sign = "//" if path.endswith(".rt") else "--"
-    return [f"{sign} Written by `{COMMAND}` from {TABLE}.", *lines(table)]
-
-
-def main(words: list[str]) -> int:
-    """Does what the words ask for, and answers the status."""
-    if words not in ([], ["--check"], ["--test"]):
-        sys.exit(__doc__)
-    if words == ["--test"]:
-        return 1 if wrong_tables.try_all(read, files.ROOT / "tools/tables/wrong_rows") else 0
-    try:
-        table = read((files.ROOT / TABLE).read_text(encoding="utf-8"), TABLE)
-    except TableError as error:
-        print(error)
-        return 1
-    if words == ["--check"]:
-        return 1 if files.check(written(table), COMMAND) else 0
-    files.write(written(table))
-    return 0
+def whole(path: str, lines: Callable[[RowTable], list[str]], table: RowTable) -> list[str]:
+    """What a file has to be."""
+    return files.marked(path, MARK, lines(table))
 
 
 if __name__ == "__main__":
-    sys.exit(main(sys.argv[1:]))
+    script = Script(__doc__, COMMAND, TABLE, CRATE, "tools/tables/wrong_rows", read, written)
+    sys.exit(script.run(sys.argv[1:]))

@@ -11,14 +11,47 @@ ROOT = Path(__file__).resolve().parent.parent.parent
 Files = dict[str, Callable[[], list[str]]]
 
 
-def write(files: Files) -> None:
-    """Writes the files that differ from what a table gives."""
+def mark_of(command: str, table: str) -> str:
+    """What a file says that a command wrote from a table."""
+    return f"Written by `{command}` from {table}."
+
+
+def marked(path: str, mark: str, lines: list[str]) -> list[str]:
+    """The lines of a file behind a first one that says what wrote them."""
+    return [f"{'//' if path.endswith('.rt') else '--'} {mark}", *lines]
+
+
+def region(path: str, opening: str, closing: str, lines: list[str]) -> list[str]:
+    """A file with these lines between the one that is `opening` and the next that is `closing`."""
+    there = (ROOT / path).read_text(encoding="utf-8").rstrip("\n").split("\n")
+    if opening not in there:
+        raise SystemExit(f"{path}: there is no line `{opening}`")
+    first = there.index(opening) + 1
+    return [*there[:first], *lines, *there[there.index(closing, first):]]
+
+
+def left_over(files: Files, crate: str, mark: str) -> list[str]:
+    """The files of a crate that say that they are written, and are not among those that are."""
+    found = []
+    for folder in "src", "specs", "proofs":
+        for path in sorted((ROOT / crate / folder).rglob("*.*t")):
+            name = str(path.relative_to(ROOT))
+            if name not in files and mark in path.read_text(encoding="utf-8").split("\n", 1)[0]:
+                found.append(name)
+    return found
+
+
+def write(files: Files, others: list[str]) -> None:
+    """Writes the files that differ from what a table gives, and removes what is left over of another one."""
     for path, lines in files.items():
         text = "\n".join(lines()) + "\n"
         if not (ROOT / path).exists() or (ROOT / path).read_text(encoding="utf-8") != text:
             (ROOT / path).parent.mkdir(parents=True, exist_ok=True)
             (ROOT / path).write_text(text, encoding="utf-8")
             print(f"wrote {path}")
+    for path in others:
+        (ROOT / path).unlink()
+        print(f"removed {path}")
 
 
 def first_difference(path: Path, lines: list[str]) -> int | None:
@@ -30,12 +63,10 @@ def first_difference(path: Path, lines: list[str]) -> int | None:
     return None
 
 
-def check(files: Files, command: str) -> int:
+def check(files: Files, others: list[str], command: str) -> int:
     """Names the files that differ from what a table gives, and answers how many they are."""
-    stale = 0
-    for path, lines in files.items():
-        number = first_difference(ROOT / path, lines())
-        if number is not None:
-            print(f"{path}:{number}: this is not what the table gives: run {command}")
-            stale += 1
-    return stale
+    stale = [(path, first_difference(ROOT / path, lines())) for path, lines in files.items()]
+    stale = [(path, number) for path, number in stale if number is not None] + [(path, 1) for path in others]
+    for path, number in stale:
+        print(f"{path}:{number}: this is not what the table gives: run {command}")
+    return len(stale)

@@ -11,7 +11,8 @@ from typing import NoReturn
 
 NAME = re.compile(r"[A-Za-z]\w*")
 NUMBER = re.compile(r"0x[0-9a-f]+|[0-9]+")
-TOKEN = re.compile(r"\s*(?:([A-Za-z]\w*|0x[0-9a-f]+|[0-9]+|&&|[!<>=]=)|([(),])|(\S))")
+TOKEN = re.compile(r"\s*(?:(&?[A-Za-z]\w*|0x[0-9a-f]+|[0-9]+|&&|[!<>=]=|<)|([(),])|(\S))")
+SIGNS = ("==", "!=", "<", "<=", ">=")
 
 
 class TableError(Exception):
@@ -92,11 +93,19 @@ class Names(dict):
         return self[name]
 
 
+def snake_case(name: str) -> str:
+    """`AddSubReg` as `add_sub_reg`, and `ULoad64` as `uload64`."""
+    name = re.sub(r"^([A-Z])([A-Z])(?=[a-z])", lambda found: found[1] + found[2].lower(), name)
+    return re.sub(r"(?<=[a-z0-9])(?=[A-Z])|(?<=[A-Z])(?=[A-Z][a-z])", "_", name).lower()
+
+
 # ---- expressions: tests that are called, and comparisons with a number, joined by `&&`
+#
+# A value is the name of a field. Behind `&` it is given as a reference.
 
 @dataclass(frozen=True)
 class Call:
-    """A test of values, each the name of a field."""
+    """A function of values."""
 
     name: str
     values: tuple[str, ...]
@@ -104,7 +113,7 @@ class Call:
 
 @dataclass(frozen=True)
 class Compare:
-    """A value beside a number: `==`, `!=`, `<=` or `>=`."""
+    """A value beside a number, with one of the signs between."""
 
     value: str
     sign: str
@@ -139,6 +148,11 @@ class _Tokens:
     def name(self) -> str:
         return self.line.name(self.take())
 
+    def value(self) -> str:
+        token = self.take()
+        self.line.name(token.removeprefix("&"))
+        return token
+
     def number(self) -> str:
         token = self.take()
         if not NUMBER.fullmatch(token):
@@ -149,12 +163,12 @@ class _Tokens:
 def _test_of(tokens: _Tokens) -> Test:
     """One test: a call, or a comparison."""
     name = tokens.name()
-    sign = tokens.take("(", "==", "!=", "<=", ">=")
+    sign = tokens.take("(", *SIGNS)
     if sign != "(":
         return Compare(name, sign, tokens.number())
-    values = [tokens.name()]
+    values = [tokens.value()]
     while tokens.take(",", ")") == ",":
-        values.append(tokens.name())
+        values.append(tokens.value())
     return Call(name, tuple(values))
 
 

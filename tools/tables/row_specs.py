@@ -163,6 +163,7 @@ def test_of(test: Test, row: Row) -> str:
     return {
         "==": f"{values[0]} == {number}",
         "!=": f"not ({values[0]} == {number})",
+        "<": f"nat_lt ({values[0]}) {number}",
         "<=": f"nat_le ({values[0]}) {number}",
         ">=": f"nat_le {number} ({values[0]})",
     }[test.sign]

@@ -4,7 +4,7 @@ from __future__ import annotations
 import re
 from dataclasses import dataclass, field
 
-from .grammar import Call, Line, Names, Record, Test, records_of, tests_of
+from .grammar import Call, Line, Names, Record, Test, records_of, snake_case, tests_of
 
 WORD = 32
 TWICE = (31, 22)
@@ -79,7 +79,7 @@ class Row:
     @property
     def form(self) -> str:
         """The name of the definition that makes a form of it: `AddSubReg` as `add_sub_reg`."""
-        return re.sub(r"(?<=[a-z0-9])(?=[A-Z])|(?<=[A-Z])(?=[A-Z][a-z])", "_", self.name).lower()
+        return snake_case(self.name)
 
     @property
     def record(self) -> str:

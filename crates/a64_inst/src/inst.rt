@@ -27,6 +27,7 @@ use std::default::MadeWith;
 /// An AArch64 instruction, or a short sequence of instructions (Cranelift's `Inst`).
 #[derive(Drop)]
 pub enum Inst {
+    // Written by `python3 tools/instructions.py` from tables/instructions.txt.
     /// No word at all.
     Nop0,
     /// `nop`: one word that does nothing.

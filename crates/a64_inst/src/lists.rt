@@ -1,3 +1,4 @@
+// Written by `python3 tools/instructions.py` from tables/instructions.txt.
 //! The instructions that are one plain word, each with its fields in the order of a file.
 //!
 //! A list hands its instructions to a macro, which makes of each an arm. Of a field it says what it is: a

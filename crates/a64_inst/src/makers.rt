@@ -1,3 +1,4 @@
+// Written by `python3 tools/instructions.py` from tables/instructions.txt.
 //! Makers of the last loads and stores: a value of one of the variants behind the 128th of an enum that owns memory is
 //! proved by hand, and so is made here alone.
 

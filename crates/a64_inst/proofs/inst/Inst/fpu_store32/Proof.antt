@@ -1,3 +1,4 @@
+-- Written by `python3 tools/instructions.py` from tables/instructions.txt.
 use mathlib.Core.Path.{refl}
 use Rattle.a64_inst.specs.declared.inst.Inst.TheVariants.{FpuStore32}
 use Rattle.a64_inst.specs.contracts.inst.Inst.{the_type}

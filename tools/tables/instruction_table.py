@@ -1,0 +1,204 @@
+"""The table of instructions, tables/instructions.txt, as it is read: groups, kinds of fields, and instructions."""
+from __future__ import annotations
+
+import re
+from dataclasses import dataclass, field
+
+from .grammar import Call, Line, Names, Record, Test, records_of, snake_case, tests_of
+
+FIELD = re.compile(r"(\w+): ([^|]*?)\s*\|\s*(.*)")
+
+# The prover has no rule for a literal of a variant behind this one, so each of these has a maker.
+LAST_LITERAL = 128
+
+# What a maker makes: a register, and of these kinds its address and what is known of the access.
+MADE = ["Mode", "Flags"]
+
+# What a test may ask beside fields.
+VIRTUALS = "virtuals"
+
+
+@dataclass(frozen=True)
+class Group:
+    """A group: its name, and where its instructions are one plain word each what these are."""
+
+    name: str
+    plain: str
+
+
+@dataclass
+class Field:
+    """A field: its name, whether it `writes` or `reads` a register or `is` something else, its class or its
+    kind, the type of what is no register, and what is said of it.
+    """
+
+    name: str
+    way: str
+    what: str
+    of_kind: str
+    says: list[str]
+
+    @property
+    def type(self) -> str:
+        """Its type."""
+        return {"writes": "Writable<Reg>", "reads": "Reg"}.get(self.way, self.of_kind)
+
+
+@dataclass
+class Instruction:
+    """An instruction: its name, its group, what is said of it, its fields, and what must hold of them."""
+
+    name: str
+    group: Group
+    says: list[str] = field(default_factory=list)
+    fields: list[Field] = field(default_factory=list)
+    test: Test | None = None
+
+    @property
+    def maker(self) -> str:
+        """The name of the function that makes it."""
+        return snake_case(self.name)
+
+    def field_of(self, value: str) -> Field | None:
+        """The field that a value of a test names, where it names one."""
+        return next((one for one in self.fields if one.name == value.removeprefix("&")), None)
+
+
+@dataclass
+class InstructionTable:
+    """The table: its groups, and the instructions in their order."""
+
+    groups: Names
+    instructions: list[Instruction]
+
+    @property
+    def plain_groups(self) -> list[Group]:
+        """The groups of plain words."""
+        return [group for group in self.groups.values() if group.plain]
+
+    @property
+    def made(self) -> list[Instruction]:
+        """The instructions that have a maker."""
+        return self.instructions[LAST_LITERAL:]
+
+    def of_group(self, group: Group) -> list[Instruction]:
+        """The instructions of a group."""
+        return [instruction for instruction in self.instructions if instruction.group == group]
+
+
+class _Reader:
+    """What is known of a table while it is read. `classes` are the names of the classes of registers."""
+
+    def __init__(self, classes: list[str]):
+        self.classes = classes
+        self.groups = Names("group")
+        self.kinds = Names("kind")
+        self.instructions = Names("instruction")
+
+    def record(self, record: Record) -> None:
+        """Reads a record by its first word."""
+        head = record.head
+        word = head.text.split()[0]
+        if word in ("plain", "group", "kind"):
+            for line in record.lines:
+                line.fail("this line belongs to no instruction")
+            self.declaration(word, head.behind())
+        else:
+            self.instruction(record)
+
+    def declaration(self, word: str, line: Line) -> None:
+        """A group, or a kind."""
+        if word == "group":
+            self.groups.add(line.name(line.text), Group(line.text, ""), line)
+            return
+        name, words = line.halves()
+        if word == "plain":
+            self.groups.add(line.name(name), Group(name, words), line)
+        else:
+            self.kinds.add(line.name(name), words, line)
+
+    def instruction(self, record: Record) -> None:
+        """An instruction: its head, what it does, its fields, and its test."""
+        head = record.head
+        name, _, group = (half.strip() for half in head.text.partition(":"))
+        one = Instruction(head.name(name), self.groups.find(group, head))
+        self.instructions.add(name, one, head)
+        for line in record.lines:
+            if line.text.startswith("|"):
+                says = one.fields[-1].says if one.fields else one.says
+                says.append(line.text[1:].strip())
+            elif line.text.split()[0] == "if":
+                self.test(one, line.behind())
+            else:
+                self.field(one, line)
+        if not one.says:
+            head.fail(f"nothing is said of the instruction `{name}`")
+        if len(self.instructions) > LAST_LITERAL and not _can_be_made(one):
+            head.fail(f"behind the instruction {LAST_LITERAL} `{name}` has to be a register, a `Mode` and `Flags`")
+
+    def field(self, one: Instruction, line: Line) -> None:
+        """A field of an instruction."""
+        found = FIELD.fullmatch(line.text)
+        if not found:
+            line.fail("`FIELD: WHAT | WORDS` is wanted")
+        name, what, says = found.groups()
+        if one.field_of(name):
+            line.fail(f"the field `{name}` stands here a second time")
+        way, _, of_class = what.partition(" ")
+        if way in ("writes", "reads"):
+            one.fields.append(Field(name, way, of_class, "", [says]))
+            self.register(one, of_class, line)
+        else:
+            one.fields.append(Field(name, "is", what, self.kinds.find(what, line), [says]))
+
+    def register(self, one: Instruction, of_class: str, line: Line) -> None:
+        """The class of a register, which it has in a group of plain words alone."""
+        if not one.group.plain and of_class:
+            line.fail(f"a register has no class in the group `{one.group.name}`")
+        call = class_call(of_class)
+        if call:
+            _known(one, call, line)
+        elif one.group.plain and of_class not in self.classes:
+            line.fail(f"there is no class `{of_class}`")
+
+    def test(self, one: Instruction, line: Line) -> None:
+        """What must hold beside the classes."""
+        if not one.group.plain:
+            line.fail(f"an instruction has no test in the group `{one.group.name}`")
+        if one.test:
+            line.fail("`if` stands here a second time")
+        tests = tests_of(line)
+        if len(tests) > 1:
+            line.fail("one test is wanted")
+        _known(one, tests[0], line)
+        one.test = tests[0]
+
+    def table(self) -> InstructionTable:
+        """What was read."""
+        return InstructionTable(self.groups, list(self.instructions.values()))
+
+
+def _known(one: Instruction, test: Test, line: Line) -> None:
+    """Sees that the values of a test are fields."""
+    for value in test.values:
+        if value != VIRTUALS and not one.field_of(value):
+            line.fail(f"the instruction `{one.name}` has no field `{value}`")
+
+
+def _can_be_made(one: Instruction) -> bool:
+    """Whether it is a register, an address, and what is known of the access."""
+    return [one.way == "is" and one.what for one in one.fields] == [False, *MADE]
+
+
+def class_call(of_class: str) -> Call | None:
+    """The function that gives a class, where one does."""
+    found = re.fullmatch(r"(\w+)\((\w+)\)", of_class)
+    return Call(found[1], (found[2],)) if found else None
+
+
+def instruction_table_of(text: str, file: str, classes: list[str]) -> InstructionTable:
+    """The table of a text. `classes` are the names of the classes of registers."""
+    reader = _Reader(classes)
+    for record in records_of(text, file):
+        reader.record(record)
+    return reader.table()
