@@ -34,7 +34,7 @@ def left_over(files: Files, crate: str, mark: str) -> list[str]:
     """The files of a crate that say that they are written, and are not among those that are."""
     found = []
     for folder in "src", "specs", "proofs":
-        for path in sorted((ROOT / crate / folder).rglob("*.*t")):
+        for path in sorted((ROOT / crate / folder).rglob("*.*")):
             name = str(path.relative_to(ROOT))
             if name not in files and mark in path.read_text(encoding="utf-8").split("\n", 1)[0]:
                 found.append(name)

@@ -121,6 +121,7 @@ class Compare:
 
     @property
     def values(self) -> tuple[str, ...]:
+        """Its value alone."""
         return (self.value,)
 
 
@@ -146,14 +147,17 @@ class _Tokens:
         return token
 
     def name(self) -> str:
+        """The next token, which has to be a name."""
         return self.line.name(self.take())
 
     def value(self) -> str:
+        """The next token, which has to be a name, or `&` and a name."""
         token = self.take()
         self.line.name(token.removeprefix("&"))
         return token
 
     def number(self) -> str:
+        """The next token, which has to be a number."""
         token = self.take()
         if not NUMBER.fullmatch(token):
             self.line.fail(f"a number is wanted, and {token} stands there")

@@ -1,7 +1,7 @@
 """The lemmas of crates/a64_rows that repeat the table of rows: one function for each file of proofs/."""
 from __future__ import annotations
 
-from .layout import INDENT, argument, chain, spaced, use
+from .layout import INDENT, argument, spaced, use
 from .row_specs import ROW, VARIANTS, title, variants
 from .row_table import Row, RowTable
 

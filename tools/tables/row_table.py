@@ -28,6 +28,7 @@ class Place:
 
     @property
     def width(self) -> int:
+        """How many bits it has."""
         return self.high - self.low + 1
 
     @property
