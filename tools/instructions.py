@@ -1,6 +1,7 @@
 #!/usr/bin/env python3
-"""Writes the files of crates/a64_inst that repeat the table of instructions, tables/instructions.txt, and the
-variants of `Inst` in its src/inst.rt.
+"""Writes the files of crates/a64_inst that repeat the table of instructions, tables/instructions.txt, the variants of
+`Inst` in its src/inst.rt, what must hold of plain words in its specs/Sheets.antt, and their words in src/word/plain.rt of
+crates/a64_emit.
 
 Usage: tools/instructions.py [--check | --test]
 
@@ -13,12 +14,16 @@ import sys
 from functools import partial
 from typing import Callable
 
-from tables import files, instruction_files
+from tables import files, instruction_files, instruction_specs
+from tables.grammar import snake_case
 from tables.instruction_table import InstructionTable, instruction_table_of
 from tables.script import Script
 
 TABLE = "tables/instructions.txt"
 CRATE = "crates/a64_inst"
+INST = "crates/a64_inst/src/inst.rt"
+SHEETS = "crates/a64_inst/specs/Sheets.antt"
+WORDS = "crates/a64_emit/src/word/plain.rt"
 COMMAND = "python3 tools/instructions.py"
 MARK = files.mark_of(COMMAND, TABLE)
 CLASSES = "crates/a64_operand/src/class.rt"
@@ -43,8 +48,10 @@ def written(table: InstructionTable) -> files.Files:
     }
     for one in table.made:
         crate[f"proofs/inst/Inst/{one.maker}/Proof.antt"] = partial(instruction_files.maker_proof, one)
-    found = {f"{CRATE}/{path}": partial(whole, path, lines) for path, lines in crate.items()}
-    return {f"{CRATE}/src/inst.rt": lambda: variants(table), **found}
+    found: files.Files = {f"{CRATE}/{path}": partial(whole, path, lines) for path, lines in crate.items()}
+    for path, parts in {INST: variants, SHEETS: rests, WORDS: words}.items():
+        found[path] = partial(with_parts, path, parts, table)
+    return found
 
 
 def whole(path: str, lines: Callable[[], list[str]]) -> list[str]:
@@ -52,10 +59,31 @@ def whole(path: str, lines: Callable[[], list[str]]) -> list[str]:
     return files.marked(path, MARK, lines())
 
 
-def variants(table: InstructionTable) -> list[str]:
-    """What src/inst.rt has to be: its variants are written, and what stands around them is by hand."""
+def with_parts(path: str, parts: Callable[[InstructionTable], list[files.Part]], table: InstructionTable) -> list[str]:
+    """What a file has to be of which parts are written."""
+    return files.with_parts(path, parts(table))
+
+
+def variants(table: InstructionTable) -> list[files.Part]:
+    """The variants of `Inst`."""
     lines = [f"    // {MARK}", *instruction_files.variants(table)]
-    return files.region(f"{CRATE}/src/inst.rt", "pub enum Inst {", "}", lines)
+    return [files.Part(("pub enum Inst {",), "}", lines)]
+
+
+def rests(table: InstructionTable) -> list[files.Part]:
+    """What must hold of plain words beside the classes of their registers."""
+    lines = [f"-- {MARK}", *instruction_specs.has_rest(table)]
+    return [files.Part(("abbrev pub has_rest :",), "has_rest virtuals _ = true", lines)]
+
+
+def words(table: InstructionTable) -> list[files.Part]:
+    """The words of each group of plain words."""
+    parts = []
+    for group in table.plain_groups:
+        lines = [f"        // {MARK}", *instruction_files.word_arms(table, group)]
+        behind = (f"pub fn {snake_case(group.name)}_word(", "    word_arms!(")
+        parts.append(files.Part(behind, "    )", lines))
+    return parts
 
 
 if __name__ == "__main__":

@@ -1,6 +1,7 @@
 """Writes files from a table, or holds those that stand against it."""
 from __future__ import annotations
 
+from dataclasses import dataclass
 from itertools import zip_longest
 from pathlib import Path
 from typing import Callable
@@ -21,13 +22,33 @@ def marked(path: str, mark: str, lines: list[str]) -> list[str]:
     return [f"{'//' if path.endswith('.rt') else '--'} {mark}", *lines]
 
 
-def region(path: str, opening: str, closing: str, lines: list[str]) -> list[str]:
-    """A file with these lines between the one that is `opening` and the next that is `closing`."""
+@dataclass(frozen=True)
+class Part:
+    """A part of a file that is written: behind the lines that begin so, one after another, and before the next line
+    that is `closing`.
+    """
+
+    behind: tuple[str, ...]
+    closing: str
+    lines: list[str]
+
+    def put(self, path: str, there: list[str]) -> list[str]:
+        """The lines of the file with the part."""
+        first = 0
+        for start in self.behind:
+            found = [number for number in range(first, len(there)) if there[number].startswith(start)]
+            if not found:
+                raise SystemExit(f"{path}: there is no line that begins with `{start}`")
+            first = found[0] + 1
+        return [*there[:first], *self.lines, *there[there.index(self.closing, first):]]
+
+
+def with_parts(path: str, parts: list[Part]) -> list[str]:
+    """A file that stands by hand, but for these parts."""
     there = (ROOT / path).read_text(encoding="utf-8").rstrip("\n").split("\n")
-    if opening not in there:
-        raise SystemExit(f"{path}: there is no line `{opening}`")
-    first = there.index(opening) + 1
-    return [*there[:first], *lines, *there[there.index(closing, first):]]
+    for part in parts:
+        there = part.put(path, there)
+    return there
 
 
 def left_over(files: Files, crate: str, mark: str) -> list[str]:

@@ -11,7 +11,7 @@ from typing import NoReturn
 
 NAME = re.compile(r"[A-Za-z]\w*")
 NUMBER = re.compile(r"0x[0-9a-f]+|[0-9]+")
-TOKEN = re.compile(r"\s*(?:(&?[A-Za-z]\w*|0x[0-9a-f]+|[0-9]+|&&|[!<>=]=|<)|([(),])|(\S))")
+TOKEN = re.compile(r"\s*(?:(&?[A-Za-z][\w.]*|0x[0-9a-f]+|[0-9]+|&&|[!<>=]=|<)|([(),])|(\S))")
 SIGNS = ("==", "!=", "<", "<=", ">=")
 
 
@@ -99,33 +99,48 @@ def snake_case(name: str) -> str:
     return re.sub(r"(?<=[a-z0-9])(?=[A-Z])|(?<=[A-Z])(?=[A-Z][a-z])", "_", name).lower()
 
 
-# ---- expressions: tests that are called, and comparisons with a number, joined by `&&`
+# ---- expressions: calls of functions, and comparisons with a number, joined by `&&`
 #
-# A value is the name of a field. Behind `&` it is given as a reference.
+# A value is a number, a name, which may have parts behind dots, or a call. Behind `&` a name is given as a reference.
 
 @dataclass(frozen=True)
 class Call:
     """A function of values."""
 
     name: str
-    values: tuple[str, ...]
+    values: tuple[Value, ...]
+
+
+# A name or a number, as it stands, or a call.
+Value = str | Call
 
 
 @dataclass(frozen=True)
 class Compare:
     """A value beside a number, with one of the signs between."""
 
-    value: str
+    value: Value
     sign: str
     number: str
 
     @property
-    def values(self) -> tuple[str, ...]:
+    def values(self) -> tuple[Value, ...]:
         """Its value alone."""
         return (self.value,)
 
 
 Test = Call | Compare
+
+
+def names_in(values: tuple[Value, ...]) -> list[str]:
+    """The names that stand in values, without `&` and without what is behind a dot."""
+    names: list[str] = []
+    for value in values:
+        if isinstance(value, Call):
+            names += names_in(value.values)
+        elif not NUMBER.fullmatch(value):
+            names.append(value.removeprefix("&").partition(".")[0])
+    return names
 
 
 class _Tokens:
@@ -150,12 +165,6 @@ class _Tokens:
         """The next token, which has to be a name."""
         return self.line.name(self.take())
 
-    def value(self) -> str:
-        """The next token, which has to be a name, or `&` and a name."""
-        token = self.take()
-        self.line.name(token.removeprefix("&"))
-        return token
-
     def number(self) -> str:
         """The next token, which has to be a number."""
         token = self.take()
@@ -163,24 +172,50 @@ class _Tokens:
             self.line.fail(f"a number is wanted, and {token} stands there")
         return token
 
+    def value(self) -> Value:
+        """The next value."""
+        token = self.take()
+        if self.items[:1] == ["("]:
+            return self.call(token)
+        if not NUMBER.fullmatch(token):
+            for part in token.removeprefix("&").split("."):
+                self.line.name(part)
+        return token
 
-def _test_of(tokens: _Tokens) -> Test:
-    """One test: a call, or a comparison."""
-    name = tokens.name()
-    sign = tokens.take("(", *SIGNS)
-    if sign != "(":
-        return Compare(name, sign, tokens.number())
-    values = [tokens.value()]
-    while tokens.take(",", ")") == ",":
-        values.append(tokens.value())
-    return Call(name, tuple(values))
+    def call(self, name: str) -> Call:
+        """The rest of a call, behind the name."""
+        self.line.name(name)
+        self.take("(")
+        if self.items[:1] == [")"]:
+            self.take()
+            return Call(name, ())
+        values = [self.value()]
+        while self.take(",", ")") == ",":
+            values.append(self.value())
+        return Call(name, tuple(values))
+
+    def test(self) -> Test:
+        """The next test: a call, or a comparison."""
+        name = self.name()
+        if self.items[:1] == ["("]:
+            return self.call(name)
+        return Compare(name, self.take("(", *SIGNS), self.number())
 
 
 def tests_of(line: Line) -> list[Test]:
     """The tests of an expression."""
     tokens = _Tokens(line)
-    tests = [_test_of(tokens)]
+    tests = [tokens.test()]
     while tokens.items:
         tokens.take("&&")
-        tests.append(_test_of(tokens))
+        tests.append(tokens.test())
     return tests
+
+
+def call_of(line: Line) -> Call:
+    """The call that an expression is."""
+    tokens = _Tokens(line)
+    call = tokens.call(tokens.name())
+    if tokens.items:
+        line.fail(f"{tokens.items[0]} stands behind the call")
+    return call

@@ -4,7 +4,7 @@ from __future__ import annotations
 import re
 from dataclasses import dataclass, field
 
-from .grammar import Call, Line, Names, Record, Test, records_of, snake_case, tests_of
+from .grammar import Call, Line, Names, Record, Test, Value, call_of, names_in, records_of, snake_case, tests_of
 
 FIELD = re.compile(r"(\w+): ([^|]*?)\s*\|\s*(.*)")
 
@@ -14,8 +14,9 @@ LAST_LITERAL = 128
 # What a maker makes: a register, and of these kinds its address and what is known of the access.
 MADE = ["Mode", "Flags"]
 
-# What a test may ask beside fields.
+# What an expression may name beside fields and the variants of enumerations.
 VIRTUALS = "virtuals"
+BESIDE = (VIRTUALS, "true", "false")
 
 
 @dataclass(frozen=True)
@@ -46,22 +47,23 @@ class Field:
 
 @dataclass
 class Instruction:
-    """An instruction: its name, its group, what is said of it, its fields, and what must hold of them."""
+    """An instruction: its name, its group, what is said of it, its fields, what must hold of them, and its word."""
 
     name: str
     group: Group
     says: list[str] = field(default_factory=list)
     fields: list[Field] = field(default_factory=list)
     test: Test | None = None
+    word: Call | None = None
 
     @property
     def maker(self) -> str:
         """The name of the function that makes it."""
         return snake_case(self.name)
 
-    def field_of(self, value: str) -> Field | None:
-        """The field that a value of a test names, where it names one."""
-        return next((one for one in self.fields if one.name == value.removeprefix("&")), None)
+    def field_of(self, value: Value) -> Field | None:
+        """The field that a value is, where it is one."""
+        return next((one for one in self.fields if isinstance(value, str) and one.name == value.removeprefix("&")), None)
 
 
 @dataclass
@@ -129,10 +131,14 @@ class _Reader:
                 says.append(line.text[1:].strip())
             elif line.text.split()[0] == "if":
                 self.test(one, line.behind())
+            elif line.text.split()[0] == "word":
+                self.word(one, line.behind())
             else:
                 self.field(one, line)
         if not one.says:
             head.fail(f"nothing is said of the instruction `{name}`")
+        if one.group.plain and not one.word:
+            head.fail(f"the plain word `{name}` has no word")
         if len(self.instructions) > LAST_LITERAL and not _can_be_made(one):
             head.fail(f"behind the instruction {LAST_LITERAL} `{name}` has to be a register, a `Mode` and `Flags`")
 
@@ -157,7 +163,7 @@ class _Reader:
             line.fail(f"a register has no class in the group `{one.group.name}`")
         call = class_call(of_class)
         if call:
-            _known(one, call, line)
+            _known(one, call.values, line)
         elif one.group.plain and of_class not in self.classes:
             line.fail(f"there is no class `{of_class}`")
 
@@ -170,19 +176,28 @@ class _Reader:
         tests = tests_of(line)
         if len(tests) > 1:
             line.fail("one test is wanted")
-        _known(one, tests[0], line)
+        _known(one, tests[0].values, line)
         one.test = tests[0]
+
+    def word(self, one: Instruction, line: Line) -> None:
+        """The function that gives a plain word."""
+        if not one.group.plain:
+            line.fail(f"an instruction has no word in the group `{one.group.name}`")
+        if one.word:
+            line.fail("`word` stands here a second time")
+        one.word = call_of(line)
+        _known(one, one.word.values, line)
 
     def table(self) -> InstructionTable:
         """What was read."""
         return InstructionTable(self.groups, list(self.instructions.values()))
 
 
-def _known(one: Instruction, test: Test, line: Line) -> None:
-    """Sees that the values of a test are fields."""
-    for value in test.values:
-        if value != VIRTUALS and not one.field_of(value):
-            line.fail(f"the instruction `{one.name}` has no field `{value}`")
+def _known(one: Instruction, values: tuple[Value, ...], line: Line) -> None:
+    """Sees that the names in values are fields, or what an expression may name beside."""
+    for name in names_in(values):
+        if name not in BESIDE and not name[0].isupper() and not one.field_of(name):
+            line.fail(f"the instruction `{one.name}` has no field `{name}`")
 
 
 def _can_be_made(one: Instruction) -> bool:

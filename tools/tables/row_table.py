@@ -237,7 +237,7 @@ class _Reader:
                     line.fail(f"the test `{test.name}` takes {self.tests[test.name]} values")
             for value in test.values:
                 if value not in row.fields:
-                    line.fail(f"the row `{row.name}` has no field `{value}`")
+                    line.fail(f"the row `{row.name}` has no field `{value.name if isinstance(value, Call) else value}`")
         return tests
 
     def table(self) -> RowTable:

@@ -145,6 +145,7 @@ sheet _ = []
 
 -- what must hold beside the classes of the registers
 abbrev pub has_rest : VirtualRegisters → Inst → Bool
+-- Written by `python3 tools/instructions.py` from tables/instructions.txt.
 has_rest virtuals (insts.AluRRImm12 alu_op size rd rn imm12) = integer.is_add_sub_imm12 alu_op imm12
 has_rest virtuals (insts.AluRRImmLogic alu_op size rd rn imml) = integer.is_logic_imm alu_op size imml
 has_rest virtuals (insts.AluRRImmShift alu_op size rd rn immshift) = integer.is_shift_by alu_op size immshift

@@ -65,6 +65,7 @@ pub fn immediate_word(inst: &Inst, frame: &FrameLayout, info: &EmitInfo) -> u32
     ensures { Some result ≡ only_word (shape_of frame.now info.now inst.now) }
 {
     word_arms!(inst;
+        // Written by `python3 tools/instructions.py` from tables/instructions.txt.
         AluRRImm12 { alu_op, size, rd, rn, imm12 } => alu_rr_imm12_word(*alu_op, *size, *rd, *rn, *imm12);
         AluRRImmLogic { alu_op, size, rd, rn, imml } => alu_rr_imm_logic_word(*alu_op, *size, *rd, *rn, *imml);
         AluRRImmShift { alu_op, size, rd, rn, immshift } => alu_rr_imm_shift_word(*alu_op, *size, *rd, *rn, *immshift);
@@ -86,6 +87,7 @@ pub fn register_word(inst: &Inst, frame: &FrameLayout, info: &EmitInfo) -> u32
     ensures { Some result ≡ only_word (shape_of frame.now info.now inst.now) }
 {
     word_arms!(inst;
+        // Written by `python3 tools/instructions.py` from tables/instructions.txt.
         AluRRR { alu_op, size, rd, rn, rm } => alu_rrr_word(*alu_op, *size, *rd, *rn, *rm);
         AluRRRR { alu_op, size, rd, rn, rm, ra } => product_word(*alu_op, register_field(*ra), two_registers(*size, *rd, *rn, *rm));
         AluRRRShift { alu_op, size, rd, rn, rm, shiftop } => shifted_word(*alu_op, *shiftop, two_registers(*size, *rd, *rn, *rm));
@@ -111,6 +113,7 @@ pub fn float_word(inst: &Inst, frame: &FrameLayout, info: &EmitInfo) -> u32
     ensures { Some result ≡ only_word (shape_of frame.now info.now inst.now) }
 {
     word_arms!(inst;
+        // Written by `python3 tools/instructions.py` from tables/instructions.txt.
         FpuMove32 { rd, rn } => move_word(ScalarSize::Size32, *rd, *rn);
         FpuMove64 { rd, rn } => move_word(ScalarSize::Size64, *rd, *rn);
         FpuMove128 { rd, rn } => move_vector_word(*rd, *rn);
@@ -141,6 +144,7 @@ pub fn vector_word(inst: &Inst, frame: &FrameLayout, info: &EmitInfo) -> u32
     ensures { Some result ≡ only_word (shape_of frame.now info.now inst.now) }
 {
     word_arms!(inst;
+        // Written by `python3 tools/instructions.py` from tables/instructions.txt.
         VecExtend { t, rd, rn, high_half, lane_size } => extend_lanes_word(*t, *high_half, *lane_size, *rd, *rn);
         VecRRLong { op, rd, rn, high_half } => misc_word(u32::from(*high_half), long_fields(*op), *rd, *rn);
         VecRRNarrowLow { op, rd, rn, lane_size } => misc_word(0, narrow_fields(*op, *lane_size), *rd, *rn);
@@ -167,6 +171,7 @@ pub fn vector_move_word(inst: &Inst, frame: &FrameLayout, info: &EmitInfo) -> u3
     ensures { Some result ≡ only_word (shape_of frame.now info.now inst.now) }
 {
     word_arms!(inst;
+        // Written by `python3 tools/instructions.py` from tables/instructions.txt.
         MovToVec { rd, ri, rn, idx, size } => insert_word(*size, *idx, *rd, *rn);
         MovFromVec { rd, rn, idx, size } => unsigned_move_word(*size, *idx, *rd, *rn);
         MovFromVecSigned { rd, rn, idx, size, scalar_size } => signed_move_word(*size, *idx, *scalar_size, *rd, *rn);
@@ -190,6 +195,7 @@ pub fn system_word(inst: &Inst, frame: &FrameLayout, info: &EmitInfo) -> u32
     ensures { Some result ≡ only_word (shape_of frame.now info.now inst.now) }
 {
     word_arms!(inst;
+        // Written by `python3 tools/instructions.py` from tables/instructions.txt.
         Csdb { } => csdb_word();
         Fence { } => enc_dmb_ish();
         Paci { key } => paci_word(*key);

@@ -1,0 +1,54 @@
+"""What the definitions of crates/a64_inst repeat of the table of instructions."""
+from __future__ import annotations
+
+from .grammar import Call, Test, Value
+from .instruction_table import Field, Instruction, InstructionTable
+
+# The module that has the tests of a group's operands.
+MODULES = {
+    "Immediate": "integer",
+    "Register": "integer",
+    "Float": "float",
+    "Vector": "vector",
+    "VectorMove": "vector",
+}
+
+# The tests that are imported by their own names, as definitions call them.
+OWN_NAMES = {
+    "is_float_size": "has_ftype",
+    "is_lane": "is_lane",
+    "is_near": "is_near",
+    "is_same_register": "is_same_register",
+    "is_wide_in": "is_wide_in",
+}
+
+
+def name_of(part: Field) -> str:
+    """The name of a field in definitions, where the size of a scalar is `scalar`."""
+    return "scalar" if (part.name, part.what) == ("size", "ScalarSize") else part.name
+
+
+def pattern_of(one: Instruction) -> str:
+    """An instruction as a pattern."""
+    return f"(insts.{' '.join([one.name, *map(name_of, one.fields)])})" if one.fields else f"insts.{one.name}"
+
+
+def value_of(value: Value, one: Instruction) -> str:
+    """A value of a test."""
+    part = one.field_of(value)
+    return name_of(part) if part else value
+
+
+def test_of(test: Test, one: Instruction) -> str:
+    """What must hold beside the classes."""
+    values = [value_of(value, one) for value in test.values]
+    if isinstance(test, Call):
+        name = OWN_NAMES.get(test.name) or f"{MODULES[one.group.name]}.{test.name}"
+        return " ".join([name, *values])
+    return f"nat_lt {values[0]} {test.number}"
+
+
+def has_rest(table: InstructionTable) -> list[str]:
+    """specs/Sheets.antt: what must hold beside the classes of the registers."""
+    plain = [one for group in table.plain_groups for one in table.of_group(group)]
+    return [f"has_rest virtuals {pattern_of(one)} = {test_of(one.test, one)}" for one in plain if one.test]
