@@ -1,7 +1,6 @@
 #!/usr/bin/env python3
-"""Writes the files of crates/a64_inst that repeat the table of instructions, tables/instructions.txt, the variants of
-`Inst` in its src/inst.rt, what must hold of plain words in its specs/Sheets.antt, and their words in src/word/plain.rt of
-crates/a64_emit.
+"""Writes the files of crates/a64_inst that repeat the table of instructions, tables/instructions.txt, and the parts of
+files by hand that do (`PARTS`).
 
 Usage: tools/instructions.py [--check | --test]
 
@@ -21,9 +20,6 @@ from tables.script import Script
 
 TABLE = "tables/instructions.txt"
 CRATE = "crates/a64_inst"
-INST = "crates/a64_inst/src/inst.rt"
-SHEETS = "crates/a64_inst/specs/Sheets.antt"
-WORDS = "crates/a64_emit/src/word/plain.rt"
 COMMAND = "python3 tools/instructions.py"
 MARK = files.mark_of(COMMAND, TABLE)
 CLASSES = "crates/a64_operand/src/class.rt"
@@ -49,7 +45,7 @@ def written(table: InstructionTable) -> files.Files:
     for one in table.made:
         crate[f"proofs/inst/Inst/{one.maker}/Proof.antt"] = partial(instruction_files.maker_proof, one)
     found: files.Files = {f"{CRATE}/{path}": partial(whole, path, lines) for path, lines in crate.items()}
-    for path, parts in {INST: variants, SHEETS: rests, WORDS: words}.items():
+    for path, parts in PARTS.items():
         found[path] = partial(with_parts, path, parts, table)
     return found
 
@@ -72,8 +68,40 @@ def variants(table: InstructionTable) -> list[files.Part]:
 
 def rests(table: InstructionTable) -> list[files.Part]:
     """What must hold of plain words beside the classes of their registers."""
-    lines = [f"-- {MARK}", *instruction_specs.has_rest(table)]
-    return [files.Part(("abbrev pub has_rest :",), "has_rest virtuals _ = true", lines)]
+    return [equations("has_rest", "has_rest virtuals _ = true", instruction_specs.has_rest(table))]
+
+
+def of_access(table: InstructionTable) -> list[files.Part]:
+    """Loads and stores of one register as data, and back."""
+    refs = [f"            // {MARK}", *instruction_files.access_arms(table)]
+    made = [f"            // {MARK}", *instruction_files.made_arms(table)]
+    return [
+        files.Part(("    pub fn access_ref(", "        let (op, reg, mem, flags) = match"), "            _ => return None,", refs),
+        files.Part(("    pub fn from_access(", "        match access.op {"), "        }", made),
+    ]
+
+
+def equations(name: str, closing: str, lines: list[str]) -> files.Part:
+    """The equations of a definition, before the line that closes them."""
+    return files.Part((f"abbrev pub {name} :",), closing, [f"-- {MARK}", *lines])
+
+
+def access_fields(table: InstructionTable) -> list[files.Part]:
+    """The fields of the words of loads and stores of one register, and what they are."""
+    return [
+        equations("fields_of", "", instruction_specs.fields_of(table)),
+        equations("moves_vector", "moves_vector _ = false", instruction_specs.moves_vector(table)),
+        equations("loads", "loads _ = true", instruction_specs.loads(table)),
+    ]
+
+
+def accesses(table: InstructionTable) -> list[files.Part]:
+    """Loads and stores of one register as data, and back, in definitions."""
+    return [
+        equations("access_type", "", instruction_specs.access_type(table)),
+        equations("access_of", "access_of _ = None", instruction_specs.access_of(table)),
+        equations("inst_with", "", instruction_specs.inst_with(table)),
+    ]
 
 
 def words(table: InstructionTable) -> list[files.Part]:
@@ -84,6 +112,17 @@ def words(table: InstructionTable) -> list[files.Part]:
         behind = (f"pub fn {snake_case(group.name)}_word(", "    word_arms!(")
         parts.append(files.Part(behind, "    )", lines))
     return parts
+
+
+# The files of which parts are written, and what gives these.
+PARTS = {
+    "crates/a64_ops/specs/Accesses.antt": access_fields,
+    "crates/a64_inst/specs/Accesses.antt": accesses,
+    "crates/a64_inst/specs/Sheets.antt": rests,
+    "crates/a64_inst/src/access.rt": of_access,
+    "crates/a64_inst/src/inst.rt": variants,
+    "crates/a64_emit/src/word/plain.rt": words,
+}
 
 
 if __name__ == "__main__":

@@ -1,4 +1,4 @@
-"""What crates/a64_inst and a64_emit repeat of the table of instructions: one function for each file."""
+"""What the code of crates/a64_inst and a64_emit repeats of the table of instructions: one function for each file."""
 from __future__ import annotations
 
 from .grammar import NUMBER, Call, Test, Value, snake_case
@@ -50,7 +50,7 @@ def variants(table: InstructionTable) -> list[str]:
 
 # ---- lists
 
-def value_of(value: str, one: Instruction) -> str:
+def test_value(value: str, one: Instruction) -> str:
     """A value of a test, in an arm whose fields are references."""
     if value == VIRTUALS:
         return f"${VIRTUALS}"
@@ -64,7 +64,7 @@ def test_of(test: Test | None, one: Instruction) -> str:
     """What must hold beside the classes, in such an arm."""
     if test is None:
         return "true"
-    values = [value_of(value, one) for value in test.values]
+    values = [test_value(value, one) for value in test.values]
     return f"{test.name}({', '.join(values)})" if isinstance(test, Call) else f"{values[0]} {test.sign} {test.number}"
 
 
@@ -167,3 +167,28 @@ def word_arms(table: InstructionTable, group: Group) -> list[str]:
         fields = ", ".join(part.name for part in one.fields)
         arms.append(f"{one.name} {{ {fields + ' ' if fields else ''}}} => {code_of(one.word, one)};")
     return indented(arms, 2)
+
+
+# ---- loads and stores of one register
+
+def access_arms(table: InstructionTable) -> list[str]:
+    """src/access.rt: the operator, the register, the address and what is known of it, of each."""
+    arms = []
+    for one in table.accesses:
+        names = [part.name for part in one.fields]
+        values = [test_value(names[0], one), *names[1:]]
+        arms.append(f"Inst::{one.name} {{ {', '.join(names)} }} => (AccessOp::{one.name}, {', '.join(values)}),")
+    return indented(arms, 3)
+
+
+def made_arms(table: InstructionTable) -> list[str]:
+    """src/access.rt: the instruction of each operator, by its maker where it has one."""
+    arms: list[str] = []
+    for one in table.accesses:
+        register = "Writable::from_reg(reg)" if one.loads else "reg"
+        if one in table.made:
+            arms.append(f"AccessOp::{one.name} => Inst::{one.maker}({register}, mem, flags),")
+        else:
+            fields = [f"{one.fields[0].name}: {register},", "mem,", "flags,"]
+            arms += [f"AccessOp::{one.name} => Inst::{one.name} {{", *indented(fields), "},"]
+    return indented(arms, 3)

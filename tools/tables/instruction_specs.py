@@ -1,4 +1,4 @@
-"""What the definitions of crates/a64_inst repeat of the table of instructions."""
+"""What the definitions of crates/a64_inst and a64_ops repeat of the table of instructions."""
 from __future__ import annotations
 
 from .grammar import Call, Test, Value
@@ -52,3 +52,47 @@ def has_rest(table: InstructionTable) -> list[str]:
     """specs/Sheets.antt: what must hold beside the classes of the registers."""
     plain = [one for group in table.plain_groups for one in table.of_group(group)]
     return [f"has_rest virtuals {pattern_of(one)} = {test_of(one.test, one)}" for one in plain if one.test]
+
+
+# ---- loads and stores of one register
+
+def fields_of(table: InstructionTable) -> list[str]:
+    """specs/Accesses.antt (a64_ops): the fields of their words."""
+    return [
+        f"fields_of {one.name} = record {{ size = {one.access.size}; vector = {one.access.vector}; opc = {one.access.opc} }}"
+        for one in table.accesses
+    ]
+
+
+def moves_vector(table: InstructionTable) -> list[str]:
+    """specs/Accesses.antt (a64_ops): which move vector registers."""
+    return [f"moves_vector {one.name} = true" for one in table.accesses if one.access.vector]
+
+
+def loads(table: InstructionTable) -> list[str]:
+    """specs/Accesses.antt (a64_ops): which do not load."""
+    return [f"loads {one.name} = false" for one in table.accesses if not one.loads]
+
+
+def access_type(table: InstructionTable) -> list[str]:
+    """specs/Accesses.antt: the type of the value that is moved."""
+    return [f"access_type ops.{one.name} = {one.access.type}" for one in table.accesses]
+
+
+def access_of(table: InstructionTable) -> list[str]:
+    """specs/Accesses.antt: an instruction as its operator, its register, its address and what is known of it."""
+    equations = []
+    for one in table.accesses:
+        parts = zip(("reg", "mem", "flags"), map(name_of, one.fields))
+        record = "; ".join([f"op = ops.{one.name}", *(f"{field} = {name}" for field, name in parts)])
+        equations.append(f"access_of {pattern_of(one)} = Some (record {{ {record} }})")
+    return equations
+
+
+def inst_with(table: InstructionTable) -> list[str]:
+    """specs/Accesses.antt: the instruction of an operator."""
+    equations = []
+    for one in table.accesses:
+        names = " ".join(map(name_of, one.fields))
+        equations.append(f"inst_with ops.{one.name} {names} = insts.{one.name} {names}")
+    return equations

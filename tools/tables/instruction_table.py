@@ -6,13 +6,14 @@ from dataclasses import dataclass, field
 
 from .grammar import Call, Line, Names, Record, Test, Value, call_of, names_in, records_of, snake_case, tests_of
 
+ACCESS = re.compile(r"(\w+) size ([0-3]) v ([01]) opc ([0-3])")
 FIELD = re.compile(r"(\w+): ([^|]*?)\s*\|\s*(.*)")
 
 # The prover has no rule for a literal of a variant behind this one, so each of these has a maker.
 LAST_LITERAL = 128
 
-# What a maker makes: a register, and of these kinds its address and what is known of the access.
-MADE = ["Mode", "Flags"]
+# What a load or a store of one register has behind the register: its address, and what is known of the access.
+ADDRESSED = ["Mode", "Flags"]
 
 # What an expression may name beside fields and the variants of enumerations.
 VIRTUALS = "virtuals"
@@ -45,9 +46,23 @@ class Field:
         return {"writes": "Writable<Reg>", "reads": "Reg"}.get(self.way, self.of_kind)
 
 
+@dataclass(frozen=True)
+class Access:
+    """What a load or a store of one register moves: the type of the value, and the fields size, V and opc of its
+    words.
+    """
+
+    type: str
+    size: int
+    vector: int
+    opc: int
+
+
 @dataclass
 class Instruction:
-    """An instruction: its name, its group, what is said of it, its fields, what must hold of them, and its word."""
+    """An instruction: its name, its group, what is said of it, its fields, and what must hold of them and the word
+    of a plain word, or what a load or a store of one register moves.
+    """
 
     name: str
     group: Group
@@ -55,11 +70,17 @@ class Instruction:
     fields: list[Field] = field(default_factory=list)
     test: Test | None = None
     word: Call | None = None
+    access: Access | None = None
 
     @property
     def maker(self) -> str:
         """The name of the function that makes it."""
         return snake_case(self.name)
+
+    @property
+    def loads(self) -> bool:
+        """Whether its first field is written."""
+        return self.fields[0].way == "writes"
 
     def field_of(self, value: Value) -> Field | None:
         """The field that a value is, where it is one."""
@@ -77,6 +98,11 @@ class InstructionTable:
     def plain_groups(self) -> list[Group]:
         """The groups of plain words."""
         return [group for group in self.groups.values() if group.plain]
+
+    @property
+    def accesses(self) -> list[Instruction]:
+        """The loads and stores of one register."""
+        return [one for one in self.instructions if one.access]
 
     @property
     def made(self) -> list[Instruction]:
@@ -133,14 +159,16 @@ class _Reader:
                 self.test(one, line.behind())
             elif line.text.split()[0] == "word":
                 self.word(one, line.behind())
+            elif line.text.split()[0] == "access":
+                self.access(one, line.behind())
             else:
                 self.field(one, line)
         if not one.says:
             head.fail(f"nothing is said of the instruction `{name}`")
         if one.group.plain and not one.word:
             head.fail(f"the plain word `{name}` has no word")
-        if len(self.instructions) > LAST_LITERAL and not _can_be_made(one):
-            head.fail(f"behind the instruction {LAST_LITERAL} `{name}` has to be a register, a `Mode` and `Flags`")
+        if len(self.instructions) > LAST_LITERAL and not one.access:
+            head.fail(f"behind the instruction {LAST_LITERAL} `{name}` has to be a load or a store of one register")
 
     def field(self, one: Instruction, line: Line) -> None:
         """A field of an instruction."""
@@ -188,6 +216,17 @@ class _Reader:
         one.word = call_of(line)
         _known(one, one.word.values, line)
 
+    def access(self, one: Instruction, line: Line) -> None:
+        """What a load or a store of one register moves."""
+        found = ACCESS.fullmatch(line.text)
+        if not found:
+            line.fail("`access TYPE size N v N opc N` is wanted")
+        if one.access:
+            line.fail("`access` stands here a second time")
+        if [part.way == "is" and part.what for part in one.fields] != [False, *ADDRESSED]:
+            line.fail(f"the fields of `{one.name}` have to be a register, a `Mode` and `Flags`")
+        one.access = Access(found[1], *map(int, found.groups()[1:]))
+
     def table(self) -> InstructionTable:
         """What was read."""
         return InstructionTable(self.groups, list(self.instructions.values()))
@@ -198,11 +237,6 @@ def _known(one: Instruction, values: tuple[Value, ...], line: Line) -> None:
     for name in names_in(values):
         if name not in BESIDE and not name[0].isupper() and not one.field_of(name):
             line.fail(f"the instruction `{one.name}` has no field `{name}`")
-
-
-def _can_be_made(one: Instruction) -> bool:
-    """Whether it is a register, an address, and what is known of the access."""
-    return [one.way == "is" and one.what for one in one.fields] == [False, *MADE]
 
 
 def class_call(of_class: str) -> Call | None:

@@ -22,6 +22,7 @@ type_has_load_form ty = if is_float_type ty || is_vector_type ty then is_float_w
 
 -- the type of the value that is moved
 abbrev pub access_type : AccessOp → IrType
+-- Written by `python3 tools/instructions.py` from tables/instructions.txt.
 access_type ops.ULoad8 = I8
 access_type ops.SLoad8 = I8
 access_type ops.ULoad16 = I16
@@ -44,6 +45,7 @@ access_type ops.FpuStore128 = I8X16
 
 -- a load or a store of one register as its operator, its register, its address and what is known of it
 abbrev pub access_of : Inst → Option Access
+-- Written by `python3 tools/instructions.py` from tables/instructions.txt.
 access_of (insts.ULoad8 rd mem flags) = Some (record { op = ops.ULoad8; reg = rd; mem = mem; flags = flags })
 access_of (insts.SLoad8 rd mem flags) = Some (record { op = ops.SLoad8; reg = rd; mem = mem; flags = flags })
 access_of (insts.ULoad16 rd mem flags) = Some (record { op = ops.ULoad16; reg = rd; mem = mem; flags = flags })
@@ -67,6 +69,7 @@ access_of _ = None
 
 -- the instruction of an operator
 abbrev pub inst_with : AccessOp → Reg → AMode → Option TrapCode → Inst
+-- Written by `python3 tools/instructions.py` from tables/instructions.txt.
 inst_with ops.ULoad8 rd mem flags = insts.ULoad8 rd mem flags
 inst_with ops.SLoad8 rd mem flags = insts.SLoad8 rd mem flags
 inst_with ops.ULoad16 rd mem flags = insts.ULoad16 rd mem flags

@@ -132,6 +132,7 @@ impl Inst {
         ensures { result ≡ access_of self.now }
     {
         let (op, reg, mem, flags) = match self {
+            // Written by `python3 tools/instructions.py` from tables/instructions.txt.
             Inst::ULoad8 { rd, mem, flags } => (AccessOp::ULoad8, rd.to_reg(), mem, flags),
             Inst::SLoad8 { rd, mem, flags } => (AccessOp::SLoad8, rd.to_reg(), mem, flags),
             Inst::ULoad16 { rd, mem, flags } => (AccessOp::ULoad16, rd.to_reg(), mem, flags),
@@ -183,6 +184,7 @@ impl Inst {
     {
         let (reg, mem, flags) = (access.reg, access.mem, access.flags);
         match access.op {
+            // Written by `python3 tools/instructions.py` from tables/instructions.txt.
             AccessOp::ULoad8 => Inst::ULoad8 {
                 rd: Writable::from_reg(reg),
                 mem,

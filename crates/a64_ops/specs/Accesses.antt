@@ -10,6 +10,7 @@ pub record AccessFields : Type 0 where
   pub opc : ℕ
 
 abbrev pub fields_of : AccessOp → AccessFields
+-- Written by `python3 tools/instructions.py` from tables/instructions.txt.
 fields_of ULoad8 = record { size = 0; vector = 0; opc = 1 }
 fields_of SLoad8 = record { size = 0; vector = 0; opc = 2 }
 fields_of ULoad16 = record { size = 1; vector = 0; opc = 1 }
@@ -41,6 +42,7 @@ opc_of op = (fields_of op).opc
 
 -- whether its register is a vector register
 abbrev pub moves_vector : AccessOp → Bool
+-- Written by `python3 tools/instructions.py` from tables/instructions.txt.
 moves_vector FpuLoad16 = true
 moves_vector FpuLoad32 = true
 moves_vector FpuLoad64 = true
@@ -53,6 +55,7 @@ moves_vector _ = false
 
 -- whether it loads
 abbrev pub loads : AccessOp → Bool
+-- Written by `python3 tools/instructions.py` from tables/instructions.txt.
 loads Store8 = false
 loads Store16 = false
 loads Store32 = false
