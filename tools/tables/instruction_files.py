@@ -39,7 +39,7 @@ def variant(one: Instruction) -> list[str]:
     """A variant of `Inst`."""
     if not one.fields:
         return [*documents(one.says), f"{one.name},"]
-    fields = [line for part in one.fields for line in [*documents(part.says), f"{part.name}: {part.type},"]]
+    fields = [line for part in one.fields for line in [*documents(part.says), f"{part.name}: {part.kind.type},"]]
     return [*documents(one.says), f"{one.name} {{", *indented(fields), "},"]
 
 
@@ -108,7 +108,7 @@ def maker(one: Instruction) -> list[str]:
     names = [part.name for part in one.fields]
     return [
         f"/// [`Inst::{one.name}`].",
-        f"pub(crate) fn {one.maker}({', '.join(f'{part.name}: {part.type}' for part in one.fields)}) -> Inst",
+        f"pub(crate) fn {one.maker}({', '.join(f'{part.name}: {part.kind.type}' for part in one.fields)}) -> Inst",
         f"    ensures {{ result ≡ insts.{one.name} {' '.join(names)} }}",
         "{",
         f"    Inst::{one.name} {{ {', '.join(names)} }}",

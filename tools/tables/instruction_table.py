@@ -28,22 +28,29 @@ class Group:
     plain: str
 
 
+@dataclass(frozen=True)
+class Kind:
+    """A kind of fields: its name, their type, and the kind of their values in a file."""
+
+    name: str
+    type: str
+    in_file: str
+
+
+REGISTERS = {"writes": Kind("Reg", "Writable<Reg>", "Reg"), "reads": Kind("Reg", "Reg", "Reg")}
+
+
 @dataclass
 class Field:
     """A field: its name, whether it `writes` or `reads` a register or `is` something else, its class or its
-    kind, the type of what is no register, and what is said of it.
+    kind, as the table has it, its kind, and what is said of it.
     """
 
     name: str
     way: str
     what: str
-    of_kind: str
+    kind: Kind
     says: list[str]
-
-    @property
-    def type(self) -> str:
-        """Its type."""
-        return {"writes": "Writable<Reg>", "reads": "Reg"}.get(self.way, self.of_kind)
 
 
 @dataclass(frozen=True)
@@ -61,7 +68,7 @@ class Access:
 @dataclass
 class Instruction:
     """An instruction: its name, its group, what is said of it, its fields, and what must hold of them and the word
-    of a plain word, or what a load or a store of one register moves.
+    of a plain word, or what a load or a store of one register moves, and whether its immediate is made by hand.
     """
 
     name: str
@@ -71,6 +78,7 @@ class Instruction:
     test: Test | None = None
     word: Call | None = None
     access: Access | None = None
+    is_made: bool = False
 
     @property
     def maker(self) -> str:
@@ -122,6 +130,7 @@ class _Reader:
         self.groups = Names("group")
         self.kinds = Names("kind")
         self.instructions = Names("instruction")
+        self.words = {"if": self.test, "word": self.word, "made": self.made, "access": self.access}
 
     def record(self, record: Record) -> None:
         """Reads a record by its first word."""
@@ -142,8 +151,9 @@ class _Reader:
         name, words = line.halves()
         if word == "plain":
             self.groups.add(line.name(name), Group(name, words), line)
-        else:
-            self.kinds.add(line.name(name), words, line)
+            return
+        of_type, _, in_file = (half.strip() for half in words.partition("|"))
+        self.kinds.add(line.name(name), Kind(name, of_type, in_file or name), line)
 
     def instruction(self, record: Record) -> None:
         """An instruction: its head, what it does, its fields, and its test."""
@@ -152,15 +162,12 @@ class _Reader:
         one = Instruction(head.name(name), self.groups.find(group, head))
         self.instructions.add(name, one, head)
         for line in record.lines:
-            if line.text.startswith("|"):
+            word = line.text.split()[0]
+            if word == "|":
                 says = one.fields[-1].says if one.fields else one.says
                 says.append(line.text[1:].strip())
-            elif line.text.split()[0] == "if":
-                self.test(one, line.behind())
-            elif line.text.split()[0] == "word":
-                self.word(one, line.behind())
-            elif line.text.split()[0] == "access":
-                self.access(one, line.behind())
+            elif word in self.words:
+                self.words[word](one, line.behind())
             else:
                 self.field(one, line)
         if not one.says:
@@ -180,7 +187,7 @@ class _Reader:
             line.fail(f"the field `{name}` stands here a second time")
         way, _, of_class = what.partition(" ")
         if way in ("writes", "reads"):
-            one.fields.append(Field(name, way, of_class, "", [says]))
+            one.fields.append(Field(name, way, of_class, REGISTERS[way], [says]))
             self.register(one, of_class, line)
         else:
             one.fields.append(Field(name, "is", what, self.kinds.find(what, line), [says]))
@@ -215,6 +222,12 @@ class _Reader:
             line.fail("`word` stands here a second time")
         one.word = call_of(line)
         _known(one, one.word.values, line)
+
+    def made(self, one: Instruction, line: Line) -> None:
+        """That the immediate of a plain word is made by hand."""
+        if not one.group.plain or line.text:
+            line.fail("`made` stands alone, in a group of plain words")
+        one.is_made = True
 
     def access(self, one: Instruction, line: Line) -> None:
         """What a load or a store of one register moves."""

@@ -34,6 +34,7 @@ use Rattle.a64_read.specs.declared.value.Kind.{Kind}
 use Rattle.a64_read.specs.declared.value.Kind.TheVariants as kinds
 
 abbrev pub immediate_text : ImmediateName → List ℕ
+-- Written by `python3 tools/instructions.py` from tables/instructions.txt.
 immediate_text immediate.AluRRImm12 = codes "AluRRImm12"
 immediate_text immediate.AluRRImmLogic = codes "AluRRImmLogic"
 immediate_text immediate.AluRRImmShift = codes "AluRRImmShift"
@@ -46,6 +47,7 @@ immediate_text immediate.Adr = codes "Adr"
 immediate_text immediate.Adrp = codes "Adrp"
 
 abbrev pub register_text : RegisterName → List ℕ
+-- Written by `python3 tools/instructions.py` from tables/instructions.txt.
 register_text register.AluRRR = codes "AluRRR"
 register_text register.AluRRRR = codes "AluRRRR"
 register_text register.AluRRRShift = codes "AluRRRShift"
@@ -62,6 +64,7 @@ register_text register.CCmp = codes "CCmp"
 register_text register.CCmpImm = codes "CCmpImm"
 
 abbrev pub float_text : FloatName → List ℕ
+-- Written by `python3 tools/instructions.py` from tables/instructions.txt.
 float_text float.FpuMove32 = codes "FpuMove32"
 float_text float.FpuMove64 = codes "FpuMove64"
 float_text float.FpuMove128 = codes "FpuMove128"
@@ -83,6 +86,7 @@ float_text float.MovToFpu = codes "MovToFpu"
 float_text float.FpuMoveFPImm = codes "FpuMoveFPImm"
 
 abbrev pub vector_text : VectorName → List ℕ
+-- Written by `python3 tools/instructions.py` from tables/instructions.txt.
 vector_text vector.VecExtend = codes "VecExtend"
 vector_text vector.VecRRLong = codes "VecRRLong"
 vector_text vector.VecRRNarrowLow = codes "VecRRNarrowLow"
@@ -100,6 +104,7 @@ vector_text vector.VecShiftImm = codes "VecShiftImm"
 vector_text vector.VecShiftImmMod = codes "VecShiftImmMod"
 
 abbrev pub vector_move_text : VectorMoveName → List ℕ
+-- Written by `python3 tools/instructions.py` from tables/instructions.txt.
 vector_move_text vector_move.MovToVec = codes "MovToVec"
 vector_move_text vector_move.MovFromVec = codes "MovFromVec"
 vector_move_text vector_move.MovFromVecSigned = codes "MovFromVecSigned"

@@ -95,6 +95,7 @@ inst_fields inst = map field_value (sheet inst)
 -- ---- what a name makes of the fields at their places. An operation with a bitmask immediate takes what its constructor gives (Makes)
 
 abbrev pub immediate_of : ImmediateName → List Value → Inst
+-- Written by `python3 tools/instructions.py` from tables/instructions.txt.
 immediate_of immediate.AluRRImm12 vs = insts.AluRRImm12 (alu_op_at vs 0) (size_at vs 1) (reg_at vs 2) (reg_at vs 3) (imm12_at vs 4)
 immediate_of immediate.AluRRImmShift vs = insts.AluRRImmShift (alu_op_at vs 0) (size_at vs 1) (reg_at vs 2) (reg_at vs 3) (imm_shift_at vs 4)
 immediate_of immediate.MovWide vs = insts.MovWide (move_wide_op_at vs 0) (reg_at vs 1) (wide_at vs 2) (size_at vs 3)
@@ -106,6 +107,7 @@ immediate_of immediate.Adr vs = insts.Adr (reg_at vs 0) (i32_at vs 1)
 immediate_of _ vs = insts.Adrp (reg_at vs 0) (i32_at vs 1)
 
 abbrev pub register_of : RegisterName → List Value → Inst
+-- Written by `python3 tools/instructions.py` from tables/instructions.txt.
 register_of register.AluRRR vs = insts.AluRRR (alu_op_at vs 0) (size_at vs 1) (reg_at vs 2) (reg_at vs 3) (reg_at vs 4)
 register_of register.AluRRRR vs = insts.AluRRRR (alu_op3_at vs 0) (size_at vs 1) (reg_at vs 2) (reg_at vs 3) (reg_at vs 4) (reg_at vs 5)
 register_of register.AluRRRShift vs = insts.AluRRRShift (alu_op_at vs 0) (size_at vs 1) (reg_at vs 2) (reg_at vs 3) (reg_at vs 4) (shift_at vs 5)
@@ -122,6 +124,7 @@ register_of register.CCmp vs = insts.CCmp (size_at vs 0) (reg_at vs 1) (reg_at v
 register_of register.CCmpImm vs = insts.CCmpImm (size_at vs 0) (reg_at vs 1) (uimm5_at vs 2) (nzcv_at vs 3) (cond_at vs 4)
 
 abbrev pub float_of : FloatName → List Value → Inst
+-- Written by `python3 tools/instructions.py` from tables/instructions.txt.
 float_of float.FpuMove32 vs = insts.FpuMove32 (reg_at vs 0) (reg_at vs 1)
 float_of float.FpuMove64 vs = insts.FpuMove64 (reg_at vs 0) (reg_at vs 1)
 float_of float.FpuMove128 vs = insts.FpuMove128 (reg_at vs 0) (reg_at vs 1)
@@ -142,6 +145,7 @@ float_of float.FpuRound vs = insts.FpuRound (fpu_round_mode_at vs 0) (reg_at vs 
 float_of _ vs = insts.MovToFpu (reg_at vs 0) (reg_at vs 1) (scalar_size_at vs 2)
 
 abbrev pub vector_of : VectorName → List Value → Inst
+-- Written by `python3 tools/instructions.py` from tables/instructions.txt.
 vector_of vector.VecExtend vs = insts.VecExtend (vec_extend_op_at vs 0) (reg_at vs 1) (reg_at vs 2) (truth_at vs 3) (scalar_size_at vs 4)
 vector_of vector.VecRRLong vs = insts.VecRRLong (vec_rr_long_op_at vs 0) (reg_at vs 1) (reg_at vs 2) (truth_at vs 3)
 vector_of vector.VecRRNarrowLow vs = insts.VecRRNarrowLow (vec_rr_narrow_op_at vs 0) (reg_at vs 1) (reg_at vs 2) (scalar_size_at vs 3)
@@ -159,6 +163,7 @@ vector_of vector.VecShiftImm vs = insts.VecShiftImm (vec_shift_imm_op_at vs 0) (
 vector_of _ vs = insts.VecShiftImmMod (vec_shift_imm_mod_op_at vs 0) (reg_at vs 1) (reg_at vs 2) (reg_at vs 3) (vector_size_at vs 4) (u8_at vs 5)
 
 abbrev pub vector_move_of : VectorMoveName → List Value → Inst
+-- Written by `python3 tools/instructions.py` from tables/instructions.txt.
 vector_move_of vector_move.MovToVec vs = insts.MovToVec (reg_at vs 0) (reg_at vs 1) (reg_at vs 2) (u8_at vs 3) (vector_size_at vs 4)
 vector_move_of vector_move.MovFromVec vs = insts.MovFromVec (reg_at vs 0) (reg_at vs 1) (u8_at vs 2) (scalar_size_at vs 3)
 vector_move_of vector_move.MovFromVecSigned vs = insts.MovFromVecSigned (reg_at vs 0) (reg_at vs 1) (u8_at vs 2) (vector_size_at vs 3) (size_at vs 4)

@@ -5,6 +5,7 @@ use a64_inst::AccessOp;
 /// The name of an integer operation with an immediate.
 #[derive(Clone, Copy)]
 pub enum ImmediateName {
+    // Written by `python3 tools/instructions.py` from tables/instructions.txt.
     /// `AluRRImm12`.
     AluRRImm12,
     /// `AluRRImmLogic`.
@@ -30,6 +31,7 @@ pub enum ImmediateName {
 /// The name of an integer operation on registers.
 #[derive(Clone, Copy)]
 pub enum RegisterName {
+    // Written by `python3 tools/instructions.py` from tables/instructions.txt.
     /// `AluRRR`.
     AluRRR,
     /// `AluRRRR`.
@@ -63,6 +65,7 @@ pub enum RegisterName {
 /// The name of an operation on scalar floats.
 #[derive(Clone, Copy)]
 pub enum FloatName {
+    // Written by `python3 tools/instructions.py` from tables/instructions.txt.
     /// `FpuMove32`.
     FpuMove32,
     /// `FpuMove64`.
@@ -106,6 +109,7 @@ pub enum FloatName {
 /// The name of an operation on vectors.
 #[derive(Clone, Copy)]
 pub enum VectorName {
+    // Written by `python3 tools/instructions.py` from tables/instructions.txt.
     /// `VecExtend`.
     VecExtend,
     /// `VecRRLong`.
@@ -141,6 +145,7 @@ pub enum VectorName {
 /// The name of a move of lanes, or of a table of bytes.
 #[derive(Clone, Copy)]
 pub enum VectorMoveName {
+    // Written by `python3 tools/instructions.py` from tables/instructions.txt.
     /// `MovToVec`.
     MovToVec,
     /// `MovFromVec`.

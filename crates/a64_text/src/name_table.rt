@@ -95,6 +95,7 @@ macro_rules! row {
 }
 
 /// The names of integer operations.
+// Written by `python3 tools/instructions.py` from tables/instructions.txt.
 pub static INTEGER_NAMES: [Row<Name>; 24] = [
     row!(b"AluRRImm12", Name::Immediate(ImmediateName::AluRRImm12), AluOp Size Reg Reg Imm12),
     row!(b"AluRRImmLogic", Name::Immediate(ImmediateName::AluRRImmLogic), AluOp Size Reg Reg U64),
@@ -131,6 +132,7 @@ pub fn integer_rows() -> &'static [Row<Name>]
 }
 
 /// The names of operations on scalar floats.
+// Written by `python3 tools/instructions.py` from tables/instructions.txt.
 pub static FLOAT_NAMES: [Row<Name>; 19] = [
     row!(b"FpuMove32", Name::Float(FloatName::FpuMove32), Reg Reg),
     row!(b"FpuMove64", Name::Float(FloatName::FpuMove64), Reg Reg),
@@ -162,6 +164,7 @@ pub fn float_rows() -> &'static [Row<Name>]
 }
 
 /// The names of operations on vectors.
+// Written by `python3 tools/instructions.py` from tables/instructions.txt.
 pub static VECTOR_NAMES: [Row<Name>; 15] = [
     row!(b"VecExtend", Name::Vector(VectorName::VecExtend), VecOp(Extend) Reg Reg Bool ScalarSize),
     row!(b"VecRRLong", Name::Vector(VectorName::VecRRLong), VecOp(RRLong) Reg Reg Bool),
@@ -189,6 +192,7 @@ pub fn vector_rows() -> &'static [Row<Name>]
 }
 
 /// The names of moves of lanes and of tables of bytes.
+// Written by `python3 tools/instructions.py` from tables/instructions.txt.
 pub static VECTOR_MOVE_NAMES: [Row<Name>; 13] = [
     row!(b"MovToVec", Name::VectorMove(VectorMoveName::MovToVec), Reg Reg Reg U8 VectorSize),
     row!(b"MovFromVec", Name::VectorMove(VectorMoveName::MovFromVec), Reg Reg U8 ScalarSize),
