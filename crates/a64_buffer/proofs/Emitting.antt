@@ -1,5 +1,5 @@
 -- What an island that was written leaves.
-use Rattle.std.proofs.Common.{ℕ, ◌≡◌, ◌≢◌, ◌⊎◌, ◌+◌, ◌*◌, ◌/◌, ◌^◌, ◌<◌, ◌≤◌, Bool, true, false, cond, List, [], ◌∷◌, ◌++◌, All, map, length, get_or, Option, None, Some, refl, sym, ap, ◌∙◌, subst, arith, inl, inr}
+use Rattle.std.proofs.Common.{ℕ, ◌≡◌, ◌≢◌, ◌⊎◌, ◌+◌, ◌*◌, ◌/◌, ◌^◌, ◌<◌, ◌≤◌, Bool, true, false, cond, List, [], ◌∷◌, ◌++◌, All, Any, map, length, get_or, Option, None, Some, refl, sym, ap, ◌∙◌, subst, arith, inl, inr}
 use Rattle.std.specs.Prelude.{IfSome, IsSome, IsSomeAnd, MatchOption, ◌&&◌, ◌||◌, nat_lt, is_none, sum_by}
 use Rattle.std.specs.FinMap.{get}
 use Rattle.std.proofs.lemmas.Bool.{cases_lt, cases_eq, false≢true, eqb-true, eq-eqb, ltb-true, ltb-false, le-ltb}
@@ -17,11 +17,11 @@ use Rattle.a64_buffer.specs.Buffer.{Buffer, end_of, label_of, goal_of}
 use Rattle.a64_buffer.specs.Classes.{third, level_of, range_of, wants, rank_of, cost, class, is_open, weigh, weigh_label, burden, owed, owed_to, HasRoom, Fits}
 use Rattle.a64_buffer.specs.Later.{IsSameUse, IsLater, HasStopBelow}
 use Rattle.a64_buffer.specs.Constants.{IsConstant}
-use Rattle.a64_buffer.specs.Sound.{MayShare, HaveOwnStops, IsPlaced, IsKnown, IsCopy, IsStop, IsRightlyOpen, IsSound, IsWhole, IsIsland}
+use Rattle.a64_buffer.specs.Sound.{MayShare, HaveOwnStops, HasJump, IsPlaced, IsKnown, IsCopy, IsStop, IsRightlyOpen, IsSound, IsWhole, IsIsland}
 use Rattle.a64_buffer.specs.Chain.{constant_of}
 use Rattle.a64_buffer.specs.Islands.{IsVeneerUse, IsNewUse, FarWaits, IsBeforePromotion, Promotes, LeavesFar, HasIsland}
 use Rattle.a64_buffer.specs.Steps.{stopped, is_jump_at, StandsAt, Adds, IsPart, HoldFrom, Writes, WritesFar, ended}
-use Rattle.a64_buffer.specs.Pieces.{front_size, listed, over_use, front_uses, begun, ComesBefore, Serves}
+use Rattle.a64_buffer.specs.Pieces.{front_size, listed, over_use, front_uses, begun, ComesBefore, BeginsWith, Serves}
 use Rattle.a64_buffer.proofs.Pays.{label_is}
 use Rattle.a64_buffer.proofs.Growth.{Grows, use_inside}
 use Rattle.a64_buffer.proofs.Rooms.{open_wants, room_from, none_room, less_room}
@@ -29,6 +29,7 @@ use Rattle.a64_buffer.proofs.Adding.{added_later, added_sound, old_use}
 use Rattle.a64_buffer.proofs.Laters.{same_records, later_beside, later_trans}
 use Rattle.a64_buffer.proofs.Serving.{open_none, serves_none, served_behind, serves_join, sites_stopped}
 use Rattle.a64_buffer.proofs.OwnStops.{own_later}
+use Rattle.a64_buffer.proofs.Fronts.{begins_with}
 use Rattle.a64_buffer.proofs.Writing.{part_none}
 use Rattle.a64_buffer.proofs.ByPlace.{none_placed, recorded_later}
 use Rattle.a64_buffer.proofs.Costs.{none_open}
@@ -367,8 +368,14 @@ module _ {K : Type 0} (r : Kinds K) (law : IsLawful r) (distance : ℕ) (force :
         | inr ge ↦ through_begun (get_or m.uses k d) (through_w (get_or m.uses k d) (last.given k d ge inside))
       ])
 
-  new_island : is_listed ≡ true → IsIsland r b' (end_of b, end_of m)
-  new_island e = record {
+  -- it begins with its jump, or with the first piece
+  jump_now : jump ≡ true → HasJump (ended jump (end_of b) m).uses (end_of b, end_of m)
+  jump_now j =
+      let at = over_now (length b.uses) (record over { stop = Some (end_of m) }) (omega arith) (begun_has r jump b j) in
+      (length b.uses, record over { stop = Some (end_of m) }, omega (arith, count_m j, m_later.count), at, (refl, refl))
+
+  new_island : is_listed ≡ true → HasJump (ended jump (end_of b) m).uses (end_of b, end_of m) ⊎ Any (BeginsWith r b' (end_of b, end_of m)) (ended jump (end_of b) m).uses → IsIsland r b' (end_of b, end_of m)
+  new_island e begins = record {
     aligned = omega arith;
     long = long_one e;
     inside = omega arith;
@@ -391,6 +398,7 @@ module _ {K : Type 0} (r : Kinds K) (law : IsLawful r) (distance : ℕ) (force :
             absurd (false≢true (subst (λ t. IsSome (label_of t)) front.1 v.labelled))
       ]
     ];
+    begins = begins;
   }
 
   -- ---- what it leaves
@@ -513,6 +521,15 @@ module _ {K : Type 0} (r : Kinds K) (law : IsLawful r) (distance : ℕ) (force :
       (stops_below r (begun r jump b) b.islands (begun_sound r law jump b b.islands whole.sound (omega (arith, short)))) begun_own
       )
 
+  begins_now : is_listed ≡ true → HasJump (ended jump (end_of b) m).uses (end_of b, end_of m) ⊎ Any (BeginsWith r b' (end_of b, end_of m)) (ended jump (end_of b) m).uses
+  begins_now e = go jump refl
+    where
+      go : (t : Bool) → jump ≡ t → HasJump (ended jump (end_of b) m).uses (end_of b, end_of m) ⊎ Any (BeginsWith r b' (end_of b, end_of m)) (ended jump (end_of b) m).uses
+      go true j = inl (jump_now j)
+      go false j =
+          let none : begun r jump b ≡ b = ap (λ t. begun r t b) j ∙ begun_none r b in
+          inr (begins_with r (ended jump (end_of b) m).islands ((near.writing.served ++ last.served) ++ []) b b' (subst (λ (x : Buffer K). Serves r b.labels b.constants ((near.writing.served ++ last.served) ++ []) x b') none serves_now) b_later labels_now (sound_end e) whole.sound.placed (omega (arith, long_one e)))
+
   records_now : b'.records ≡ b.records
   records_now = last.part.records ∙ near.writing.part.records
 
@@ -524,16 +541,14 @@ module _ {K : Type 0} (r : Kinds K) (law : IsLawful r) (distance : ℕ) (force :
       neither false e = (refl, ltb-false (end_of b) (end_of m) e)
 
       go : (t : Bool) → is_listed ≡ t → IsWhole r b'
-      go true e = record { sound = sound_end e; islands = islands_more r b b' (end_of m) b_later (now_listed e) whole.islands (new_island e); fits = less_room r law (end_of m) (ended jump (end_of b) m).uses distance 0 (omega arith) fits_now; own_stops = own_now e; recorded = recorded_later b b' b_later records_now whole.recorded }
+      go true e = record { sound = sound_end e; islands = islands_more r b b' (end_of m) b_later labels_now (now_listed e) whole.islands (new_island e (begins_now e)); fits = less_room r law (end_of m) (ended jump (end_of b) m).uses distance 0 (omega arith) fits_now; own_stops = own_now e; recorded = recorded_later b b' b_later records_now whole.recorded }
       go false e = let n = neither jump e in subst (IsWhole r) (sym (ended_same n.0 n.1)) whole
 
   pub island_made : HasIsland r distance force jump b (ended jump (end_of b) m)
   island_made = record {
     long = omega (arith, starts, last.part.later.end);
     islands = islands_now;
-    front = λ j.
-        let at = over_now (length b.uses) (record over { stop = Some (end_of m) }) (omega arith) (begun_has r jump b j) in
-        (length b.uses, record over { stop = Some (end_of m) }, omega (arith, count_m j, m_later.count), at, (refl, refl));
+    front = jump_now;
     idle = λ j none. ended_same j (omega (arith, ends, ap front_size j, none_open r (cost third) b.uses none));
     labels = labels_now;
     records = records_now;

@@ -1,9 +1,9 @@
 -- What makes code finished.
-use Rattle.std.proofs.Common.{ℕ, ◌≡◌, ◌+◌, ◌-◌, ◌*◌, ◌/◌, ◌%◌, ◌^◌, ◌<◌, ◌≤◌, ◌&&◌, Bool, true, false, nat_le, suc, List, [], ◌∷◌, ◌++◌, length, get_or, Option, Some, None, IfSome, All, refl, sym, ◌∙◌, ap, subst, arith, inl, inr}
+use Rattle.std.proofs.Common.{ℕ, ◌≡◌, ◌+◌, ◌-◌, ◌*◌, ◌/◌, ◌%◌, ◌^◌, ◌<◌, ◌≤◌, ◌&&◌, Bool, true, false, suc, List, [], ◌∷◌, ◌++◌, length, get_or, Option, Some, None, IfSome, All, refl, sym, ◌∙◌, ap, subst, arith, inl, inr}
 use Rattle.std.specs.Prelude.{IsSome, IsSomeAnd, MatchOption, is_none}
 use Rattle.std.specs.Option.{option_and_then}
 use Rattle.std.specs.FinMap.{get}
-use Rattle.std.proofs.lemmas.Bool.{le-leb, false≢true, cases_lt}
+use Rattle.std.proofs.lemmas.Bool.{false≢true, cases_lt}
 use Rattle.a64_words.specs.Word.{outside, word_at, words_of, StandAt}
 use Rattle.a64_buffer.specs.declared.site.Use.{Use}
 use Rattle.a64_buffer.specs.declared.site.Target.{Target}
@@ -23,8 +23,9 @@ use Rattle.a64_buffer.specs.Finished.{JumpsOver, IsSettled, IsFinished}
 use Rattle.a64_buffer.proofs.ByPlace.{recorded_later}
 use Rattle.a64_buffer.proofs.Rooms.{label_wants}
 use Rattle.a64_buffer.proofs.OwnStops.{own_later}
-use Rattle.a64_buffer.proofs.Islands.{sound_beside, in_everywhere, open_areas, open_hold, more_areas, close_areas, later_keeps, island_stays}
+use Rattle.a64_buffer.proofs.Islands.{sound_beside, in_everywhere, open_areas, open_hold, more_areas, close_areas, Keeps, later_keeps, begins_stay, island_stays}
 use Rattle.a64_buffer.proofs.Emitting.{all_closed, stops_below}
+use Rattle.a64_buffer.proofs.Fronts.{within_is}
 
 one_place : (o : Option ℕ) (g h : ℕ) → o ≡ Some g → o ≡ Some h → g ≡ h
 one_place o g h p q = cc
@@ -101,9 +102,6 @@ module _ {K : Type 0} (r : Kinds K) (law : IsLawful r) (b m : Buffer K) (whole :
         ]
   ]
 
-  within_is : (kind : K) (offset g : ℕ) → IsWithin (r.forward kind) (r.backward kind) offset g → is_within r kind offset g ≡ true
-  within_is kind offset g h = ap (λ t. t && nat_le offset (g + r.backward kind)) (le-leb g (offset + r.forward kind) h.ahead) ∙ le-leb offset (g + r.backward kind) h.behind
-
   -- a use of a label stops
   stops : (k : ℕ) (d : Use K) (label : ℕ) → k < length m.uses → label_of (get_or m.uses k d).target ≡ Some label → (t : ℕ) × ((get_or m.uses k d).stop ≡ Some t)
   stops k d label h e = go (get_or m.uses k d).stop refl
@@ -129,7 +127,7 @@ module _ {K : Type 0} (r : Kinds K) (law : IsLawful r) (b m : Buffer K) (whole :
           let there : goal_of m.labels (get_or m.uses k d).target ≡ Some g.0 = ap (λ ls. goal_of ls (get_or m.uses k d).target) labels_are ∙ (ap (λ o. option_and_then (λ l. get b.labels l) o) e ∙ g.1) in
           let open' : IsRightlyOpen r m (open_areas r law b) (get_or m.uses k d).target (get_or m.uses k d).kind (get_or m.uses k d).offset = subst (λ o. MatchOption o (IsRightlyOpen r m (open_areas r law b) (get_or m.uses k d).target (get_or m.uses k d).kind (get_or m.uses k d).offset) (IsStop r m (open_areas r law b) (get_or m.uses k d).target (get_or m.uses k d).kind (get_or m.uses k d).offset)) q (sound.stops k d h) in
           let out : is_within r (get_or m.uses k d).kind (get_or m.uses k d).offset g.0 ≡ false = subst (λ o. IfSome o (λ p. is_within r (get_or m.uses k d).kind (get_or m.uses k d).offset p ≡ false)) there open' in
-          absurd (false≢true (sym out ∙ within_is (get_or m.uses k d).kind (get_or m.uses k d).offset g.0 (in_range k d label g.0 h e g.1 (not_wanting (get_or m.uses k d).target (get_or m.uses k d).kind label e n))))
+          absurd (false≢true (sym out ∙ within_is r (get_or m.uses k d).kind (get_or m.uses k d).offset g.0 (in_range k d label g.0 h e g.1 (not_wanting (get_or m.uses k d).target (get_or m.uses k d).kind label e n))))
         where
           unwanted : (x : Bool) → (x && true) ≡ false → x ≡ false
           unwanted true q = absurd (false≢true (sym q))
@@ -299,10 +297,13 @@ module _ {K : Type 0} (r : Kinds K) (law : IsLawful r) (b m : Buffer K) (whole :
         go None e = no_stop k d h (get_or m.uses k d).target refl e
         go (Some s) e = target_leads k d h (get_or m.uses k d).target s refl (stop_is k d s h e)
 
+    keeps : Keeps b m
+    keeps = later_keeps r b m whole.islands later labels_are
+
     -- the jumps over islands lead to their ends
     jumps_over : All (λ island. HasJump b.uses island → JumpsOver r bytes island) b.islands
     jumps_over k d h (index, e, within, is, front) =
-        let i : IsIsland r m (get_or b.islands k d) = island_stays r b m k d h (later_keeps r b m whole.islands later) (whole.islands.each k d h) in
+        let i : IsIsland r m (get_or b.islands k d) = island_stays r b m k d h keeps (whole.islands.each k d h) in
         let same : IsSameUse (end_of b) e (get_or m.uses index e) = subst (λ (u : Use K). IsSameUse (end_of b) u (get_or m.uses index e)) is (later.uses index e within) in
         let inside : index < length m.uses = omega (arith, within, later.count) in
         let offset_is : (get_or m.uses index e).offset ≡ (get_or b.islands k d).0 = same.offset ∙ front.0 in
@@ -338,6 +339,9 @@ module _ {K : Type 0} (r : Kinds K) (law : IsLawful r) (b m : Buffer K) (whole :
       recorded = recorded_later b m later w.writing.part.records whole.recorded;
       final_sound = sound_beside r m m.islands m.records (open_areas r law b) areas sound closes;
       jumps = subst (λ bs. All (λ island. HasJump b.uses island → JumpsOver r bs island) b.islands) (sym bytes_are) jumps_over;
+      begins = λ k d h.
+          let i : IsIsland r b (get_or b.islands k d) = whole.islands.each k d h in
+          elim i.begins [ inl jump ↦ inl jump | inr piece ↦ inr (begins_stay r b m k d h keeps i.inside piece) ];
       labels = labels;
       islands = islands;
       pool = pool;

@@ -1,19 +1,22 @@
 -- What the beginning and the end of an island leave.
-use Rattle.std.proofs.Common.{ℕ, ◌≡◌, ◌+◌, ◌/◌, ◌^◌, ◌<◌, ◌≤◌, ◌*◌, Bool, true, false, List, [], ◌∷◌, ◌++◌, All, map, length, get_or, Option, None, Some, refl, sym, ap, ◌∙◌, subst, arith, inl, inr}
+use Rattle.std.proofs.Common.{ℕ, ◌≡◌, ◌+◌, ◌/◌, ◌^◌, ◌<◌, ◌≤◌, ◌*◌, Bool, true, false, ◌⊎◌, List, [], ◌∷◌, ◌++◌, All, Any, map, length, get_or, Option, None, Some, IsSome, refl, sym, ap, ◌∙◌, subst, arith, inl, inr}
 use Rattle.std.specs.Prelude.{MatchOption}
 use Rattle.std.proofs.lemmas.Bool.{cases_lt, false≢true}
 use Rattle.std.proofs.lemmas.List.{length_push, length-append, append-nil, get_or_push, get_or_append_left}
 use Rattle.std.proofs.lemmas.List.Elements.{All-cons, All-append, All-push}
+use Rattle.std.specs.FinMap.{get}
 use Rattle.a64_buffer.specs.declared.site.Use.{Use}
+use Rattle.a64_buffer.specs.declared.site.Target.{Target}
+use Rattle.a64_buffer.specs.declared.site.Target.TheVariants.{Label, Constant, Trap, IslandEnd}
 use Rattle.a64_buffer.specs.declared.class.Class.{Class}
 use Rattle.a64_buffer.specs.Kinds.{Kinds, IsLawful}
-use Rattle.a64_buffer.specs.Buffer.{Records, Buffer, end_of, IsOutside}
+use Rattle.a64_buffer.specs.Buffer.{Records, Buffer, end_of, goal_of, IsOutside}
 use Rattle.a64_buffer.specs.Areas.{InArea}
 use Rattle.a64_buffer.specs.Classes.{third, level_of, cost, class, range_of, is_open, weight_of, burden, owed, HasRoom}
 use Rattle.a64_buffer.specs.Later.{IsSameUse, IsLater}
 use Rattle.a64_buffer.specs.Sound.{IsPlaced, IsKinded, IsKnown, IsStop, IsRightlyOpen, IsStoppedOrOpen, IsSound, IsWhole, IsIsland, AreIslands}
 use Rattle.a64_buffer.specs.Steps.{stopped, Adds, Within, everywhere, HoldFrom, MayWrite}
-use Rattle.a64_buffer.specs.Pieces.{front_size, over_use, front_words, front_uses, begun}
+use Rattle.a64_buffer.specs.Pieces.{front_size, over_use, front_words, front_uses, begun, stop_for, BeginsWith}
 use Rattle.a64_buffer.proofs.Growth.{Grows, stop_stays}
 use Rattle.a64_buffer.proofs.Costs.{weight-append}
 use Rattle.a64_buffer.proofs.Pays.{weight_none}
@@ -21,6 +24,8 @@ use Rattle.a64_buffer.proofs.Rooms.{within_from, next_within}
 use Rattle.a64_buffer.proofs.Adding.{added_later, added_sound}
 use Rattle.a64_buffer.proofs.ByPlace.{none_placed}
 use Rattle.a64_buffer.proofs.Memory.{same_buffer}
+use Rattle.a64_buffer.proofs.Laters.{front_stays}
+use Rattle.a64_buffer.proofs.Serving.{stays_same}
 
 pub in_everywhere : (end p size : ℕ) → end < 2 ^ 31 → p + size ≤ end → InArea everywhere p size
 in_everywhere end p size short h = record { index = 0; within = omega arith; begins = omega arith; ends = omega arith }
@@ -217,22 +222,57 @@ owed_short r law b whole =
 
 -- ---- islands stay
 
--- the words and uses of a buffer stay, and new uses stand outside of its islands
+-- the words and uses of a buffer stay, new uses stand outside of its islands, and labels are bound behind them
 pub record Keeps {K : Type 0} (b b' : Buffer K) : Type 0 where
   pub end : end_of b ≤ end_of b'
   pub words : (i : ℕ) → i < length b.words → get_or b'.words i 0 ≡ get_or b.words i 0
   pub count : length b.uses ≤ length b'.uses
   pub uses : (k : ℕ) (d : Use K) → k < length b.uses → IsSameUse (end_of b) (get_or b.uses k d) (get_or b'.uses k d)
   pub fresh : (k : ℕ) (d : Use K) → length b.uses ≤ k → k < length b'.uses → IsOutside b.islands (get_or b'.uses k d).offset
+  pub constants : b'.constants ≡ b.constants
+  pub labels : (label place : ℕ) → get b'.labels label ≡ Some place → (get b.labels label ≡ Some place) ⊎ (end_of b ≤ place)
 
-pub later_keeps : {K : Type 0} (r : Kinds K) (b b' : Buffer K) → AreIslands r b → IsLater b b' → Keeps b b'
-later_keeps r b b' a l = record {
+pub later_keeps : {K : Type 0} (r : Kinds K) (b b' : Buffer K) → AreIslands r b → IsLater b b' → b'.labels ≡ b.labels → Keeps b b'
+later_keeps r b b' a l same = record {
   end = l.end;
   words = l.words;
   count = l.count;
   uses = l.uses;
   fresh = λ k d low high j e h. let x = (a.each j e h).inside in let y = l.fresh k d low high in inr (omega arith);
+  constants = l.constants;
+  labels = λ label place at. inl (ap (λ ls. get ls label) (sym same) ∙ at);
 }
+
+-- so an island begins as it did
+pub begins_stay : {K : Type 0} (r : Kinds K) (b b' : Buffer K) (j : ℕ) (e : ℕ × ℕ) → j < length b.islands → Keeps b b' → (get_or b.islands j e).1 ≤ end_of b → Any (BeginsWith r b (get_or b.islands j e)) b.uses → Any (BeginsWith r b' (get_or b.islands j e)) b'.uses
+begins_stay {K = K} r b b' j e within l low (k, u, h, at, p) = (
+  k,
+  u,
+  omega (arith, h, l.count),
+  stays_same (end_of b) u (get_or b'.uses k u) (subst (λ (w : Use K). IsSameUse (end_of b) w (get_or b'.uses k u)) at (l.uses k u h)) (subst IsSome (sym p.stops) refl),
+  record {
+    wanted = p.wanted;
+    stop = p.stop;
+    stops = p.stops;
+    at_piece = p.at_piece ∙ ap (λ cs. stop_for r cs (class r u) u.target (get_or b.islands j e).0) (sym l.constants);
+    inside = p.inside;
+    elsewhere = λ g. elim (goal_was u.target p.stop g) [ inl was ↦ p.elsewhere was | inr behind ↦ omega (arith, behind, p.inside, low) ];
+    zeros = λ i from to.
+        let z = p.zeros i from to in (
+          l.words i (omega (arith, to, p.inside, low)) ∙ z.0,
+          λ m d hm q. elim (cases_lt m (length b.uses)) [
+            | inl lt ↦ z.1 m d lt (sym (l.uses m d lt).offset ∙ q)
+            | inr ge ↦ elim (l.fresh m d ge hm j e within) [ inl less ↦ omega (arith, less, q, from) | inr more ↦ omega (arith, more, q, to, p.inside) ]
+          ],
+        );
+  },
+)
+  where
+    goal_was : (t : Target) (place : ℕ) → goal_of b'.labels t ≡ Some place → (goal_of b.labels t ≡ Some place) ⊎ (end_of b ≤ place)
+    goal_was (Label label) place g = l.labels label.0 place g
+    goal_was (Constant c) place g = inl g
+    goal_was (Trap code) place g = inl g
+    goal_was IslandEnd place g = inl g
 
 pub island_stays : {K : Type 0} (r : Kinds K) (b b' : Buffer K) (j : ℕ) (e : ℕ × ℕ) → j < length b.islands → Keeps b b' → IsIsland r b (get_or b.islands j e) → IsIsland r b' (get_or b.islands j e)
 island_stays r b b' j e within l i = record {
@@ -250,6 +290,10 @@ island_stays r b b' j e within l i = record {
         }
     | inr ge ↦ absurd (elim (l.fresh k d ge h j e within) [ inl low ↦ omega (arith, low, front.0) | inr high ↦ omega (arith, high, front.0, i.long) ])
   ];
+  begins = elim i.begins [
+    | inl jump ↦ inl (front_stays b b' (get_or b.islands j e) l.count l.uses jump)
+    | inr piece ↦ inr (begins_stay r b b' j e within l i.inside piece)
+  ];
 }
 
 pub islands_stay : {K : Type 0} (r : Kinds K) (b b' : Buffer K) → Keeps b b' → b'.islands ≡ b.islands → AreIslands r b → AreIslands r b'
@@ -258,9 +302,9 @@ islands_stay r b b' keeps same a = record {
   in_order = subst (λ (is : List (ℕ × ℕ)). (j k : ℕ) → j < k → k < length is → (get_or is j (0, 0)).1 ≤ (get_or is k (0, 0)).0) (sym same) a.in_order;
 }
 
-pub islands_more : {K : Type 0} (r : Kinds K) (b b' : Buffer K) (end : ℕ) → IsLater b b' → b'.islands ≡ b.islands ++ (end_of b, end) ∷ [] → AreIslands r b → IsIsland r b' (end_of b, end) → AreIslands r b'
-islands_more r b b' end later is a new = record {
-  each = subst (All (IsIsland r b')) (sym is) (All-push (IsIsland r b') b.islands (end_of b, end) (λ k d h. island_stays r b b' k d h (later_keeps r b b' a later) (a.each k d h)) new);
+pub islands_more : {K : Type 0} (r : Kinds K) (b b' : Buffer K) (end : ℕ) → IsLater b b' → b'.labels ≡ b.labels → b'.islands ≡ b.islands ++ (end_of b, end) ∷ [] → AreIslands r b → IsIsland r b' (end_of b, end) → AreIslands r b'
+islands_more r b b' end later same is a new = record {
+  each = subst (All (IsIsland r b')) (sym is) (All-push (IsIsland r b') b.islands (end_of b, end) (λ k d h. island_stays r b b' k d h (later_keeps r b b' a later same) (a.each k d h)) new);
   in_order = λ j k lt h. subst (λ (is : List (ℕ × ℕ)). (get_or is j (0, 0)).1 ≤ (get_or is k (0, 0)).0) (sym is) (order j k lt (omega (arith, h, ap length is)));
 }
   where

@@ -86,13 +86,16 @@ later_from_trans from p q a b c low high first' second' = record {
   records = more_records a.records b.records c.records first'.records second'.records;
 }
 
--- a jump over an island stays
-pub jump_stays : {K : Type 0} (b b' : Buffer K) (island : ℕ × ℕ) → IsLater b b' → HasJump b.uses island → HasJump b'.uses island
-jump_stays b b' island l (k, u, h, e, front) =
+-- a jump over an island stays where the uses stay
+pub front_stays : {K : Type 0} (b b' : Buffer K) (island : ℕ × ℕ) → length b.uses ≤ length b'.uses → ((k : ℕ) (d : Use K) → k < length b.uses → IsSameUse (end_of b) (get_or b.uses k d) (get_or b'.uses k d)) → HasJump b.uses island → HasJump b'.uses island
+front_stays b b' island count uses (k, u, h, e, front) =
     let v = get_or b'.uses k u in
-    let same = subst (λ (w : Use _). IsSameUse (end_of b) w (get_or b'.uses k u)) e (l.uses k u h) in
-    let inside : k < length b'.uses = omega (arith, h, l.count) in
+    let same = subst (λ (w : Use _). IsSameUse (end_of b) w (get_or b'.uses k u)) e (uses k u h) in
+    let inside : k < length b'.uses = omega (arith, h, count) in
     (k, v, inside, get_or_default b'.uses k v u inside, (same.offset ∙ front.0, same.target ∙ front.1))
+
+pub jump_stays : {K : Type 0} (b b' : Buffer K) (island : ℕ × ℕ) → IsLater b b' → HasJump b.uses island → HasJump b'.uses island
+jump_stays b b' island l = front_stays b b' island l.count l.uses
 
 pub later_trans : {K : Type 0} (a b c : Buffer K) → IsLater a b → IsLater b c → IsLater a c
 later_trans a b c p q = later_from_trans (end_of a) (end_of a) (end_of b) a b c (omega arith) p.end p q

@@ -15,6 +15,7 @@ pub mod Laters
 pub mod Serving
 pub mod Pieces
 pub mod OwnStops
+pub mod Fronts
 pub mod Emitting
 pub mod Veneers
 pub mod Walks

@@ -118,7 +118,7 @@ module _ {K : Type 0} (r : Kinds K) (areas : List (ℕ × ℕ)) (served : List (
   piece i d = get_or (pieces r b.constants (end_of b) served) i (0, d)
 
   -- the piece of a served use holds its stop
-  served_place : (i stop : ℕ) (d : Use K) → i < length served → (get_or served i d).stop ≡ Some stop → ((piece i d).0 ≤ stop) × (stop < (piece i d).0 + 4 * length (piece_words r b.constants (piece i d)))
+  pub served_place : (i stop : ℕ) (d : Use K) → i < length served → (get_or served i d).stop ≡ Some stop → ((piece i d).0 ≤ stop) × (stop < (piece i d).0 + 4 * length (piece_words r b.constants (piece i d)))
   served_place i stop d h e =
       let p : ℕ × Use K = piece i d in
       let is : p.1 ≡ get_or served i d = piece_use r b.constants (end_of b) served i (0, d) h in
@@ -179,7 +179,7 @@ module _ {K : Type 0} (r : Kinds K) (areas : List (ℕ × ℕ)) (served : List (
   direct_shares (Trap code) kind offset stop n h = absurd (false≢true (sym n))
   direct_shares IslandEnd kind offset stop n h = inr refl
 
-  stop_is : (k stop : ℕ) (d : Use K) → k < length b'.uses → (get_or b'.uses k d).stop ≡ Some stop → IsStop r b' areas (get_or b'.uses k d).target (get_or b'.uses k d).kind (get_or b'.uses k d).offset stop
+  pub stop_is : (k stop : ℕ) (d : Use K) → k < length b'.uses → (get_or b'.uses k d).stop ≡ Some stop → IsStop r b' areas (get_or b'.uses k d).target (get_or b'.uses k d).kind (get_or b'.uses k d).offset stop
   stop_is k stop d h e = subst (λ o. MatchOption o (IsRightlyOpen r b' areas (get_or b'.uses k d).target (get_or b'.uses k d).kind (get_or b'.uses k d).offset) (IsStop r b' areas (get_or b'.uses k d).target (get_or b'.uses k d).kind (get_or b'.uses k d).offset)) e (sound.stops k d h)
 
   -- a stop is one that others may share, was there before, or came by a piece

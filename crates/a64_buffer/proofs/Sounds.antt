@@ -84,7 +84,7 @@ module _ {K : Type 0} (r : Kinds K) where
       pub whole_put : end_of b + 4 * length added < 2 ^ 31 → Fits r b (4 * length added) → IsWhole r (record b { words = b.words ++ added })
       whole_put short fits = record {
         sound = added_sound r law b put b.islands (λ v. false) (end_of b) added [] [] whole.sound adds (λ k d h. absurd (omega arith)) (λ k d h e. absurd (false≢true e)) (omega (arith, put_end)) (λ k d h. absurd (omega arith)) (λ j k d lt h. absurd (omega arith)) (λ k d h. absurd (omega arith)) (λ k d h. absurd (omega arith)) (λ k d h. absurd (omega arith));
-        islands = islands_stay r b put (later_keeps r b put whole.islands put_later) refl whole.islands;
+        islands = islands_stay r b put (later_keeps r b put whole.islands put_later refl) refl whole.islands;
         fits = record { rooms = λ k d w o. let x = fits.rooms k d w o in omega (arith, put_end) };
         own_stops = whole.own_stops;
         recorded = recorded_later b put put_later refl whole.recorded;
@@ -105,7 +105,7 @@ module _ {K : Type 0} (r : Kinds K) where
       pub whole_trap : IsWhole r (record b { traps = b.traps ++ (end_of b, code) ∷ [] })
       whole_trap = record {
         sound = added_sound r law b trapped b.islands (λ v. false) (end_of b) [] [] ((end_of b, code) ∷ []) whole.sound adds_trap (λ k d h. absurd (omega arith)) (λ k d h e. absurd (false≢true e)) whole.sound.short (λ k d h. absurd (omega arith)) (λ j k d lt h. absurd (omega arith)) (λ k d h. absurd (omega arith)) (λ k d h. absurd (omega arith)) (λ k d h. absurd (omega arith));
-        islands = islands_stay r b trapped (later_keeps r b trapped whole.islands trap_later) refl whole.islands;
+        islands = islands_stay r b trapped (later_keeps r b trapped whole.islands trap_later refl) refl whole.islands;
         fits = record { rooms = λ k d w o. whole.fits.rooms k d w o };
         own_stops = whole.own_stops;
         recorded = recorded_later b trapped trap_later refl whole.recorded;
@@ -117,7 +117,7 @@ module _ {K : Type 0} (r : Kinds K) where
       pub whole_records : IsWhole r (record b { records = records })
       whole_records = record {
         sound = sound_beside r b b.islands records b.islands b.islands whole.sound (λ p size h i. i);
-        islands = islands_stay r b (record b { records = records }) (record { end = omega arith; words = λ i h. refl; count = omega arith; uses = λ k d h. same_use (end_of b) (get_or b.uses k d); fresh = λ k d low high. absurd (omega arith) }) refl whole.islands;
+        islands = islands_stay r b (record b { records = records }) (record { end = omega arith; words = λ i h. refl; count = omega arith; uses = λ k d h. same_use (end_of b) (get_or b.uses k d); fresh = λ k d low high. absurd (omega arith); constants = refl; labels = λ q place e. inl e }) refl whole.islands;
         fits = record { rooms = λ k d w o. whole.fits.rooms k d w o };
         own_stops = whole.own_stops;
         recorded = recorded;
@@ -139,7 +139,7 @@ module _ {K : Type 0} (r : Kinds K) where
       used_same k d h = subst (IsSameUse (end_of b) (get_or b.uses k d)) (sym (kept_use k d h)) (same_use (end_of b) (get_or b.uses k d))
 
       used_keeps : IsOutside b.islands offset → Keeps b used
-      used_keeps outside = record { end = omega arith; words = λ i h. refl; count = omega (arith, length_push b.uses made); uses = used_same; fresh = λ k d low high. let at : length b.uses ≡ k = omega (arith, low, high, length_push b.uses made) in subst (λ (u : Use K). IsOutside b.islands u.offset) (sym (get_or_push b.uses made d k at)) outside }
+      used_keeps outside = record { end = omega arith; words = λ i h. refl; count = omega (arith, length_push b.uses made); uses = used_same; fresh = λ k d low high. let at : length b.uses ≡ k = omega (arith, low, high, length_push b.uses made) in subst (λ (u : Use K). IsOutside b.islands u.offset) (sym (get_or_push b.uses made d k at)) outside; constants = refl; labels = λ q place e. inl e }
 
       used_grows : IsOutside b.islands offset → Grows b used b.islands b.islands
       used_grows outside = record {
@@ -270,7 +270,21 @@ module _ {K : Type 0} (r : Kinds K) where
           later' false None t e f = absurd (let z : None ≡ Some t = f in cc)
 
       bind_keeps : Keeps b bound'
-      bind_keeps = record { end = omega arith; words = λ i h. refl; count = omega (arith, length-map b.uses (closed_at r label (end_of b))); uses = λ k d h. subst (IsSameUse (end_of b) (get_or b.uses k d)) (sym (closed_use k d h)) (closed_same (get_or b.uses k d)); fresh = λ k d low high. absurd (omega (arith, low, high, length-map b.uses (closed_at r label (end_of b)))) }
+      bind_keeps = record {
+        end = omega arith;
+        words = λ i h. refl;
+        count = omega (arith, length-map b.uses (closed_at r label (end_of b)));
+        uses = λ k d h. subst (IsSameUse (end_of b) (get_or b.uses k d)) (sym (closed_use k d h)) (closed_same (get_or b.uses k d));
+        fresh = λ k d low high. absurd (omega (arith, low, high, length-map b.uses (closed_at r label (end_of b))));
+        constants = refl;
+        labels = λ q place e. elim (cases_eq q label) [
+          | inl same ↦
+              let z : Some (end_of b) ≡ Some place = sym (ap (get (insert b.labels label (end_of b))) same ∙ get_here b.labels label (end_of b)) ∙ e in
+              let at : end_of b ≡ place = cc z in
+              inr (omega (arith, at))
+          | inr ne ↦ inl (sym (get_other b.labels label (end_of b) q ne) ∙ e)
+        ];
+      }
 
       pub bind_later : IsLater b (record b { uses = map (closed_at r label (end_of b)) b.uses; labels = insert b.labels label (end_of b) })
       bind_later = record {

@@ -1,5 +1,5 @@
 -- What finished code is to its callers.
-use Rattle.std.specs.Prelude.{ℕ, ◌≡◌, ◌+◌, ◌*◌, ◌/◌, ◌<◌, ◌≤◌, List, [], ◌∷◌, ◌++◌, All, length, slice_index, slice_index_or, IfSome, MatchOption}
+use Rattle.std.specs.Prelude.{ℕ, ◌≡◌, ◌⊎◌, ◌+◌, ◌*◌, ◌/◌, ◌<◌, ◌≤◌, List, [], ◌∷◌, ◌++◌, All, Any, length, slice_index, slice_index_or, IfSome, MatchOption}
 use Rattle.a64_buffer.specs.declared.site.Use.{Use}
 use Rattle.a64_buffer.specs.declared.site.Target.TheVariants.{IslandEnd}
 use Rattle.a64_buffer.specs.declared.finish.Finished.{Finished}
@@ -10,7 +10,7 @@ use Rattle.a64_buffer.specs.ByPlace.{AreRecordedByPlace}
 use Rattle.a64_buffer.specs.Classes.{trap_words, weight_of, owed}
 use Rattle.a64_buffer.specs.Later.{IsLater}
 use Rattle.a64_buffer.specs.Sound.{HasJump, HaveOwnStops, IsSound}
-use Rattle.a64_buffer.specs.Pieces.{Serves}
+use Rattle.a64_buffer.specs.Pieces.{BeginsWith, Serves}
 use Rattle.a64_buffer.specs.Islands.{IsVeneerUse}
 use Rattle.a64_buffer.specs.Leads.{TargetLeads}
 use Rattle.a64_buffer.specs.Settled.{Lists}
@@ -27,7 +27,8 @@ module _ {K : Type 0} (r : Kinds K) where
     pub stops : IfSome u.stop (λ stop. GoesTo r u.kind put word u.offset stop)
 
   -- finished code: the buffer as it is with the pool at its end, each word of which stands where it was
-  -- put, and each use of which leads to its target
+  -- put, and each use of which leads to its target; each island begins with a jump over it, or with
+  -- what a use leads to
   pub record IsFinished (b : Buffer K) (code : Finished) : Type 0 where
     pub final : Buffer K
     pub sound : IsSound r b b.islands
@@ -53,6 +54,9 @@ module _ {K : Type 0} (r : Kinds K) where
     pub recorded : AreRecordedByPlace (end_of final) final.traps final.records
     pub final_sound : IsSound r final (b.islands ++ (end_of b, end_of final) ∷ [])
     pub jumps : All (λ island. HasJump b.uses island → JumpsOver code.bytes.items island) b.islands
+    pub begins :
+        All (λ island. HasJump b.uses island ⊎ Any (BeginsWith r final island) final.uses)
+        b.islands
     pub labels : Lists b.labels code.labels.items
     pub islands : code.islands.items ≡ b.islands
     pub pool : code.pool ≡ end_of b

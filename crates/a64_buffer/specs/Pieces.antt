@@ -1,5 +1,5 @@
 -- What stands in islands and in the pool, and in which order.
-use Rattle.std.specs.Prelude.{ℕ, ◌≡◌, ◌≢◌, ◌⊎◌, ◌+◌, ◌*◌, ◌-◌, ◌/◌, ◌%◌, ◌^◌, ◌<◌, ◌≤◌, Bool, true, false, ◌||◌, nat_lt, if◌then◌else◌, List, [], ◌∷◌, ◌++◌, All, Any, map, length, slice_index_or, replicate, None, Some, IfSome, IsSome}
+use Rattle.std.specs.Prelude.{ℕ, ◌≡◌, ◌≢◌, ◌⊎◌, ◌+◌, ◌*◌, ◌-◌, ◌/◌, ◌%◌, ◌^◌, ◌<◌, ◌≤◌, Bool, true, false, ◌||◌, nat_lt, if◌then◌else◌, List, [], ◌∷◌, ◌++◌, All, Any, map, length, slice_index, slice_index_or, replicate, None, Some, IfSome, IsSome}
 use Rattle.std.specs.Option.{unwrap_or}
 use Rattle.std.specs.List.{AllPairs, flat_map}
 use Rattle.std.specs.Ordering.{nat_cmp}
@@ -12,7 +12,7 @@ use Rattle.a64_buffer.specs.declared.class.Class.{Class}
 use Rattle.a64_buffer.specs.declared.class.Class.TheVariants.{Near, Middle, Load, Trapping, Far, Direct}
 use Rattle.a64_words.specs.Word.{words_of}
 use Rattle.a64_buffer.specs.Kinds.{Kinds}
-use Rattle.a64_buffer.specs.Buffer.{Buffer, end_of, goal_of, is_within}
+use Rattle.a64_buffer.specs.Buffer.{Buffer, end_of, goal_of, is_within, IsFree}
 use Rattle.a64_buffer.specs.Chain.{constant_of}
 use Rattle.a64_buffer.specs.Classes.{class, rank_of, wants, is_open}
 
@@ -137,6 +137,19 @@ module _ {K : Type 0} (r : Kinds K) where
     abbrev pub pieces : ℕ → List (Use K) → List (ℕ × Use K)
     pieces place [] = []
     pieces place (u ∷ us) = (place, u) ∷ pieces (place + 4 * length (words_for (class r u) u.target place)) us
+
+  -- an island begins with the piece of a use, which stops there, while its label stands elsewhere: what
+  -- stands in front of a copy are zero words, which are no uses
+  pub record BeginsWith (b : Buffer K) (island : ℕ × ℕ) (u : Use K) : Type 0 where
+    pub wanted : wants (class r u) ≡ true
+    pub stop : ℕ
+    pub stops : u.stop ≡ Some stop
+    pub at_piece : stop ≡ stop_for b.constants (class r u) u.target island.0
+    pub inside : stop < island.1
+    pub elsewhere : goal_of b.labels u.target ≢ Some stop
+    pub zeros :
+        (i : ℕ) → island.0 ≤ 4 * i → 4 * i < stop
+        → (slice_index b.words i ≡ 0) × IsFree b.uses (4 * i)
 
   -- a use that has got a piece: it was open before, or was made since, and its label is unbound or out
   -- of its range

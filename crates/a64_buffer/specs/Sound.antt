@@ -15,6 +15,7 @@ use Rattle.a64_buffer.specs.ByPlace.{AreRecordedByPlace}
 use Rattle.a64_buffer.specs.Areas.{InArea, HasUse, Stands}
 use Rattle.a64_buffer.specs.Classes.{Fits}
 use Rattle.a64_buffer.specs.Chain.{constant_of, AreChained}
+use Rattle.a64_buffer.specs.Pieces.{BeginsWith}
 use Rattle.a64_buffer.specs.Queues.{AreWaiting}
 
 -- what the parts of a buffer are to its callers
@@ -158,13 +159,14 @@ module _ {K : Type 0} (r : Kinds K) where
     pub kind : u.kind ≡ r.jump
     pub stop : u.stop ≡ Some island.1
 
-  -- an island of code that ends there: it is not empty, and where it begins with a jump, that leads
-  -- to its end
+  -- an island of code that ends there: it is not empty, and begins with a jump, which leads to its
+  -- end, or with the piece of a use
   pub record IsIsland (b : Buffer K) (island : ℕ × ℕ) : Type 0 where
     pub aligned : island.0 % 4 ≡ 0
     pub long : island.0 + 4 ≤ island.1
     pub inside : island.1 ≤ end_of b
     pub over : All (λ u. IsFront island u → IsOver b island u) b.uses
+    pub begins : HasJump b.uses island ⊎ Any (BeginsWith r b island) b.uses
 
   -- the islands of code, which stand one behind another
   pub record AreIslands (b : Buffer K) : Type 0 where
