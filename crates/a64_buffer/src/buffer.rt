@@ -74,10 +74,10 @@ impl<'c, K: MachInstLabelUse> MachBuffer<'c, K> {
     }
 
     /// Where the next word will stand, in bytes from the start of the code. What is true of every buffer
-    /// is told here: uses stand before the end, islands end at it at most, each open use still reaches
-    /// what it gets in an island at the end, a use that has a stop has it before the end, or at its label,
-    /// no two uses stop at one place but loads of one constant and uses at their labels, and the constants
-    /// have their sizes.
+    /// is told here: uses stand before the end, islands end at it at most and begin with their jump or with
+    /// what a use gets, each open use still reaches what it gets in an island at the end, a use that has a
+    /// stop has it before the end, or at its label, no two uses stop at one place but loads of one constant
+    /// and uses at their labels, and the constants have their sizes.
     #[inline(always)]
     pub fn cur_offset(&self) -> u32
         ensures value { result ≡ end_of self.now }
@@ -338,8 +338,9 @@ impl<'c, K: MachInstLabelUse> MachBuffer<'c, K> {
         self.parts.bind(label)
     }
 
-    /// Whether an island has to be written before so many bytes more: else some open use would no longer
-    /// reach what it gets there.
+    /// Whether an island has to be written before so many bytes more, for all open uses to reach what they
+    /// get there. The bound is never late. It counts the most that each open use may put before what others
+    /// get, at most 28 bytes, and may be early by as much for each.
     #[inline(always)]
     pub fn island_needed(&self, distance: u32) -> bool
         ensures { MatchBool result (Fits K.kinds self.now distance
@@ -350,9 +351,10 @@ impl<'c, K: MachInstLabelUse> MachBuffer<'c, K> {
 
     /// Writes an island at the end: a jump over it, where that is asked for, a jump word for each open
     /// branch of urgency 1 or 2, a copy of each constant that is waited for, and a word for each trap. Open
-    /// branches of urgency 3 get far veneers, all or none of them: where that is forced, or some would not
-    /// reach so many bytes more. Without a jump the island is for a place that nothing runs into: its
-    /// contents begin at once, and where nothing is open nothing is written or listed.
+    /// branches of urgency 3 get far veneers, all or none of them: where that is forced, or where by the bound
+    /// of [`island_needed`](MachBuffer::island_needed), which may be early, some would not reach so many bytes
+    /// more. Without a jump the island is for a place that nothing runs into: its contents begin at once, and
+    /// where nothing is open nothing is written or listed.
     ///
     /// # Errors
     ///

@@ -4,7 +4,8 @@
 /// Whether an island stands at all is its caller's choice.
 #[derive(Clone, Copy, Debug)]
 pub enum ForceVeneers {
-    /// They get far veneers, all of them, only where some would else be out of reach.
+    /// They get far veneers, all of them, only where some could else be out of reach, by a bound that may be
+    /// early.
     No,
     /// They all get far veneers.
     Yes,

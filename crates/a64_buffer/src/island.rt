@@ -221,7 +221,7 @@ impl<'c, K: MachInstLabelUse> Parts<'c, K> {
         }
     }
 
-    /// Whether the open uses of the longest range are given veneers: that is forced, or some would
+    /// Whether the open uses of the longest range are given veneers: that is forced, or some could
     /// be out of reach.
     fn promotes(&self, distance: u32, force: ForceVeneers) -> bool
         requires short { end_of (seen self.now) < 2 ^ 31 }
