@@ -16,7 +16,7 @@ pub enum Target {
 }
 
 /// A use in a word of code.
-#[derive(Clone, Copy)]
+#[derive(Clone, Copy, Debug)]
 pub struct Use<K> {
     /// The place of the word, in bytes from the start of the code.
     pub offset: u32,
