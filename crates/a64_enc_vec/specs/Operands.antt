@@ -25,7 +25,8 @@ vector_number top11 rm bit15_10 rn rd =
     rrr_number top11 bit15_10 (register_field rd) (register_field rn) (register_field rm)
 
 abbrev pub float_number : ℕ → Reg → Reg → Reg → ℕ
-float_number top22 rd rn rm = fp_rrr_number top22 (register_field rd) (register_field rn) (register_field rm)
+float_number top22 rd rn rm =
+    fp_rrr_number top22 (register_field rd) (register_field rn) (register_field rm)
 
 abbrev pub fp_three_form : ℕ → Reg → Reg → Reg → Reg → Form
 fp_three_form top17 rd rn rm ra =

@@ -1,5 +1,5 @@
-//! The words of rows of scalar floats and vectors, of the values of their fields in the row's order (a64_rows, `Row`): each
-//! within the width of its field, and all within the limits of the row.
+//! The words of rows of scalar floats and vectors, of the values of their fields in the row's order (a64_rows,
+//! `Row`): each within the width of its field, and all within the limits of the row.
 
 ghost use Rattle.std.specs.Prelude.{◌≡◌, [], ◌∷◌};
 ghost use Rattle.a64_rows.specs.declared.row_table.Row.TheVariants.{FpOne, FpTwo, FpThree, FpSelect, FpInt, VecThree, VecPermute, VecDot, VecElem, VecLong3, VecTwo, VecScalarPair, VecAcross, VecShift, ScalarShift, VecImm, VecCopy, ScalarCopy, VecInsElem, VecExt, VecTable};

@@ -1,4 +1,4 @@
-//! Scalar floats.
+//! Scalar floats, and vector registers whose row raw bits tell.
 
 ghost use Rattle.std.specs.Prelude.{◌≡◌, ◌*◌, ◌/◌, ◌%◌, ◌^◌, ◌<◌};
 ghost use Rattle.a64_base.specs.ScalarSizes.{HasFtype};
@@ -17,8 +17,8 @@ use a64_base::{Cond, Reg, ScalarSize, Writable};
 use a64_enc_int::register_field;
 use a64_rows::{Row, pack};
 
-/// Encodes an operation on one vector register: `top22` is the word's bits 31 to 10 (rows `FpOne`, `VecTwo`, `VecAcross`,
-/// `VecShift`, `ScalarShift`, `VecScalarPair`, `ScalarCopy` and `VecInsElem`).
+/// Encodes an operation on one vector register: `top22` is the word's bits 31 to 10 (rows `FpOne`, `VecTwo`,
+/// `VecAcross`, `VecShift`, `ScalarShift`, `VecScalarPair`, `ScalarCopy` and `VecInsElem`).
 pub fn enc_fpurr(top22: u32, rd: Writable<Reg>, rn: Reg) -> u32
     requires top22 { top22 < 2 ^ 22 }
     requires rd { IsVector rd }
@@ -30,7 +30,7 @@ pub fn enc_fpurr(top22: u32, rd: Writable<Reg>, rn: Reg) -> u32
     pack_vec_rr(top22, vector_field(rn), vector_field(rd.to_reg()))
 }
 
-/// Encodes an operation on two vector registers: `top22` is the word's bits 31 to 10, with 0 in `rm` (the rows of
+/// Encodes an operation on two vector registers: `top22` is the word's bits 31 to 10, with 0 in Rm (the rows of
 /// `enc_vec_rrr`).
 pub fn enc_fpurrr(top22: u32, rd: Writable<Reg>, rn: Reg, rm: Reg) -> u32
     requires top22 { top22 < 2 ^ 22 }

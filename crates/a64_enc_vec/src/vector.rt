@@ -25,9 +25,9 @@ use crate::raw_bits::pack_vec_rrr;
 use crate::register::vector_field;
 use a64_base::{Reg, Writable};
 
-/// Encodes an operation on two vector registers: `top11` and `bit15_10` are the word's bits 31 to 21 and 15 to 10 (rows
-/// `VecThree`, `VecPermute`, `VecDot`, `VecElem`, `VecLong3`, `VecExt`, `VecTable`, `FpTwo`, `FpSelect`, and `FpThree`, whose
-/// third operand is then raw bits).
+/// Encodes an operation on two vector registers: `top11` and `bit15_10` are the word's bits 31 to 21 and 15 to 10
+/// (rows `VecThree`, `VecPermute`, `VecDot`, `VecElem`, `VecLong3`, `VecExt`, `VecTable`, `FpTwo`, `FpSelect`, and
+/// `FpThree`, whose third operand is then raw bits).
 pub fn enc_vec_rrr(top11: u32, rm: Reg, bit15_10: u32, rn: Reg, rd: Writable<Reg>) -> u32
     requires top11 { top11 < 2 ^ 11 }
     requires rm { IsVector rm }
