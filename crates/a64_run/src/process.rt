@@ -36,12 +36,36 @@ fn end_by<E: Sink>(errs: &mut E, fault: Fault) -> u8
     fault.status()
 }
 
-/// Runs the program for a process: [`run`], for the words behind the first of those that it was started with,
-/// which is its name. The answer is the status with which the process has to end.
+/// Runs the program for the words behind the first, if there is memory for them.
+fn run_args<S: Source, K: Sink, E: Sink>(
+    alloc: Global,
+    args: Args,
+    source: &mut S,
+    sink: &mut K,
+    errs: &mut E,
+) -> u8
+    ensures { EndsFor S.left S.faults K.taken K.faults E.taken E.faults
+        source.old source.new sink.old sink.new errs.old errs.new (asked_by args) result
+        ⊎ LacksWords S.left S.faults K.taken K.faults E.taken E.faults
+        source.old source.new sink.old sink.new errs.old errs.new result }
+{
+    match words_behind(alloc, args) {
+        Ok(words) => {
+            let ran = run(alloc, &words, source, sink, errs);
+            let status = ran.status;
+            // The memory of what was read and made goes with the process: nothing is gone over to free it.
+            forget(ran);
+            status
+        }
+        Err(AllocError) => end_by(errs, Fault::Memory),
+    }
+}
+
+/// Runs the program for a process: [`run`](crate::run), for the words behind the first of those that it was
+/// started with, which is its name. The answer is the status with which the process has to end.
 ///
-/// Words that are no text are no command: the error of their kind is [`ErrorKind::InvalidData`]. Where there is
-/// no memory for the words, the status is 5, and that is told. The memory of what was read and made goes with the
-/// process: nothing is gone over to free it.
+/// Words that are no text are no command: their error is of the kind [`ErrorKind::InvalidData`]. Where there is
+/// no memory for the words, which every other error says, the status is 5, and that is told.
 pub fn run_process<S: Source, K: Sink, E: Sink>(
     alloc: Global,
     args: Result<Args, Error>,
@@ -52,25 +76,16 @@ pub fn run_process<S: Source, K: Sink, E: Sink>(
     // The words that are asked for are those behind the name, and the status is the run's.
     ensures ok { IfOk args (λ all. EndsFor S.left S.faults K.taken K.faults E.taken E.faults
         source.old source.new sink.old sink.new errs.old errs.new (asked_by all) result
-        ⊎ LacksWords E.taken E.faults source.old source.new sink.old sink.new errs.old errs.new
-        result) }
+        ⊎ LacksWords S.left S.faults K.taken K.faults E.taken E.faults
+        source.old source.new sink.old sink.new errs.old errs.new result) }
 
-    // No command is asked for by words that are no text, and no other error is answered so.
+    // No command is asked for by words that are no text.
     ensures err { IfErr args (EndsByError S.left S.faults K.taken K.faults E.taken E.faults
         source.old source.new sink.old sink.new errs.old errs.new result) }
 {
-    let words = match args {
-        Ok(args) => words_behind(alloc, args),
-        Err(error) if error.kind() == ErrorKind::InvalidData => {
-            return end_by(errs, Fault::Usage);
-        }
-        Err(_) => Err(AllocError),
-    };
-    let Ok(words) = words else {
-        return end_by(errs, Fault::Memory);
-    };
-    let ran = run(alloc, &words, source, sink, errs);
-    let status = ran.status;
-    forget(ran);
-    status
+    match args {
+        Ok(args) => run_args(alloc, args, source, sink, errs),
+        Err(error) if error.kind() == ErrorKind::InvalidData => end_by(errs, Fault::Usage),
+        Err(_) => end_by(errs, Fault::Memory),
+    }
 }
