@@ -3,3 +3,4 @@ pub mod Commands
 pub mod Run
 pub mod Stages
 pub mod Answering
+pub mod Process
