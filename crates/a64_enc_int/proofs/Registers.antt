@@ -1,5 +1,5 @@
 -- The field that names a register has five bits.
-use Rattle.std.proofs.Common.{◌%◌, ◌<◌, lit<}
+use Rattle.std.proofs.Common.{◌<◌, lit<}
 use Rattle.std.proofs.lemmas.Nat.{mod_below}
 use Rattle.a64_base.specs.declared.reg.Reg.{Reg}
 use Rattle.a64_base.specs.declared.reg.Reg.TheVariants.{Real, Virtual}

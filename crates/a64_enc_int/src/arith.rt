@@ -7,6 +7,11 @@ ghost use Rattle.a64_enc_int.specs.Named.{AreParts, AreProductParts, rows_of_rrr
 ghost use Rattle.a64_enc_int.specs.RawBits.{add_sub_imm_of, logic_imm_of};
 ghost use Rattle.a64_enc_int.specs.Registers.{IsGeneral, register_field};
 
+use crate::fields::{
+    TwoRegisters, add_sub_carry_word, add_sub_ext_word, add_sub_imm_word, add_sub_reg_word,
+    cond_select_word, data_proc2_word, extract_word, logic_imm_word, logic_reg_word,
+    mul_add_long_word, mul_add_word, mul_high_word,
+};
 use crate::register::general_field;
 use a64_base::{Reg, Writable};
 use a64_rows::{Row, pack};
@@ -19,29 +24,30 @@ fn pack_rrr(top: u32, low: u32, rm: u32, rn: u32, rd: u32) -> u32
     ensures { result ≡ rrr_number top low rd rn rm }
 {
     let (sf, op, s) = (top >> 10, (top >> 9) % 2, (top >> 8) % 2);
+    let registers = TwoRegisters { sf, rm, rn, rd };
     match (top >> 3) % 32 {
         0b01010 => {
             let (opc, sh, n) = ((top >> 8) % 4, (top >> 1) % 4, top % 2);
-            pack(Row::LogicReg, &[sf, opc, sh, n, rm, low, rn, rd])
+            logic_reg_word(opc, sh, n, low, registers)
         }
         0b01011 => {
             if top % 2 == 0 {
                 let sh = (top >> 1) % 4;
-                pack(Row::AddSubReg, &[sf, op, s, sh, rm, low, rn, rd])
+                add_sub_reg_word(op, s, sh, low, registers)
             } else {
-                pack(Row::AddSubExt, &[sf, op, s, rm, low >> 3, rn, rd])
+                add_sub_ext_word(op, s, low >> 3, registers)
             }
         }
-        0b10011 => pack(Row::Extract, &[sf, rm, low, rn, rd]),
+        0b10011 => extract_word(low, registers),
         0b11011 => match top % 4 {
-            0b00 => pack(Row::MulAdd, &[sf, rm, low >> 5, low % 32, rn, rd]),
-            0b01 => pack(Row::MulAddLong, &[(top >> 2) % 2, rm, low % 32, rn, rd]),
-            _ => pack(Row::MulHigh, &[(top >> 2) % 2, rm, rn, rd]),
+            0b00 => mul_add_word(low >> 5, low % 32, registers),
+            0b01 => mul_add_long_word((top >> 2) % 2, rm, low % 32, rn, rd),
+            _ => mul_high_word((top >> 2) % 2, rm, rn, rd),
         },
         _ => match top % 8 {
-            0b000 => pack(Row::AddSubCarry, &[sf, op, s, rm, rn, rd]),
-            0b100 => pack(Row::CondSelect, &[op, rm, low >> 2, low % 2, rn, rd]),
-            _ => pack(Row::DataProc2, &[sf, rm, low, rn, rd]),
+            0b000 => add_sub_carry_word(op, s, registers),
+            0b100 => cond_select_word(op, rm, low >> 2, low % 2, rn, rd),
+            _ => data_proc2_word(low, registers),
         },
     }
 }
@@ -105,7 +111,7 @@ pub fn enc_arith_rr_imm12(
         (bits_31_24 >> 5) % 2,
     );
     let (rn, rd) = (general_field(rn), general_field(rd.to_reg()));
-    pack(Row::AddSubImm, &[sf, op, s, immshift, imm12, rn, rd])
+    add_sub_imm_word(sf, op, s, immshift, imm12, rn, rd)
 }
 
 /// Encodes a logical operation with a bitmask immediate: `bits_31_23` is the word's bits 31 to 23, and `imm_bits` the
@@ -132,7 +138,7 @@ pub fn enc_arith_rr_imml(bits_31_23: u32, imm_bits: u32, rn: Reg, rd: Writable<R
     let (sf, opc) = (bits_31_23 >> 8, (bits_31_23 >> 6) % 4);
     let (n, immr, imms) = (imm_bits >> 12, (imm_bits >> 6) % 64, imm_bits % 64);
     let (rn, rd) = (general_field(rn), general_field(rd.to_reg()));
-    pack(Row::LogicImm, &[sf, opc, n, immr, imms, rn, rd])
+    logic_imm_word(sf, opc, n, immr, imms, rn, rd)
 }
 
 /// The word of the multiplication that raw bits tell, with four registers.
@@ -143,9 +149,10 @@ fn pack_rrrr(top: u32, bit15: u32, rm: u32, ra: u32, rn: u32, rd: u32) -> u32
     ensures { result ≡ rrrr_number top bit15 rd rn ra rm }
 {
     if top % 2 == 0 {
-        pack(Row::MulAdd, &[top >> 10, rm, bit15, ra, rn, rd])
+        let sf = top >> 10;
+        mul_add_word(bit15, ra, TwoRegisters { sf, rm, rn, rd })
     } else {
-        pack(Row::MulAddLong, &[(top >> 2) % 2, rm, ra, rn, rd])
+        mul_add_long_word((top >> 2) % 2, rm, ra, rn, rd)
     }
 }
 

@@ -10,6 +10,7 @@ mod arith;
 mod atomic;
 mod branch;
 mod exclusive;
+mod fields;
 mod memory;
 mod register;
 mod select;
@@ -24,6 +25,12 @@ pub use branch::{
     enc_test_bit_and_branch,
 };
 pub use exclusive::{LoopTraps, loop_offset, loop_traps};
+pub use fields::{
+    AccessFields, PairRegisters, TwoRegisters, add_sub_carry_word, add_sub_ext_word,
+    add_sub_imm_word, add_sub_reg_word, data_proc2_word, extract_word, ld_literal_word,
+    ld_st_imm9_word, ld_st_pair_word, ld_st_reg_word, ld_st_unsigned_word, logic_imm_word,
+    logic_reg_word, mul_add_long_word, mul_add_word, mul_high_word,
+};
 pub use memory::{enc_ldst_imm19, enc_ldst_pair, enc_ldst_reg, enc_ldst_simm9, enc_ldst_uimm12};
 pub use register::register_field;
 pub use select::{enc_bfm, enc_ccmp, enc_ccmp_imm, enc_csel, enc_move_wide, enc_movk};

@@ -9,7 +9,7 @@ ghost use Rattle.a64_enc_vec.specs.Registers.{IsVector};
 
 use crate::register::vector_field;
 use a64_base::{Reg, Writable};
-use a64_enc_int::register_field;
+use a64_enc_int::{PairRegisters, ld_st_pair_word, register_field};
 use a64_imms::SImm7Scaled;
 use a64_rows::{Row, pack};
 
@@ -47,5 +47,5 @@ pub fn enc_ldst_vec_pair(
 {
     let (load, imm7) = (u32::from(is_load), simm7.bits());
     let (rt2, rn, rt) = (vector_field(rt2), register_field(rn), vector_field(rt));
-    pack(Row::LdStPair, &[opc, 1, amode, load, imm7, rt2, rn, rt])
+    ld_st_pair_word(opc, 1, amode, load, imm7, PairRegisters { rt2, rn, rt })
 }
