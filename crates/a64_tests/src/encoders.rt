@@ -1,15 +1,18 @@
-//! Words of other assemblers, by the encoders that no instruction calls yet.
+//! Words of other assemblers, by encoders and by a row.
 
-use a64_base::{IrType, stack_reg, vreg, writable_vreg, writable_xreg, xreg, zero_reg};
+use a64_base::{ExtendOp, IrType, stack_reg, vreg, writable_vreg, writable_xreg, xreg, zero_reg};
 use a64_enc_int::{
-    enc_acq_rel, enc_arith_rrr, enc_arith_rrrr, enc_cas, enc_casp, enc_dmb_ish, enc_ldar,
-    enc_ldaxr, enc_stlr, enc_stlxr,
+    enc_acq_rel, enc_arith_rr_imm12, enc_arith_rrr, enc_arith_rrrr, enc_cas, enc_casp, enc_dmb_ish,
+    enc_ldar, enc_ldaxr, enc_ldst_imm19, enc_ldst_reg, enc_ldst_simm9, enc_ldst_uimm12, enc_stlr,
+    enc_stlxr,
 };
 use a64_enc_vec::{
     enc_asimd_mod_imm, enc_tbl, enc_vec_lanes, enc_vec_rr_misc, enc_vec_rr_pair,
     enc_vec_rr_pair_long, enc_vec_rrr_long, enc_vecmov,
 };
+use a64_imms::{SImm9, UImm12Scaled};
 use a64_ops::AtomicRMWOp;
+use a64_rows::{Row, pack};
 
 /// Raw bits that name a row with their registers.
 #[test]
@@ -21,6 +24,86 @@ fn arithmetic(rt: HostRuntime) {
         (add, 0x8b03_0041),
         // msub x27, x9, xzr, x30
         (product, 0x9b1f_f93b),
+    ] {
+        assert_eq!(rt; word, want, "{word:#x} for {want:#x}");
+    }
+}
+
+/// A row and the values of its fields.
+#[test]
+fn fields(rt: HostRuntime) {
+    // mov x0, #5
+    assert_eq!(rt; pack(Row::MoveWide, &[1, 2, 0, 5, 0]), 0xd280_00a0);
+}
+
+#[test]
+fn immediates(rt: HostRuntime) {
+    for (word, want) in [
+        // add x1, x2, #5, lsl #12
+        (
+            enc_arith_rr_imm12(0b1001_0001, 1, 5, xreg(2), writable_xreg(1)),
+            0x9140_1441,
+        ),
+        // subs w3, w4, #4095
+        (
+            enc_arith_rr_imm12(0b0111_0001, 0, 4095, xreg(4), writable_xreg(3)),
+            0x713f_fc83,
+        ),
+    ] {
+        assert_eq!(rt; word, want, "{word:#x} for {want:#x}");
+    }
+}
+
+#[test]
+fn accesses_by_offsets(rt: HostRuntime) {
+    let back = SImm9::maybe_from_i64(-256).expect(&rt, "nine bits");
+    let ahead = SImm9::maybe_from_i64(255).expect(&rt, "nine bits");
+    let words = UImm12Scaled::maybe_from_i64(32760, IrType::I64).expect(&rt, "twelve bits");
+    let vectors = UImm12Scaled::maybe_from_i64(16, IrType::I8X16).expect(&rt, "twelve bits");
+    for (word, want) in [
+        // ldur x1, [x2, #-256]
+        (
+            enc_ldst_simm9(0b11_1110_0001, back, 0, xreg(2), xreg(1)),
+            0xf850_0041,
+        ),
+        // ldr q3, [sp, #255]!
+        (
+            enc_ldst_simm9(0b00_1111_0011, ahead, 3, stack_reg(), vreg(3)),
+            0x3ccf_ffe3,
+        ),
+        // ldr x1, [x2, #32760]
+        (
+            enc_ldst_uimm12(0b11_1110_0001, words, xreg(2), xreg(1)),
+            0xf97f_fc41,
+        ),
+        // str q4, [sp, #16]
+        (
+            enc_ldst_uimm12(0b00_1111_0010, vectors, stack_reg(), vreg(4)),
+            0x3d80_07e4,
+        ),
+    ] {
+        assert_eq!(rt; word, want, "{word:#x} for {want:#x}");
+    }
+}
+
+#[test]
+fn accesses_by_indices_and_literals(rt: HostRuntime) {
+    let signed = Some(ExtendOp::SXTW);
+    for (word, want) in [
+        // ldr x1, [x2, w3, sxtw #3]
+        (
+            enc_ldst_reg(0b11_1110_0001, xreg(2), xreg(3), true, signed, xreg(1)),
+            0xf863_d841,
+        ),
+        // str d4, [sp, x5]
+        (
+            enc_ldst_reg(0b11_1111_0000, stack_reg(), xreg(5), false, None, vreg(4)),
+            0xfc25_6be4,
+        ),
+        // ldr x9, #-4
+        (enc_ldst_imm19(0x58, 0x7_ffff, xreg(9)), 0x58ff_ffe9),
+        // ldr q9, #1048572
+        (enc_ldst_imm19(0x9c, 0x3_ffff, vreg(9)), 0x9c7f_ffe9),
     ] {
         assert_eq!(rt; word, want, "{word:#x} for {want:#x}");
     }
