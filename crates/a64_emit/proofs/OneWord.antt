@@ -22,9 +22,9 @@ use Rattle.a64_operand.specs.IntegerOperands.{is_no_rotation, takes_shift}
 use Rattle.a64_rows.specs.Forms.{IsFormOf}
 use Rattle.a64_rows.specs.Limits.{is_bit_number}
 use Rattle.a64_rows.specs.DataProcessing.{add_sub_reg, logic_reg}
+use Rattle.a64_enc_int.specs.declared.fields.TwoRegisters.{TwoRegisters}
 use Rattle.a64_enc_int.specs.Operators.{bit_of}
 use Rattle.a64_enc_int.proofs.Registers.{field_below}
-use Rattle.a64_emit.specs.declared.word.plain.operator.TwoRegisters.{TwoRegisters}
 use Rattle.a64_emit.specs.IntegerForms.{op_of, s_of, opc_of, n_of, two_registers, no_shift, add_sub, logic, alu_form, extraction, shifted_form, extended_form, product_form}
 use Rattle.a64_emit.proofs.Operands.{sf_below}
 

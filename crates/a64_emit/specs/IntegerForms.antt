@@ -28,10 +28,10 @@ use Rattle.a64_imms.specs.declared.unsigned.ImmShift.{ImmShift}
 use Rattle.a64_imms.specs.Logic.{inverted}
 use Rattle.a64_operand.specs.declared.virtuals.VirtualRegisters.TheVariants.{Refused}
 use Rattle.a64_operand.specs.Operands.{is_stack_pointer}
+use Rattle.a64_enc_int.specs.declared.fields.TwoRegisters.{TwoRegisters}
 use Rattle.a64_enc_int.specs.Branches.{distance_low, distance_high}
 use Rattle.a64_enc_int.specs.Operators.{bit_of, move_wide_opc}
 use Rattle.a64_enc_int.specs.Registers.{register_field}
-use Rattle.a64_emit.specs.declared.word.plain.operator.TwoRegisters.{TwoRegisters}
 use Rattle.a64_rows.specs.Forms.{Form}
 use Rattle.a64_rows.specs.Control.{hint, nzcv}
 use Rattle.a64_rows.specs.DataProcessing.{AddSubRegFields, add_sub_reg, LogicRegFields, logic_reg, add_sub_ext, AddSubCarryFields, add_sub_carry, DataProc2Fields, data_proc2, MulHighFields, mul_high, mul_add, mul_add_long, add_sub_imm, LogicImmFields, logic_imm, bitfield, extract, move_wide, cond_select, adr}

@@ -4,7 +4,8 @@
 ghost use Rattle.std.specs.Prelude.{◌≡◌, ◌<◌, true};
 ghost use Rattle.a64_operand.specs.declared.virtuals.VirtualRegisters.TheVariants.{Refused};
 ghost use Rattle.a64_operand.specs.Operands.{is_register_or_zero};
-ghost use Rattle.a64_rows.specs.Forms.{form_word};
+ghost use Rattle.a64_rows.specs.Forms.{form_word, IsFormOf};
+ghost use Rattle.a64_rows.specs.Control.{hint};
 ghost use Rattle.a64_emit.specs.ControlForms as forms;
 ghost use Rattle.a64_emit.specs.ControlForms.{csdb_form};
 ghost use Rattle.a64_emit.specs.IntegerForms.{nop4_form, mov_to_nzcv_form, mov_from_nzcv_form};
@@ -13,6 +14,15 @@ use a64_base::{APIKey, Reg, Writable};
 use a64_enc_int::register_field;
 use a64_ops::BranchTargetType;
 use a64_rows::{Row, pack};
+
+/// The word of a hint, whose number is `crm` and `op2` in one.
+#[inline(always)]
+fn hint_word(crm: u32, op2: u32) -> u32
+    requires { IsFormOf (hint (record { crm = crm; op2 = op2 })) }
+    ensures { result ≡ form_word (hint (record { crm = crm; op2 = op2 })) }
+{
+    pack(Row::Hint, &[crm, op2])
+}
 
 /// The word of a `Nop4`.
 #[tactic(auto, unfolding(crate::specs::IntegerForms::nop4_form))]
@@ -56,7 +66,7 @@ fn paci_number(key: APIKey) -> u32
 pub fn paci_word(key: APIKey) -> u32
     ensures { result ≡ form_word (forms.paci_form key) }
 {
-    pack(Row::Hint, &[3, paci_number(key)])
+    hint_word(3, paci_number(key))
 }
 
 /// The word of an `Xpaclri`.
@@ -64,7 +74,7 @@ pub fn paci_word(key: APIKey) -> u32
 pub fn xpaclri_word() -> u32
     ensures { result ≡ form_word forms.xpaclri_form }
 {
-    pack(Row::Hint, &[0, 7])
+    hint_word(0, 7)
 }
 
 /// The number of the hint that lets such branches go to a place.
@@ -85,7 +95,7 @@ fn bti_number(targets: BranchTargetType) -> u32
 pub fn bti_word(targets: BranchTargetType) -> u32
     ensures { result ≡ form_word (forms.bti_form targets) }
 {
-    pack(Row::Hint, &[4, bti_number(targets)])
+    hint_word(4, bti_number(targets))
 }
 
 /// The word of a `MovToNZCV`.

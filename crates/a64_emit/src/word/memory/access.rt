@@ -20,11 +20,25 @@ ghost use Rattle.a64_emit.specs.Words.{are_held_parts};
 
 use crate::word::system::nop4_word;
 use a64_base::{ExtendOp, Reg, stack_reg};
-use a64_enc_int::{enc_ldst_pair, register_field};
+use a64_enc_int::{
+    AccessFields, enc_ldst_pair, ld_literal_word, ld_st_imm9_word, ld_st_reg_word,
+    ld_st_unsigned_word, register_field,
+};
 use a64_enc_vec::enc_ldst_vec_pair;
 use a64_imms::{SImm7Scaled, SImm9, UImm12Scaled};
 use a64_inst::{AMode, AccessOp, MemLabel, PairAMode};
-use a64_rows::{Row, pack};
+
+/// The fields that the operator of an access gives.
+#[inline(always)]
+fn access_fields(op: AccessOp) -> AccessFields
+    ensures { result ≡ record { sz = size_of op; v = vector_of op; opc = opc_of op } }
+{
+    AccessFields {
+        sz: op.size_field(),
+        v: op.vector_field(),
+        opc: op.opc_field(),
+    }
+}
 
 /// The word of an access with an offset of 9 bits.
 #[tactic(auto, using(crate::proofs::AccessForms::data_real, crate::proofs::AccessForms::are_access_fields, crate::proofs::MemoryWords::fields_below), unfolding(crate::specs::MemoryForms::imm9_form))]
@@ -36,9 +50,8 @@ fn imm9_word(op: AccessOp, rt: Reg, mode: u32, rn: Reg, simm9: SImm9) -> u32
     requires simm9 { IsOffset9 simm9.value }
     ensures { result ≡ form_word (forms.imm9_form op rt mode rn simm9.value) }
 {
-    let (sz, v, opc) = (op.size_field(), op.vector_field(), op.opc_field());
     let (rn, rt) = (register_field(rn), register_field(rt));
-    pack(Row::LdStImm9, &[sz, v, opc, simm9.bits(), mode, rn, rt])
+    ld_st_imm9_word(access_fields(op), simm9.bits(), mode, rn, rt)
 }
 
 /// The word of an access with an unsigned offset.
@@ -49,9 +62,8 @@ pub fn unsigned_word(op: AccessOp, rt: Reg, rn: Reg, uimm12: UImm12Scaled) -> u3
     ensures { result ≡ form_word (forms.unsigned_form op rt rn
         (uimm12_value uimm12 / type_bytes (uimm12_scale uimm12))) }
 {
-    let (sz, v, opc) = (op.size_field(), op.vector_field(), op.opc_field());
     let (rn, rt) = (register_field(rn), register_field(rt));
-    pack(Row::LdStUnsigned, &[sz, v, opc, uimm12.bits(), rn, rt])
+    ld_st_unsigned_word(access_fields(op), uimm12.bits(), rn, rt)
 }
 
 /// The word of an access with an index, which `UXTX` leaves as it is.
@@ -71,10 +83,9 @@ pub fn indexed_word(
     ensures { result ≡ form_word (forms.indexed_form op rt rn rm (extend_bits extendop)
         (bit_of scaled)) }
 {
-    let (sz, v, opc) = (op.size_field(), op.vector_field(), op.opc_field());
     let (ext, s) = (u32::from(extendop.bits()), u32::from(scaled));
     let (rm, rn, rt) = (register_field(rm), register_field(rn), register_field(rt));
-    pack(Row::LdStReg, &[sz, v, opc, rm, ext, s, rn, rt])
+    ld_st_reg_word(access_fields(op), rm, ext, s, rn, rt)
 }
 
 /// How many words a literal is ahead, modulo 2^19; none as long as it is a label's or a constant's.
@@ -97,10 +108,7 @@ pub fn literal_word(op: AccessOp, rt: Reg, words: u32) -> u32
     ensures { result ≡ form_word (forms.literal_form op rt words) }
 {
     let opc = op.literal_field().unwrap_or(0);
-    pack(
-        Row::LdLiteral,
-        &[opc, op.vector_field(), words, register_field(rt)],
-    )
+    ld_literal_word(opc, op.vector_field(), words, register_field(rt))
 }
 
 /// The word of a load or a store of one register in a mode that stands in an instruction.

@@ -11,15 +11,15 @@ ghost use Rattle.a64_rows.specs.Forms.{form_word};
 ghost use Rattle.a64_enc_int.specs.Registers.{IsReal};
 ghost use Rattle.a64_emit.specs.IntegerForms as forms;
 
-use crate::word::plain::operator::{extract_word, op_bit, opc_bits, s_bit};
+use crate::word::plain::operator::{op_bit, opc_bits, s_bit};
 use crate::word::plain::register::{mov_word, two_registers};
 use a64_base::{OperandSize, Reg, Writable};
 use a64_enc_int::{
-    enc_adr, enc_adrp, enc_arith_rr_imml, enc_bfm, enc_move_wide, enc_movk, register_field,
+    add_sub_imm_word, enc_adr, enc_adrp, enc_arith_rr_imml, enc_bfm, enc_move_wide, enc_movk,
+    extract_word, logic_imm_word, register_field,
 };
 use a64_imms::{Imm12, ImmLogic, ImmShift, MoveWideConst};
 use a64_ops::{ALUOp, MoveWideOp};
-use a64_rows::{Row, pack};
 
 /// The word of an `AluRRImm12`.
 #[tactic(auto, unfolding(crate::specs::IntegerForms::alu_rr_imm12_form))]
@@ -38,7 +38,7 @@ pub fn alu_rr_imm12_word(
     let (op, s) = (op_bit(op), s_bit(op));
     let (sh, imm12) = (imm12.shift_bits(), imm12.imm_bits());
     let (rn, rd) = (register_field(rn), register_field(rd.to_reg()));
-    pack(Row::AddSubImm, &[size.sf_bit(), op, s, sh, imm12, rn, rd])
+    add_sub_imm_word(size.sf_bit(), op, s, sh, imm12, rn, rd)
 }
 
 /// The immediate that the word of a logical operation has: of operators that invert the second
@@ -71,10 +71,7 @@ pub fn alu_rr_imm_logic_word(
     let imml = logic_imm(op, imml);
     let (n, immr, imms) = (u32::from(imml.n), u32::from(imml.r), u32::from(imml.s));
     let (rn, rd) = (register_field(rn), register_field(rd.to_reg()));
-    pack(
-        Row::LogicImm,
-        &[size.sf_bit(), opc_bits(op), n, immr, imms, rn, rd],
-    )
+    logic_imm_word(size.sf_bit(), opc_bits(op), n, immr, imms, rn, rd)
 }
 
 /// The word of a `MovWide`.
@@ -111,7 +108,7 @@ fn rotate_word(size: OperandSize, rd: Writable<Reg>, rn: Reg, amount: u8) -> u32
     ensures { result ≡ form_word (forms.extraction amount (forms.two_registers size rd rn rn)) }
 {
     let rm = rn;
-    extract_word(amount, two_registers(size, rd, rn, rm))
+    extract_word(u32::from(amount), two_registers(size, rd, rn, rm))
 }
 
 /// The word of an `AluRRImmShift`.

@@ -2,11 +2,14 @@
 
 ghost use Rattle.std.specs.Prelude.{◌≡◌, ◌^◌, ◌<◌};
 ghost use Rattle.a64_rows.specs.Forms.{form_word, IsFormOf};
-ghost use Rattle.a64_emit.specs.IntegerForms.{op_of, s_of, opc_of, n_of, opcode_of, bit_opcode, bfm_opc, alu_form, shifted_form, extended_form, product_form, extraction};
+ghost use Rattle.a64_emit.specs.IntegerForms.{op_of, s_of, opc_of, n_of, opcode_of, bit_opcode, bfm_opc, alu_form, shifted_form, extended_form, product_form};
 
 use a64_base::{ExtendOp, ShiftOp, ShiftOpAndAmt};
+use a64_enc_int::{
+    TwoRegisters, add_sub_carry_word, add_sub_ext_word, add_sub_reg_word, data_proc2_word,
+    extract_word, logic_reg_word, mul_add_long_word, mul_add_word, mul_high_word,
+};
 use a64_ops::{ALUOp, ALUOp3, BfmOp, BitOp};
-use a64_rows::{Row, pack};
 
 /// The field op: 1 for the operators that subtract.
 pub fn op_bit(op: ALUOp) -> u32
@@ -97,19 +100,6 @@ pub fn bfm_opc_bits(op: BfmOp) -> u8
     }
 }
 
-/// The size flag of an operation, and the numbers of its registers, as words have them.
-#[derive(Clone, Copy, Debug)]
-pub struct TwoRegisters {
-    /// 1 where the operation has 64 bits, else 0.
-    pub sf: u32,
-    /// The second operand: below 32.
-    pub rm: u32,
-    /// The first operand: below 32.
-    pub rn: u32,
-    /// The result: below 32.
-    pub rd: u32,
-}
-
 /// The word of an operation on two registers, whose row goes by the operator. The operators that add or subtract and
 /// the logical ones shift the second register.
 #[inline(always)]
@@ -120,43 +110,29 @@ pub fn alu_word(op: ALUOp, shift: ShiftOp, amount: u8, registers: TwoRegisters) 
       amount = amount;
     }) registers) }
 {
-    let TwoRegisters { sf, rm, rn, rd } = registers;
+    let TwoRegisters { rm, rn, rd, .. } = registers;
     let sh = u32::from(shift.bits());
     let imm6 = u32::from(amount);
     match op {
-        ALUOp::Add | ALUOp::Sub | ALUOp::AddS | ALUOp::SubS => pack(
-            Row::AddSubReg,
-            &[sf, op_bit(op), s_bit(op), sh, rm, imm6, rn, rd],
-        ),
+        ALUOp::Add | ALUOp::Sub | ALUOp::AddS | ALUOp::SubS => {
+            add_sub_reg_word(op_bit(op), s_bit(op), sh, imm6, registers)
+        }
         ALUOp::And
         | ALUOp::Orr
         | ALUOp::Eor
         | ALUOp::AndS
         | ALUOp::AndNot
         | ALUOp::OrrNot
-        | ALUOp::EorNot => pack(
-            Row::LogicReg,
-            &[sf, opc_bits(op), sh, n_bit(op), rm, imm6, rn, rd],
-        ),
+        | ALUOp::EorNot => logic_reg_word(opc_bits(op), sh, n_bit(op), imm6, registers),
         ALUOp::Adc | ALUOp::Sbc | ALUOp::AdcS | ALUOp::SbcS => {
-            pack(Row::AddSubCarry, &[sf, op_bit(op), s_bit(op), rm, rn, rd])
+            add_sub_carry_word(op_bit(op), s_bit(op), registers)
         }
         ALUOp::UDiv | ALUOp::SDiv | ALUOp::Lsl | ALUOp::Lsr | ALUOp::Asr | ALUOp::Extr => {
-            pack(Row::DataProc2, &[sf, rm, opcode_bits(op), rn, rd])
+            data_proc2_word(opcode_bits(op), registers)
         }
-        ALUOp::SMulH => pack(Row::MulHigh, &[0, rm, rn, rd]),
-        ALUOp::UMulH => pack(Row::MulHigh, &[1, rm, rn, rd]),
+        ALUOp::SMulH => mul_high_word(0, rm, rn, rd),
+        ALUOp::UMulH => mul_high_word(1, rm, rn, rd),
     }
-}
-
-/// The word of an extraction from two registers.
-#[inline(always)]
-pub fn extract_word(lowest: u8, registers: TwoRegisters) -> u32
-    requires { IsFormOf (extraction lowest registers) }
-    ensures { result ≡ form_word (extraction lowest registers) }
-{
-    let TwoRegisters { sf, rm, rn, rd } = registers;
-    pack(Row::Extract, &[sf, rm, u32::from(lowest), rn, rd])
 }
 
 /// The word of an operation on two registers of which the second is shifted, or of an extraction.
@@ -167,7 +143,7 @@ pub fn shifted_word(op: ALUOp, shiftop: ShiftOpAndAmt, registers: TwoRegisters) 
 {
     let amount = shiftop.amt().value();
     match op {
-        ALUOp::Extr => extract_word(amount, registers),
+        ALUOp::Extr => extract_word(u32::from(amount), registers),
         _ => alu_word(op, shiftop.op(), amount, registers),
     }
 }
@@ -178,12 +154,8 @@ pub fn extended_word(op: ALUOp, extendop: ExtendOp, registers: TwoRegisters) -> 
     requires { IsFormOf (extended_form op extendop registers) }
     ensures { result ≡ form_word (extended_form op extendop registers) }
 {
-    let TwoRegisters { sf, rm, rn, rd } = registers;
     let ext = u32::from(extendop.bits());
-    pack(
-        Row::AddSubExt,
-        &[sf, op_bit(op), s_bit(op), rm, ext, rn, rd],
-    )
+    add_sub_ext_word(op_bit(op), s_bit(op), ext, registers)
 }
 
 /// The word of a product that is added or subtracted.
@@ -192,11 +164,11 @@ pub fn product_word(op: ALUOp3, ra: u32, registers: TwoRegisters) -> u32
     requires { IsFormOf (product_form op ra registers) }
     ensures { result ≡ form_word (product_form op ra registers) }
 {
-    let TwoRegisters { sf, rm, rn, rd } = registers;
+    let TwoRegisters { rm, rn, rd, .. } = registers;
     match op {
-        ALUOp3::MAdd => pack(Row::MulAdd, &[sf, rm, 0, ra, rn, rd]),
-        ALUOp3::MSub => pack(Row::MulAdd, &[sf, rm, 1, ra, rn, rd]),
-        ALUOp3::SMAddL => pack(Row::MulAddLong, &[0, rm, ra, rn, rd]),
-        ALUOp3::UMAddL => pack(Row::MulAddLong, &[1, rm, ra, rn, rd]),
+        ALUOp3::MAdd => mul_add_word(0, ra, registers),
+        ALUOp3::MSub => mul_add_word(1, ra, registers),
+        ALUOp3::SMAddL => mul_add_long_word(0, rm, ra, rn, rd),
+        ALUOp3::UMAddL => mul_add_long_word(1, rm, ra, rn, rd),
     }
 }

@@ -9,9 +9,9 @@ ghost use Rattle.a64_rows.specs.Forms.{form_word};
 ghost use Rattle.a64_emit.specs.IntegerForms as forms;
 
 use crate::word::plain::immediate::alu_rr_imm12_word;
-use crate::word::plain::operator::{TwoRegisters, alu_word, extended_word};
+use crate::word::plain::operator::{alu_word, extended_word};
 use a64_base::{Cond, ExtendOp, OperandSize, Reg, RegClass, ShiftOp, Writable, zero_reg};
-use a64_enc_int::{enc_csel, register_field};
+use a64_enc_int::{TwoRegisters, enc_csel, register_field};
 use a64_imms::Imm12;
 use a64_ops::ALUOp;
 

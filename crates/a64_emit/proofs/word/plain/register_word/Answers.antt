@@ -4,7 +4,7 @@ use Rattle.a64_inst.specs.declared.inst.Inst.TheVariants as insts
 use Rattle.a64_operand.specs.declared.virtuals.VirtualRegisters.TheVariants.{Refused}
 use Rattle.a64_inst.specs.Faults.{has_operands}
 use Rattle.a64_rows.specs.Forms.{IsFormOf}
-use Rattle.a64_emit.specs.declared.word.plain.operator.TwoRegisters.{TwoRegisters}
+use Rattle.a64_enc_int.specs.declared.fields.TwoRegisters.{TwoRegisters}
 use Rattle.a64_emit.specs.IntegerForms.{shifted_form}
 use Rattle.a64_emit.proofs.PlainOperands.{rest_of}
 use Rattle.a64_emit.proofs.RegisterForms.{shifted_is_form}

@@ -8,8 +8,8 @@ as_bit : (flag : Bool) (n : ℕ) → n ≡ (elim flag [ false ↦ 0 | true ↦ 1
 as_bit false n e = e
 as_bit true n e = e
 
-pub pack-requires : goal.pack-requires
-pack-requires c =
+pub logic_imm_word-requires : goal.logic_imm_word-requires
+logic_imm_word-requires c =
     let imm = c.logic_imm-imml.result in
     let formed = alu_rr_imm_logic_is_form c.args.op c.args.size c.args.rd c.args.rn c.args.imml imm c.requires.imml c.logic_imm-imml.ensures.value c.logic_imm-imml.ensures.lawful in
     rw (c.sf_bit.ensures, c.opc_bits.ensures.value, as_bit imm.n c.from-n.result c.from-n.ensures, c.from-immr.ensures, c.from-imms.ensures, c.register_field-rn.ensures.value, c.register_field-rd.ensures.value, c.to_reg.ensures) formed
