@@ -19,6 +19,7 @@ use Rattle.a64_buffer.specs.Classes.{class}
 use Rattle.a64_buffer.specs.Finished.{IsSettled}
 use Rattle.a64_buffer.specs.Pieces as pieces
 use Rattle.a64_emit.specs.declared.code.Code.{Code}
+use Rattle.a64_buffer.proofs.Fronts.{sites_from}
 use Rattle.a64_label_use.specs.declared.label_use.LabelUse.{LabelUse}
 use Rattle.a64_label_use.specs.declared.label_use.LabelUse.TheVariants as uses
 use Rattle.a64_label_use.specs.LabelUses.{label_kinds, mask_for, distance_in}
@@ -65,25 +66,6 @@ module _ (constants : FinMap nat_cmp (List ℕ)) (sized : (number : ℕ) (conten
     pub sites_are : map pieces.site_of users ≡ before_sites ++ (all_sites place us ++ behind_sites)
     pub before : All (λ s. s.0 < place) before_sites
     pub behind : All (λ s. place + 4 * length (all_words place us) ≤ s.0) behind_sites
-
-  -- the uses of pieces stand on their words
-  inside : (place : ℕ) (us : List (Use LabelUse)) → All (λ s. place ≤ s.0) (all_sites place us)
-  inside place [] = λ k d h. absurd (omega arith)
-  inside place (u ∷ us) =
-      let next : ℕ = place + 4 * length (words_for u place) in
-      subst (All (λ (s : Told). place ≤ s.0)) (sym (flat_map-cons (pieces.piece_sites label_kinds constants) (place, u) (pieces.pieces label_kinds constants next us)))
-      (All-append (λ (s : Told). place ≤ s.0) (sites_for u place) (all_sites next us) (own (class label_kinds u)) (λ k d h. let x = inside next us k d h in omega (arith, x)))
-    where
-      own : (c : Class) → All (λ (s : Told). place ≤ s.0) (pieces.sites_for label_kinds c u.target place)
-      own Near zero d h = omega arith
-      own Near (suc k) d h = absurd (omega arith)
-      own Middle zero d h = omega arith
-      own Middle (suc k) d h = absurd (omega arith)
-      own Far zero d h = omega arith
-      own Far (suc k) d h = absurd (omega arith)
-      own Load k d h = absurd (omega arith)
-      own Trapping k d h = absurd (omega arith)
-      own Direct k d h = absurd (omega arith)
 
   module _ (place : ℕ) (u : Use LabelUse) (us : List (Use LabelUse)) (s : StandFrom place (u ∷ us)) where
     abbrev pub next : ℕ
@@ -148,7 +130,7 @@ module _ (constants : FinMap nat_cmp (List ℕ)) (sized : (number : ℕ) (conten
         none k (pieces.site_of d) inside_all told
       where
         behind_all : All (λ (t : Told). next ≤ t.0) (all_sites next us ++ s.behind_sites)
-        behind_all = All-append (λ (t : Told). next ≤ t.0) (all_sites next us) s.behind_sites (inside next us) (λ k d h. let x = s.behind k d h in omega (arith, x, ap length words_split, length-append (words_for u place) (all_words next us)))
+        behind_all = All-append (λ (t : Told). next ≤ t.0) (all_sites next us) s.behind_sites (sites_from label_kinds constants next us) (λ k d h. let x = s.behind k d h in omega (arith, x, ap length words_split, length-append (words_for u place) (all_words next us)))
 
         none_of : All (λ (t : Told). t.0 ≢ q) (s.before_sites ++ (sites_for u place ++ (all_sites next us ++ s.behind_sites)))
         none_of =
