@@ -43,7 +43,7 @@ impl Code {
 }
 
 /// The words of code that are left, in order.
-#[derive(Clone, Copy, Debug)]
+#[derive(Drop)]
 pub struct CodeWords<'a> {
     bytes: &'a [u8],
 }
