@@ -61,6 +61,7 @@ pub use a64_emit::EmitError;
 pub use a64_emit::Item;
 pub use a64_emit::LabelUse;
 pub use a64_emit::MachInstEmit;
+pub use a64_emit::constant_size;
 pub use a64_emit::room_for;
 pub use a64_imms::ASIMDFPModImm;
 pub use a64_imms::ASIMDMovModImm;

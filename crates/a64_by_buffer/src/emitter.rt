@@ -2,7 +2,6 @@
 
 ghost use Rattle.std.specs.Prelude.{◌≡◌, ◌^◌, ◌<◌, ◌+◌, None, OnOk, true};
 ghost use Rattle.std.specs.FinMap.{empty, get, insert};
-ghost use Rattle.a64_inst.specs.Faults as inst_faults;
 ghost use Rattle.a64_buffer.specs.Buffer.{end_of};
 ghost use Rattle.a64_buffer.specs.Classes.{owed};
 ghost use Rattle.a64_label_use.specs.LabelUses.{label_kinds};
@@ -10,20 +9,12 @@ ghost use Rattle.a64_label_use.specs.LabelUses.{label_kinds};
 use crate::fault::Fault;
 use a64_assembler::{
     Constants, EmitError, EmitFlags, EmitInfo, EmitState, Finished, ForceVeneers, FrameLayout,
-    Inst, LabelUse, MachBuffer, MachInstEmit, MachLabel, room_for,
+    Inst, LabelUse, MachBuffer, MachInstEmit, MachLabel, constant_size, room_for,
 };
 use std::alloc::Global;
 
 /// Code is shorter than so many bytes.
 const CODE_LIMIT: u64 = 1 << 31;
-
-/// How many bytes the constant has that an instruction loads; `None` where it loads none, or that is not
-/// there.
-fn constant_size(inst: &Inst, constants: &Constants) -> Option<u32>
-    ensures { result ≡ inst_faults.constant_size constants.now inst.now }
-{
-    constants.size_of(inst.constant()?)
-}
 
 /// Whether the code stays shorter than its limit, with all that the open uses may add, and so many bytes more.
 fn is_short(buffer: &MachBuffer<'_, LabelUse>, more: u64) -> bool

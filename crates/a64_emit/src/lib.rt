@@ -29,7 +29,7 @@ pub use falling::falls;
 pub use halfword::{has_halfword, restores_halfwords};
 pub use one_word::is_one_word;
 pub use room::room_for;
-pub use shown::{ShownFault, first_shown_fault, shown_fault, shown_fault_with};
+pub use shown::{ShownFault, constant_size, first_shown_fault, shown_fault, shown_fault_with};
 pub use site::{Site, Table, Uses, near_label};
 pub use state::MachInstEmitState;
 pub use uses::uses_in;

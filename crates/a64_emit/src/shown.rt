@@ -21,7 +21,7 @@ pub enum ShownFault {
 
 /// How many bytes the constant has that an instruction loads; `None` where it loads none, or that is not
 /// there.
-fn constant_size(inst: &Inst, constants: &Constants) -> Option<u32>
+pub fn constant_size(inst: &Inst, constants: &Constants) -> Option<u32>
     ensures { result ≡ inst_faults.constant_size constants.now inst.now }
 {
     constants.size_of(inst.constant()?)

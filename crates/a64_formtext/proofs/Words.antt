@@ -1,26 +1,9 @@
 -- The digits of a word.
-use Rattle.std.proofs.Common.{◌≡◌, ℕ, ◌<◌, ◌+◌, ◌/◌, ◌%◌, ◌^◌, Bool, true, false, eqb, nat_lt, List, [], ◌∷◌, ◌++◌, refl, append_assoc, arith}
+use Rattle.std.proofs.Common.{◌≡◌, ℕ, ◌+◌, ◌/◌, ◌%◌, ◌^◌, Bool, true, false, eqb, nat_lt, List, ◌++◌, refl, append_assoc, arith}
 use Rattle.std.specs.Prelude.{if◌then◌else◌}
 use Rattle.std.proofs.lemmas.Bool.{ne_eqb}
 use Rattle.a64_read.specs.Fields.{HasNo}
 use Rattle.a64_read.specs.Hex.{hex_digit, hex_word}
-
--- the two digits of a byte
-abbrev pub digits_of : ℕ → List ℕ
-digits_of byte = hex_digit (byte / 16) ∷ hex_digit (byte % 16) ∷ []
-
--- the digits of a word are those of its bytes, the highest first
-pub by_bytes : (word : ℕ) → word < 2 ^ 32 → hex_word word ≡ digits_of (word / 16777216) ++ (digits_of (word / 65536 % 256) ++ (digits_of (word / 256 % 256) ++ digits_of (word % 256)))
-by_bytes word h =
-    let a : word / 16777216 / 16 ≡ word / 16 ^ 7 % 16 = omega arith in
-    let b : word / 16777216 % 16 ≡ word / 16 ^ 6 % 16 = omega arith in
-    let c : word / 65536 % 256 / 16 ≡ word / 16 ^ 5 % 16 = omega arith in
-    let d : word / 65536 % 256 % 16 ≡ word / 16 ^ 4 % 16 = omega arith in
-    let e : word / 256 % 256 / 16 ≡ word / 16 ^ 3 % 16 = omega arith in
-    let f : word / 256 % 256 % 16 ≡ word / 16 ^ 2 % 16 = omega arith in
-    let g : word % 256 / 16 ≡ word / 16 ^ 1 % 16 = omega arith in
-    let i : word % 256 % 16 ≡ word / 16 ^ 0 % 16 = omega arith in
-    rw (a, b, c, d, e, f, g, i) refl
 
 -- four texts, appended one after another
 pub four : (text a b c d : List ℕ) → (((text ++ a) ++ b) ++ c) ++ d ≡ text ++ (a ++ (b ++ (c ++ d)))

@@ -3,7 +3,7 @@
 ghost use Rattle.std.specs.Prelude.{◌≡◌, ◌++◌, ◌/◌, ◌%◌, ◌<◌, [], ◌∷◌, List, ℕ, codes, IfOk, OnOk};
 ghost use Rattle.std.specs.String.{string_bytes};
 ghost use Rattle.a64_formtext.specs.Shown.{IsShown, IsListing};
-ghost use Rattle.a64_read.specs.Hex.{hex_digit, hex_word};
+ghost use Rattle.a64_read.specs.Hex.{hex_digit, hex_pair, hex_word};
 
 use crate::form::push_form;
 use a64_rows::decode_word;
@@ -25,7 +25,7 @@ fn digit_of(number: u8) -> u8
 /// Appends the two hexadecimal digits of a byte.
 fn push_byte(text: &mut String, byte: u8) -> Result<(), AllocError>
     ensures { OnOk result (string_bytes text.new
-        ≡ string_bytes text.old ++ hex_digit (byte / 16) ∷ hex_digit (byte % 16) ∷ []) }
+        ≡ string_bytes text.old ++ hex_pair byte) }
 {
     text.push(char::from(digit_of(byte / 16)))?;
     text.push(char::from(digit_of(byte % 16)))

@@ -1,5 +1,6 @@
 pub mod OtherKinds
 pub mod Headings
+pub mod HexWords
 pub mod Decimals
 pub mod TwoDigits
 pub mod RegisterPairReads

@@ -1,11 +1,8 @@
 -- The texts of bytes: hexadecimal digits, in order.
-use Rattle.std.specs.Prelude.{ℕ, ◌<◌, ◌+◌, ◌/◌, ◌%◌, ◌^◌, nat_lt, if◌then◌else◌, List, [], ◌∷◌, map}
+use Rattle.std.specs.Prelude.{ℕ, ◌<◌, ◌/◌, ◌%◌, ◌^◌, List, [], ◌∷◌, map}
 use Rattle.std.specs.List.{AllByRecursion}
+pub use Rattle.a64_imms.specs.Texts.{hex_digit}
 use Rattle.a64_read.specs.Reads.{IsU8}
-
--- a hexadecimal digit, in lower case
-abbrev pub hex_digit : ℕ → ℕ
-hex_digit n = if nat_lt n 10 then 48 + n else 87 + n
 
 -- a digit has four bits
 abbrev pub IsDigit : ℕ → Type 0
@@ -14,6 +11,10 @@ IsDigit n = n < 16
 -- the two digits of a byte
 abbrev pub byte_digits : ℕ → ℕ × ℕ
 byte_digits byte = (hex_digit (byte / 16), hex_digit (byte % 16))
+
+-- these as a text
+abbrev pub hex_pair : ℕ → List ℕ
+hex_pair byte = hex_digit (byte / 16) ∷ hex_digit (byte % 16) ∷ []
 
 -- the bytes one behind another
 abbrev pub hex_text : List ℕ → List ℕ

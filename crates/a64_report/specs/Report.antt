@@ -1,5 +1,5 @@
 -- The report of assembled code.
-use Rattle.std.specs.Prelude.{ℕ, ℤ, ◌*◌, ◌/◌, ◌%◌, List, [], ◌∷◌, ◌++◌, map, codes}
+use Rattle.std.specs.Prelude.{ℕ, ℤ, ◌*◌, List, [], ◌∷◌, ◌++◌, map, codes}
 use Rattle.std.specs.Int.{w32, from_le_bytes}
 use Rattle.std.specs.List.{flat_map, enumerate_from}
 use Rattle.std.specs.Fmt.{decimal}
@@ -9,7 +9,7 @@ use Rattle.a64_base.specs.declared.entity.Reloc.{Reloc}
 use Rattle.a64_base.specs.declared.entity.TrapCode.{TrapCode}
 use Rattle.a64_base.specs.declared.entity.UserStackMap.{UserStackMap}
 use Rattle.a64_emit.specs.declared.code.Code.{Code}
-use Rattle.a64_read.specs.Hex.{hex_digit, hex_word}
+use Rattle.a64_read.specs.Hex.{hex_word}
 use Rattle.a64_reloc.specs.Relocs as Relocs
 
 -- the words of code, each with its least byte first
@@ -72,7 +72,3 @@ report_of code =
     ++ flat_map call_line code.calls.items
     ++ flat_map patchable_line code.patchable.items
     ++ flat_map map_line code.maps.items
-
--- a byte as two hexadecimal digits
-abbrev pub hex_pair : ℕ → List ℕ
-hex_pair byte = hex_digit (byte / 16) ∷ hex_digit (byte % 16) ∷ []

@@ -6,8 +6,7 @@
 
 ghost use Rattle.std.specs.Prelude.{◌≡◌, ◌+◌, ◌≤◌, ◌++◌, drop, take, length};
 ghost use Rattle.std.specs.Fmt.{decimal, signed_decimal};
-ghost use Rattle.a64_read.specs.Hex.{hex_word};
-ghost use Rattle.a64_report.specs.Report.{hex_pair};
+ghost use Rattle.a64_read.specs.Hex.{hex_pair, hex_word};
 
 use itoa::write_digits;
 
