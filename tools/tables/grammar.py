@@ -1,7 +1,8 @@
 """What the tables of tables/ have in common: records of lines, their expressions, and how an error is told.
 
-A record begins at the first column; the lines behind it that are indented belong to it. Blank lines, and lines
-that begin with `#`, say nothing. A bar stands between what a line names and what it says of that in words.
+A record begins at the first column; the lines behind it that are indented belong to it, and one that is indented
+further than the first of them goes on with the line before it. Blank lines, and lines that begin with `#`, say
+nothing. A bar stands between what a line names and what it says of that in words.
 """
 from __future__ import annotations
 
@@ -11,7 +12,8 @@ from typing import NoReturn
 
 NAME = re.compile(r"[A-Za-z]\w*")
 NUMBER = re.compile(r"0x[0-9a-f]+|[0-9]+")
-TOKEN = re.compile(r"\s*(?:(&?[A-Za-z][\w.]*|0x[0-9a-f]+|[0-9]+|&&|[!<>=]=|<)|([(),])|(\S))")
+TEXT = re.compile(r'"[^"]*"')
+TOKEN = re.compile(r'\s*(?:(&?[A-Za-z][\w.]*|0x[0-9a-f]+|[0-9]+|"[^"]*"|&&|[!<>=]=|<)|([(),])|(\S))')
 SIGNS = ("==", "!=", "<", "<=", ">=")
 
 
@@ -56,18 +58,30 @@ class Record:
     head: Line
     lines: list[Line] = field(default_factory=list)
 
+    def add(self, line: Line, goes_on: bool) -> None:
+        """Puts a line in, or joins it to the one before where it goes on with that."""
+        if goes_on and self.lines:
+            last = self.lines[-1]
+            self.lines[-1] = Line(last.file, last.number, f"{last.text} {line.text}")
+        else:
+            self.lines.append(line)
+
 
 def records_of(text: str, file: str) -> list[Record]:
     """The records of a table's text, in their order."""
     records: list[Record] = []
+    indent = 0
     for number, row in enumerate(text.split("\n"), start=1):
         line = Line(file, number, row.strip())
         if not line.text or line.text.startswith("#"):
             continue
-        if not row.startswith(" "):
+        columns = len(row) - len(row.lstrip())
+        if not columns:
             records.append(Record(line))
+            indent = 0
         elif records:
-            records[-1].lines.append(line)
+            indent = indent or columns
+            records[-1].add(line, columns > indent)
         else:
             line.fail("the first line is indented, and belongs to no record")
     return records
@@ -101,7 +115,8 @@ def snake_case(name: str) -> str:
 
 # ---- expressions: calls of functions, and comparisons with a number, joined by `&&`
 #
-# A value is a number, a name, which may have parts behind dots, or a call. Behind `&` a name is given as a reference.
+# A value is a number, a text in quotes, a name, which may have parts behind dots, or a call. Behind `&` a name is given
+# as a reference.
 
 @dataclass(frozen=True)
 class Call:
@@ -111,7 +126,7 @@ class Call:
     values: tuple[Value, ...]
 
 
-# A name or a number, as it stands, or a call.
+# A name, a number or a text, as it stands, or a call.
 Value = str | Call
 
 
@@ -132,13 +147,18 @@ class Compare:
 Test = Call | Compare
 
 
+def is_literal(value: str) -> bool:
+    """Whether a value that is no call is a number or a text."""
+    return bool(NUMBER.fullmatch(value) or TEXT.fullmatch(value))
+
+
 def names_in(values: tuple[Value, ...]) -> list[str]:
     """The names that stand in values, without `&` and without what is behind a dot."""
     names: list[str] = []
     for value in values:
         if isinstance(value, Call):
             names += names_in(value.values)
-        elif not NUMBER.fullmatch(value):
+        elif not is_literal(value):
             names.append(value.removeprefix("&").partition(".")[0])
     return names
 
@@ -177,7 +197,7 @@ class _Tokens:
         token = self.take()
         if self.items[:1] == ["("]:
             return self.call(token)
-        if not NUMBER.fullmatch(token):
+        if not is_literal(token):
             for part in token.removeprefix("&").split("."):
                 self.line.name(part)
         return token
@@ -219,3 +239,13 @@ def call_of(line: Line) -> Call:
     if tokens.items:
         line.fail(f"{tokens.items[0]} stands behind the call")
     return call
+
+
+def values_of(line: Line) -> list[Value]:
+    """The values of a list, with commas between."""
+    tokens = _Tokens(line)
+    values = [tokens.value()]
+    while tokens.items:
+        tokens.take(",")
+        values.append(tokens.value())
+    return values

@@ -23,20 +23,10 @@ OWN_NAMES = {
 }
 
 
-def name_of(part: Field) -> str:
-    """The name of a field in definitions, where the size of a scalar is `scalar`."""
-    return "scalar" if (part.name, part.what) == ("size", "ScalarSize") else part.name
-
-
-def pattern_of(one: Instruction) -> str:
-    """An instruction as a pattern."""
-    return f"(insts.{' '.join([one.name, *map(name_of, one.fields)])})" if one.fields else f"insts.{one.name}"
-
-
 def value_of(value: Value, one: Instruction) -> str:
     """A value of a test."""
     part = one.field_of(value)
-    return name_of(part) if part else value
+    return part.in_definitions if part else value
 
 
 def test_of(test: Test, one: Instruction) -> str:
@@ -51,7 +41,7 @@ def test_of(test: Test, one: Instruction) -> str:
 def has_rest(table: InstructionTable) -> list[str]:
     """specs/Sheets.antt: what must hold beside the classes of the registers."""
     plain = [one for group in table.plain_groups for one in table.of_group(group)]
-    return [f"has_rest virtuals {pattern_of(one)} = {test_of(one.test, one)}" for one in plain if one.test]
+    return [f"has_rest virtuals {one.pattern} = {test_of(one.test, one)}" for one in plain if one.test]
 
 
 # ---- loads and stores of one register
@@ -83,9 +73,9 @@ def access_of(table: InstructionTable) -> list[str]:
     """specs/Accesses.antt: an instruction as its operator, its register, its address and what is known of it."""
     equations = []
     for one in table.accesses:
-        parts = zip(("reg", "mem", "flags"), map(name_of, one.fields))
+        parts = zip(("reg", "mem", "flags"), (part.in_definitions for part in one.fields))
         record = "; ".join([f"op = ops.{one.name}", *(f"{field} = {name}" for field, name in parts)])
-        equations.append(f"access_of {pattern_of(one)} = Some (record {{ {record} }})")
+        equations.append(f"access_of {one.pattern} = Some (record {{ {record} }})")
     return equations
 
 
@@ -93,6 +83,6 @@ def inst_with(table: InstructionTable) -> list[str]:
     """specs/Accesses.antt: the instruction of an operator."""
     equations = []
     for one in table.accesses:
-        names = " ".join(map(name_of, one.fields))
+        names = " ".join((part.in_definitions for part in one.fields))
         equations.append(f"inst_with ops.{one.name} {names} = insts.{one.name} {names}")
     return equations

@@ -6,7 +6,7 @@ from dataclasses import dataclass, field
 
 from .grammar import Call, Line, Names, Record, Test, Value, call_of, names_in, records_of, snake_case, tests_of
 
-ACCESS = re.compile(r"(\w+) size ([0-3]) v ([01]) opc ([0-3])")
+ACCESS = re.compile(r"(\w+) size ([0-3]) v ([01]) opc ([0-3])(?: literal ([0-3]))?")
 FIELD = re.compile(r"(\w+): ([^|]*?)\s*\|\s*(.*)")
 
 # The prover has no rule for a literal of a variant behind this one, so each of these has a maker.
@@ -18,6 +18,12 @@ ADDRESSED = ["Mode", "Flags"]
 # What an expression may name beside fields and the variants of enumerations.
 VIRTUALS = "virtuals"
 BESIDE = (VIRTUALS, "true", "false")
+
+# The words with which a line of an instruction begins that is neither a sentence nor a field. Each stands once, and what
+# stands behind it is read where it is written.
+KEYS = (
+    "if", "manual", "row", "form", "word", "traps", "cells", "text", "let", "roles", "access", "made", "kinds", "file", "also",
+)
 
 
 @dataclass(frozen=True)
@@ -52,33 +58,48 @@ class Field:
     kind: Kind
     says: list[str]
 
+    @property
+    def in_definitions(self) -> str:
+        """Its name in definitions, where the size of a scalar is `scalar`."""
+        return "scalar" if (self.name, self.what) == ("size", "ScalarSize") else self.name
+
 
 @dataclass(frozen=True)
 class Access:
-    """What a load or a store of one register moves: the type of the value, and the fields size, V and opc of its
-    words.
+    """What a load or a store of one register moves: the type of the value, the fields size, V and opc of its words,
+    and where it has a form with a literal the field opc of that.
     """
 
     type: str
     size: int
     vector: int
     opc: int
+    literal: int | None
 
 
 @dataclass
 class Instruction:
-    """An instruction: its name, its group, what is said of it, its fields, and what must hold of them and the word
-    of a plain word, or what a load or a store of one register moves, and whether its immediate is made by hand.
+    """An instruction: its name, its group, the class of its name in a file, whether its result is the register behind
+    it, where it stands, what is said of it, its fields, and its lines by the words with which they begin; and of these
+    what must hold of a plain word, and its word, or what a load or a store of one register moves.
     """
 
     name: str
     group: Group
+    named: str
+    is_tied: bool
+    head: Line
     says: list[str] = field(default_factory=list)
     fields: list[Field] = field(default_factory=list)
+    lines: dict[str, Line] = field(default_factory=dict)
     test: Test | None = None
     word: Call | None = None
     access: Access | None = None
-    is_made: bool = False
+
+    @property
+    def is_made(self) -> bool:
+        """Whether the constructor of its immediate may refuse a file's value."""
+        return "made" in self.lines
 
     @property
     def maker(self) -> str:
@@ -89,6 +110,12 @@ class Instruction:
     def loads(self) -> bool:
         """Whether its first field is written."""
         return self.fields[0].way == "writes"
+
+    @property
+    def pattern(self) -> str:
+        """The instruction as a pattern of definitions."""
+        names = [part.in_definitions for part in self.fields]
+        return f"(insts.{' '.join([self.name, *names])})" if names else f"insts.{self.name}"
 
     def field_of(self, value: Value) -> Field | None:
         """The field that a value is, where it is one."""
@@ -130,7 +157,7 @@ class _Reader:
         self.groups = Names("group")
         self.kinds = Names("kind")
         self.instructions = Names("instruction")
-        self.words = {"if": self.test, "word": self.word, "made": self.made, "access": self.access}
+        self.read = {"if": self.test, "form": self.form, "word": self.word, "made": self.made, "access": self.access}
 
     def record(self, record: Record) -> None:
         """Reads a record by its first word."""
@@ -156,26 +183,49 @@ class _Reader:
         self.kinds.add(line.name(name), Kind(name, of_type, in_file or name), line)
 
     def instruction(self, record: Record) -> None:
-        """An instruction: its head, what it does, its fields, and its test."""
-        head = record.head
-        name, _, group = (half.strip() for half in head.text.partition(":"))
-        one = Instruction(head.name(name), self.groups.find(group, head))
-        self.instructions.add(name, one, head)
+        """An instruction: its head, what it does, its fields, and its other lines."""
+        one = self.head(record.head)
         for line in record.lines:
             word = line.text.split()[0]
             if word == "|":
                 says = one.fields[-1].says if one.fields else one.says
                 says.append(line.text[1:].strip())
-            elif word in self.words:
-                self.words[word](one, line.behind())
+            elif word in KEYS:
+                self.key(one, word, line)
             else:
                 self.field(one, line)
+        self.whole(one)
+
+    def head(self, head: Line) -> Instruction:
+        """An instruction by the first line of its record."""
+        name, _, behind = (half.strip() for half in head.text.partition(":"))
+        group, *marks = behind.split(", ")
+        named = [mark.removeprefix("named ") for mark in marks if mark.startswith("named ")]
+        for mark in marks:
+            if mark != "tied" and not mark.startswith("named "):
+                head.fail(f"`{mark}` is no mark of an instruction")
+        found = self.groups.find(group, head)
+        one = Instruction(head.name(name), found, (named or [group])[0], "tied" in marks, head)
+        self.instructions.add(name, one, head)
+        return one
+
+    def key(self, one: Instruction, word: str, line: Line) -> None:
+        """A line of an instruction that begins with one of the words."""
+        if word in one.lines:
+            line.fail(f"`{word}` stands here a second time")
+        one.lines[word] = line.behind()
+        if word in self.read:
+            self.read[word](one, line.behind())
+
+    def whole(self, one: Instruction) -> None:
+        """Sees that nothing is missing of an instruction."""
+        head = one.head
         if not one.says:
-            head.fail(f"nothing is said of the instruction `{name}`")
+            head.fail(f"nothing is said of the instruction `{one.name}`")
         if one.group.plain and not one.word:
-            head.fail(f"the plain word `{name}` has no word")
+            head.fail(f"the plain word `{one.name}` has no word")
         if len(self.instructions) > LAST_LITERAL and not one.access:
-            head.fail(f"behind the instruction {LAST_LITERAL} `{name}` has to be a load or a store of one register")
+            head.fail(f"behind the instruction {LAST_LITERAL} `{one.name}` has to be a load or a store of one register")
 
     def field(self, one: Instruction, line: Line) -> None:
         """A field of an instruction."""
@@ -205,21 +255,21 @@ class _Reader:
     def test(self, one: Instruction, line: Line) -> None:
         """What must hold beside the classes."""
         if not one.group.plain:
-            line.fail(f"an instruction has no test in the group `{one.group.name}`")
-        if one.test:
-            line.fail("`if` stands here a second time")
+            return
         tests = tests_of(line)
         if len(tests) > 1:
             line.fail("one test is wanted")
         _known(one, tests[0].values, line)
         one.test = tests[0]
 
+    def form(self, one: Instruction, line: Line) -> None:
+        """The function that gives the form of the word, and the word where no other function is named."""
+        form = call_of(line)
+        _known(one, form.values, line)
+        one.word = one.word or Call(f"{form.name.rpartition('.')[2]}_word", form.values)
+
     def word(self, one: Instruction, line: Line) -> None:
-        """The function that gives a plain word."""
-        if not one.group.plain:
-            line.fail(f"an instruction has no word in the group `{one.group.name}`")
-        if one.word:
-            line.fail("`word` stands here a second time")
+        """The function that gives the word."""
         one.word = call_of(line)
         _known(one, one.word.values, line)
 
@@ -227,18 +277,16 @@ class _Reader:
         """That the immediate of a plain word is made by hand."""
         if not one.group.plain or line.text:
             line.fail("`made` stands alone, in a group of plain words")
-        one.is_made = True
 
     def access(self, one: Instruction, line: Line) -> None:
         """What a load or a store of one register moves."""
         found = ACCESS.fullmatch(line.text)
         if not found:
-            line.fail("`access TYPE size N v N opc N` is wanted")
-        if one.access:
-            line.fail("`access` stands here a second time")
+            line.fail("`access TYPE size N v N opc N` is wanted, and `literal N` behind it where there is such a form")
         if [part.way == "is" and part.what for part in one.fields] != [False, *ADDRESSED]:
             line.fail(f"the fields of `{one.name}` have to be a register, a `Mode` and `Flags`")
-        one.access = Access(found[1], *map(int, found.groups()[1:]))
+        of_type, *bits = found.groups()
+        one.access = Access(of_type, *(bit if bit is None else int(bit) for bit in bits))
 
     def table(self) -> InstructionTable:
         """What was read."""

@@ -28,37 +28,19 @@ use std::default::MadeWith;
 #[derive(Drop)]
 pub enum Inst {
     // Written by `python3 tools/instructions.py` from tables/instructions.txt.
-    /// No word at all.
-    Nop0,
-    /// `nop`: one word that does nothing.
-    Nop4,
-    /// An integer operation on two registers.
-    AluRRR {
-        /// The operator.
-        alu_op: ALUOp,
-        /// The size of the operands.
-        size: OperandSize,
+    /// `adr`: an address near the code.
+    Adr {
         /// The result.
         rd: Writable<Reg>,
-        /// The first operand.
-        rn: Reg,
-        /// The second operand.
-        rm: Reg,
+        /// The distance in bytes, above -2^20 and below 2^20.
+        off: i32,
     },
-    /// An integer operation on three registers.
-    AluRRRR {
-        /// The operator.
-        alu_op: ALUOp3,
-        /// The size of the operands.
-        size: OperandSize,
+    /// `adrp`: the address of a page near the code.
+    Adrp {
         /// The result.
         rd: Writable<Reg>,
-        /// The first factor.
-        rn: Reg,
-        /// The second factor.
-        rm: Reg,
-        /// What the product is added to, or subtracted from.
-        ra: Reg,
+        /// The distance in pages of 4096 bytes, above -2^20 and below 2^20.
+        off: i32,
     },
     /// An addition or subtraction of an immediate.
     AluRRImm12 {
@@ -86,83 +68,6 @@ pub enum Inst {
         /// The immediate, which is one of the size.
         imml: ImmLogic,
     },
-    /// A shift or a rotation by an amount.
-    AluRRImmShift {
-        /// The operator: a shift, or `Extr` for the rotation.
-        alu_op: ALUOp,
-        /// The size of the operands.
-        size: OperandSize,
-        /// The result.
-        rd: Writable<Reg>,
-        /// What is shifted.
-        rn: Reg,
-        /// The amount in bits, below the size.
-        immshift: ImmShift,
-    },
-    /// An operation on a register and a shifted register, or an extraction from two.
-    AluRRRShift {
-        /// The operator.
-        alu_op: ALUOp,
-        /// The size of the operands.
-        size: OperandSize,
-        /// The result.
-        rd: Writable<Reg>,
-        /// The first operand.
-        rn: Reg,
-        /// The second operand, before it is shifted.
-        rm: Reg,
-        /// The shift, by less than the size.
-        shiftop: ShiftOpAndAmt,
-    },
-    /// An addition or subtraction of an extended register.
-    AluRRRExtend {
-        /// The operator.
-        alu_op: ALUOp,
-        /// The size of the operands.
-        size: OperandSize,
-        /// The result.
-        rd: Writable<Reg>,
-        /// The first operand.
-        rn: Reg,
-        /// The second operand, before it is extended.
-        rm: Reg,
-        /// How it is extended.
-        extendop: ExtendOp,
-    },
-    /// An operation on the bits of one register.
-    BitRR {
-        /// The operator.
-        op: BitOp,
-        /// The size of the operands.
-        size: OperandSize,
-        /// The result.
-        rd: Writable<Reg>,
-        /// The operand.
-        rn: Reg,
-    },
-    /// `mov` of a register.
-    Mov {
-        /// The size of the registers.
-        size: OperandSize,
-        /// The result.
-        rd: Writable<Reg>,
-        /// What is moved.
-        rm: Reg,
-    },
-    /// `mov` at 64 bits out of one of x21, x29, x30 and the stack pointer.
-    MovFromPReg {
-        /// The result.
-        rd: Writable<Reg>,
-        /// What is moved.
-        rm: PReg,
-    },
-    /// `mov` at 64 bits into one of x21, x29 and x30.
-    MovToPReg {
-        /// The result.
-        rd: PReg,
-        /// What is moved.
-        rm: Reg,
-    },
     /// `movz` or `movn`: sets a register to a halfword at one of its places.
     MovWide {
         /// The operator.
@@ -185,67 +90,18 @@ pub enum Inst {
         /// The size of the register.
         size: OperandSize,
     },
-    /// `csel` at 64 bits: one of two registers, by a condition.
-    CSel {
-        /// The result.
-        rd: Writable<Reg>,
-        /// What it is where the condition holds.
-        rn: Reg,
-        /// What it is where the condition fails.
-        rm: Reg,
-        /// The condition.
-        cond: Cond,
-    },
-    /// `csneg` at 64 bits: a register, or the negative of another, by a condition.
-    CSNeg {
-        /// The result.
-        rd: Writable<Reg>,
-        /// What it is where the condition holds.
-        rn: Reg,
-        /// What it is the negative of where the condition fails.
-        rm: Reg,
-        /// The condition.
-        cond: Cond,
-    },
-    /// `cset` at 64 bits: 1 where a condition holds, else 0.
-    CSet {
-        /// The result.
-        rd: Writable<Reg>,
-        /// The condition.
-        cond: Cond,
-    },
-    /// `csetm` at 64 bits: all ones where a condition holds, else 0.
-    CSetm {
-        /// The result.
-        rd: Writable<Reg>,
-        /// The condition.
-        cond: Cond,
-    },
-    /// `ccmp` of two registers: a comparison where a condition holds, else these flags.
-    CCmp {
+    /// A shift or a rotation by an amount.
+    AluRRImmShift {
+        /// The operator: a shift, or `Extr` for the rotation.
+        alu_op: ALUOp,
         /// The size of the operands.
         size: OperandSize,
-        /// The first operand.
+        /// The result.
+        rd: Writable<Reg>,
+        /// What is shifted.
         rn: Reg,
-        /// The second operand.
-        rm: Reg,
-        /// The flags where the condition fails.
-        nzcv: NZCV,
-        /// The condition.
-        cond: Cond,
-    },
-    /// `ccmp` of a register and an immediate.
-    CCmpImm {
-        /// The size of the operands.
-        size: OperandSize,
-        /// The first operand.
-        rn: Reg,
-        /// The second operand.
-        imm: UImm5,
-        /// The flags where the condition fails.
-        nzcv: NZCV,
-        /// The condition.
-        cond: Cond,
+        /// The amount in bits, below the size.
+        immshift: ImmShift,
     },
     /// An extension of the lowest bits of a register.
     Extend {
@@ -290,54 +146,159 @@ pub enum Inst {
         /// The highest bit of the field.
         imms: UImm6,
     },
-    /// `msr nzcv`: sets the flags.
-    MovToNZCV {
-        /// The flags, in bits 31 to 28.
+    /// An integer operation on two registers.
+    AluRRR {
+        /// The operator.
+        alu_op: ALUOp,
+        /// The size of the operands.
+        size: OperandSize,
+        /// The result.
+        rd: Writable<Reg>,
+        /// The first operand.
+        rn: Reg,
+        /// The second operand.
+        rm: Reg,
+    },
+    /// An operation on the bits of one register.
+    BitRR {
+        /// The operator.
+        op: BitOp,
+        /// The size of the operands.
+        size: OperandSize,
+        /// The result.
+        rd: Writable<Reg>,
+        /// The operand.
         rn: Reg,
     },
-    /// `mrs` of `nzcv`: reads the flags.
-    MovFromNZCV {
+    /// An operation on a register and a shifted register, or an extraction from two.
+    AluRRRShift {
+        /// The operator.
+        alu_op: ALUOp,
+        /// The size of the operands.
+        size: OperandSize,
         /// The result.
         rd: Writable<Reg>,
+        /// The first operand.
+        rn: Reg,
+        /// The second operand, before it is shifted.
+        rm: Reg,
+        /// The shift, by less than the size.
+        shiftop: ShiftOpAndAmt,
     },
-    /// `adr`: an address near the code.
-    Adr {
-        /// The result.
-        rd: Writable<Reg>,
-        /// The distance in bytes, above -2^20 and below 2^20.
-        off: i32,
-    },
-    /// `adrp`: the address of a page near the code.
-    Adrp {
-        /// The result.
-        rd: Writable<Reg>,
-        /// The distance in pages of 4096 bytes, above -2^20 and below 2^20.
-        off: i32,
-    },
-    /// `csdb`: no result of a guess that is not settled yet is used behind it.
-    Csdb,
-    /// `dmb ish`: a barrier between the memory accesses before it and those behind it.
-    Fence,
-    /// `fmov` at 32 bits: a float out of another register, with zeros above it.
-    FpuMove32 {
+    /// `mov` of a register.
+    Mov {
+        /// The size of the registers.
+        size: OperandSize,
         /// The result.
         rd: Writable<Reg>,
         /// What is moved.
-        rn: Reg,
+        rm: Reg,
     },
-    /// `fmov` at 64 bits: a float out of another register, with zeros above it.
-    FpuMove64 {
+    /// `mov` at 64 bits out of one of x21, x29, x30 and the stack pointer.
+    MovFromPReg {
         /// The result.
         rd: Writable<Reg>,
         /// What is moved.
-        rn: Reg,
+        rm: PReg,
     },
-    /// `mov` of a whole vector register.
-    FpuMove128 {
+    /// `mov` at 64 bits into one of x21, x29 and x30.
+    MovToPReg {
+        /// The result.
+        rd: PReg,
+        /// What is moved.
+        rm: Reg,
+    },
+    /// An addition or subtraction of an extended register.
+    AluRRRExtend {
+        /// The operator.
+        alu_op: ALUOp,
+        /// The size of the operands.
+        size: OperandSize,
         /// The result.
         rd: Writable<Reg>,
-        /// What is moved.
+        /// The first operand.
         rn: Reg,
+        /// The second operand, before it is extended.
+        rm: Reg,
+        /// How it is extended.
+        extendop: ExtendOp,
+    },
+    /// `ccmp` of two registers: a comparison where a condition holds, else these flags.
+    CCmp {
+        /// The size of the operands.
+        size: OperandSize,
+        /// The first operand.
+        rn: Reg,
+        /// The second operand.
+        rm: Reg,
+        /// The flags where the condition fails.
+        nzcv: NZCV,
+        /// The condition.
+        cond: Cond,
+    },
+    /// `ccmp` of a register and an immediate.
+    CCmpImm {
+        /// The size of the operands.
+        size: OperandSize,
+        /// The first operand.
+        rn: Reg,
+        /// The second operand.
+        imm: UImm5,
+        /// The flags where the condition fails.
+        nzcv: NZCV,
+        /// The condition.
+        cond: Cond,
+    },
+    /// `csel` at 64 bits: one of two registers, by a condition.
+    CSel {
+        /// The result.
+        rd: Writable<Reg>,
+        /// What it is where the condition holds.
+        rn: Reg,
+        /// What it is where the condition fails.
+        rm: Reg,
+        /// The condition.
+        cond: Cond,
+    },
+    /// `cset` at 64 bits: 1 where a condition holds, else 0.
+    CSet {
+        /// The result.
+        rd: Writable<Reg>,
+        /// The condition.
+        cond: Cond,
+    },
+    /// `csetm` at 64 bits: all ones where a condition holds, else 0.
+    CSetm {
+        /// The result.
+        rd: Writable<Reg>,
+        /// The condition.
+        cond: Cond,
+    },
+    /// `csneg` at 64 bits: a register, or the negative of another, by a condition.
+    CSNeg {
+        /// The result.
+        rd: Writable<Reg>,
+        /// What it is where the condition holds.
+        rn: Reg,
+        /// What it is the negative of where the condition fails.
+        rm: Reg,
+        /// The condition.
+        cond: Cond,
+    },
+    /// An integer operation on three registers.
+    AluRRRR {
+        /// The operator.
+        alu_op: ALUOp3,
+        /// The size of the operands.
+        size: OperandSize,
+        /// The result.
+        rd: Writable<Reg>,
+        /// The first factor.
+        rn: Reg,
+        /// The second factor.
+        rm: Reg,
+        /// What the product is added to, or subtracted from.
+        ra: Reg,
     },
     /// `mov` of one lane of a vector register, with zeros above it.
     FpuMoveFromVec {
@@ -349,39 +310,6 @@ pub enum Inst {
         idx: u8,
         /// The lanes, of 32 or 64 bits.
         size: VectorSize,
-    },
-    /// `fmov` of a float of 16, 32 or 64 bits, with zeros above it.
-    FpuExtend {
-        /// The result.
-        rd: Writable<Reg>,
-        /// What is moved.
-        rn: Reg,
-        /// The size of the float.
-        size: ScalarSize,
-    },
-    /// An operation on one float.
-    FpuRR {
-        /// The operator.
-        fpu_op: FPUOp1,
-        /// The size of the operand: 32 bits for `Cvt32To64`, 64 for `Cvt64To32`, else 16, 32 or 64.
-        size: ScalarSize,
-        /// The result.
-        rd: Writable<Reg>,
-        /// The operand.
-        rn: Reg,
-    },
-    /// An operation on two floats of 16, 32 or 64 bits.
-    FpuRRR {
-        /// The operator.
-        fpu_op: FPUOp2,
-        /// The size of the operands.
-        size: ScalarSize,
-        /// The result.
-        rd: Writable<Reg>,
-        /// The first operand.
-        rn: Reg,
-        /// The second operand.
-        rm: Reg,
     },
     /// `ushr` of the lowest 64 bits of a vector register, in one lane or in two, with zeros above the result.
     FpuRRI {
@@ -404,29 +332,12 @@ pub enum Inst {
         /// What is shifted.
         rn: Reg,
     },
-    /// An operation on three floats of 16, 32 or 64 bits.
-    FpuRRRR {
-        /// The operator.
-        fpu_op: FPUOp3,
-        /// The size of the operands.
-        size: ScalarSize,
+    /// `mov` of a whole vector register.
+    FpuMove128 {
         /// The result.
         rd: Writable<Reg>,
-        /// The first factor.
+        /// What is moved.
         rn: Reg,
-        /// The second factor.
-        rm: Reg,
-        /// The addend, which some operators negate.
-        ra: Reg,
-    },
-    /// `fcmp` of two floats of 16, 32 or 64 bits, which sets the flags.
-    FpuCmp {
-        /// The size of the operands.
-        size: ScalarSize,
-        /// The first operand.
-        rn: Reg,
-        /// The second operand.
-        rm: Reg,
     },
     /// A conversion of a float to an integer, towards zero.
     FpuToInt {
@@ -445,6 +356,89 @@ pub enum Inst {
         rd: Writable<Reg>,
         /// The integer, in a general register.
         rn: Reg,
+    },
+    /// `fmov` of the bits of a general register, with zeros above them.
+    MovToFpu {
+        /// The result.
+        rd: Writable<Reg>,
+        /// What is moved, a general register.
+        rn: Reg,
+        /// How many bits: 16, 32 or 64.
+        size: ScalarSize,
+    },
+    /// `fmov` at 32 bits: a float out of another register, with zeros above it.
+    FpuMove32 {
+        /// The result.
+        rd: Writable<Reg>,
+        /// What is moved.
+        rn: Reg,
+    },
+    /// `fmov` at 64 bits: a float out of another register, with zeros above it.
+    FpuMove64 {
+        /// The result.
+        rd: Writable<Reg>,
+        /// What is moved.
+        rn: Reg,
+    },
+    /// `fmov` of a float of 16, 32 or 64 bits, with zeros above it.
+    FpuExtend {
+        /// The result.
+        rd: Writable<Reg>,
+        /// What is moved.
+        rn: Reg,
+        /// The size of the float.
+        size: ScalarSize,
+    },
+    /// An operation on one float.
+    FpuRR {
+        /// The operator.
+        fpu_op: FPUOp1,
+        /// The size of the operand: 32 bits for `Cvt32To64`, 64 for `Cvt64To32`, else 16, 32 or 64.
+        size: ScalarSize,
+        /// The result.
+        rd: Writable<Reg>,
+        /// The operand.
+        rn: Reg,
+    },
+    /// A rounding of a float to an integral value.
+    FpuRound {
+        /// The direction, and the size of the float.
+        op: FpuRoundMode,
+        /// The result.
+        rd: Writable<Reg>,
+        /// The operand.
+        rn: Reg,
+    },
+    /// `fcmp` of two floats of 16, 32 or 64 bits, which sets the flags.
+    FpuCmp {
+        /// The size of the operands.
+        size: ScalarSize,
+        /// The first operand.
+        rn: Reg,
+        /// The second operand.
+        rm: Reg,
+    },
+    /// `fmov` of an immediate float of 16, 32 or 64 bits.
+    FpuMoveFPImm {
+        /// The result.
+        rd: Writable<Reg>,
+        /// The float, which is one of the size.
+        imm: ASIMDFPModImm,
+        /// The size of the float.
+        size: ScalarSize,
+    },
+    /// An operation on two floats of 16, 32 or 64 bits.
+    FpuRRR {
+        /// The operator.
+        fpu_op: FPUOp2,
+        /// The size of the operands.
+        size: ScalarSize,
+        /// The result.
+        rd: Writable<Reg>,
+        /// The first operand.
+        rn: Reg,
+        /// The second operand.
+        rm: Reg,
     },
     /// `fcsel` at 16 bits: one of two floats, by a condition.
     FpuCSel16 {
@@ -479,138 +473,39 @@ pub enum Inst {
         /// The condition.
         cond: Cond,
     },
-    /// A rounding of a float to an integral value.
-    FpuRound {
-        /// The direction, and the size of the float.
-        op: FpuRoundMode,
-        /// The result.
-        rd: Writable<Reg>,
-        /// The operand.
-        rn: Reg,
-    },
-    /// `fmov` of the bits of a general register, with zeros above them.
-    MovToFpu {
-        /// The result.
-        rd: Writable<Reg>,
-        /// What is moved, a general register.
-        rn: Reg,
-        /// How many bits: 16, 32 or 64.
-        size: ScalarSize,
-    },
-    /// `fmov` of an immediate float of 16, 32 or 64 bits.
-    FpuMoveFPImm {
-        /// The result.
-        rd: Writable<Reg>,
-        /// The float, which is one of the size.
-        imm: ASIMDFPModImm,
-        /// The size of the float.
-        size: ScalarSize,
-    },
-    /// `mov` of a general register to one lane, of which the others stay.
-    MovToVec {
-        /// The result.
-        rd: Writable<Reg>,
-        /// The register of which the other lanes stay, which is the result's.
-        ri: Reg,
-        /// What is moved, a general register.
-        rn: Reg,
-        /// The lane's number, below 16, 8, 4 or 2 for lanes of 8, 16, 32 or 64 bits.
-        idx: u8,
-        /// The lanes.
-        size: VectorSize,
-    },
-    /// `umov` of one lane to a general register, with zeros above it.
-    MovFromVec {
-        /// The result, a general register.
-        rd: Writable<Reg>,
-        /// The vector.
-        rn: Reg,
-        /// The lane's number, below 16, 8, 4 or 2 for lanes of 8, 16, 32 or 64 bits.
-        idx: u8,
-        /// The size of the lane: 8, 16, 32 or 64 bits.
-        size: ScalarSize,
-    },
-    /// `smov` of one lane to a general register, with its sign above it.
-    MovFromVecSigned {
-        /// The result, a general register.
-        rd: Writable<Reg>,
-        /// The vector.
-        rn: Reg,
-        /// The lane's number, below how many lanes the size has.
-        idx: u8,
-        /// The lanes, of 8, 16 or 32 bits.
-        size: VectorSize,
-        /// The size of the result: 64 bits where lanes have 32.
-        scalar_size: OperandSize,
-    },
-    /// `dup` of a general register to all lanes.
-    VecDup {
-        /// The result.
-        rd: Writable<Reg>,
-        /// What is copied, a general register.
-        rn: Reg,
-        /// The lanes.
-        size: VectorSize,
-    },
-    /// `dup` of one lane to all lanes.
-    VecDupFromFpu {
-        /// The result.
-        rd: Writable<Reg>,
-        /// The vector with the lane.
-        rn: Reg,
-        /// The lanes.
-        size: VectorSize,
-        /// The lane's number, below 16, 8, 4 or 2 for lanes of 8, 16, 32 or 64 bits.
-        lane: u8,
-    },
-    /// `fmov` of an immediate float to all lanes.
-    VecDupFPImm {
-        /// The result.
-        rd: Writable<Reg>,
-        /// The float, which is one of a lane's size.
-        imm: ASIMDFPModImm,
-        /// The lanes, of 32 or 64 bits.
-        size: VectorSize,
-    },
-    /// `movi` or `mvni` of an immediate to all lanes.
-    VecDupImm {
-        /// The result.
-        rd: Writable<Reg>,
-        /// The immediate, which is of 64 bits exactly where lanes are. Its shift is 0 for lanes of 8 and 64
-        /// bits, 0 or 8 for those of 16, and 0, 8, 16 or 24 for those of 32, or 8 or 16 where ones are shifted
-        /// in, as they are for lanes of 32 bits alone.
-        imm: ASIMDMovModImm,
-        /// Whether the complement is copied: for lanes of 16 and 32 bits alone.
-        invert: bool,
-        /// The lanes.
-        size: VectorSize,
-    },
-    /// `sxtl`, `sxtl2`, `uxtl` or `uxtl2`: half of the lanes, each extended to twice its bits.
-    VecExtend {
+    /// An operation on three floats of 16, 32 or 64 bits.
+    FpuRRRR {
         /// The operator.
-        t: VecExtendOp,
+        fpu_op: FPUOp3,
+        /// The size of the operands.
+        size: ScalarSize,
+        /// The result.
+        rd: Writable<Reg>,
+        /// The first factor.
+        rn: Reg,
+        /// The second factor.
+        rm: Reg,
+        /// The addend, which some operators negate.
+        ra: Reg,
+    },
+    /// An operation on the two lanes of 64 bits, with zeros above the result.
+    VecRRPair {
+        /// The operator.
+        op: VecPairOp,
         /// The result.
         rd: Writable<Reg>,
         /// The operand.
         rn: Reg,
-        /// Whether the upper half of the lanes is read.
-        high_half: bool,
-        /// The size of a lane of the result: 16, 32 or 64 bits.
-        lane_size: ScalarSize,
     },
-    /// `mov` of one lane to another, of which the others stay.
-    VecMovElement {
+    /// An operation on one vector.
+    VecMisc {
+        /// The operator.
+        op: VecMisc2,
         /// The result.
         rd: Writable<Reg>,
-        /// The register of which the other lanes stay, which is the result's.
-        ri: Reg,
-        /// The vector with the lane that is moved.
+        /// The operand.
         rn: Reg,
-        /// The number of the lane that is written, below 16, 8, 4 or 2 for lanes of 8, 16, 32 or 64 bits.
-        dest_idx: u8,
-        /// The number of the lane that is read, in the same range.
-        src_idx: u8,
-        /// The lanes.
+        /// The lanes, which the operator has.
         size: VectorSize,
     },
     /// An operation on half of the lanes, whose results have twice the bits.
@@ -648,14 +543,25 @@ pub enum Inst {
         /// The size of a lane of the result: 8, 16 or 32 bits; 16 or 32 for floats.
         lane_size: ScalarSize,
     },
-    /// An operation on the two lanes of 64 bits, with zeros above the result.
-    VecRRPair {
+    /// An operation on each two neighbouring lanes, whose results have twice the bits.
+    VecRRPairLong {
         /// The operator.
-        op: VecPairOp,
+        op: VecRRPairLongOp,
         /// The result.
         rd: Writable<Reg>,
         /// The operand.
         rn: Reg,
+    },
+    /// An operation over the lanes of one vector, with zeros above the result.
+    VecLanes {
+        /// The operator.
+        op: VecLanesOp,
+        /// The result.
+        rd: Writable<Reg>,
+        /// The operand.
+        rn: Reg,
+        /// The lanes: at least four of them.
+        size: VectorSize,
     },
     /// An operation on half of the lanes of two vectors, whose results have twice the bits.
     VecRRRLong {
@@ -685,15 +591,6 @@ pub enum Inst {
         /// Whether the upper halves of the lanes are read.
         high_half: bool,
     },
-    /// An operation on each two neighbouring lanes, whose results have twice the bits.
-    VecRRPairLong {
-        /// The operator.
-        op: VecRRPairLongOp,
-        /// The result.
-        rd: Writable<Reg>,
-        /// The operand.
-        rn: Reg,
-    },
     /// An operation on two vectors.
     VecRRR {
         /// The operator.
@@ -722,44 +619,18 @@ pub enum Inst {
         /// The lanes, of 32 or 64 bits for `Fmla` and `Fmls`. Of the others only their width counts.
         size: VectorSize,
     },
-    /// `fmla` or `fmls` of a vector and one lane of another.
-    VecFmlaElem {
-        /// The operator: `Fmla` or `Fmls`.
-        alu_op: VecALUModOp,
-        /// The result.
-        rd: Writable<Reg>,
-        /// The register with the addends, which is the result's.
-        ri: Reg,
-        /// The first operand.
-        rn: Reg,
-        /// The vector with the lane.
-        rm: Reg,
-        /// The lanes: 4 of 32 bits, or 2 of 64.
-        size: VectorSize,
-        /// The lane's number, below how many lanes the size has.
-        idx: u8,
-    },
-    /// An operation on one vector.
-    VecMisc {
+    /// `sxtl`, `sxtl2`, `uxtl` or `uxtl2`: half of the lanes, each extended to twice its bits.
+    VecExtend {
         /// The operator.
-        op: VecMisc2,
+        t: VecExtendOp,
         /// The result.
         rd: Writable<Reg>,
         /// The operand.
         rn: Reg,
-        /// The lanes, which the operator has.
-        size: VectorSize,
-    },
-    /// An operation over the lanes of one vector, with zeros above the result.
-    VecLanes {
-        /// The operator.
-        op: VecLanesOp,
-        /// The result.
-        rd: Writable<Reg>,
-        /// The operand.
-        rn: Reg,
-        /// The lanes: at least four of them.
-        size: VectorSize,
+        /// Whether the upper half of the lanes is read.
+        high_half: bool,
+        /// The size of a lane of the result: 16, 32 or 64 bits.
+        lane_size: ScalarSize,
     },
     /// A shift of each lane by a number.
     VecShiftImm {
@@ -789,16 +660,22 @@ pub enum Inst {
         /// The amount in bits, below a lane's bits.
         imm: u8,
     },
-    /// `ext`: 16 bytes out of two vectors one behind the other.
-    VecExtract {
+    /// `fmla` or `fmls` of a vector and one lane of another.
+    VecFmlaElem {
+        /// The operator: `Fmla` or `Fmls`.
+        alu_op: VecALUModOp,
         /// The result.
         rd: Writable<Reg>,
-        /// The lower vector.
+        /// The register with the addends, which is the result's.
+        ri: Reg,
+        /// The first operand.
         rn: Reg,
-        /// The upper vector.
+        /// The vector with the lane.
         rm: Reg,
-        /// How many bytes stand below those that are taken, less than 16.
-        imm4: u8,
+        /// The lanes: 4 of 32 bits, or 2 of 64.
+        size: VectorSize,
+        /// The lane's number, below how many lanes the size has.
+        idx: u8,
     },
     /// `tbl` with one vector: bytes of a table by their numbers, or 0 where a number is too large.
     VecTbl {
@@ -844,27 +721,167 @@ pub enum Inst {
         /// The numbers.
         rm: Reg,
     },
-    /// `ld1r`: a load of one value to all lanes.
-    VecLoadReplicate {
+    /// `ext`: 16 bytes out of two vectors one behind the other.
+    VecExtract {
         /// The result.
         rd: Writable<Reg>,
-        /// The address: x0 to x30, or the stack pointer.
+        /// The lower vector.
+        rn: Reg,
+        /// The upper vector.
+        rm: Reg,
+        /// How many bytes stand below those that are taken, less than 16.
+        imm4: u8,
+    },
+    /// `dup` of one lane to all lanes.
+    VecDupFromFpu {
+        /// The result.
+        rd: Writable<Reg>,
+        /// The vector with the lane.
         rn: Reg,
         /// The lanes.
         size: VectorSize,
-        /// What is known of the access.
-        flags: MemFlagsData,
+        /// The lane's number, below 16, 8, 4 or 2 for lanes of 8, 16, 32 or 64 bits.
+        lane: u8,
     },
-    /// A select of one of two vectors by a condition: two branches and two moves.
-    VecCSel {
+    /// `dup` of a general register to all lanes.
+    VecDup {
         /// The result.
         rd: Writable<Reg>,
-        /// What the result is where the condition holds.
+        /// What is copied, a general register.
         rn: Reg,
-        /// What it is where the condition fails.
-        rm: Reg,
-        /// The condition.
-        cond: Cond,
+        /// The lanes.
+        size: VectorSize,
+    },
+    /// `smov` of one lane to a general register, with its sign above it.
+    MovFromVecSigned {
+        /// The result, a general register.
+        rd: Writable<Reg>,
+        /// The vector.
+        rn: Reg,
+        /// The lane's number, below how many lanes the size has.
+        idx: u8,
+        /// The lanes, of 8, 16 or 32 bits.
+        size: VectorSize,
+        /// The size of the result: 64 bits where lanes have 32.
+        scalar_size: OperandSize,
+    },
+    /// `umov` of one lane to a general register, with zeros above it.
+    MovFromVec {
+        /// The result, a general register.
+        rd: Writable<Reg>,
+        /// The vector.
+        rn: Reg,
+        /// The lane's number, below 16, 8, 4 or 2 for lanes of 8, 16, 32 or 64 bits.
+        idx: u8,
+        /// The size of the lane: 8, 16, 32 or 64 bits.
+        size: ScalarSize,
+    },
+    /// `mov` of a general register to one lane, of which the others stay.
+    MovToVec {
+        /// The result.
+        rd: Writable<Reg>,
+        /// The register of which the other lanes stay, which is the result's.
+        ri: Reg,
+        /// What is moved, a general register.
+        rn: Reg,
+        /// The lane's number, below 16, 8, 4 or 2 for lanes of 8, 16, 32 or 64 bits.
+        idx: u8,
+        /// The lanes.
+        size: VectorSize,
+    },
+    /// `mov` of one lane to another, of which the others stay.
+    VecMovElement {
+        /// The result.
+        rd: Writable<Reg>,
+        /// The register of which the other lanes stay, which is the result's.
+        ri: Reg,
+        /// The vector with the lane that is moved.
+        rn: Reg,
+        /// The number of the lane that is written, below 16, 8, 4 or 2 for lanes of 8, 16, 32 or 64 bits.
+        dest_idx: u8,
+        /// The number of the lane that is read, in the same range.
+        src_idx: u8,
+        /// The lanes.
+        size: VectorSize,
+    },
+    /// `fmov` of an immediate float to all lanes.
+    VecDupFPImm {
+        /// The result.
+        rd: Writable<Reg>,
+        /// The float, which is one of a lane's size.
+        imm: ASIMDFPModImm,
+        /// The lanes, of 32 or 64 bits.
+        size: VectorSize,
+    },
+    /// `movi` or `mvni` of an immediate to all lanes.
+    VecDupImm {
+        /// The result.
+        rd: Writable<Reg>,
+        /// The immediate, which is of 64 bits exactly where lanes are. Its shift is 0 for lanes of 8 and 64 | bits, 0 or 8 for those of 16, and 0, 8, 16 or 24 for those of 32, or 8 or 16 where ones are shifted | in, as they are for lanes of 32 bits alone.
+        imm: ASIMDMovModImm,
+        /// Whether the complement is copied: for lanes of 16 and 32 bits alone.
+        invert: bool,
+        /// The lanes.
+        size: VectorSize,
+    },
+    /// `xpaclri`: strips the signature off the return address in x30.
+    Xpaclri,
+    /// `csdb`: no result of a guess that is not settled yet is used behind it.
+    Csdb,
+    /// `paciaz`, `paciasp`, `pacibz` or `pacibsp`: signs the return address in x30.
+    Paci {
+        /// The key and the modifier.
+        key: APIKey,
+    },
+    /// `bti`: a place to which branches may go, where memory is guarded.
+    Bti {
+        /// Which branches may go there.
+        targets: BranchTargetType,
+    },
+    /// `dmb ish`: a barrier between the memory accesses before it and those behind it.
+    Fence,
+    /// A word that is no instruction, which traps.
+    Udf {
+        /// Why it traps.
+        trap_code: TrapCode,
+    },
+    /// A conditional branch, and behind it an unconditional one.
+    CondBr {
+        /// Where it goes if the test succeeds: less than 2^20 bytes forward, at most so many back.
+        taken: BranchTarget,
+        /// Where it goes otherwise.
+        not_taken: BranchTarget,
+        /// The test.
+        kind: CondBrKind,
+    },
+    /// A trap if a test succeeds: a conditional branch to a word that traps, which stands in an
+    /// island or behind the code.
+    TrapIf {
+        /// The test.
+        kind: CondBrKind,
+        /// Why it traps.
+        trap_code: TrapCode,
+    },
+    /// `brk`: stops in a debugger.
+    Brk,
+    /// `nop`: one word that does nothing.
+    Nop4,
+    /// `msr nzcv`: sets the flags.
+    MovToNZCV {
+        /// The flags, in bits 31 to 28.
+        rn: Reg,
+    },
+    /// `mrs` of `nzcv`: reads the flags.
+    MovFromNZCV {
+        /// The result.
+        rd: Writable<Reg>,
+    },
+    /// `br`: a branch to the address in a register.
+    IndirectBr {
+        /// The address.
+        rn: Reg,
+        /// The labels to which it may go, which the word does not tell.
+        targets: ListVec<MachLabel>,
     },
     /// `ret`: a return to the address in x30.
     Ret,
@@ -876,31 +893,10 @@ pub enum Inst {
         /// Whether a hint is asked for, which older processors pass over. With the modifier zero it is a hint in any case.
         is_hint: bool,
     },
-    /// `paciaz`, `paciasp`, `pacibz` or `pacibsp`: signs the return address in x30.
-    Paci {
-        /// The key and the modifier.
-        key: APIKey,
-    },
-    /// `xpaclri`: strips the signature off the return address in x30.
-    Xpaclri,
-    /// `bti`: a place to which branches may go, where memory is guarded.
-    Bti {
-        /// Which branches may go there.
-        targets: BranchTargetType,
-    },
     /// `b`: an unconditional branch.
     Jump {
         /// Where it goes.
         dest: BranchTarget,
-    },
-    /// A conditional branch, and behind it an unconditional one.
-    CondBr {
-        /// Where it goes if the test succeeds: less than 2^20 bytes forward, at most so many back.
-        taken: BranchTarget,
-        /// Where it goes otherwise.
-        not_taken: BranchTarget,
-        /// The test.
-        kind: CondBrKind,
     },
     /// A branch on one bit of a register, and behind it an unconditional one.
     TestBitAndBranch {
@@ -915,28 +911,15 @@ pub enum Inst {
         /// The bit's number, below 64.
         bit: u8,
     },
-    /// A trap if a test succeeds: a conditional branch to a word that traps, which stands in an
-    /// island or behind the code.
-    TrapIf {
-        /// The test.
-        kind: CondBrKind,
-        /// Why it traps.
-        trap_code: TrapCode,
+    /// `adr` of a label: an address near the code.
+    LabelAddress {
+        /// The result.
+        dst: Writable<Reg>,
+        /// The label, whose address it is.
+        label: MachLabel,
     },
-    /// `br`: a branch to the address in a register.
-    IndirectBr {
-        /// The address.
-        rn: Reg,
-        /// The labels to which it may go, which the word does not tell.
-        targets: ListVec<MachLabel>,
-    },
-    /// `brk`: stops in a debugger.
-    Brk,
-    /// A word that is no instruction, which traps.
-    Udf {
-        /// Why it traps.
-        trap_code: TrapCode,
-    },
+    /// No word at all.
+    Nop0,
     /// A word of data.
     Word4 {
         /// The word.
@@ -951,13 +934,6 @@ pub enum Inst {
     EmitIsland {
         /// How many bytes behind it must not need an island of their own.
         needed_space: u32,
-    },
-    /// `adr` of a label: an address near the code.
-    LabelAddress {
-        /// The result.
-        dst: Writable<Reg>,
-        /// The label, whose address it is.
-        label: MachLabel,
     },
     /// The arguments with which a function is entered. It has no word.
     Args {
@@ -1029,6 +1005,56 @@ pub enum Inst {
         /// How many bytes each step goes down.
         step: Imm12,
     },
+    /// An atomic operation on a register and memory as a loop, with acquire and release: `ldaxr`, the operation,
+    /// `stlxr`, and `cbnz` back to the first where the store failed. Where the operator is a minimum or a maximum,
+    /// it changes the flags.
+    AtomicRMWLoop {
+        /// The type of the value: 8, 16, 32 or 64 bits.
+        ty: IrType,
+        /// The operator.
+        op: AtomicRMWLoopOp,
+        /// What is known of the two accesses.
+        flags: MemFlagsData,
+        /// The address: x25.
+        addr: Reg,
+        /// The operand: x26.
+        operand: Reg,
+        /// What was there before, with zeros above it; `Smax` and `Smin` extend 8 and 16 bits with their sign to | 32: x27.
+        oldval: Writable<Reg>,
+        /// Whether the store failed: x24.
+        scratch1: Writable<Reg>,
+        /// What is stored: x28. `Xchg` stores its operand and leaves this register alone, which is x0 to x30 or the zero | register.
+        scratch2: Writable<Reg>,
+    },
+    /// A compare and swap as a loop, with acquire and release: `ldaxr`, a comparison that changes the flags, `b.ne`
+    /// out of the loop, `stlxr`, and `cbnz` back to the first where the store failed.
+    AtomicCASLoop {
+        /// The type of the value: 8, 16, 32 or 64 bits.
+        ty: IrType,
+        /// What is known of the two accesses.
+        flags: MemFlagsData,
+        /// The address: x25.
+        addr: Reg,
+        /// The value that is awaited: x26.
+        expected: Reg,
+        /// The new value, which is stored where the awaited one was there: x28.
+        replacement: Reg,
+        /// What was there before, with zeros above it: x27.
+        oldval: Writable<Reg>,
+        /// Whether the store failed: x24.
+        scratch: Writable<Reg>,
+    },
+    /// A select of one of two vectors by a condition: two branches and two moves.
+    VecCSel {
+        /// The result.
+        rd: Writable<Reg>,
+        /// What the result is where the condition holds.
+        rn: Reg,
+        /// What it is where the condition fails.
+        rm: Reg,
+        /// The condition.
+        cond: Cond,
+    },
     /// `bl`: a call of a symbol. Behind it the stack pointer comes back, and then results that stand on
     /// the stack are loaded, which may change x16.
     Call {
@@ -1051,14 +1077,56 @@ pub enum Inst {
         /// What is known of the call.
         info: ReturnCallInfo<Reg>,
     },
-    /// `ldp` of two 64-bit registers.
-    LoadP64 {
-        /// What is loaded from the address.
+    /// `caspal`: a compare and swap of 128 bits with acquire and release.
+    AtomicCAS128 {
+        /// The registers, and what is known of the access.
+        args: AtomicCAS128Args,
+    },
+    /// `ld1r`: a load of one value to all lanes.
+    VecLoadReplicate {
+        /// The result.
+        rd: Writable<Reg>,
+        /// The address: x0 to x30, or the stack pointer.
+        rn: Reg,
+        /// The lanes.
+        size: VectorSize,
+        /// What is known of the access.
+        flags: MemFlagsData,
+    },
+    /// A store with release: `stlrb`, `stlrh` or `stlr`.
+    StoreRelease {
+        /// The type of the value: 8, 16, 32 or 64 bits.
+        access_ty: IrType,
+        /// What is stored.
+        rt: Reg,
+        /// The address: x0 to x30, or the stack pointer.
+        rn: Reg,
+        /// What is known of the access.
+        flags: MemFlagsData,
+    },
+    /// A load with acquire: `ldarb`, `ldarh` or `ldar`.
+    LoadAcquire {
+        /// The type of the value: 8, 16, 32 or 64 bits.
+        access_ty: IrType,
+        /// The result.
         rt: Writable<Reg>,
-        /// What is loaded from 8 bytes behind it.
-        rt2: Writable<Reg>,
-        /// The address.
-        mem: PairAMode,
+        /// The address: x0 to x30, or the stack pointer.
+        rn: Reg,
+        /// What is known of the access.
+        flags: MemFlagsData,
+    },
+    /// `casal`: a compare and swap with acquire and release.
+    AtomicCAS {
+        /// What was there before: the register of `rs`.
+        rd: Writable<Reg>,
+        /// The value that is awaited.
+        rs: Reg,
+        /// The new value, which is stored where the awaited one was there.
+        rt: Reg,
+        /// The address: x0 to x30, or the stack pointer.
+        rn: Reg,
+        /// The type of the value: 8, 16, 32 or 64 bits.
+        ty: IrType,
         /// What is known of the access.
         flags: MemFlagsData,
     },
@@ -1073,13 +1141,13 @@ pub enum Inst {
         /// What is known of the access.
         flags: MemFlagsData,
     },
-    /// `ldp` of the lower 64 bits of two vector registers, with zeros above them.
-    FpuLoadP64 {
+    /// `ldp` of two 64-bit registers.
+    LoadP64 {
         /// What is loaded from the address.
         rt: Writable<Reg>,
         /// What is loaded from 8 bytes behind it.
         rt2: Writable<Reg>,
-        /// The address, with an offset in units of `F64`.
+        /// The address.
         mem: PairAMode,
         /// What is known of the access.
         flags: MemFlagsData,
@@ -1095,13 +1163,13 @@ pub enum Inst {
         /// What is known of the access.
         flags: MemFlagsData,
     },
-    /// `ldp` of two whole vector registers.
-    FpuLoadP128 {
+    /// `ldp` of the lower 64 bits of two vector registers, with zeros above them.
+    FpuLoadP64 {
         /// What is loaded from the address.
         rt: Writable<Reg>,
-        /// What is loaded from 16 bytes behind it.
+        /// What is loaded from 8 bytes behind it.
         rt2: Writable<Reg>,
-        /// The address, with an offset in units of `I8X16`.
+        /// The address, with an offset in units of `F64`.
         mem: PairAMode,
         /// What is known of the access.
         flags: MemFlagsData,
@@ -1117,12 +1185,16 @@ pub enum Inst {
         /// What is known of the access.
         flags: MemFlagsData,
     },
-    /// The address of an addressing mode, of which nothing is loaded.
-    LoadAddr {
-        /// The result, x0 to x30.
-        rd: Writable<Reg>,
-        /// The addressing mode.
-        mem: AMode,
+    /// `ldp` of two whole vector registers.
+    FpuLoadP128 {
+        /// What is loaded from the address.
+        rt: Writable<Reg>,
+        /// What is loaded from 16 bytes behind it.
+        rt2: Writable<Reg>,
+        /// The address, with an offset in units of `I8X16`.
+        mem: PairAMode,
+        /// What is known of the access.
+        flags: MemFlagsData,
     },
     /// An atomic operation on a register and memory, with acquire and release: `ldaddal` and its like, and
     /// `swpal`.
@@ -1140,88 +1212,12 @@ pub enum Inst {
         /// What is known of the access.
         flags: MemFlagsData,
     },
-    /// An atomic operation on a register and memory as a loop, with acquire and release: `ldaxr`, the operation,
-    /// `stlxr`, and `cbnz` back to the first where the store failed. Where the operator is a minimum or a maximum,
-    /// it changes the flags.
-    AtomicRMWLoop {
-        /// The type of the value: 8, 16, 32 or 64 bits.
-        ty: IrType,
-        /// The operator.
-        op: AtomicRMWLoopOp,
-        /// What is known of the two accesses.
-        flags: MemFlagsData,
-        /// The address: x25.
-        addr: Reg,
-        /// The operand: x26.
-        operand: Reg,
-        /// What was there before, with zeros above it; `Smax` and `Smin` extend 8 and 16 bits with their sign to
-        /// 32: x27.
-        oldval: Writable<Reg>,
-        /// Whether the store failed: x24.
-        scratch1: Writable<Reg>,
-        /// What is stored: x28. `Xchg` stores its operand and leaves this register alone, which is x0 to x30 or the zero
-        /// register.
-        scratch2: Writable<Reg>,
-    },
-    /// `casal`: a compare and swap with acquire and release.
-    AtomicCAS {
-        /// What was there before: the register of `rs`.
+    /// The address of an addressing mode, of which nothing is loaded.
+    LoadAddr {
+        /// The result, x0 to x30.
         rd: Writable<Reg>,
-        /// The value that is awaited.
-        rs: Reg,
-        /// The new value, which is stored where the awaited one was there.
-        rt: Reg,
-        /// The address: x0 to x30, or the stack pointer.
-        rn: Reg,
-        /// The type of the value: 8, 16, 32 or 64 bits.
-        ty: IrType,
-        /// What is known of the access.
-        flags: MemFlagsData,
-    },
-    /// `caspal`: a compare and swap of 128 bits with acquire and release.
-    AtomicCAS128 {
-        /// The registers, and what is known of the access.
-        args: AtomicCAS128Args,
-    },
-    /// A compare and swap as a loop, with acquire and release: `ldaxr`, a comparison that changes the flags, `b.ne`
-    /// out of the loop, `stlxr`, and `cbnz` back to the first where the store failed.
-    AtomicCASLoop {
-        /// The type of the value: 8, 16, 32 or 64 bits.
-        ty: IrType,
-        /// What is known of the two accesses.
-        flags: MemFlagsData,
-        /// The address: x25.
-        addr: Reg,
-        /// The value that is awaited: x26.
-        expected: Reg,
-        /// The new value, which is stored where the awaited one was there: x28.
-        replacement: Reg,
-        /// What was there before, with zeros above it: x27.
-        oldval: Writable<Reg>,
-        /// Whether the store failed: x24.
-        scratch: Writable<Reg>,
-    },
-    /// A load with acquire: `ldarb`, `ldarh` or `ldar`.
-    LoadAcquire {
-        /// The type of the value: 8, 16, 32 or 64 bits.
-        access_ty: IrType,
-        /// The result.
-        rt: Writable<Reg>,
-        /// The address: x0 to x30, or the stack pointer.
-        rn: Reg,
-        /// What is known of the access.
-        flags: MemFlagsData,
-    },
-    /// A store with release: `stlrb`, `stlrh` or `stlr`.
-    StoreRelease {
-        /// The type of the value: 8, 16, 32 or 64 bits.
-        access_ty: IrType,
-        /// What is stored.
-        rt: Reg,
-        /// The address: x0 to x30, or the stack pointer.
-        rn: Reg,
-        /// What is known of the access.
-        flags: MemFlagsData,
+        /// The addressing mode.
+        mem: AMode,
     },
     /// Load of an unsigned byte, with zeros above it.
     ULoad8 {

@@ -6,26 +6,26 @@ use a64_inst::AccessOp;
 #[derive(Clone, Copy)]
 pub enum ImmediateName {
     // Written by `python3 tools/instructions.py` from tables/instructions.txt.
+    /// `Adr`.
+    Adr,
+    /// `Adrp`.
+    Adrp,
     /// `AluRRImm12`.
     AluRRImm12,
     /// `AluRRImmLogic`.
     AluRRImmLogic,
-    /// `AluRRImmShift`.
-    AluRRImmShift,
     /// `MovWide`.
     MovWide,
     /// `MovK`.
     MovK,
+    /// `AluRRImmShift`.
+    AluRRImmShift,
     /// `Extend`.
     Extend,
     /// `BitfieldMove`.
     BitfieldMove,
     /// `BitfieldMoveMod`.
     BitfieldMoveMod,
-    /// `Adr`.
-    Adr,
-    /// `Adrp`.
-    Adrp,
 }
 
 /// The name of an integer operation on registers.
@@ -34,136 +34,118 @@ pub enum RegisterName {
     // Written by `python3 tools/instructions.py` from tables/instructions.txt.
     /// `AluRRR`.
     AluRRR,
-    /// `AluRRRR`.
-    AluRRRR,
-    /// `AluRRRShift`.
-    AluRRRShift,
-    /// `AluRRRExtend`.
-    AluRRRExtend,
     /// `BitRR`.
     BitRR,
+    /// `AluRRRShift`.
+    AluRRRShift,
     /// `Mov`.
     Mov,
     /// `MovFromPReg`.
     MovFromPReg,
     /// `MovToPReg`.
     MovToPReg,
-    /// `CSel`.
-    CSel,
-    /// `CSNeg`.
-    CSNeg,
-    /// `CSet`.
-    CSet,
-    /// `CSetm`.
-    CSetm,
+    /// `AluRRRExtend`.
+    AluRRRExtend,
     /// `CCmp`.
     CCmp,
     /// `CCmpImm`.
     CCmpImm,
+    /// `CSel`.
+    CSel,
+    /// `CSet`.
+    CSet,
+    /// `CSetm`.
+    CSetm,
+    /// `CSNeg`.
+    CSNeg,
+    /// `AluRRRR`.
+    AluRRRR,
 }
 
 /// The name of an operation on scalar floats.
 #[derive(Clone, Copy)]
 pub enum FloatName {
     // Written by `python3 tools/instructions.py` from tables/instructions.txt.
-    /// `FpuMove32`.
-    FpuMove32,
-    /// `FpuMove64`.
-    FpuMove64,
-    /// `FpuMove128`.
-    FpuMove128,
     /// `FpuMoveFromVec`.
     FpuMoveFromVec,
-    /// `FpuExtend`.
-    FpuExtend,
-    /// `FpuRR`.
-    FpuRR,
-    /// `FpuRRR`.
-    FpuRRR,
     /// `FpuRRI`.
     FpuRRI,
     /// `FpuRRIMod`.
     FpuRRIMod,
-    /// `FpuRRRR`.
-    FpuRRRR,
-    /// `FpuCmp`.
-    FpuCmp,
+    /// `FpuMove128`.
+    FpuMove128,
     /// `FpuToInt`.
     FpuToInt,
     /// `IntToFpu`.
     IntToFpu,
+    /// `MovToFpu`.
+    MovToFpu,
+    /// `FpuMove32`.
+    FpuMove32,
+    /// `FpuMove64`.
+    FpuMove64,
+    /// `FpuExtend`.
+    FpuExtend,
+    /// `FpuRR`.
+    FpuRR,
+    /// `FpuRound`.
+    FpuRound,
+    /// `FpuCmp`.
+    FpuCmp,
+    /// `FpuMoveFPImm`.
+    FpuMoveFPImm,
+    /// `FpuRRR`.
+    FpuRRR,
     /// `FpuCSel16`.
     FpuCSel16,
     /// `FpuCSel32`.
     FpuCSel32,
     /// `FpuCSel64`.
     FpuCSel64,
-    /// `FpuRound`.
-    FpuRound,
-    /// `MovToFpu`.
-    MovToFpu,
-    /// `FpuMoveFPImm`.
-    FpuMoveFPImm,
+    /// `FpuRRRR`.
+    FpuRRRR,
 }
 
 /// The name of an operation on vectors.
 #[derive(Clone, Copy)]
 pub enum VectorName {
     // Written by `python3 tools/instructions.py` from tables/instructions.txt.
-    /// `VecExtend`.
-    VecExtend,
+    /// `VecRRPair`.
+    VecRRPair,
+    /// `VecMisc`.
+    VecMisc,
     /// `VecRRLong`.
     VecRRLong,
     /// `VecRRNarrowLow`.
     VecRRNarrowLow,
     /// `VecRRNarrowHigh`.
     VecRRNarrowHigh,
-    /// `VecRRPair`.
-    VecRRPair,
+    /// `VecRRPairLong`.
+    VecRRPairLong,
+    /// `VecLanes`.
+    VecLanes,
     /// `VecRRRLong`.
     VecRRRLong,
     /// `VecRRRLongMod`.
     VecRRRLongMod,
-    /// `VecRRPairLong`.
-    VecRRPairLong,
     /// `VecRRR`.
     VecRRR,
     /// `VecRRRMod`.
     VecRRRMod,
-    /// `VecFmlaElem`.
-    VecFmlaElem,
-    /// `VecMisc`.
-    VecMisc,
-    /// `VecLanes`.
-    VecLanes,
+    /// `VecExtend`.
+    VecExtend,
     /// `VecShiftImm`.
     VecShiftImm,
     /// `VecShiftImmMod`.
     VecShiftImmMod,
+    /// `VecFmlaElem`.
+    VecFmlaElem,
 }
 
 /// The name of a move of lanes, or of a table of bytes.
 #[derive(Clone, Copy)]
 pub enum VectorMoveName {
     // Written by `python3 tools/instructions.py` from tables/instructions.txt.
-    /// `MovToVec`.
-    MovToVec,
-    /// `MovFromVec`.
-    MovFromVec,
-    /// `MovFromVecSigned`.
-    MovFromVecSigned,
-    /// `VecDup`.
-    VecDup,
-    /// `VecDupFromFpu`.
-    VecDupFromFpu,
-    /// `VecDupFPImm`.
-    VecDupFPImm,
-    /// `VecDupImm`.
-    VecDupImm,
-    /// `VecMovElement`.
-    VecMovElement,
-    /// `VecExtract`.
-    VecExtract,
     /// `VecTbl`.
     VecTbl,
     /// `VecTblExt`.
@@ -172,6 +154,24 @@ pub enum VectorMoveName {
     VecTbl2,
     /// `VecTbl2Ext`.
     VecTbl2Ext,
+    /// `VecExtract`.
+    VecExtract,
+    /// `VecDupFromFpu`.
+    VecDupFromFpu,
+    /// `VecDup`.
+    VecDup,
+    /// `MovFromVecSigned`.
+    MovFromVecSigned,
+    /// `MovFromVec`.
+    MovFromVec,
+    /// `MovToVec`.
+    MovToVec,
+    /// `VecMovElement`.
+    VecMovElement,
+    /// `VecDupFPImm`.
+    VecDupFPImm,
+    /// `VecDupImm`.
+    VecDupImm,
 }
 
 /// The name of a hint, of a barrier, or of an access to the flags.

@@ -66,16 +66,16 @@ pub fn immediate_word(inst: &Inst, frame: &FrameLayout, info: &EmitInfo) -> u32
 {
     word_arms!(inst;
         // Written by `python3 tools/instructions.py` from tables/instructions.txt.
+        Adr { rd, off } => adr_word(*rd, *off);
+        Adrp { rd, off } => adrp_word(*rd, *off);
         AluRRImm12 { alu_op, size, rd, rn, imm12 } => alu_rr_imm12_word(*alu_op, *size, *rd, *rn, *imm12);
         AluRRImmLogic { alu_op, size, rd, rn, imml } => alu_rr_imm_logic_word(*alu_op, *size, *rd, *rn, *imml);
-        AluRRImmShift { alu_op, size, rd, rn, immshift } => alu_rr_imm_shift_word(*alu_op, *size, *rd, *rn, *immshift);
         MovWide { op, rd, imm, size } => mov_wide_word(*op, *rd, *imm, *size);
         MovK { rd, rn, imm, size } => mov_k_word(*rd, *imm, *size);
+        AluRRImmShift { alu_op, size, rd, rn, immshift } => alu_rr_imm_shift_word(*alu_op, *size, *rd, *rn, *immshift);
         Extend { rd, rn, signed, from_bits, to_bits } => extend_word(*rd, *rn, *signed, *from_bits, *to_bits);
         BitfieldMove { size, bfm_op, rd, rn, immr, imms } => enc_bfm(bfm_opc_bits(*bfm_op), *size, *rd, *rn, immr.imm, imms.imm);
         BitfieldMoveMod { size, rd, ri, rn, immr, imms } => enc_bfm(1, *size, *rd, *rn, immr.imm, imms.imm);
-        Adr { rd, off } => adr_word(*rd, *off);
-        Adrp { rd, off } => adrp_word(*rd, *off);
     )
 }
 
@@ -89,19 +89,19 @@ pub fn register_word(inst: &Inst, frame: &FrameLayout, info: &EmitInfo) -> u32
     word_arms!(inst;
         // Written by `python3 tools/instructions.py` from tables/instructions.txt.
         AluRRR { alu_op, size, rd, rn, rm } => alu_rrr_word(*alu_op, *size, *rd, *rn, *rm);
-        AluRRRR { alu_op, size, rd, rn, rm, ra } => product_word(*alu_op, register_field(*ra), two_registers(*size, *rd, *rn, *rm));
-        AluRRRShift { alu_op, size, rd, rn, rm, shiftop } => shifted_word(*alu_op, *shiftop, two_registers(*size, *rd, *rn, *rm));
-        AluRRRExtend { alu_op, size, rd, rn, rm, extendop } => alu_rrr_extend_word(*alu_op, *size, *rd, *rn, *rm, *extendop);
         BitRR { op, size, rd, rn } => enc_bit_rr(size.sf_bit(), 0, bit_opcode_bits(*op), *rn, *rd);
+        AluRRRShift { alu_op, size, rd, rn, rm, shiftop } => shifted_word(*alu_op, *shiftop, two_registers(*size, *rd, *rn, *rm));
         Mov { size, rd, rm } => mov_word(*size, *rd, *rm);
         MovFromPReg { rd, rm } => mov_word(OperandSize::Size64, *rd, Reg::from_real_reg(*rm));
         MovToPReg { rd, rm } => mov_word(OperandSize::Size64, Writable::from_reg(Reg::from_real_reg(*rd)), *rm);
-        CSel { rd, rn, rm, cond } => csel_word(*rd, *rn, *rm, *cond);
-        CSNeg { rd, rn, rm, cond } => enc_csel(*rd, *rn, *rm, *cond, 1, 1);
-        CSet { rd, cond } => enc_csel(*rd, zero_reg(), zero_reg(), cond.invert(), 0, 1);
-        CSetm { rd, cond } => enc_csel(*rd, zero_reg(), zero_reg(), cond.invert(), 1, 0);
+        AluRRRExtend { alu_op, size, rd, rn, rm, extendop } => alu_rrr_extend_word(*alu_op, *size, *rd, *rn, *rm, *extendop);
         CCmp { size, rn, rm, nzcv, cond } => enc_ccmp(*size, *rn, *rm, *nzcv, *cond);
         CCmpImm { size, rn, imm, nzcv, cond } => enc_ccmp_imm(*size, *rn, *imm, *nzcv, *cond);
+        CSel { rd, rn, rm, cond } => csel_word(*rd, *rn, *rm, *cond);
+        CSet { rd, cond } => enc_csel(*rd, zero_reg(), zero_reg(), cond.invert(), 0, 1);
+        CSetm { rd, cond } => enc_csel(*rd, zero_reg(), zero_reg(), cond.invert(), 1, 0);
+        CSNeg { rd, rn, rm, cond } => enc_csel(*rd, *rn, *rm, *cond, 1, 1);
+        AluRRRR { alu_op, size, rd, rn, rm, ra } => product_word(*alu_op, register_field(*ra), two_registers(*size, *rd, *rn, *rm));
     )
 }
 
@@ -114,25 +114,25 @@ pub fn float_word(inst: &Inst, frame: &FrameLayout, info: &EmitInfo) -> u32
 {
     word_arms!(inst;
         // Written by `python3 tools/instructions.py` from tables/instructions.txt.
-        FpuMove32 { rd, rn } => move_word(ScalarSize::Size32, *rd, *rn);
-        FpuMove64 { rd, rn } => move_word(ScalarSize::Size64, *rd, *rn);
-        FpuMove128 { rd, rn } => move_vector_word(*rd, *rn);
         FpuMoveFromVec { rd, rn, idx, size } => move_lane_word(*size, *idx, *rd, *rn);
-        FpuExtend { rd, rn, size } => move_word(*size, *rd, *rn);
-        FpuRR { fpu_op, size, rd, rn } => one_float_word(*fpu_op, *size, *rd, *rn);
-        FpuRRR { fpu_op, size, rd, rn, rm } => two_floats_word(*fpu_op, *size, *rd, *rn, *rm);
         FpuRRI { fpu_op, rd, rn } => right_shift_word(*fpu_op, *rd, *rn);
         FpuRRIMod { fpu_op, rd, ri, rn } => kept_shift_word(*fpu_op, *rd, *rn);
-        FpuRRRR { fpu_op, size, rd, rn, rm, ra } => three_floats_word(*fpu_op, *size, *rd, *rn, *rm, *ra);
-        FpuCmp { size, rn, rm } => enc_fcmp(*size, *rn, *rm);
+        FpuMove128 { rd, rn } => move_vector_word(*rd, *rn);
         FpuToInt { op, rd, rn } => conversion_word(to_int(*op), *rd, *rn);
         IntToFpu { op, rd, rn } => conversion_word(from_int(*op), *rd, *rn);
+        MovToFpu { rd, rn, size } => conversion_word(bits_to_float(*size), *rd, *rn);
+        FpuMove32 { rd, rn } => move_word(ScalarSize::Size32, *rd, *rn);
+        FpuMove64 { rd, rn } => move_word(ScalarSize::Size64, *rd, *rn);
+        FpuExtend { rd, rn, size } => move_word(*size, *rd, *rn);
+        FpuRR { fpu_op, size, rd, rn } => one_float_word(*fpu_op, *size, *rd, *rn);
+        FpuRound { op, rd, rn } => round_word(*op, *rd, *rn);
+        FpuCmp { size, rn, rm } => enc_fcmp(*size, *rn, *rm);
+        FpuMoveFPImm { rd, imm, size } => float_immediate_word(*size, *imm, *rd);
+        FpuRRR { fpu_op, size, rd, rn, rm } => two_floats_word(*fpu_op, *size, *rd, *rn, *rm);
         FpuCSel16 { rd, rn, rm, cond } => enc_fcsel(*rd, *rn, *rm, *cond, ScalarSize::Size16);
         FpuCSel32 { rd, rn, rm, cond } => enc_fcsel(*rd, *rn, *rm, *cond, ScalarSize::Size32);
         FpuCSel64 { rd, rn, rm, cond } => enc_fcsel(*rd, *rn, *rm, *cond, ScalarSize::Size64);
-        FpuRound { op, rd, rn } => round_word(*op, *rd, *rn);
-        MovToFpu { rd, rn, size } => conversion_word(bits_to_float(*size), *rd, *rn);
-        FpuMoveFPImm { rd, imm, size } => float_immediate_word(*size, *imm, *rd);
+        FpuRRRR { fpu_op, size, rd, rn, rm, ra } => three_floats_word(*fpu_op, *size, *rd, *rn, *rm, *ra);
     )
 }
 
@@ -145,21 +145,21 @@ pub fn vector_word(inst: &Inst, frame: &FrameLayout, info: &EmitInfo) -> u32
 {
     word_arms!(inst;
         // Written by `python3 tools/instructions.py` from tables/instructions.txt.
-        VecExtend { t, rd, rn, high_half, lane_size } => extend_lanes_word(*t, *high_half, *lane_size, *rd, *rn);
+        VecRRPair { op, rd, rn } => pair_word(*rd, *rn);
+        VecMisc { op, rd, rn, size } => two_word(two_op(*op), *size, *rd, *rn);
         VecRRLong { op, rd, rn, high_half } => misc_word(u32::from(*high_half), long_fields(*op), *rd, *rn);
         VecRRNarrowLow { op, rd, rn, lane_size } => misc_word(0, narrow_fields(*op, *lane_size), *rd, *rn);
         VecRRNarrowHigh { op, rd, ri, rn, lane_size } => misc_word(1, narrow_fields(*op, *lane_size), *rd, *rn);
-        VecRRPair { op, rd, rn } => pair_word(*rd, *rn);
+        VecRRPairLong { op, rd, rn } => misc_word(1, pair_long_fields(*op), *rd, *rn);
+        VecLanes { op, rd, rn, size } => across_word(across_fields(*op), *size, *rd, *rn);
         VecRRRLong { alu_op, rd, rn, rm, high_half } => long_product_word(product_fields(*alu_op), *high_half, *rd, *rn, *rm);
         VecRRRLongMod { alu_op, rd, ri, rn, rm, high_half } => long_product_word(added_product_fields(*alu_op), *high_half, *rd, *rn, *rm);
-        VecRRPairLong { op, rd, rn } => misc_word(1, pair_long_fields(*op), *rd, *rn);
         VecRRR { alu_op, rd, rn, rm, size } => three_word(three_op(*alu_op), *size, *rd, *rn, *rm);
         VecRRRMod { alu_op, rd, ri, rn, rm, size } => three_word(kept_three_op(*alu_op), *size, *rd, *rn, *rm);
-        VecFmlaElem { alu_op, rd, ri, rn, rm, size, idx } => element_word(*alu_op, *size, *idx, *rd, *rn, *rm);
-        VecMisc { op, rd, rn, size } => two_word(two_op(*op), *size, *rd, *rn);
-        VecLanes { op, rd, rn, size } => across_word(across_fields(*op), *size, *rd, *rn);
+        VecExtend { t, rd, rn, high_half, lane_size } => extend_lanes_word(*t, *high_half, *lane_size, *rd, *rn);
         VecShiftImm { op, rd, rn, size, imm } => lane_shift_word(*op, *size, *imm, *rd, *rn);
         VecShiftImmMod { op, rd, ri, rn, size, imm } => kept_lane_shift_word(*size, *imm, *rd, *rn);
+        VecFmlaElem { alu_op, rd, ri, rn, rm, size, idx } => element_word(*alu_op, *size, *idx, *rd, *rn, *rm);
     )
 }
 
@@ -172,19 +172,19 @@ pub fn vector_move_word(inst: &Inst, frame: &FrameLayout, info: &EmitInfo) -> u3
 {
     word_arms!(inst;
         // Written by `python3 tools/instructions.py` from tables/instructions.txt.
-        MovToVec { rd, ri, rn, idx, size } => insert_word(*size, *idx, *rd, *rn);
-        MovFromVec { rd, rn, idx, size } => unsigned_move_word(*size, *idx, *rd, *rn);
-        MovFromVecSigned { rd, rn, idx, size, scalar_size } => signed_move_word(*size, *idx, *scalar_size, *rd, *rn);
-        VecDup { rd, rn, size } => dup_word(*size, *rd, *rn);
-        VecDupFromFpu { rd, rn, size, lane } => dup_lane_word(*size, *lane, *rd, *rn);
-        VecDupFPImm { rd, imm, size } => dup_float_word(*size, *imm, *rd);
-        VecDupImm { rd, imm, invert, size } => dup_immediate_word(*size, *imm, *invert, *rd);
-        VecMovElement { rd, ri, rn, dest_idx, src_idx, size } => move_element_word(*size, *dest_idx, *src_idx, *rd, *rn);
-        VecExtract { rd, rn, rm, imm4 } => extract_word(*imm4, *rd, *rn, *rm);
         VecTbl { rd, rn, rm } => table_word(false, false, *rd, *rn, *rm);
         VecTblExt { rd, ri, rn, rm } => table_word(false, true, *rd, *rn, *rm);
         VecTbl2 { rd, rn, rn2, rm } => table_word(true, false, *rd, *rn, *rm);
         VecTbl2Ext { rd, ri, rn, rn2, rm } => table_word(true, true, *rd, *rn, *rm);
+        VecExtract { rd, rn, rm, imm4 } => extract_word(*imm4, *rd, *rn, *rm);
+        VecDupFromFpu { rd, rn, size, lane } => dup_lane_word(*size, *lane, *rd, *rn);
+        VecDup { rd, rn, size } => dup_word(*size, *rd, *rn);
+        MovFromVecSigned { rd, rn, idx, size, scalar_size } => signed_move_word(*size, *idx, *scalar_size, *rd, *rn);
+        MovFromVec { rd, rn, idx, size } => unsigned_move_word(*size, *idx, *rd, *rn);
+        MovToVec { rd, ri, rn, idx, size } => insert_word(*size, *idx, *rd, *rn);
+        VecMovElement { rd, ri, rn, dest_idx, src_idx, size } => move_element_word(*size, *dest_idx, *src_idx, *rd, *rn);
+        VecDupFPImm { rd, imm, size } => dup_float_word(*size, *imm, *rd);
+        VecDupImm { rd, imm, invert, size } => dup_immediate_word(*size, *imm, *invert, *rd);
     )
 }
 
@@ -196,11 +196,11 @@ pub fn system_word(inst: &Inst, frame: &FrameLayout, info: &EmitInfo) -> u32
 {
     word_arms!(inst;
         // Written by `python3 tools/instructions.py` from tables/instructions.txt.
-        Csdb { } => csdb_word();
-        Fence { } => enc_dmb_ish();
-        Paci { key } => paci_word(*key);
         Xpaclri { } => xpaclri_word();
+        Csdb { } => csdb_word();
+        Paci { key } => paci_word(*key);
         Bti { targets } => bti_word(*targets);
+        Fence { } => enc_dmb_ish();
     )
 }
 
