@@ -1,6 +1,6 @@
 #!/usr/bin/env python3
-"""Writes the files of crates/a64_inst that repeat the table of instructions, tables/instructions.txt, and the parts of
-files by hand that do (tools/tables/instruction_parts.py).
+"""Writes the files of crates that repeat the table of instructions, tables/instructions.txt, and the parts of files by
+hand that do (tools/tables/instruction_parts.py). tables/words.txt says how its words are spelled.
 
 Usage: tools/instructions.py [--check | --test]
 
@@ -16,34 +16,41 @@ from typing import Callable
 from tables import files, instruction_files, instruction_parts
 from tables.instruction_table import InstructionTable, instruction_table_of
 from tables.script import Script
+from tables.words import words_of
 
 TABLE = "tables/instructions.txt"
-CRATE = "crates/a64_inst"
+WORDS = "tables/words.txt"
+CRATES = ["crates/a64_ops", "crates/a64_inst", "crates/a64_emit", "crates/a64_operand_text", "crates/a64_print",
+          "crates/a64_role", "crates/a64_roles", "crates/a64_text"]
 COMMAND = "python3 tools/instructions.py"
 MARK = files.mark_of(COMMAND, TABLE)
 CLASSES = "crates/a64_operand/src/class.rt"
 
+# The modules whose `written` says, by the table, which files are written, and what writes each.
+MODULES = (instruction_files,)
+
+
+def text_of(path: str) -> str:
+    """What stands in a file of the repository."""
+    return (files.ROOT / path).read_text(encoding="utf-8")
+
 
 def known_classes() -> list[str]:
     """The classes of registers."""
-    code = (files.ROOT / CLASSES).read_text(encoding="utf-8")
-    return re.findall(r"^    (\w+),$", code.partition("pub enum Class {")[2].partition("\n}\n")[0], re.MULTILINE)
+    behind = text_of(CLASSES).partition("pub enum Class {")[2]
+    return re.findall(r"^    (\w+),$", behind.partition("\n}\n")[0], re.MULTILINE)
 
 
 def read(text: str, file: str) -> InstructionTable:
     """The table of a text."""
-    return instruction_table_of(text, file, known_classes())
+    return instruction_table_of(text, file, known_classes(), words_of(text_of(WORDS), WORDS))
 
 
 def written(table: InstructionTable) -> files.Files:
     """The files that are written, and what writes each."""
-    crate = {
-        "src/lists.rt": lambda: instruction_files.lists(table),
-        "src/makers.rt": lambda: instruction_files.makers(table),
-    }
-    for one in table.made:
-        crate[f"proofs/inst/Inst/{one.maker}/Proof.antt"] = partial(instruction_files.maker_proof, one)
-    found: files.Files = {f"{CRATE}/{path}": partial(whole, path, lines) for path, lines in crate.items()}
+    found: files.Files = {}
+    for module in MODULES:
+        found |= {path: partial(whole, path, lines) for path, lines in module.written(table).items()}
     for path, parts in instruction_parts.PARTS.items():
         found[path] = partial(with_parts, path, parts, table)
     return found
@@ -60,5 +67,5 @@ def with_parts(path: str, parts: instruction_parts.Parts, table: InstructionTabl
 
 
 if __name__ == "__main__":
-    script = Script(__doc__, COMMAND, TABLE, CRATE, "tools/tables/wrong_instructions", read, written)
+    script = Script(__doc__, COMMAND, TABLE, CRATES, "tools/tables/wrong_instructions", read, written)
     sys.exit(script.run(sys.argv[1:]))

@@ -61,5 +61,5 @@ def whole(path: str, lines: Callable[[RowTable], list[str]], table: RowTable) ->
 
 
 if __name__ == "__main__":
-    script = Script(__doc__, COMMAND, TABLE, CRATE, "tools/tables/wrong_rows", read, written)
+    script = Script(__doc__, COMMAND, TABLE, [CRATE], "tools/tables/wrong_rows", read, written)
     sys.exit(script.run(sys.argv[1:]))

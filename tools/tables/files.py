@@ -51,11 +51,11 @@ def with_parts(path: str, parts: list[Part]) -> list[str]:
     return there
 
 
-def left_over(files: Files, crate: str, mark: str) -> list[str]:
-    """The files of a crate that say that they are written, and are not among those that are."""
+def left_over(files: Files, crates: list[str], mark: str) -> list[str]:
+    """The files of some crates that say that they are written, and are not among those that are."""
     found = []
-    for folder in "src", "specs", "proofs":
-        for path in sorted((ROOT / crate / folder).rglob("*.*")):
+    for folder in (f"{crate}/{folder}" for crate in crates for folder in ("src", "specs", "proofs")):
+        for path in sorted((ROOT / folder).rglob("*.*")):
             name = str(path.relative_to(ROOT))
             if name not in files and mark in path.read_text(encoding="utf-8").split("\n", 1)[0]:
                 found.append(name)

@@ -1,6 +1,9 @@
 """What the code of crates/a64_inst and a64_emit repeats of the table of instructions: one function for each file."""
 from __future__ import annotations
 
+from functools import partial
+from typing import Callable
+
 from .grammar import NUMBER, Call, Test, Value, snake_case
 from .instruction_table import BESIDE, VIRTUALS, Field, Group, Instruction, InstructionTable, class_call
 from .layout import indented, spaced
@@ -192,3 +195,17 @@ def made_arms(table: InstructionTable) -> list[str]:
             fields = [f"{one.fields[0].name}: {register},", "mem,", "flags,"]
             arms += [f"AccessOp::{one.name} => Inst::{one.name} {{", *indented(fields), "},"]
     return indented(arms, 3)
+
+
+CRATE = "crates/a64_inst"
+
+
+def written(table: InstructionTable) -> dict[str, Callable[[], list[str]]]:
+    """The files that are written, and what writes each."""
+    found = {
+        f"{CRATE}/src/lists.rt": partial(lists, table),
+        f"{CRATE}/src/makers.rt": partial(makers, table),
+    }
+    for one in table.made:
+        found[f"{CRATE}/proofs/inst/Inst/{one.maker}/Proof.antt"] = partial(maker_proof, one)
+    return found

@@ -5,6 +5,7 @@ import re
 from dataclasses import dataclass, field
 
 from .grammar import Call, Line, Names, Record, Test, Value, call_of, names_in, records_of, snake_case, tests_of
+from .words import Words
 
 ACCESS = re.compile(r"(\w+) size ([0-3]) v ([01]) opc ([0-3])(?: literal ([0-3]))?")
 FIELD = re.compile(r"(\w+): ([^|]*?)\s*\|\s*(.*)")
@@ -124,10 +125,11 @@ class Instruction:
 
 @dataclass
 class InstructionTable:
-    """The table: its groups, and the instructions in their order."""
+    """The table: its groups, the instructions in their order, and how the words of their expressions are spelled."""
 
     groups: Names
     instructions: list[Instruction]
+    words: Words
 
     @property
     def plain_groups(self) -> list[Group]:
@@ -152,8 +154,9 @@ class InstructionTable:
 class _Reader:
     """What is known of a table while it is read. `classes` are the names of the classes of registers."""
 
-    def __init__(self, classes: list[str]):
+    def __init__(self, classes: list[str], words: Words):
         self.classes = classes
+        self.words = words
         self.groups = Names("group")
         self.kinds = Names("kind")
         self.instructions = Names("instruction")
@@ -290,7 +293,7 @@ class _Reader:
 
     def table(self) -> InstructionTable:
         """What was read."""
-        return InstructionTable(self.groups, list(self.instructions.values()))
+        return InstructionTable(self.groups, list(self.instructions.values()), self.words)
 
 
 def _known(one: Instruction, values: tuple[Value, ...], line: Line) -> None:
@@ -306,9 +309,9 @@ def class_call(of_class: str) -> Call | None:
     return Call(found[1], (found[2],)) if found else None
 
 
-def instruction_table_of(text: str, file: str, classes: list[str]) -> InstructionTable:
+def instruction_table_of(text: str, file: str, classes: list[str], words: Words) -> InstructionTable:
     """The table of a text. `classes` are the names of the classes of registers."""
-    reader = _Reader(classes)
+    reader = _Reader(classes, words)
     for record in records_of(text, file):
         reader.record(record)
     return reader.table()

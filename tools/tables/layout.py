@@ -54,3 +54,36 @@ def spaced(blocks: Iterable[list[str]]) -> list[str]:
 def use(module: str, names: Iterable[str]) -> str:
     """The line that imports names from a module of definitions."""
     return f"use Rattle.{module}.{{{', '.join(names)}}}"
+
+
+# Signs of definitions that stand in front of what they join.
+JOINS = ("∷", "++", "&&", "||", "→")
+
+
+def pieces(text: str) -> list[str]:
+    """A definition in pieces between which a line may be broken: no piece ends within parentheses, and a sign that joins
+    two stands in front of the second.
+    """
+    found: list[str] = []
+    depth = 0
+    for word in text.split(" "):
+        if found and (depth or found[-1] in JOINS):
+            found[-1] += f" {word}"
+        else:
+            found.append(word)
+        depth += sum(map(word.count, "({[")) - sum(map(word.count, ")}]"))
+    return found
+
+
+def equation(left: str, right: str) -> list[str]:
+    """An equation of a definition, on a line where it has room, else with its right side below."""
+    if len(left) + len(right) + 3 <= LINE_WIDTH:
+        return [f"{left} = {right}"]
+    lines = [""]
+    for piece in pieces(right):
+        joined = f"{lines[-1]} {piece}".strip()
+        if lines[-1] and len(INDENT) + len(joined) > LINE_WIDTH:
+            lines.append(piece)
+        else:
+            lines[-1] = joined
+    return [f"{left} =", *indented(lines)]

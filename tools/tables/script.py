@@ -11,14 +11,14 @@ from .grammar import TableError
 
 @dataclass(frozen=True)
 class Script:
-    """A script: its documents, the command that runs it, its table, the crate of which it writes files, the
+    """A script: its documents, the command that runs it, its table, the crates of which it writes files, the
     folder of wrong tables, how a table's text is read, and which files are written from it.
     """
 
     about: str
     command: str
     table: str
-    crate: str
+    crates: list[str]
     wrong: str
     read: Callable[[str, str], Any]
     written: Callable[[Any], files.Files]
@@ -35,7 +35,7 @@ class Script:
             print(error)
             return 1
         written = self.written(table)
-        others = files.left_over(written, self.crate, files.mark_of(self.command, self.table))
+        others = files.left_over(written, self.crates, files.mark_of(self.command, self.table))
         if words == ["--check"]:
             return 1 if files.check(written, others, self.command) else 0
         files.write(written, others)
