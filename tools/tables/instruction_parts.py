@@ -23,40 +23,12 @@ def equations(name: str, closing: str, mark: str, lines: list[str]) -> Part:
     return Part((f"abbrev pub {name} :",), closing, [f"-- {mark}", *lines])
 
 
-def inst(table: InstructionTable, mark: str) -> list[Part]:
-    """The variants of `Inst`."""
-    return [arms(("pub enum Inst {",), "}", mark, instruction_files.variants(table))]
-
-
-def sheets(table: InstructionTable, mark: str) -> list[Part]:
-    """What must hold of plain words beside the classes of their registers."""
-    return [equations("has_rest", "has_rest virtuals _ = true", mark, instruction_specs.has_rest(table))]
-
-
-def access(table: InstructionTable, mark: str) -> list[Part]:
-    """Loads and stores of one register as data, and back."""
-    ref = ("    pub fn access_ref(", "        let (op, reg, mem, flags) = match")
-    return [
-        arms(ref, "            _ => return None,", mark, instruction_files.access_arms(table)),
-        arms(("    pub fn from_access(", "        match"), "        }", mark, instruction_files.made_arms(table)),
-    ]
-
-
 def access_fields(table: InstructionTable, mark: str) -> list[Part]:
     """The fields of the words of loads and stores of one register, and what they are."""
     return [
         equations("fields_of", "", mark, instruction_specs.fields_of(table)),
         equations("moves_vector", "moves_vector _ = false", mark, instruction_specs.moves_vector(table)),
         equations("loads", "loads _ = true", mark, instruction_specs.loads(table)),
-    ]
-
-
-def accesses(table: InstructionTable, mark: str) -> list[Part]:
-    """Loads and stores of one register as data, and back, in definitions."""
-    return [
-        equations("access_type", "", mark, instruction_specs.access_type(table)),
-        equations("access_of", "access_of _ = None", mark, instruction_specs.access_of(table)),
-        equations("inst_with", "", mark, instruction_specs.inst_with(table)),
     ]
 
 
@@ -107,10 +79,6 @@ def name_table(table: InstructionTable, mark: str) -> list[Part]:
 
 PARTS: dict[str, Parts] = {
     "crates/a64_ops/specs/Accesses.antt": access_fields,
-    "crates/a64_inst/specs/Accesses.antt": accesses,
-    "crates/a64_inst/specs/Sheets.antt": sheets,
-    "crates/a64_inst/src/access.rt": access,
-    "crates/a64_inst/src/inst.rt": inst,
     "crates/a64_emit/src/word/plain.rt": words,
     "crates/a64_text/specs/Names.antt": name_texts,
     "crates/a64_text/specs/PlainFields.antt": plain_fields,

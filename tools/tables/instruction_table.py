@@ -17,13 +17,13 @@ LAST_LITERAL = 128
 ADDRESSED = ["Mode", "Flags"]
 
 # What an expression may name beside fields and the variants of enumerations.
-VIRTUALS = "virtuals"
-BESIDE = (VIRTUALS, "true", "false")
+BESIDE = ("virtuals", "frame", "true", "false")
 
 # The words with which a line of an instruction begins that is neither a sentence nor a field. Each stands once, and what
 # stands behind it is read where it is written.
 KEYS = (
-    "if", "manual", "row", "form", "word", "traps", "cells", "text", "let", "roles", "access", "made", "kinds", "file", "also",
+    "if", "alone", "manual", "row", "form", "word", "traps", "cells", "text", "let", "roles", "access", "made", "kinds",
+    "file", "also",
 )
 
 
@@ -42,6 +42,11 @@ class Kind:
     name: str
     type: str
     in_file: str
+
+    @property
+    def owns(self) -> bool:
+        """Whether a field of the kind owns memory."""
+        return self.type.startswith(("ListVec<", "CallInfo<", "ReturnCallInfo<"))
 
 
 REGISTERS = {"writes": Kind("Reg", "Writable<Reg>", "Reg"), "reads": Kind("Reg", "Reg", "Reg")}
@@ -82,7 +87,7 @@ class Access:
 class Instruction:
     """An instruction: its name, its group, the class of its name in a file, whether its result is the register behind
     it, where it stands, what is said of it, its fields, and its lines by the words with which they begin; and of these
-    what must hold of a plain word, and its word, or what a load or a store of one register moves.
+    what must hold beside the classes, or of its operands, its word, and what a load or a store of one register moves.
     """
 
     name: str
@@ -93,9 +98,19 @@ class Instruction:
     says: list[str] = field(default_factory=list)
     fields: list[Field] = field(default_factory=list)
     lines: dict[str, Line] = field(default_factory=dict)
-    test: Test | None = None
+    tests: list[Test] = field(default_factory=list)
     word: Call | None = None
     access: Access | None = None
+
+    @property
+    def alone(self) -> bool | Call:
+        """Whether it is one word that is no use, or what tells that: one that has a form is, but where its cells are
+        told too.
+        """
+        line = self.lines.get("alone")
+        if line:
+            return call_of(line) if line.text else True
+        return "cells" not in self.lines and ("form" in self.lines or "row" in self.lines)
 
     @property
     def is_made(self) -> bool:
@@ -160,7 +175,10 @@ class _Reader:
         self.groups = Names("group")
         self.kinds = Names("kind")
         self.instructions = Names("instruction")
-        self.read = {"if": self.test, "form": self.form, "word": self.word, "made": self.made, "access": self.access}
+        self.read = {
+            "if": self.test, "alone": self.alone, "form": self.form, "word": self.word, "made": self.made,
+            "access": self.access,
+        }
 
     def record(self, record: Record) -> None:
         """Reads a record by its first word."""
@@ -256,14 +274,19 @@ class _Reader:
             line.fail(f"there is no class `{of_class}`")
 
     def test(self, one: Instruction, line: Line) -> None:
-        """What must hold beside the classes."""
-        if not one.group.plain:
-            return
-        tests = tests_of(line)
-        if len(tests) > 1:
+        """What must hold beside the classes, or of the operands of an instruction that has none."""
+        one.tests = tests_of(line)
+        if one.group.plain and len(one.tests) > 1:
             line.fail("one test is wanted")
-        _known(one, tests[0].values, line)
-        one.test = tests[0]
+        for test in one.tests:
+            _known(one, test.values, line)
+
+    def alone(self, one: Instruction, line: Line) -> None:
+        """That it is one word that is no use, though its cells are told, or what tells whether it is."""
+        if one.group.plain:
+            line.fail("a plain word is no use")
+        if line.text:
+            _known(one, call_of(line).values, line)
 
     def form(self, one: Instruction, line: Line) -> None:
         """The function that gives the form of the word, and the word where no other function is named."""

@@ -61,13 +61,11 @@ JOINS = ("∷", "++", "&&", "||", "→")
 
 
 def pieces(text: str) -> list[str]:
-    """A definition in pieces between which a line may be broken: no piece ends within parentheses, and a sign that joins
-    two stands in front of the second.
-    """
+    """A definition in pieces between which a line may be broken: none ends within parentheses."""
     found: list[str] = []
     depth = 0
     for word in text.split(" "):
-        if found and (depth or found[-1] in JOINS):
+        if depth:
             found[-1] += f" {word}"
         else:
             found.append(word)
@@ -75,15 +73,32 @@ def pieces(text: str) -> list[str]:
     return found
 
 
+def operands(text: str) -> list[str]:
+    """What signs join in a definition, each behind the sign that stands in front of it."""
+    found: list[list[str]] = [[]]
+    for piece in pieces(text):
+        if piece in JOINS:
+            found.append([])
+        found[-1].append(piece)
+    return [" ".join(operand) for operand in found]
+
+
+def filled(parts: Iterable[str], room: int) -> list[str]:
+    """The parts on as few lines as hold them."""
+    lines: list[str] = []
+    for part in parts:
+        if lines and len(lines[-1]) + 1 + len(part) <= room:
+            lines[-1] += f" {part}"
+        else:
+            lines.append(part)
+    return lines
+
+
 def equation(left: str, right: str) -> list[str]:
     """An equation of a definition, on a line where it has room, else with its right side below."""
     if len(left) + len(right) + 3 <= LINE_WIDTH:
         return [f"{left} = {right}"]
-    lines = [""]
-    for piece in pieces(right):
-        joined = f"{lines[-1]} {piece}".strip()
-        if lines[-1] and len(INDENT) + len(joined) > LINE_WIDTH:
-            lines.append(piece)
-        else:
-            lines[-1] = joined
-    return [f"{left} =", *indented(lines)]
+    indent = left[: len(left) - len(left.lstrip())] + INDENT
+    room = LINE_WIDTH - len(indent)
+    parts = [part for operand in operands(right) for part in ([operand] if len(operand) <= room else pieces(operand))]
+    return [f"{left} =", *(indent + line for line in filled(parts, room))]

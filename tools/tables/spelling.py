@@ -12,6 +12,9 @@ from .grammar import TEXT, Call, Value, is_literal
 from .instruction_table import BESIDE, Instruction
 from .words import BARE, Words
 
+# What is given to each macro that needs it.
+GIVEN = ("virtuals", "frame")
+
 def filled(template: str, values: dict[str, str]) -> str:
     """A spelling with its values. In front of a dot a field is not taken out of its reference."""
     if not values:
@@ -26,13 +29,18 @@ def filled(template: str, values: dict[str, str]) -> str:
 
 @dataclass(frozen=True)
 class Code:
-    """Spells expressions of an instruction as code, in an arm whose fields are references. A register that is written
-    is given as what it is (`whole`), or as the register in it.
+    """Spells expressions of an instruction as code, in an arm of a macro whose fields are references. A register that is
+    written is given as what it is (`whole`), or as the register in it.
     """
 
     words: Words
     one: Instruction
     whole: bool = False
+
+    @staticmethod
+    def names_in(text: str) -> set[str]:
+        """The names of variables that stand in code, but for what is given to the macro."""
+        return set(re.findall(r"(?<![\w$.])[a-z_]\w*", text))
 
     def name(self, text: str) -> str:
         """A name, a number or a text."""
@@ -42,6 +50,8 @@ class Code:
             return text.replace(bare, f"{bare}.to_reg()")
         if part:
             return bare if text.startswith("&") else f"*{bare}"
+        if text in GIVEN:
+            return f"${text}"
         if is_literal(text) or not bare[0].isupper():
             return text
         word = self.words.prefix(bare)

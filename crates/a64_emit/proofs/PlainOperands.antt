@@ -4,7 +4,8 @@ use Rattle.std.proofs.lemmas.Bool.{and_parts}
 use Rattle.a64_inst.specs.declared.inst.Inst.{Inst}
 use Rattle.a64_operand.specs.declared.virtuals.VirtualRegisters.TheVariants.{Refused}
 use Rattle.a64_inst.specs.Fields.{Field, Def, Use, Is}
-use Rattle.a64_inst.specs.Sheets.{fields_fit, has_rest, sheet}
+use Rattle.a64_inst.specs.PlainWords.{fields_fit}
+use Rattle.a64_inst.specs.Sheets.{has_rest, sheet}
 use Rattle.a64_operand.specs.Operands.{is_of}
 
 rest_holds : (fields : List Field) (rest : Bool) → fields_fit Refused fields rest ≡ true → rest ≡ true

@@ -6,6 +6,7 @@ ghost use Rattle.a64_inst.specs.Faults.{named_constant};
 
 use crate::inst::Inst;
 use crate::mode::AMode;
+use crate::{access_arms, made_arms, type_arms};
 use a64_base::{IrType, MemFlagsData, Reg, VCodeConstant, Writable};
 use a64_ops::AccessOp;
 use std::marker::Model;
@@ -49,16 +50,7 @@ impl<'i> Model for AccessRef<'i> {
 fn type_of(op: AccessOp) -> IrType
     ensures { result ≡ access_type op }
 {
-    match op {
-        AccessOp::ULoad8 | AccessOp::SLoad8 | AccessOp::Store8 => IrType::I8,
-        AccessOp::ULoad16 | AccessOp::SLoad16 | AccessOp::Store16 => IrType::I16,
-        AccessOp::ULoad32 | AccessOp::SLoad32 | AccessOp::Store32 => IrType::I32,
-        AccessOp::ULoad64 | AccessOp::Store64 => IrType::I64,
-        AccessOp::FpuLoad16 | AccessOp::FpuStore16 => IrType::F16,
-        AccessOp::FpuLoad32 | AccessOp::FpuStore32 => IrType::F32,
-        AccessOp::FpuLoad64 | AccessOp::FpuStore64 => IrType::F64,
-        AccessOp::FpuLoad128 | AccessOp::FpuStore128 => IrType::I8X16,
-    }
+    type_arms!(op)
 }
 
 impl Access {
@@ -131,29 +123,7 @@ impl Inst {
     pub fn access_ref(&self) -> Option<AccessRef<'_>>
         ensures { result ≡ access_of self.now }
     {
-        let (op, reg, mem, flags) = match self {
-            // Written by `python3 tools/instructions.py` from tables/instructions.txt.
-            Inst::ULoad8 { rd, mem, flags } => (AccessOp::ULoad8, rd.to_reg(), mem, flags),
-            Inst::SLoad8 { rd, mem, flags } => (AccessOp::SLoad8, rd.to_reg(), mem, flags),
-            Inst::ULoad16 { rd, mem, flags } => (AccessOp::ULoad16, rd.to_reg(), mem, flags),
-            Inst::SLoad16 { rd, mem, flags } => (AccessOp::SLoad16, rd.to_reg(), mem, flags),
-            Inst::ULoad32 { rd, mem, flags } => (AccessOp::ULoad32, rd.to_reg(), mem, flags),
-            Inst::SLoad32 { rd, mem, flags } => (AccessOp::SLoad32, rd.to_reg(), mem, flags),
-            Inst::ULoad64 { rd, mem, flags } => (AccessOp::ULoad64, rd.to_reg(), mem, flags),
-            Inst::FpuLoad16 { rd, mem, flags } => (AccessOp::FpuLoad16, rd.to_reg(), mem, flags),
-            Inst::FpuLoad32 { rd, mem, flags } => (AccessOp::FpuLoad32, rd.to_reg(), mem, flags),
-            Inst::FpuLoad64 { rd, mem, flags } => (AccessOp::FpuLoad64, rd.to_reg(), mem, flags),
-            Inst::FpuLoad128 { rd, mem, flags } => (AccessOp::FpuLoad128, rd.to_reg(), mem, flags),
-            Inst::Store8 { rd, mem, flags } => (AccessOp::Store8, *rd, mem, flags),
-            Inst::Store16 { rd, mem, flags } => (AccessOp::Store16, *rd, mem, flags),
-            Inst::Store32 { rd, mem, flags } => (AccessOp::Store32, *rd, mem, flags),
-            Inst::Store64 { rd, mem, flags } => (AccessOp::Store64, *rd, mem, flags),
-            Inst::FpuStore16 { rd, mem, flags } => (AccessOp::FpuStore16, *rd, mem, flags),
-            Inst::FpuStore32 { rd, mem, flags } => (AccessOp::FpuStore32, *rd, mem, flags),
-            Inst::FpuStore64 { rd, mem, flags } => (AccessOp::FpuStore64, *rd, mem, flags),
-            Inst::FpuStore128 { rd, mem, flags } => (AccessOp::FpuStore128, *rd, mem, flags),
-            _ => return None,
-        };
+        let (op, reg, mem, flags) = access_arms!(self);
         Some(AccessRef {
             op,
             reg,
@@ -183,52 +153,7 @@ impl Inst {
         ensures access { access_of result ≡ Some access }
     {
         let (reg, mem, flags) = (access.reg, access.mem, access.flags);
-        match access.op {
-            // Written by `python3 tools/instructions.py` from tables/instructions.txt.
-            AccessOp::ULoad8 => Inst::ULoad8 {
-                rd: Writable::from_reg(reg),
-                mem,
-                flags,
-            },
-            AccessOp::SLoad8 => Inst::SLoad8 {
-                rd: Writable::from_reg(reg),
-                mem,
-                flags,
-            },
-            AccessOp::ULoad16 => Inst::ULoad16 {
-                rd: Writable::from_reg(reg),
-                mem,
-                flags,
-            },
-            AccessOp::SLoad16 => Inst::SLoad16 {
-                rd: Writable::from_reg(reg),
-                mem,
-                flags,
-            },
-            AccessOp::ULoad32 => Inst::ULoad32 {
-                rd: Writable::from_reg(reg),
-                mem,
-                flags,
-            },
-            AccessOp::SLoad32 => Inst::SLoad32 {
-                rd: Writable::from_reg(reg),
-                mem,
-                flags,
-            },
-            AccessOp::ULoad64 => Inst::uload64(Writable::from_reg(reg), mem, flags),
-            AccessOp::FpuLoad16 => Inst::fpu_load16(Writable::from_reg(reg), mem, flags),
-            AccessOp::FpuLoad32 => Inst::fpu_load32(Writable::from_reg(reg), mem, flags),
-            AccessOp::FpuLoad64 => Inst::fpu_load64(Writable::from_reg(reg), mem, flags),
-            AccessOp::FpuLoad128 => Inst::fpu_load128(Writable::from_reg(reg), mem, flags),
-            AccessOp::Store8 => Inst::store8(reg, mem, flags),
-            AccessOp::Store16 => Inst::store16(reg, mem, flags),
-            AccessOp::Store32 => Inst::store32(reg, mem, flags),
-            AccessOp::Store64 => Inst::store64(reg, mem, flags),
-            AccessOp::FpuStore16 => Inst::fpu_store16(reg, mem, flags),
-            AccessOp::FpuStore32 => Inst::fpu_store32(reg, mem, flags),
-            AccessOp::FpuStore64 => Inst::fpu_store64(reg, mem, flags),
-            AccessOp::FpuStore128 => Inst::fpu_store128(reg, mem, flags),
-        }
+        made_arms!(access.op, reg, mem, flags)
     }
 
     /// Whether there are a load and a store of one value of this type: an integer of 8 to 64 bits,

@@ -8,7 +8,8 @@ ghost use Rattle.a64_inst.specs.Groups.{group_of};
 use crate::group::{Group, PlainGroup};
 use crate::inst::Inst;
 use crate::{
-    float_list, immediate_list, register_list, system_list, vector_list, vector_move_list,
+    control_copies, float_list, immediate_list, memory_copies, register_list, sequence_copies,
+    system_list, vector_list, vector_move_list,
 };
 use std::alloc::{AllocError, Global};
 
@@ -106,24 +107,7 @@ fn copied_control(alloc: Global, inst: &Inst) -> Result<Inst, AllocError>
             targets: targets.try_clone(alloc)?,
         });
     }
-    Ok(copied!(inst;
-        Nop0 {},
-        Nop4 {},
-        MovToNZCV { rn },
-        MovFromNZCV { rd },
-        Ret {},
-        AuthenticatedRet { key, is_hint },
-        Jump { dest },
-        CondBr { taken, not_taken, kind },
-        TestBitAndBranch { kind, taken, not_taken, rn, bit },
-        TrapIf { kind, trap_code },
-        Brk {},
-        Udf { trap_code },
-        Word4 { value },
-        Word8 { value },
-        EmitIsland { needed_space },
-        LabelAddress { dst, label }
-    ))
+    Ok(control_copies!(copied, inst))
 }
 
 /// An equal sequence around a table, a symbol or the stack, loop of atomic accesses, select of vectors, or what has no
@@ -155,17 +139,7 @@ fn copied_sequence(alloc: Global, inst: &Inst) -> Result<Inst, AllocError>
                 rtmp2: *rtmp2,
             })
         }
-        other => Ok(copied!(other;
-            DummyUse { reg },
-            SequencePoint {},
-            LoadExtNameGot { rd, name },
-            LoadExtNameNear { rd, name, offset },
-            LoadExtNameFar { rd, name, offset },
-            StackProbeLoop { start, end, step },
-            VecCSel { rd, rn, rm, cond },
-            AtomicRMWLoop { ty, op, flags, addr, operand, oldval, scratch1, scratch2 },
-            AtomicCASLoop { ty, flags, addr, expected, replacement, oldval, scratch }
-        )),
+        other => Ok(sequence_copies!(copied, other)),
     }
 }
 
@@ -199,21 +173,7 @@ fn copied_memory(inst: &Inst) -> Result<Inst, AllocError>
     if let Some(access) = inst.access() {
         return Ok(Inst::from_access(access));
     }
-    Ok(copied!(inst;
-        LoadP64 { rt, rt2, mem, flags },
-        StoreP64 { rt, rt2, mem, flags },
-        FpuLoadP64 { rt, rt2, mem, flags },
-        FpuStoreP64 { rt, rt2, mem, flags },
-        FpuLoadP128 { rt, rt2, mem, flags },
-        FpuStoreP128 { rt, rt2, mem, flags },
-        LoadAddr { rd, mem },
-        AtomicRMW { ty, op, rs, rt, rn, flags },
-        AtomicCAS { rd, rs, rt, rn, ty, flags },
-        AtomicCAS128 { args },
-        LoadAcquire { access_ty, rt, rn, flags },
-        StoreRelease { access_ty, rt, rn, flags },
-        VecLoadReplicate { rd, rn, size, flags }
-    ))
+    Ok(memory_copies!(copied, inst))
 }
 
 impl Inst {

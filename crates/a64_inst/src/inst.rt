@@ -1,6 +1,5 @@
+// Written by `python3 tools/instructions.py` from tables/instructions.txt.
 //! The instructions.
-
-ghost use Rattle.std.specs.Prelude.{◌≡◌};
 
 use crate::call::{CallInfo, ReturnCallInfo};
 use crate::mode::{AMode, PairAMode};
@@ -21,13 +20,10 @@ use a64_ops::{
     VecLanesOp, VecMisc2, VecPairOp, VecRRLongOp, VecRRNarrowOp, VecRRPairLongOp, VecRRRLongModOp,
     VecRRRLongOp, VecShiftImmModOp, VecShiftImmOp,
 };
-use std::alloc::Global;
-use std::default::MadeWith;
 
 /// An AArch64 instruction, or a short sequence of instructions (Cranelift's `Inst`).
 #[derive(Drop)]
 pub enum Inst {
-    // Written by `python3 tools/instructions.py` from tables/instructions.txt.
     /// `adr`: an address near the code.
     Adr {
         /// The result.
@@ -1390,16 +1386,4 @@ pub enum Inst {
         /// What is known of the access.
         flags: MemFlagsData,
     },
-}
-
-/// `nop`, which fills the free places of a vector that keeps its first instructions in the value.
-impl MadeWith<Global> for Inst {
-    ghost use Rattle.std.specs.Prelude.{◌≡◌};
-    ghost use Rattle.a64_inst.specs.declared.inst.Inst.TheVariants.{Nop4};
-
-    ghost is_made_with = { λ inst. inst ≡ Nop4 };
-
-    fn made_with(_alloc: Global) -> Inst {
-        Inst::Nop4
-    }
 }

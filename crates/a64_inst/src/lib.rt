@@ -2,6 +2,7 @@
 #![tactic(auto)]
 
 mod access;
+mod arms;
 mod call;
 mod constant;
 mod copied;
@@ -12,6 +13,7 @@ mod group;
 mod inst;
 mod item;
 mod lists;
+mod made_with;
 mod makers;
 mod mode;
 mod mode_text;

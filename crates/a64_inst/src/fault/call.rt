@@ -7,7 +7,8 @@ ghost use Rattle.a64_inst.specs.Faults.{fault_with, has_operands, has_scratch, i
 ghost use Rattle.a64_inst.specs.CallOperands as sets;
 
 use crate::access::load_of;
-use crate::call::{CallArgPair, CallInfo, CallRetPair, RetLocation, ReturnCallInfo};
+use crate::call::{CallArgPair, CallRetPair, RetLocation};
+use crate::call_operands;
 use crate::emission::EmitInfo;
 use crate::fault::OwnFault;
 use crate::fault::memory::operand::is_data_register;
@@ -52,13 +53,16 @@ fn defs(virtuals: VirtualRegisters, pairs: &[CallRetPair]) -> bool
 
 /// Of a call, beside its address.
 #[tactic(auto, unfolding(crate::specs::CallOperands::are_call_operands))]
-fn call<T>(virtuals: VirtualRegisters, info: &CallInfo<T>) -> bool
+fn are_call_operands(
+    virtuals: VirtualRegisters,
+    passed: &[CallArgPair],
+    results: &[CallRetPair],
+    callee_pop_size: u32,
+) -> bool
     ensures { result
-        ≡ sets.are_call_operands virtuals info.now.uses info.now.defs info.now.callee_pop_size }
+        ≡ sets.are_call_operands virtuals passed.now results.now callee_pop_size }
 {
-    uses(virtuals, info.uses.as_slice())
-        && defs(virtuals, info.defs.as_slice())
-        && info.callee_pop_size < 1 << 31
+    uses(virtuals, passed) && defs(virtuals, results) && callee_pop_size < 1 << 31
 }
 
 /// Whether a frame can be left for a call with so many bytes of arguments on the stack.
@@ -73,19 +77,17 @@ fn has_return_frame(frame: &FrameLayout, size: u32) -> bool
 
 /// Of a return that calls, beside its address.
 #[tactic(auto, unfolding(crate::specs::CallOperands::are_return_operands))]
-fn return_call<T>(
+fn are_return_operands(
     frame: &FrameLayout,
     virtuals: VirtualRegisters,
     restorable: bool,
-    info: &ReturnCallInfo<T>,
+    passed: &[CallArgPair],
+    new_stack_arg_size: u32,
 ) -> bool
     ensures { result
-        ≡ sets.are_return_operands frame.now virtuals restorable info.now.uses
-        info.now.new_stack_arg_size }
+        ≡ sets.are_return_operands frame.now virtuals restorable passed.now new_stack_arg_size }
 {
-    uses(virtuals, info.uses.as_slice())
-        && has_return_frame(frame, info.new_stack_arg_size)
-        && restorable
+    uses(virtuals, passed) && has_return_frame(frame, new_stack_arg_size) && restorable
 }
 
 /// Whether the operands of a call, or of a return that calls, are in their sets.
@@ -100,18 +102,7 @@ fn has_call_operands(
     requires restorable { restorable ≡ is_restorable frame.now _info.now virtuals }
     ensures { result ≡ has_operands frame.now _info.now virtuals inst.now }
 {
-    match inst {
-        Inst::Call { info } => call(virtuals, info),
-        Inst::CallInd { info } => {
-            is_register_or_zero(virtuals, info.dest) && call(virtuals, info)
-        }
-        Inst::ReturnCall { info } => return_call(frame, virtuals, restorable, info),
-        Inst::ReturnCallInd { info } => {
-            is_register_or_zero(virtuals, info.dest)
-                && return_call(frame, virtuals, restorable, info)
-        }
-        _ => unreachable!(),
-    }
+    call_operands!(inst, frame, virtuals, restorable)
 }
 
 /// Whether x16 is not where a return that calls goes, where it is needed to move the stack pointer.

@@ -7,6 +7,7 @@ ghost use Rattle.a64_inst.specs.Groups.{group_of};
 ghost use Rattle.a64_inst.specs.Faults.{has_operands};
 ghost use Rattle.a64_inst.specs.ControlOperands as sets;
 
+use crate::control_operands;
 use crate::emission::EmitInfo;
 use crate::frame::FrameLayout;
 use crate::inst::Inst;
@@ -25,7 +26,7 @@ fn is_target(reach: u32, dest: BranchTarget) -> bool
 
 /// Of a `Jump`.
 #[tactic(auto, unfolding(crate::specs::ControlOperands::are_jump_operands))]
-fn jump(dest: BranchTarget) -> bool
+fn are_jump_operands(dest: BranchTarget) -> bool
     ensures { result ≡ sets.are_jump_operands dest }
 {
     is_target(1 << 27, dest)
@@ -45,7 +46,7 @@ fn is_test(virtuals: VirtualRegisters, kind: CondBrKind) -> bool
 
 /// Of a `CondBr`.
 #[tactic(auto, unfolding(crate::specs::ControlOperands::are_cond_br_operands))]
-fn cond_br(
+fn are_cond_br_operands(
     virtuals: VirtualRegisters,
     taken: BranchTarget,
     not_taken: BranchTarget,
@@ -53,12 +54,12 @@ fn cond_br(
 ) -> bool
     ensures { result ≡ sets.are_cond_br_operands virtuals taken not_taken kind }
 {
-    is_target(1 << 20, taken) && jump(not_taken) && is_test(virtuals, kind)
+    is_target(1 << 20, taken) && are_jump_operands(not_taken) && is_test(virtuals, kind)
 }
 
 /// Of a `TestBitAndBranch`.
 #[tactic(auto, unfolding(crate::specs::ControlOperands::are_test_bit_operands))]
-fn test_bit(
+fn are_test_bit_operands(
     virtuals: VirtualRegisters,
     taken: BranchTarget,
     not_taken: BranchTarget,
@@ -67,7 +68,10 @@ fn test_bit(
 ) -> bool
     ensures { result ≡ sets.are_test_bit_operands virtuals taken not_taken rn bit }
 {
-    is_target(1 << 15, taken) && jump(not_taken) && is_register_or_zero(virtuals, rn) && bit < 64
+    is_target(1 << 15, taken)
+        && are_jump_operands(not_taken)
+        && is_register_or_zero(virtuals, rn)
+        && bit < 64
 }
 
 /// Whether the operands of a branch, a `nop`, an access to the flags, a word of data or an
@@ -82,28 +86,5 @@ pub fn has_control_operands(
     requires { group_of inst.now ≡ Control }
     ensures { result ≡ has_operands frame.now info.now virtuals inst.now }
 {
-    match inst {
-        Inst::Nop0 | Inst::Nop4 | Inst::Ret | Inst::AuthenticatedRet { .. } => true,
-        Inst::MovToNZCV { rn } => is_register_or_zero(virtuals, *rn),
-        Inst::MovFromNZCV { rd } => is_register_or_zero(virtuals, rd.to_reg()),
-        Inst::Jump { dest } => jump(*dest),
-        Inst::CondBr {
-            taken,
-            not_taken,
-            kind,
-        } => cond_br(virtuals, *taken, *not_taken, *kind),
-        Inst::TestBitAndBranch {
-            kind: _,
-            taken,
-            not_taken,
-            rn,
-            bit,
-        } => test_bit(virtuals, *taken, *not_taken, *rn, *bit),
-        Inst::TrapIf { kind, trap_code: _ } => is_test(virtuals, *kind),
-        Inst::IndirectBr { rn, targets: _ } => is_register_or_zero(virtuals, *rn),
-        Inst::Brk | Inst::Udf { .. } | Inst::Word4 { .. } | Inst::Word8 { .. } => true,
-        Inst::EmitIsland { needed_space: _ } => true,
-        Inst::LabelAddress { dst, label: _ } => is_register_or_zero(virtuals, dst.to_reg()),
-        _ => unreachable!(),
-    }
+    control_operands!(inst, virtuals)
 }

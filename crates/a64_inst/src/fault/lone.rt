@@ -3,7 +3,7 @@
 ghost use Rattle.std.specs.Prelude.{◌≡◌};
 ghost use Rattle.a64_base.specs.declared.ir_type.IrType.TheVariants.{I8};
 ghost use Rattle.a64_inst.specs.declared.group.Group.TheVariants.{Control, Memory};
-ghost use Rattle.a64_inst.specs.FinalModes.{final_mode, needs_x16, placed_mode};
+ghost use Rattle.a64_inst.specs.FinalModes.{placed_mode};
 ghost use Rattle.a64_inst.specs.Groups.{group_of};
 ghost use Rattle.a64_inst.specs.Lone as lone;
 ghost use Rattle.a64_inst.specs.Modes.{is_far};
@@ -15,6 +15,7 @@ use crate::group::Group;
 use crate::inst::Inst;
 use crate::mode::{AMode, MemLabel};
 use crate::place::{Place, is_far, needs_x16, place_of};
+use crate::{control_alone, memory_alone};
 use a64_base::{APIKey, BranchTarget, IrType, Reg};
 use a64_operand::is_other_register;
 
@@ -65,9 +66,8 @@ fn is_lone_place(rd: &Reg, place: &Place) -> bool
 }
 
 /// Whether the address of a mode is one word.
-fn is_lone_address(rd: &Reg, frame: &FrameLayout, mem: &AMode) -> bool
-    ensures { result ≡ lone.is_lone_address rd.now (needs_x16 frame.now I8 mem.now)
-        (final_mode frame.now I8 mem.now) }
+fn is_lone_mode(rd: &Reg, frame: &FrameLayout, mem: &AMode) -> bool
+    ensures { result ≡ lone.is_lone_mode rd.now frame.now mem.now }
 {
     match *mem {
         AMode::Unscaled { rn, simm9 } => is_lone_sum(rd, &rn, i32::from(simm9.value)),
@@ -78,6 +78,13 @@ fn is_lone_address(rd: &Reg, frame: &FrameLayout, mem: &AMode) -> bool
             None => false,
         },
     }
+}
+
+/// Whether a branch has its offset already.
+fn is_resolved(dest: BranchTarget) -> bool
+    ensures { result ≡ lone.is_resolved dest }
+{
+    matches!(dest, BranchTarget::ResolvedOffset(_))
 }
 
 /// Whether a return authenticates its address in the same word.
@@ -92,18 +99,7 @@ fn is_lone_control(inst: &Inst, _frame: &FrameLayout) -> bool
     requires { group_of inst.now ≡ Control }
     ensures { result ≡ lone.is_lone _frame.now inst.now }
 {
-    match inst {
-        Inst::Jump { dest } => matches!(dest, BranchTarget::ResolvedOffset(_)),
-        Inst::AuthenticatedRet { key, is_hint } => is_lone_return(*key, *is_hint),
-        Inst::Nop0
-        | Inst::CondBr { .. }
-        | Inst::TestBitAndBranch { .. }
-        | Inst::TrapIf { .. }
-        | Inst::Word8 { .. }
-        | Inst::EmitIsland { .. }
-        | Inst::LabelAddress { .. } => false,
-        _ => true,
-    }
+    control_alone!(inst)
 }
 
 /// Whether a load or a store, or an address, is one word that is no use.
@@ -114,10 +110,7 @@ fn is_lone_memory(inst: &Inst, frame: &FrameLayout) -> bool
     if let Some(access) = inst.access_ref() {
         return is_lone_access(&access, frame);
     }
-    match inst {
-        Inst::LoadAddr { rd, mem } => is_lone_address(&rd.to_reg(), frame, mem),
-        _ => true,
-    }
+    memory_alone!(inst, frame)
 }
 
 /// Whether an instruction is one word that is no use.

@@ -18,8 +18,13 @@ ghost use Rattle.a64_inst.specs.MemoryOperands as sets;
 use crate::access::AccessRef;
 use crate::emission::EmitInfo;
 use crate::fault::OwnFault;
+use crate::fault::memory::operand::{
+    are_access_operands, are_address_operands, are_float_pair_operands, are_pair_operands,
+    are_replicate_operands, is_data_register,
+};
 use crate::frame::FrameLayout;
 use crate::inst::Inst;
+use crate::memory_operands;
 use crate::mode::AMode;
 use a64_base::IrType;
 use a64_operand::{
@@ -42,7 +47,7 @@ fn pool_fault(
         ∷ (is_some (literal_of access.now.op), own.BadMode)
         ∷ (is_some constant, own.UnknownConstant) ∷ []) }
 {
-    if !operand::is_data_register(virtuals, access.op, access.reg) {
+    if !is_data_register(virtuals, access.op, access.reg) {
         return Some(OwnFault::BadOperand);
     }
     let Some(least) = constant::literal_bytes(access.op) else {
@@ -72,7 +77,7 @@ fn access_fault(
         ∷ (is_none (constant_in access.now.mem) || is_some constant, own.UnknownConstant)
         ∷ []) }
 {
-    if !operand::access(frame, virtuals, access) || !constant::is_within(constant, access) {
+    if !are_access_operands(frame, virtuals, access) || !constant::is_within(constant, access) {
         return Some(OwnFault::BadOperand);
     }
     if !mode::has_access_mode(access.op, access.mem) {
@@ -99,76 +104,7 @@ fn has_operands(
     requires other { access_of inst.now ≡ None }
     ensures { result ≡ has_operands frame.now info.now virtuals inst.now }
 {
-    match inst {
-        Inst::LoadP64 {
-            rt,
-            rt2,
-            mem,
-            flags: _,
-        } => operand::pair(virtuals, rt.to_reg(), rt2.to_reg(), mem),
-        Inst::StoreP64 {
-            rt,
-            rt2,
-            mem,
-            flags: _,
-        } => operand::pair(virtuals, *rt, *rt2, mem),
-        Inst::FpuLoadP64 {
-            rt,
-            rt2,
-            mem,
-            flags: _,
-        } => operand::float_pair(virtuals, IrType::F64, rt.to_reg(), rt2.to_reg(), mem),
-        Inst::FpuStoreP64 {
-            rt,
-            rt2,
-            mem,
-            flags: _,
-        } => operand::float_pair(virtuals, IrType::F64, *rt, *rt2, mem),
-        Inst::FpuLoadP128 {
-            rt,
-            rt2,
-            mem,
-            flags: _,
-        } => operand::float_pair(virtuals, IrType::I8X16, rt.to_reg(), rt2.to_reg(), mem),
-        Inst::FpuStoreP128 {
-            rt,
-            rt2,
-            mem,
-            flags: _,
-        } => operand::float_pair(virtuals, IrType::I8X16, *rt, *rt2, mem),
-        Inst::LoadAddr { rd, mem } => operand::address(frame, virtuals, rd.to_reg(), mem),
-        Inst::AtomicRMW {
-            ty,
-            op: _,
-            rs,
-            rt,
-            rn,
-            flags: _,
-        } => are_rmw_operands(virtuals, *ty, *rs, rt.to_reg(), *rn),
-        Inst::AtomicCAS {
-            rd,
-            rs,
-            rt,
-            rn,
-            ty,
-            flags: _,
-        } => are_cas_operands(virtuals, rd.to_reg(), *rs, *rt, *rn, *ty),
-        Inst::AtomicCAS128 { args } => are_cas128_operands(virtuals, args),
-        Inst::LoadAcquire {
-            access_ty,
-            rt,
-            rn,
-            flags: _,
-        } => are_ordered_operands(virtuals, *access_ty, rt.to_reg(), *rn),
-        Inst::StoreRelease {
-            access_ty,
-            rt,
-            rn,
-            flags: _,
-        } => are_ordered_operands(virtuals, *access_ty, *rt, *rn),
-        Inst::VecLoadReplicate { rd, rn, .. } => operand::replicate(virtuals, rd.to_reg(), *rn),
-        _ => unreachable!(),
-    }
+    memory_operands!(inst, frame, virtuals)
 }
 
 /// Whether the mode exists of which an instruction gives the address, where it gives one.

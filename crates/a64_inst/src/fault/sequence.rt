@@ -6,21 +6,24 @@ ghost use Rattle.a64_inst.specs.declared.group.Group.TheVariants.{Sequence};
 ghost use Rattle.a64_inst.specs.Groups.{group_of};
 ghost use Rattle.a64_inst.specs.Faults.{has_operands};
 ghost use Rattle.a64_inst.specs.SequenceOperands as sets;
+ghost use Rattle.a64_operand.specs.AtomicOperands as atomic;
 ghost use Rattle.a64_operand.specs.VectorOperands as vectors;
 
 use crate::emission::EmitInfo;
 use crate::frame::FrameLayout;
 use crate::inst::Inst;
 use crate::pair::{ArgPair, RetPair};
-use a64_base::Reg;
+use crate::sequence_operands;
+use a64_base::{IrType, Reg};
 use a64_imms::Imm12;
 use a64_operand::{
     VirtualRegisters, are_loop_operands, is_any_register, is_fixed_register, is_imm12,
     is_loop_result, is_other_register, is_register, is_register_or_zero, is_vector_register,
 };
+use a64_ops::AtomicRMWLoopOp;
 
 /// Of an `Args`.
-fn args(virtuals: VirtualRegisters, pairs: &[ArgPair]) -> bool
+fn are_args(virtuals: VirtualRegisters, pairs: &[ArgPair]) -> bool
     ensures { result ≡ sets.are_args virtuals pairs.now }
 {
     pairs.iter().all(|pair| {
@@ -29,7 +32,7 @@ fn args(virtuals: VirtualRegisters, pairs: &[ArgPair]) -> bool
 }
 
 /// Of a `Rets`.
-fn rets(virtuals: VirtualRegisters, pairs: &[RetPair]) -> bool
+fn are_rets(virtuals: VirtualRegisters, pairs: &[RetPair]) -> bool
     ensures { result ≡ sets.are_rets virtuals pairs.now }
 {
     pairs.iter().all(|pair| {
@@ -39,7 +42,7 @@ fn rets(virtuals: VirtualRegisters, pairs: &[RetPair]) -> bool
 
 /// Of a `JTSequence`.
 #[tactic(auto, unfolding(crate::specs::SequenceOperands::are_table_operands))]
-fn table(virtuals: VirtualRegisters, ridx: Reg, rtmp1: &Reg, rtmp2: &Reg) -> bool
+fn are_table_operands(virtuals: VirtualRegisters, ridx: Reg, rtmp1: &Reg, rtmp2: &Reg) -> bool
     ensures { result ≡ sets.are_table_operands virtuals ridx rtmp1.now rtmp2.now }
 {
     is_register_or_zero(virtuals, ridx)
@@ -51,7 +54,13 @@ fn table(virtuals: VirtualRegisters, ridx: Reg, rtmp1: &Reg, rtmp2: &Reg) -> boo
 
 /// Of a `StackProbeLoop`.
 #[tactic(auto, unfolding(crate::specs::SequenceOperands::are_probe_operands))]
-fn probe(info: &EmitInfo, virtuals: VirtualRegisters, start: &Reg, end: Reg, step: Imm12) -> bool
+fn are_probe_operands(
+    info: &EmitInfo,
+    virtuals: VirtualRegisters,
+    start: &Reg,
+    end: Reg,
+    step: Imm12,
+) -> bool
     ensures { result ≡ sets.are_probe_operands info.now virtuals start.now end step }
 {
     info.flags().enable_probestack
@@ -62,11 +71,48 @@ fn probe(info: &EmitInfo, virtuals: VirtualRegisters, start: &Reg, end: Reg, ste
 
 /// Of a `VecCSel`.
 #[tactic(auto, unfolding(a64_operand::specs::VectorOperands::are_select_operands))]
-fn select(virtuals: VirtualRegisters, rd: Reg, rn: Reg, rm: Reg) -> bool
+fn are_select_operands(virtuals: VirtualRegisters, rd: Reg, rn: Reg, rm: Reg) -> bool
     ensures { result ≡ vectors.are_select_operands virtuals rd rn rm }
 {
     is_vector_register(virtuals, rd)
         && (is_vector_register(virtuals, rn) && is_vector_register(virtuals, rm))
+}
+
+/// Of an `AtomicRMWLoop`.
+fn are_rmw_loop_operands(
+    virtuals: VirtualRegisters,
+    ty: IrType,
+    op: AtomicRMWLoopOp,
+    addr: &Reg,
+    operand: &Reg,
+    oldval: &Reg,
+    scratch1: &Reg,
+    scratch2: &Reg,
+) -> bool
+    ensures { result
+        ≡ atomic.are_rmw_loop_operands virtuals ty op addr.now operand.now oldval.now
+        scratch1.now scratch2.now }
+{
+    are_loop_operands(virtuals, ty, addr, operand, oldval, scratch1)
+        && is_loop_result(virtuals, op, scratch2)
+}
+
+/// Of an `AtomicCASLoop`.
+fn are_cas_loop_operands(
+    virtuals: VirtualRegisters,
+    ty: IrType,
+    addr: &Reg,
+    expected: &Reg,
+    replacement: &Reg,
+    oldval: &Reg,
+    scratch: &Reg,
+) -> bool
+    ensures { result
+        ≡ atomic.are_cas_loop_operands virtuals ty addr.now expected.now replacement.now
+        oldval.now scratch.now }
+{
+    are_loop_operands(virtuals, ty, addr, expected, oldval, scratch)
+        && is_fixed_register(virtuals, 28, replacement)
 }
 
 /// Whether the operands of a sequence around a table, a symbol or the stack, of a loop of atomic accesses, of a select
@@ -80,52 +126,5 @@ pub fn has_sequence_operands(
     requires { group_of inst.now ≡ Sequence }
     ensures { result ≡ has_operands frame.now info.now virtuals inst.now }
 {
-    match inst {
-        Inst::Args { args: pairs } => args(virtuals, pairs.as_slice()),
-        Inst::Rets { rets: pairs } => rets(virtuals, pairs.as_slice()),
-        Inst::DummyUse { reg } => is_any_register(virtuals, *reg),
-        Inst::SequencePoint => true,
-        Inst::JTSequence {
-            default: _,
-            targets: _,
-            ridx,
-            rtmp1,
-            rtmp2,
-        } => table(virtuals, *ridx, &rtmp1.to_reg(), &rtmp2.to_reg()),
-        Inst::LoadExtNameGot { rd, .. }
-        | Inst::LoadExtNameNear { rd, .. }
-        | Inst::LoadExtNameFar { rd, .. } => is_register(virtuals, &rd.to_reg()),
-        Inst::StackProbeLoop { start, end, step } => {
-            probe(info, virtuals, &start.to_reg(), *end, *step)
-        }
-        Inst::VecCSel { rd, rn, rm, .. } => select(virtuals, rd.to_reg(), *rn, *rm),
-        Inst::AtomicRMWLoop {
-            ty,
-            op,
-            flags: _,
-            addr,
-            operand,
-            oldval,
-            scratch1,
-            scratch2,
-        } => {
-            let (oldval, failed) = (oldval.to_reg(), scratch1.to_reg());
-            are_loop_operands(virtuals, *ty, addr, operand, &oldval, &failed)
-                && is_loop_result(virtuals, *op, &scratch2.to_reg())
-        }
-        Inst::AtomicCASLoop {
-            ty,
-            flags: _,
-            addr,
-            expected,
-            replacement,
-            oldval,
-            scratch,
-        } => {
-            let (oldval, failed) = (oldval.to_reg(), scratch.to_reg());
-            are_loop_operands(virtuals, *ty, addr, expected, &oldval, &failed)
-                && is_fixed_register(virtuals, 28, replacement)
-        }
-        _ => unreachable!(),
-    }
+    sequence_operands!(inst, info, virtuals)
 }

@@ -30,7 +30,11 @@ pub fn is_data_register(virtuals: VirtualRegisters, op: AccessOp, reg: Reg) -> b
 /// Of a load or a store of one register.
 #[tactic(auto, unfolding(crate::specs::MemoryOperands::are_access_operands))]
 #[inline(always)]
-pub fn access(frame: &FrameLayout, virtuals: VirtualRegisters, access: &AccessRef<'_>) -> bool
+pub fn are_access_operands(
+    frame: &FrameLayout,
+    virtuals: VirtualRegisters,
+    access: &AccessRef<'_>,
+) -> bool
     ensures { result ≡ sets.are_access_operands frame.now virtuals access.now }
 {
     is_data_register(virtuals, access.op, access.reg)
@@ -40,7 +44,7 @@ pub fn access(frame: &FrameLayout, virtuals: VirtualRegisters, access: &AccessRe
 
 /// Of a pair of 64-bit registers.
 #[tactic(auto, unfolding(crate::specs::MemoryOperands::are_pair_operands))]
-pub fn pair(virtuals: VirtualRegisters, rt: Reg, rt2: Reg, mem: &PairAMode) -> bool
+pub fn are_pair_operands(virtuals: VirtualRegisters, rt: Reg, rt2: Reg, mem: &PairAMode) -> bool
     ensures { result ≡ sets.are_pair_operands virtuals rt rt2 mem.now }
 {
     is_register_or_zero(virtuals, rt)
@@ -50,7 +54,7 @@ pub fn pair(virtuals: VirtualRegisters, rt: Reg, rt2: Reg, mem: &PairAMode) -> b
 
 /// Of a `VecLoadReplicate`.
 #[tactic(auto, unfolding(a64_operand::specs::VectorOperands::are_replicate_operands))]
-pub fn replicate(virtuals: VirtualRegisters, rd: Reg, rn: Reg) -> bool
+pub fn are_replicate_operands(virtuals: VirtualRegisters, rd: Reg, rn: Reg) -> bool
     ensures { result ≡ vectors.are_replicate_operands virtuals rd rn }
 {
     is_vector_register(virtuals, rd) && is_register_or_stack(virtuals, rn)
@@ -58,7 +62,7 @@ pub fn replicate(virtuals: VirtualRegisters, rd: Reg, rn: Reg) -> bool
 
 /// Of a pair of vector registers, which moves a value of this type of each.
 #[tactic(auto, unfolding(crate::specs::MemoryOperands::are_float_pair_operands))]
-pub fn float_pair(
+pub fn are_float_pair_operands(
     virtuals: VirtualRegisters,
     scale: IrType,
     rt: Reg,
@@ -74,7 +78,12 @@ pub fn float_pair(
 
 /// Of a `LoadAddr`.
 #[tactic(auto, unfolding(crate::specs::MemoryOperands::are_address_operands))]
-pub fn address(frame: &FrameLayout, virtuals: VirtualRegisters, rd: Reg, mem: &AMode) -> bool
+pub fn are_address_operands(
+    frame: &FrameLayout,
+    virtuals: VirtualRegisters,
+    rd: Reg,
+    mem: &AMode,
+) -> bool
     ensures { result ≡ sets.are_address_operands frame.now virtuals rd mem.now }
 {
     is_register(virtuals, &rd)
