@@ -22,9 +22,12 @@ BESIDE = ("virtuals", "frame", "true", "false")
 # The words with which a line of an instruction begins that is neither a sentence nor a field. Each stands once, and what
 # stands behind it is read where it is written.
 KEYS = (
-    "if", "alone", "manual", "row", "form", "word", "traps", "cells", "text", "let", "roles", "access", "made", "kinds",
-    "file", "also",
+    "if", "alone", "manual", "row", "form", "word", "traps", "cells", "marks", "text", "let", "roles", "access",
+    "made", "kinds", "file", "also",
 )
+
+# What else is said of an instruction, each by a name.
+MARKS = ("trap", "args", "safepoint", "pair_access", "regular_call", "tail_call", "ret", "ret_call", "branch")
 
 
 @dataclass(frozen=True)
@@ -87,7 +90,8 @@ class Access:
 class Instruction:
     """An instruction: its name, its group, the class of its name in a file, whether its result is the register behind
     it, where it stands, what is said of it, its fields, and its lines by the words with which they begin; and of these
-    what must hold beside the classes, or of its operands, its word, and what a load or a store of one register moves.
+    its marks, what must hold beside the classes, or of its operands, its word, and what a load or a store of one
+    register moves.
     """
 
     name: str
@@ -98,6 +102,7 @@ class Instruction:
     says: list[str] = field(default_factory=list)
     fields: list[Field] = field(default_factory=list)
     lines: dict[str, Line] = field(default_factory=dict)
+    marks: list[str] = field(default_factory=list)
     tests: list[Test] = field(default_factory=list)
     word: Call | None = None
     access: Access | None = None
@@ -176,8 +181,8 @@ class _Reader:
         self.kinds = Names("kind")
         self.instructions = Names("instruction")
         self.read = {
-            "if": self.test, "alone": self.alone, "form": self.form, "word": self.word, "made": self.made,
-            "access": self.access,
+            "if": self.test, "alone": self.alone, "form": self.form, "word": self.word, "marks": self.marks,
+            "made": self.made, "access": self.access,
         }
 
     def record(self, record: Record) -> None:
@@ -298,6 +303,15 @@ class _Reader:
         """The function that gives the word."""
         one.word = call_of(line)
         _known(one, one.word.values, line)
+
+    def marks(self, one: Instruction, line: Line) -> None:
+        """What else is said of an instruction, each by a name."""
+        for mark in line.text.split(", "):
+            if mark not in MARKS:
+                line.fail(f"there is no mark `{mark}`")
+            if mark in one.marks:
+                line.fail(f"the mark `{mark}` stands here a second time")
+            one.marks.append(mark)
 
     def made(self, one: Instruction, line: Line) -> None:
         """That the immediate of a plain word is made by hand."""

@@ -1,3 +1,4 @@
 pub mod Visits
 pub mod Lists
+pub mod Marks
 pub mod Queries

@@ -103,11 +103,11 @@ location_role (locations.Stack off ty) vreg = AnyDef vreg
 abbrev pub call_ret_role : CallRetPair → Role
 call_ret_role pair = location_role pair.location pair.vreg
 
--- a call: what is read first, what is passed, what comes back, and what is changed beside
-abbrev pub call_roles : List Role → List CallArgPair → List CallRetPair → PRegSet → List Role
-call_roles first uses defs clobbers =
-    first ++ (map call_arg_role uses ++ (map call_ret_role defs ++ RegClobbers clobbers ∷ []))
+-- a call: what is passed, what comes back, and what is changed beside
+abbrev pub call_roles : List CallArgPair → List CallRetPair → PRegSet → List Role
+call_roles uses defs clobbers =
+    map call_arg_role uses ++ (map call_ret_role defs ++ RegClobbers clobbers ∷ [])
 
--- a return that calls: what is read first, and what is passed
-abbrev pub return_call_roles : List Role → List CallArgPair → List Role
-return_call_roles first uses = first ++ map call_arg_role uses
+-- a return that calls: what is passed
+abbrev pub return_call_roles : List CallArgPair → List Role
+return_call_roles uses = map call_arg_role uses

@@ -21,10 +21,7 @@ use Rattle.a64_inst.specs.declared.inst.Inst.TheVariants as insts
 use Rattle.a64_inst.specs.Accesses.{access_of}
 use Rattle.a64_ops.specs.declared.system.BranchTargetType.TheVariants.{J}
 use Rattle.a64_role.specs.declared.clobbers.ClobberTable.{ClobberTable}
-use Rattle.a64_role.specs.declared.query.CallType.{CallType}
-use Rattle.a64_role.specs.declared.query.CallType.TheVariants as calls
-use Rattle.a64_role.specs.declared.query.MachTerminator.{MachTerminator}
-use Rattle.a64_role.specs.declared.query.MachTerminator.TheVariants as terms
+use Rattle.a64_role.specs.Marks.{is_pair_access}
 
 -- the register that a move writes, and the one that it reads, of a whole register
 abbrev pub move_of : Inst → Option (Reg × Reg)
@@ -33,49 +30,7 @@ move_of (insts.FpuMove64 rd rn) = Some (rd, rn)
 move_of (insts.FpuMove128 rd rn) = Some (rd, rn)
 move_of _ = None
 
--- the instruction that traps wherever it is reached
-abbrev pub is_trap : Inst → Bool
-is_trap (insts.Udf trap_code) = true
-is_trap _ = false
-
--- that with the arguments of the function
-abbrev pub is_args : Inst → Bool
-is_args (insts.Args args) = true
-is_args _ = false
-
--- those at which the garbage collector may look at the stack
-abbrev pub is_safepoint : Inst → Bool
-is_safepoint (insts.Call info) = true
-is_safepoint (insts.CallInd info) = true
-is_safepoint _ = false
-
-abbrev pub call_type_of : Inst → CallType
-call_type_of (insts.Call info) = calls.Regular
-call_type_of (insts.CallInd info) = calls.Regular
-call_type_of (insts.ReturnCall info) = calls.TailCall
-call_type_of (insts.ReturnCallInd info) = calls.TailCall
-call_type_of _ = calls.None
-
-abbrev pub term_of : Inst → MachTerminator
-term_of (insts.Rets rets) = terms.Ret
-term_of (insts.ReturnCall info) = terms.RetCall
-term_of (insts.ReturnCallInd info) = terms.RetCall
-term_of (insts.Jump dest) = terms.Branch
-term_of (insts.CondBr taken not_taken kind) = terms.Branch
-term_of (insts.TestBitAndBranch kind taken not_taken rn bit) = terms.Branch
-term_of (insts.IndirectBr rn targets) = terms.Branch
-term_of (insts.JTSequence default targets ridx rtmp1 rtmp2) = terms.Branch
-term_of _ = terms.None
-
--- the loads and stores of pairs of registers, but for stores of pairs of vector registers
-abbrev pub is_pair_access : Inst → Bool
-is_pair_access (insts.LoadP64 rt rt2 mem flags) = true
-is_pair_access (insts.StoreP64 rt rt2 mem flags) = true
-is_pair_access (insts.FpuLoadP64 rt rt2 mem flags) = true
-is_pair_access (insts.FpuLoadP128 rt rt2 mem flags) = true
-is_pair_access _ = false
-
--- these, and the loads and stores of one register
+-- the loads and stores of pairs of registers, but for stores of pairs of vector registers, and those of one register
 abbrev pub is_mem_access : Inst → Bool
 is_mem_access inst = is_pair_access inst || is_some (access_of inst)
 

@@ -193,7 +193,7 @@ pub fn hand_call<V: OperandVisitor>(
     clobbers: PRegSet,
 ) -> Result<(), AllocError>
     ensures { Tells V.told V.refusals visitor.old visitor.new
-        (call_roles first.now uses.now defs.now clobbers) result }
+        (first.now ++ call_roles uses.now defs.now clobbers) result }
 {
     hand(visitor, first)?;
     hand_each(visitor, uses)?;
@@ -213,7 +213,7 @@ pub fn hand_return_call<V: OperandVisitor>(
     uses: &[CallArgPair],
 ) -> Result<(), AllocError>
     ensures { Tells V.told V.refusals visitor.old visitor.new
-        (return_call_roles first.now uses.now) result }
+        (first.now ++ return_call_roles uses.now) result }
 {
     hand(visitor, first)?;
     hand_each(visitor, uses)

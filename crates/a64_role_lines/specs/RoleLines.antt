@@ -15,7 +15,8 @@ use Rattle.a64_role.specs.declared.query.MachTerminator.{MachTerminator}
 use Rattle.a64_role.specs.declared.query.MachTerminator.TheVariants as terms
 use Rattle.a64_role.specs.declared.role.Role.{Role}
 use Rattle.a64_role.specs.declared.role.Role.TheVariants.{RegUse, RegDef, RegEarlyDef, AnyDef, RegReuseDef, RegFixedUse, RegFixedDef, RegFixedNonallocatable, RegClobbers}
-use Rattle.a64_role.specs.Queries.{call_type_of, is_args, is_mem_access, is_safepoint, is_trap, move_of, term_of}
+use Rattle.a64_role.specs.Marks.{call_type_of, is_args, is_safepoint, is_trap, term_of}
+use Rattle.a64_role.specs.Queries.{is_mem_access, move_of}
 use Rattle.a64_roles.specs.Roles.{roles_of}
 
 -- a role, with its registers as files have them

@@ -6,6 +6,7 @@ ghost use Rattle.a64_inst.specs.Groups.{group_of};
 ghost use Rattle.a64_roles.specs.Roles.{roles_of};
 ghost use Rattle.a64_role.specs.Visits.{Tells};
 
+use crate::call_roles;
 use a64_base::xreg;
 use a64_inst::Inst;
 use a64_role::Role::{RegFixedUse, RegUse};
@@ -21,27 +22,5 @@ pub fn hand_calling<V: OperandVisitor>(visitor: &mut V, inst: &Inst) -> Result<(
     requires { group_of inst.now ≡ Call }
     ensures { Tells V.told V.refusals visitor.old visitor.new (roles_of inst.now) result }
 {
-    match inst {
-        Inst::Call { info } => hand_call(
-            visitor,
-            &[],
-            info.uses.as_slice(),
-            info.defs.as_slice(),
-            info.clobbers,
-        ),
-        Inst::CallInd { info } => hand_call(
-            visitor,
-            &[RegUse(info.dest)],
-            info.uses.as_slice(),
-            info.defs.as_slice(),
-            info.clobbers,
-        ),
-        Inst::ReturnCall { info } => hand_return_call(visitor, &[], info.uses.as_slice()),
-        Inst::ReturnCallInd { info } => hand_return_call(
-            visitor,
-            &[RegFixedUse(info.dest, xreg(1))],
-            info.uses.as_slice(),
-        ),
-        _ => unreachable!(),
-    }
+    call_roles!(visitor, inst)
 }

@@ -7,6 +7,7 @@ ghost use Rattle.a64_roles.specs.Roles.{roles_of};
 ghost use Rattle.a64_role.specs.Lists.{kind_roles};
 ghost use Rattle.a64_role.specs.Visits.{Tells};
 
+use crate::control_roles;
 use a64_base::CondBrKind;
 use a64_inst::Inst;
 use a64_role::Role::{RegDef, RegUse};
@@ -36,22 +37,5 @@ pub fn hand_control<V: OperandVisitor>(visitor: &mut V, inst: &Inst) -> Result<(
     requires { group_of inst.now ≡ Control }
     ensures { Tells V.told V.refusals visitor.old visitor.new (roles_of inst.now) result }
 {
-    match inst {
-        Inst::MovToNZCV { rn } | Inst::TestBitAndBranch { rn, .. } | Inst::IndirectBr { rn, .. } =>
-            hand(visitor, &[RegUse(*rn)]),
-        Inst::MovFromNZCV { rd } => hand(visitor, &[RegDef(rd.to_reg())]),
-        Inst::LabelAddress { dst, .. } => hand(visitor, &[RegDef(dst.to_reg())]),
-        Inst::CondBr { kind, .. } | Inst::TrapIf { kind, .. } => hand_kind(visitor, *kind),
-        Inst::Nop0
-        | Inst::Nop4
-        | Inst::Ret
-        | Inst::AuthenticatedRet { .. }
-        | Inst::Jump { .. }
-        | Inst::Brk
-        | Inst::Udf { .. }
-        | Inst::Word4 { .. }
-        | Inst::Word8 { .. }
-        | Inst::EmitIsland { .. } => hand(visitor, &[]),
-        _ => unreachable!(),
-    }
+    control_roles!(visitor, inst)
 }

@@ -4,8 +4,10 @@
 mod call;
 mod control;
 mod mach_inst;
+mod marks;
 mod memory;
 mod operands;
+mod own_roles;
 mod plain;
 mod sequence;
 

@@ -13,12 +13,16 @@ ghost use Rattle.a64_role.specs.declared.clobbers.ClobberTable.{ClobberTable};
 ghost use Rattle.a64_role.specs.declared.query.CallType.{CallType};
 ghost use Rattle.a64_role.specs.declared.query.MachTerminator.{MachTerminator};
 ghost use Rattle.a64_role.specs.declared.role.Role.{Role};
+ghost use Rattle.a64_role.specs.Marks as marks;
 ghost use Rattle.a64_role.specs.Queries as queries;
 ghost use Rattle.a64_role.specs.Queries.{IsIncludedInClobbers};
 ghost use Rattle.a64_roles.specs.Roles.{roles_of};
 ghost use Rattle.a64_role.specs.Visits.{Tells};
 
 use crate::operands::hand_operands;
+use crate::{
+    args_mark, call_type_marks, pair_access_mark, safepoint_mark, terminator_marks, trap_mark,
+};
 use a64_base::{BranchTarget, IrType, MachLabel, OperandSize, Reg, RegClass, Writable};
 use a64_inst::{BranchTargetType, Inst};
 use a64_role::{
@@ -173,15 +177,9 @@ pub trait MachInst: Sized {
 
 /// Whether it loads or stores a pair of registers; stores of pairs of vector registers do not count.
 fn is_pair_access(inst: &Inst) -> bool
-    ensures { result ≡ queries.is_pair_access inst.now }
+    ensures { result ≡ marks.is_pair_access inst.now }
 {
-    matches!(
-        inst,
-        Inst::LoadP64 { .. }
-            | Inst::StoreP64 { .. }
-            | Inst::FpuLoadP64 { .. }
-            | Inst::FpuLoadP128 { .. }
-    )
+    pair_access_mark!(inst)
 }
 
 impl MachInst for Inst {
@@ -191,15 +189,15 @@ impl MachInst for Inst {
 
     ghost is_included = { IsIncludedInClobbers };
 
-    ghost traps = { queries.is_trap };
+    ghost traps = { marks.is_trap };
 
-    ghost holds_args = { queries.is_args };
+    ghost holds_args = { marks.is_args };
 
-    ghost safepoint = { queries.is_safepoint };
+    ghost safepoint = { marks.is_safepoint };
 
-    ghost called = { queries.call_type_of };
+    ghost called = { marks.call_type_of };
 
-    ghost term = { queries.term_of };
+    ghost term = { marks.term_of };
 
     ghost accesses = { queries.is_mem_access };
 
@@ -237,36 +235,23 @@ impl MachInst for Inst {
     }
 
     fn is_trap(&self) -> bool {
-        matches!(self, Inst::Udf { .. })
+        trap_mark!(self)
     }
 
     fn is_args(&self) -> bool {
-        matches!(self, Inst::Args { .. })
+        args_mark!(self)
     }
 
     fn is_safepoint(&self) -> bool {
-        matches!(self, Inst::Call { .. } | Inst::CallInd { .. })
+        safepoint_mark!(self)
     }
 
     fn call_type(&self) -> CallType {
-        match self {
-            Inst::Call { .. } | Inst::CallInd { .. } => CallType::Regular,
-            Inst::ReturnCall { .. } | Inst::ReturnCallInd { .. } => CallType::TailCall,
-            _ => CallType::None,
-        }
+        call_type_marks!(self)
     }
 
     fn is_term(&self) -> MachTerminator {
-        match self {
-            Inst::Rets { .. } => MachTerminator::Ret,
-            Inst::ReturnCall { .. } | Inst::ReturnCallInd { .. } => MachTerminator::RetCall,
-            Inst::Jump { .. }
-            | Inst::CondBr { .. }
-            | Inst::TestBitAndBranch { .. }
-            | Inst::IndirectBr { .. }
-            | Inst::JTSequence { .. } => MachTerminator::Branch,
-            _ => MachTerminator::None,
-        }
+        terminator_marks!(self)
     }
 
     fn is_mem_access(&self) -> bool {

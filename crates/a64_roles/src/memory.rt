@@ -8,6 +8,7 @@ ghost use Rattle.a64_role.specs.Lists as lists;
 ghost use Rattle.a64_ops.specs.Accesses.{loads};
 ghost use Rattle.a64_role.specs.Visits.{Tells};
 
+use crate::{memory_roles, moved_role_of};
 use a64_base::{Reg, xreg};
 use a64_inst::{AccessOp, AccessRef, AtomicCAS128Args, Inst};
 use a64_role::Role::{RegDef, RegFixedDef, RegFixedUse, RegReuseDef, RegUse};
@@ -18,27 +19,7 @@ use std::alloc::AllocError;
 fn moved_role(op: AccessOp, reg: Reg) -> Role
     ensures { result ≡ lists.moved_role (loads op) reg }
 {
-    match op {
-        AccessOp::Store8
-        | AccessOp::Store16
-        | AccessOp::Store32
-        | AccessOp::Store64
-        | AccessOp::FpuStore16
-        | AccessOp::FpuStore32
-        | AccessOp::FpuStore64
-        | AccessOp::FpuStore128 => RegUse(reg),
-        AccessOp::ULoad8
-        | AccessOp::SLoad8
-        | AccessOp::ULoad16
-        | AccessOp::SLoad16
-        | AccessOp::ULoad32
-        | AccessOp::SLoad32
-        | AccessOp::ULoad64
-        | AccessOp::FpuLoad16
-        | AccessOp::FpuLoad32
-        | AccessOp::FpuLoad64
-        | AccessOp::FpuLoad128 => RegDef(reg),
-    }
+    moved_role_of!(op, reg)
 }
 
 /// Tells a visitor the roles of a compare and swap of 128 bits.
@@ -88,42 +69,5 @@ pub fn hand_memory<V: OperandVisitor>(visitor: &mut V, inst: &Inst) -> Result<()
     requires { group_of inst.now ≡ Memory }
     ensures { Tells V.told V.refusals visitor.old visitor.new (roles_of inst.now) result }
 {
-    match inst {
-        Inst::VecLoadReplicate { rd, rn, .. } => {
-            hand(visitor, &[RegDef(rd.to_reg()), RegUse(*rn)])
-        }
-        Inst::LoadP64 { rt, rt2, mem, .. }
-        | Inst::FpuLoadP64 { rt, rt2, mem, .. }
-        | Inst::FpuLoadP128 { rt, rt2, mem, .. } => hand_pair_mode(
-            visitor,
-            &[RegDef(rt.to_reg()), RegDef(rt2.to_reg())],
-            mem,
-        ),
-        Inst::StoreP64 { rt, rt2, mem, .. }
-        | Inst::FpuStoreP64 { rt, rt2, mem, .. }
-        | Inst::FpuStoreP128 { rt, rt2, mem, .. } => {
-            hand_pair_mode(visitor, &[RegUse(*rt), RegUse(*rt2)], mem)
-        }
-        Inst::LoadAddr { rd, mem } => hand_mode(visitor, &[RegDef(rd.to_reg())], mem),
-        Inst::AtomicRMW { rs, rt, rn, .. } => hand(
-            visitor,
-            &[RegUse(*rs), RegDef(rt.to_reg()), RegUse(*rn)],
-        ),
-        Inst::AtomicCAS { rd, rs, rt, rn, .. } => hand(
-            visitor,
-            &[
-                RegReuseDef(rd.to_reg(), 1),
-                RegUse(*rs),
-                RegUse(*rt),
-                RegUse(*rn),
-            ],
-        ),
-        Inst::AtomicCAS128 { args } => hand_pair_swap(visitor, args),
-        Inst::LoadAcquire { rt, rn, .. } => hand(visitor, &[RegUse(*rn), RegDef(rt.to_reg())]),
-        Inst::StoreRelease { rt, rn, .. } => hand(visitor, &[RegUse(*rn), RegUse(*rt)]),
-        other => match other.access_ref() {
-            Some(access) => hand_access(visitor, &access),
-            None => unreachable!(),
-        },
-    }
+    memory_roles!(visitor, inst)
 }

@@ -4,10 +4,14 @@ ghost use Rattle.std.specs.Prelude.{◌≡◌};
 ghost use Rattle.a64_inst.specs.declared.group.Group.TheVariants.{Plain};
 ghost use Rattle.a64_inst.specs.declared.group.PlainGroup.TheVariants.{Float, Immediate, Register, System, Vector, VectorMove};
 ghost use Rattle.a64_inst.specs.Groups.{group_of};
-ghost use Rattle.a64_roles.specs.Roles as roles;
+ghost use Rattle.a64_roles.specs.OwnRoles as own;
 ghost use Rattle.a64_roles.specs.Roles.{roles_of};
 ghost use Rattle.a64_role.specs.Visits.{Tells};
 
+use crate::{
+    float_roles, immediate_roles, register_roles, system_roles, tied_mark, vector_move_roles,
+    vector_roles,
+};
 use a64_base::vreg;
 use a64_inst::{
     Inst, PlainGroup, float_list, immediate_list, register_list, system_list, vector_list,
@@ -50,19 +54,9 @@ macro_rules! role_arms {
 
 /// Whether the result is the register of the operand that is read behind it.
 fn is_tied(inst: &Inst) -> bool
-    ensures { result ≡ roles.is_tied inst.now }
+    ensures { result ≡ own.is_tied inst.now }
 {
-    matches!(
-        inst,
-        Inst::BitfieldMoveMod { .. }
-            | Inst::FpuRRIMod { .. }
-            | Inst::VecRRRLongMod { .. }
-            | Inst::VecRRRMod { .. }
-            | Inst::VecFmlaElem { .. }
-            | Inst::VecShiftImmMod { .. }
-            | Inst::MovToVec { .. }
-            | Inst::VecMovElement { .. }
-    )
+    tied_mark!(inst)
 }
 
 /// Tells a visitor the roles of an integer operation with an immediate.
@@ -74,10 +68,7 @@ fn hand_immediate<V: OperandVisitor>(visitor: &mut V, inst: &Inst) -> Result<(),
     requires { group_of inst.now ≡ Plain Immediate }
     ensures { Tells V.told V.refusals visitor.old visitor.new (roles_of inst.now) result }
 {
-    match inst {
-        Inst::MovK { rd, rn, .. } => hand(visitor, &[RegUse(*rn), RegReuseDef(rd.to_reg(), 0)]),
-        other => immediate_list!(role_arms, visitor, other),
-    }
+    immediate_roles!(visitor, inst)
 }
 
 /// Tells a visitor the roles of an integer operation on registers.
@@ -89,7 +80,7 @@ fn hand_register<V: OperandVisitor>(visitor: &mut V, inst: &Inst) -> Result<(), 
     requires { group_of inst.now ≡ Plain Register }
     ensures { Tells V.told V.refusals visitor.old visitor.new (roles_of inst.now) result }
 {
-    register_list!(role_arms, visitor, inst)
+    register_roles!(visitor, inst)
 }
 
 /// Tells a visitor the roles of an operation on scalar floats.
@@ -101,7 +92,7 @@ fn hand_float<V: OperandVisitor>(visitor: &mut V, inst: &Inst) -> Result<(), All
     requires { group_of inst.now ≡ Plain Float }
     ensures { Tells V.told V.refusals visitor.old visitor.new (roles_of inst.now) result }
 {
-    float_list!(role_arms, visitor, inst)
+    float_roles!(visitor, inst)
 }
 
 /// Tells a visitor the roles of an operation on vectors.
@@ -113,14 +104,7 @@ fn hand_vector<V: OperandVisitor>(visitor: &mut V, inst: &Inst) -> Result<(), Al
     requires { group_of inst.now ≡ Plain Vector }
     ensures { Tells V.told V.refusals visitor.old visitor.new (roles_of inst.now) result }
 {
-    match inst {
-        Inst::VecRRNarrowLow { rd, rn, .. } => hand(visitor, &[RegUse(*rn), RegDef(rd.to_reg())]),
-        Inst::VecRRNarrowHigh { rd, ri, rn, .. } => hand(
-            visitor,
-            &[RegUse(*rn), RegReuseDef(rd.to_reg(), 2), RegUse(*ri)],
-        ),
-        other => vector_list!(role_arms, visitor, other),
-    }
+    vector_roles!(visitor, inst)
 }
 
 /// Tells a visitor the roles of a move of lanes or a table of bytes.
@@ -132,47 +116,7 @@ fn hand_vector_move<V: OperandVisitor>(visitor: &mut V, inst: &Inst) -> Result<(
     requires { group_of inst.now ≡ Plain VectorMove }
     ensures { Tells V.told V.refusals visitor.old visitor.new (roles_of inst.now) result }
 {
-    match inst {
-        Inst::VecTbl { rd, rn, rm } => hand(
-            visitor,
-            &[RegUse(*rn), RegUse(*rm), RegDef(rd.to_reg())],
-        ),
-        Inst::VecTblExt { rd, ri, rn, rm } => hand(
-            visitor,
-            &[
-                RegUse(*rn),
-                RegUse(*rm),
-                RegReuseDef(rd.to_reg(), 3),
-                RegUse(*ri),
-            ],
-        ),
-        Inst::VecTbl2 { rd, rn, rn2, rm } => hand(
-            visitor,
-            &[
-                RegFixedUse(*rn, vreg(30)),
-                RegFixedUse(*rn2, vreg(31)),
-                RegUse(*rm),
-                RegDef(rd.to_reg()),
-            ],
-        ),
-        Inst::VecTbl2Ext {
-            rd,
-            ri,
-            rn,
-            rn2,
-            rm,
-        } => hand(
-            visitor,
-            &[
-                RegFixedUse(*rn, vreg(30)),
-                RegFixedUse(*rn2, vreg(31)),
-                RegUse(*rm),
-                RegReuseDef(rd.to_reg(), 4),
-                RegUse(*ri),
-            ],
-        ),
-        other => vector_move_list!(role_arms, visitor, other),
-    }
+    vector_move_roles!(visitor, inst)
 }
 
 /// Tells a visitor the roles of a hint or a barrier.
@@ -184,7 +128,7 @@ fn hand_system<V: OperandVisitor>(visitor: &mut V, inst: &Inst) -> Result<(), Al
     requires { group_of inst.now ≡ Plain System }
     ensures { Tells V.told V.refusals visitor.old visitor.new (roles_of inst.now) result }
 {
-    system_list!(role_arms, visitor, inst)
+    system_roles!(visitor, inst)
 }
 
 /// Tells a visitor the roles of an instruction that is one plain word.

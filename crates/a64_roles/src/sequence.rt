@@ -3,14 +3,38 @@
 ghost use Rattle.std.specs.Prelude.{◌≡◌};
 ghost use Rattle.a64_inst.specs.declared.group.Group.TheVariants.{Sequence};
 ghost use Rattle.a64_inst.specs.Groups.{group_of};
-ghost use Rattle.a64_roles.specs.Roles.{rmw_loop_roles, roles_of};
+ghost use Rattle.a64_roles.specs.Roles.{roles_of};
+ghost use Rattle.a64_roles.specs.Sequences.{args_roles, rets_roles, rmw_loop_roles};
 ghost use Rattle.a64_role.specs.Visits.{Tells};
 
+use crate::sequence_roles;
 use a64_base::{Reg, xreg};
-use a64_inst::{AtomicRMWLoopOp, Inst};
+use a64_inst::{ArgPair, AtomicRMWLoopOp, Inst, RetPair};
 use a64_role::Role::{RegDef, RegEarlyDef, RegFixedDef, RegFixedUse, RegUse};
 use a64_role::{OperandVisitor, hand, hand_each};
 use std::alloc::AllocError;
+
+/// Tells a visitor the roles of what enters a function.
+///
+/// # Errors
+///
+/// The visitor refused one; it was told those before.
+fn hand_args<V: OperandVisitor>(visitor: &mut V, args: &[ArgPair]) -> Result<(), AllocError>
+    ensures { Tells V.told V.refusals visitor.old visitor.new (args_roles args.now) result }
+{
+    hand_each(visitor, args)
+}
+
+/// Tells a visitor the roles of what leaves a function.
+///
+/// # Errors
+///
+/// The visitor refused one; it was told those before.
+fn hand_rets<V: OperandVisitor>(visitor: &mut V, rets: &[RetPair]) -> Result<(), AllocError>
+    ensures { Tells V.told V.refusals visitor.old visitor.new (rets_roles rets.now) result }
+{
+    hand_each(visitor, rets)
+}
 
 /// Tells a visitor the roles of a loop that updates memory by an operation, each in the register in which
 /// the loop has it. An exchange leaves the second scratch register alone.
@@ -53,68 +77,5 @@ pub fn hand_sequence<V: OperandVisitor>(visitor: &mut V, inst: &Inst) -> Result<
     requires { group_of inst.now ≡ Sequence }
     ensures { Tells V.told V.refusals visitor.old visitor.new (roles_of inst.now) result }
 {
-    match inst {
-        Inst::Args { args } => hand_each(visitor, args.as_slice()),
-        Inst::Rets { rets } => hand_each(visitor, rets.as_slice()),
-        Inst::DummyUse { reg } => hand(visitor, &[RegUse(*reg)]),
-        Inst::SequencePoint => hand(visitor, &[]),
-        Inst::JTSequence {
-            ridx,
-            rtmp1,
-            rtmp2,
-            ..
-        } => hand(
-            visitor,
-            &[
-                RegUse(*ridx),
-                RegEarlyDef(rtmp1.to_reg()),
-                RegEarlyDef(rtmp2.to_reg()),
-            ],
-        ),
-        Inst::LoadExtNameGot { rd, .. }
-        | Inst::LoadExtNameNear { rd, .. }
-        | Inst::LoadExtNameFar { rd, .. } => hand(visitor, &[RegDef(rd.to_reg())]),
-        Inst::StackProbeLoop { start, end, .. } => {
-            hand(visitor, &[RegEarlyDef(start.to_reg()), RegUse(*end)])
-        }
-        Inst::VecCSel { rd, rn, rm, .. } => hand(
-            visitor,
-            &[RegDef(rd.to_reg()), RegUse(*rn), RegUse(*rm)],
-        ),
-        Inst::AtomicRMWLoop {
-            op,
-            addr,
-            operand,
-            oldval,
-            scratch1,
-            scratch2,
-            ..
-        } => hand_rmw_loop(
-            visitor,
-            *op,
-            *addr,
-            *operand,
-            oldval.to_reg(),
-            scratch1.to_reg(),
-            scratch2.to_reg(),
-        ),
-        Inst::AtomicCASLoop {
-            addr,
-            expected,
-            replacement,
-            oldval,
-            scratch,
-            ..
-        } => hand(
-            visitor,
-            &[
-                RegFixedUse(*addr, xreg(25)),
-                RegFixedUse(*expected, xreg(26)),
-                RegFixedUse(*replacement, xreg(28)),
-                RegFixedDef(oldval.to_reg(), xreg(27)),
-                RegFixedDef(scratch.to_reg(), xreg(24)),
-            ],
-        ),
-        _ => unreachable!(),
-    }
+    sequence_roles!(visitor, inst)
 }
