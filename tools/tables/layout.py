@@ -75,14 +75,30 @@ def pieces(text: str) -> list[str]:
     return found
 
 
+def opened(piece: str, room: int) -> list[str]:
+    """A piece, or where it has no room, what the signs in its parentheses join."""
+    if len(piece) <= room or piece[0] != "(" or piece[-1] != ")":
+        return [piece]
+    found: list[str] = []
+    for part in pieces(piece[1:-1]):
+        if found and not part.startswith(JOINS):
+            found[-1] += f" {part}"
+        else:
+            found.append(part)
+    found[0] = f"({found[0]}"
+    found[-1] += ")"
+    return found
+
+
 def equation(left: str, right: str) -> list[str]:
     """An equation of a definition, on a line where it has room, else with its right side below."""
     if len(left) + len(right) + 3 <= LINE_WIDTH:
         return [f"{left} = {right}"]
+    room = LINE_WIDTH - len(INDENT)
     lines = [""]
-    for piece in pieces(right):
+    for piece in (part for whole in pieces(right) for part in opened(whole, room)):
         joined = f"{lines[-1]} {piece}".strip()
-        if lines[-1] and len(INDENT) + len(joined) > LINE_WIDTH:
+        if lines[-1] and len(joined) > room:
             lines.append(piece)
         else:
             lines[-1] = joined
