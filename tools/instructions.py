@@ -13,7 +13,7 @@ import sys
 from functools import partial
 from typing import Callable
 
-from tables import files, instruction_files, instruction_parts, text_specs, text_table
+from tables import files, instruction_files, instruction_parts, text_code, text_specs, text_table
 from tables.instruction_table import InstructionTable, instruction_table_of
 from tables.script import Script
 from tables.words import words_of
@@ -27,7 +27,7 @@ MARK = files.mark_of(COMMAND, TABLE)
 CLASSES = "crates/a64_operand/src/class.rt"
 
 # The modules whose `written` says, by the table, which files are written, and what writes each.
-MODULES = (instruction_files, text_specs)
+MODULES = (instruction_files, text_code, text_specs)
 
 
 def text_of(path: str) -> str:
