@@ -1,7 +1,7 @@
 """The texts of the table of instructions: how each begins, and its operands."""
 from __future__ import annotations
 
-from dataclasses import dataclass
+from dataclasses import dataclass, replace
 
 from .grammar import Call, Line, Value, call_of, is_literal, lists_of, names_in
 from .instruction_table import BESIDE, Instruction, InstructionTable
@@ -78,6 +78,20 @@ def operand(value: Value, one: Instruction, line: Line) -> Value:
     return Call(part.kind.in_text, (value,))
 
 
+def made_of(way: str, operands: list[Value], line: Line) -> Text:
+    """A text that a call makes."""
+    if len(operands) != 1 or not isinstance(operands[0], Call):
+        line.fail(f"`{way} CALL` is wanted")
+    return Text(way, tuple(operands))
+
+
+def access_of(names: list[Value], operands: list[Value], line: Line) -> Text:
+    """The text of a load or a store of one register."""
+    if len(names) > 2 or len(operands) != 1 or not all(isinstance(name, str) and is_literal(name) for name in names):
+        line.fail("a name in quotes, or two, and the register are wanted")
+    return Text("line", tuple(names), tuple(operands))
+
+
 def line_of(one: Instruction, heads: list[Value], operands: list[Value], line: Line) -> Text:
     """A text that is a line of a name and operands."""
     head = heads[0]
@@ -86,7 +100,7 @@ def line_of(one: Instruction, heads: list[Value], operands: list[Value], line: L
         way, values = head.name, head.values
         if len(values) != 2:
             line.fail(f"`{way}(NAME, WHAT)` is wanted")
-    elif len(heads) > 1 and not one.access:
+    elif len(heads) > 1:
         line.fail("one name is wanted")
     name, part = values[0], one.field_of(values[0])
     if not isinstance(name, Call) and not is_literal(name) and not (part and part.kind.in_text == NAME):
@@ -99,20 +113,18 @@ def text_of(one: Instruction) -> Text:
     line = one.lines.get("text")
     if not line:
         one.head.fail(f"the instruction `{one.name}` has no text")
-    heads, *behind = lists_of(line)
-    operands = behind[0] if behind else []
-    if len(behind) > 1 or (one.access and len(operands) != 1):
-        line.fail("a name and operands are wanted" if len(behind) > 1 else "the register is wanted")
-    let = let_of(one)
+    lists = lists_of(line)
+    if len(lists) not in (1, 2):
+        line.fail("`text NAME OPERANDS` is wanted")
+    heads, operands = lists[0], lists[1] if len(lists) == 2 else []
     if heads[0] in MADE:
-        if len(operands) != 1 or not isinstance(operands[0], Call):
-            line.fail(f"`{heads[0]} CALL` is wanted")
-        text = Text(heads[0], tuple(operands))
+        text = made_of(heads[0], operands, line)
     else:
-        text = line_of(one, heads, operands, line)
-    beside = (REGISTER,) if one.access else (FRAME,) if one.group.name == "Memory" else ()
+        text = access_of(heads, operands, line) if one.access else line_of(one, heads, operands, line)
+    let = let_of(one)
+    beside = [REGISTER] if one.access else [FRAME] if one.group.name == "Memory" else []
     known(one, (*text.values, *text.operands), (*beside, *(let[:1] if let else ())), line)
-    return Text(text.way, text.values, text.operands, let)
+    return replace(text, let=let)
 
 
 def texts_of(table: InstructionTable) -> dict[str, Text]:
