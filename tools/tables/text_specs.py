@@ -150,10 +150,9 @@ def frame_texts(table: InstructionTable) -> list[str]:
 
 def access_texts(table: InstructionTable) -> list[str]:
     """specs/AccessTexts.antt: the names of loads and stores of one register, and their operands."""
-    names, operands = [], []
+    names, operands, texts = [], [], texts_of(table)
     for one in table.accesses:
-        text = texts_of(table)[one.name]
-        spelled = definition(table, one)
+        text, spelled = texts[one.name], definition(table, one)
         first, *unscaled = (spelled(name) for name in text.values)
         name = f"if unscaled then {unscaled[0]} else {first}" if unscaled else first
         names += equation(f"access_name unscaled ops.{one.name}", name)
