@@ -13,7 +13,7 @@ import sys
 from functools import partial
 from typing import Callable
 
-from tables import files, inst_files, instruction_marks, instruction_parts, instruction_roles
+from tables import files, inst_files, instruction_marks, instruction_parts, instruction_roles, text_code, text_specs, text_table
 from tables.instruction_table import InstructionTable, instruction_table_of
 from tables.script import Script
 from tables.words import words_of
@@ -27,7 +27,7 @@ MARK = files.mark_of(COMMAND, TABLE)
 CLASSES = "crates/a64_operand/src/class.rt"
 
 # The modules whose `written` says, by the table, which files are written, and what writes each.
-MODULES = (inst_files, instruction_marks, instruction_roles)
+MODULES = (inst_files, instruction_marks, instruction_roles, text_code, text_specs)
 
 
 def text_of(path: str) -> str:
@@ -46,6 +46,7 @@ def read(text: str, file: str) -> InstructionTable:
     table = instruction_table_of(text, file, known_classes(), words_of(text_of(WORDS), WORDS))
     instruction_marks.check(table)
     instruction_roles.check(table)
+    text_table.checked(table)
     return table
 
 

@@ -249,3 +249,15 @@ def values_of(line: Line) -> list[Value]:
         tokens.take(",")
         values.append(tokens.value())
     return values
+
+
+def lists_of(line: Line) -> list[list[Value]]:
+    """The lists of values, with commas between, that stand one behind another."""
+    tokens = _Tokens(line)
+    lists: list[list[Value]] = []
+    while tokens.items:
+        lists.append([tokens.value()])
+        while tokens.items[:1] == [","]:
+            tokens.take()
+            lists[-1].append(tokens.value())
+    return lists

@@ -40,11 +40,14 @@ class Group:
 
 @dataclass(frozen=True)
 class Kind:
-    """A kind of fields: its name, their type, and the kind of their values in a file."""
+    """A kind of fields: its name, their type, the kind of their values in a file, and what they are in a text: the
+    operand that such a value alone is, `name` where the name of an operator begins one, or nothing.
+    """
 
     name: str
     type: str
     in_file: str
+    in_text: str = ""
 
     @property
     def owns(self) -> bool:
@@ -205,8 +208,11 @@ class _Reader:
         if word == "plain":
             self.groups.add(line.name(name), Group(name, words), line)
             return
-        of_type, _, in_file = (half.strip() for half in words.partition("|"))
-        self.kinds.add(line.name(name), Kind(name, of_type, in_file or name), line)
+        parts = [part.strip() for part in words.split("|")]
+        if len(parts) > 3:
+            line.fail("`kind NAME | TYPE | KIND IN A FILE | IN A TEXT` is wanted")
+        of_type, in_file, in_text = parts + [""] * (3 - len(parts))
+        self.kinds.add(line.name(name), Kind(name, of_type, in_file or name, in_text), line)
 
     def instruction(self, record: Record) -> None:
         """An instruction: its head, what it does, its fields, and its other lines."""

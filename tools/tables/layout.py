@@ -73,18 +73,36 @@ def pieces(text: str) -> list[str]:
     return found
 
 
-def operands(text: str) -> list[str]:
+def joined_in(text: str) -> list[str]:
     """What signs join in a definition, each behind the sign that stands in front of it."""
-    found: list[list[str]] = [[]]
+    found: list[str] = []
     for piece in pieces(text):
-        if piece in JOINS:
-            found.append([])
-        found[-1].append(piece)
-    return [" ".join(operand) for operand in found]
+        if found and piece not in JOINS:
+            found[-1] += f" {piece}"
+        else:
+            found.append(piece)
+    return found
+
+
+def broken(text: str, room: int) -> list[str]:
+    """A definition in parts that have room on a line where that can be: what its signs join, else its words, else what
+    signs join in its parentheses.
+    """
+    if len(text) <= room:
+        return [text]
+    parts = joined_in(text)
+    if len(parts) == 1:
+        parts = pieces(text)
+    if len(parts) > 1:
+        return [small for part in parts for small in broken(part, room)]
+    if not (text.startswith("(") and text.endswith(")")):
+        return [text]
+    inner = joined_in(text[1:-1])
+    return [f"({inner[0]}", *inner[1:-1], f"{inner[-1]})"] if len(inner) > 1 else [text]
 
 
 def filled(parts: Iterable[str], room: int) -> list[str]:
-    """The parts on as few lines as hold them."""
+    """The parts, with spaces between them, on as few lines as hold them."""
     lines: list[str] = []
     for part in parts:
         if lines and len(lines[-1]) + 1 + len(part) <= room:
@@ -100,5 +118,21 @@ def equation(left: str, right: str) -> list[str]:
         return [f"{left} = {right}"]
     indent = left[: len(left) - len(left.lstrip())] + INDENT
     room = LINE_WIDTH - len(indent)
-    parts = [part for operand in operands(right) for part in ([operand] if len(operand) <= room else pieces(operand))]
+    parts = [part for whole in joined_in(right) for part in broken(whole, room)]
     return [f"{left} =", *(indent + line for line in filled(parts, room))]
+
+
+def record_equation(left: str, fields: dict[str, str], opening: str = "record {", closing: str = "}") -> list[str]:
+    """An equation whose right side is a record, on a line where it has room, else with a line for each field; a list that
+    has no room there is broken between its items.
+    """
+    line = f"{left} = {opening} {'; '.join(f'{name} = {value}' for name, value in fields.items())} {closing}"
+    if len(line) <= LINE_WIDTH:
+        return [line]
+    lines = [f"{left} = {opening}"]
+    for name, value in fields.items():
+        first, *others = f"{value};".split(" ∷ ")
+        items = filled([first, *(f"∷ {item}" for item in others)], LINE_WIDTH - 6)
+        fits = len(items) == 1 and len(f"  {name} = {items[0]}") <= LINE_WIDTH
+        lines += [f"  {name} = {items[0]}"] if fits else [f"  {name} =", *(f"      {part}" for part in items)]
+    return [*lines, closing]

@@ -8,6 +8,7 @@ use Rattle.a64_base.specs.declared.cond.TestBitAndBranchKind.TheVariants.{Z, NZ}
 use Rattle.a64_base.specs.declared.entity.TrapCode.{TrapCode}
 use Rattle.a64_base.specs.declared.key.APIKey.{APIKey}
 use Rattle.a64_base.specs.declared.key.APIKey.TheVariants.{AZ, ASP, BZ, BSP}
+use Rattle.a64_base.specs.declared.reg.Reg.{Reg}
 use Rattle.a64_base.specs.declared.target.BranchTarget.{BranchTarget}
 use Rattle.a64_base.specs.Conditions.{condition_name}
 use Rattle.a64_ops.specs.declared.system.BranchTargetType.{BranchTargetType}
@@ -21,6 +22,10 @@ key_name AZ = codes "az"
 key_name ASP = codes "asp"
 key_name BZ = codes "bz"
 key_name BSP = codes "bsp"
+
+-- a hint that signs the link register
+abbrev pub paci_text : APIKey → List ℕ
+paci_text key = codes "paci" ++ key_name key
 
 -- a return whose address is authenticated: by a hint before it, or by itself
 unfoldable pub authenticated_ret_text : APIKey → Bool → List ℕ
@@ -52,6 +57,12 @@ trap_if_text (kinds.Cond cond) trap_code = codes "b." ++ line_text (condition_na
 abbrev pub test_bit_name : TestBitAndBranchKind → List ℕ
 test_bit_name Z = codes "tbz"
 test_bit_name NZ = codes "tbnz"
+
+-- a branch on one bit, and one where the bit is another
+abbrev pub test_bit_text : TestBitAndBranchKind → BranchTarget → BranchTarget → Reg → ℕ → List ℕ
+test_bit_text kind taken not_taken rn bit =
+    two_lines_text (test_bit_name kind) (operand.X rn ∷ operand.Number bit ∷ operand.Target taken ∷ [])
+    (codes "b") (operand.Target not_taken ∷ [])
 
 -- a name and a number that no `#` stands before
 unfoldable pub bare_number_text : List ℕ → ℕ → List ℕ

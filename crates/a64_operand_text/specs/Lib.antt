@@ -8,4 +8,6 @@ pub mod ControlTexts
 pub mod SequenceTexts
 pub mod CallTexts
 pub mod Texts
+pub mod AccessTexts
 pub mod MemoryTexts
+pub mod FrameTexts

@@ -7,17 +7,13 @@ use Rattle.a64_base.specs.declared.ir_type.IrType.TheVariants as types
 use Rattle.a64_base.specs.declared.reg.Reg.{Reg}
 use Rattle.a64_base.specs.declared.size.OperandSize.{OperandSize}
 use Rattle.a64_base.specs.declared.size.OperandSize.TheVariants.{Size32, Size64}
-use Rattle.a64_base.specs.declared.size.ScalarSize.TheVariants as scalars
 use Rattle.a64_base.specs.Registers.{integer_register}
 use Rattle.a64_imms.specs.Scales.{type_bytes}
 use Rattle.a64_ops.specs.declared.access.AccessOp.{AccessOp}
-use Rattle.a64_ops.specs.declared.access.AccessOp.TheVariants as ops
-use Rattle.a64_ops.specs.Names.{atomic_rmw_op_name}
+use Rattle.a64_operand.specs.declared.atomic.AtomicCAS128Args.{AtomicCAS128Args}
 use Rattle.a64_plan.specs.declared.step.ConstStep.{ConstStep}
 use Rattle.a64_plan.specs.Plans.{plan_of}
 use Rattle.a64_inst.specs.declared.frame.FrameLayout.{FrameLayout}
-use Rattle.a64_inst.specs.declared.inst.Inst.{Inst}
-use Rattle.a64_inst.specs.declared.inst.Inst.TheVariants as insts
 use Rattle.a64_inst.specs.declared.mode.AMode.{AMode}
 use Rattle.a64_inst.specs.declared.mode.AMode.TheVariants as modes
 use Rattle.a64_inst.specs.Accesses.{access_type}
@@ -25,8 +21,8 @@ use Rattle.a64_inst.specs.Constants.{step_into}
 use Rattle.a64_inst.specs.FinalModes.{FinalMode, SignedOffset, ScaledOffset, Other, mode_for, final_steps}
 use Rattle.a64_inst.specs.MemoryOperands.{is_addend}
 use Rattle.a64_inst.specs.ModeTexts.{final_text}
-use Rattle.a64_operand_text.specs.declared.operand.Operand.{Operand}
 use Rattle.a64_operand_text.specs.declared.operand.Operand.TheVariants as operand
+use Rattle.a64_operand_text.specs.AccessTexts.{access_name, access_operand}
 use Rattle.a64_operand_text.specs.Operands.{operand_text}
 use Rattle.a64_operand_text.specs.Lines.{line_text}
 use Rattle.a64_operand_text.specs.Texts.{own_text}
@@ -37,50 +33,6 @@ use Rattle.a64_operand_text.specs.Texts.{own_text}
 abbrev pub is_unscaled : AMode → Bool
 is_unscaled (modes.Unscaled rn simm9) = true
 is_unscaled _ = false
-
--- the name, where the mode that is written is such a one, or is not. A vector register has one name.
-abbrev pub access_name : Bool → AccessOp → List ℕ
-access_name unscaled ops.ULoad8 = if unscaled then codes "ldurb" else codes "ldrb"
-access_name unscaled ops.SLoad8 = if unscaled then codes "ldursb" else codes "ldrsb"
-access_name unscaled ops.ULoad16 = if unscaled then codes "ldurh" else codes "ldrh"
-access_name unscaled ops.SLoad16 = if unscaled then codes "ldursh" else codes "ldrsh"
-access_name unscaled ops.ULoad32 = if unscaled then codes "ldur" else codes "ldr"
-access_name unscaled ops.SLoad32 = if unscaled then codes "ldursw" else codes "ldrsw"
-access_name unscaled ops.ULoad64 = if unscaled then codes "ldur" else codes "ldr"
-access_name unscaled ops.FpuLoad16 = codes "ldr"
-access_name unscaled ops.FpuLoad32 = codes "ldr"
-access_name unscaled ops.FpuLoad64 = codes "ldr"
-access_name unscaled ops.FpuLoad128 = codes "ldr"
-access_name unscaled ops.Store8 = if unscaled then codes "sturb" else codes "strb"
-access_name unscaled ops.Store16 = if unscaled then codes "sturh" else codes "strh"
-access_name unscaled ops.Store32 = if unscaled then codes "stur" else codes "str"
-access_name unscaled ops.Store64 = if unscaled then codes "stur" else codes "str"
-access_name unscaled ops.FpuStore16 = codes "str"
-access_name unscaled ops.FpuStore32 = codes "str"
-access_name unscaled ops.FpuStore64 = codes "str"
-access_name unscaled ops.FpuStore128 = codes "str"
-
--- the register, at the size that is loaded into it or stored
-abbrev pub access_operand : AccessOp → Reg → Operand
-access_operand ops.ULoad8 reg = operand.Sized Size32 reg
-access_operand ops.SLoad8 reg = operand.Sized Size64 reg
-access_operand ops.ULoad16 reg = operand.Sized Size32 reg
-access_operand ops.SLoad16 reg = operand.Sized Size64 reg
-access_operand ops.ULoad32 reg = operand.Sized Size32 reg
-access_operand ops.SLoad32 reg = operand.Sized Size64 reg
-access_operand ops.ULoad64 reg = operand.Sized Size64 reg
-access_operand ops.FpuLoad16 reg = operand.Scalar scalars.Size16 reg
-access_operand ops.FpuLoad32 reg = operand.Scalar scalars.Size32 reg
-access_operand ops.FpuLoad64 reg = operand.Scalar scalars.Size64 reg
-access_operand ops.FpuLoad128 reg = operand.Scalar scalars.Size128 reg
-access_operand ops.Store8 reg = operand.Sized Size32 reg
-access_operand ops.Store16 reg = operand.Sized Size32 reg
-access_operand ops.Store32 reg = operand.Sized Size32 reg
-access_operand ops.Store64 reg = operand.Sized Size64 reg
-access_operand ops.FpuStore16 reg = operand.Scalar scalars.Size16 reg
-access_operand ops.FpuStore32 reg = operand.Scalar scalars.Size32 reg
-access_operand ops.FpuStore64 reg = operand.Scalar scalars.Size64 reg
-access_operand ops.FpuStore128 reg = operand.Scalar scalars.Size128 reg
 
 -- the steps that a mode needs before it, into x16, each with a semicolon behind it
 abbrev pub step_before : ConstStep → List ℕ
@@ -151,49 +103,14 @@ abbrev pub width_size : IrType → OperandSize
 width_size types.I64 = Size64
 width_size _ = Size32
 
--- ---- all
+-- a comparison and exchange of one register
+abbrev pub cas_text : IrType → Reg → Reg → Reg → Reg → List ℕ
+cas_text ty rd rs rt rn =
+    codes "casal" ++ line_text (width_suffix ty) (operand.Sized (width_size ty) rd ∷ operand.Sized (width_size ty) rs
+    ∷ operand.Sized (width_size ty) rt ∷ operand.Base rn ∷ [])
 
-abbrev pub memory_text : FrameLayout → Inst → List ℕ
-memory_text frame (insts.LoadP64 rt rt2 mem flags) = line_text (codes "ldp") (operand.X rt ∷ operand.X rt2 ∷ operand.PairMode mem ∷ [])
-memory_text frame (insts.StoreP64 rt rt2 mem flags) = line_text (codes "stp") (operand.X rt ∷ operand.X rt2 ∷ operand.PairMode mem ∷ [])
-memory_text frame (insts.FpuLoadP64 rt rt2 mem flags) =
-    line_text (codes "ldp") (operand.Scalar scalars.Size64 rt ∷ operand.Scalar scalars.Size64 rt2 ∷ operand.PairMode mem ∷ [])
-memory_text frame (insts.FpuStoreP64 rt rt2 mem flags) =
-    line_text (codes "stp") (operand.Scalar scalars.Size64 rt ∷ operand.Scalar scalars.Size64 rt2 ∷ operand.PairMode mem ∷ [])
-memory_text frame (insts.FpuLoadP128 rt rt2 mem flags) =
-    line_text (codes "ldp") (operand.Scalar scalars.Size128 rt ∷ operand.Scalar scalars.Size128 rt2 ∷ operand.PairMode mem ∷ [])
-memory_text frame (insts.FpuStoreP128 rt rt2 mem flags) =
-    line_text (codes "stp") (operand.Scalar scalars.Size128 rt ∷ operand.Scalar scalars.Size128 rt2 ∷ operand.PairMode mem ∷ [])
-memory_text frame (insts.LoadAddr rd mem) = address_text frame rd mem
-memory_text frame (insts.AtomicRMW ty op rs rt rn flags) =
-    atomic_rmw_op_name op ++ line_text (width_suffix ty) (operand.Sized (width_size ty) rs ∷ operand.Sized (width_size ty) rt ∷ operand.Base rn ∷ [])
-memory_text frame (insts.AtomicCAS rd rs rt rn ty flags) =
-    codes "casal" ++ line_text (width_suffix ty) (operand.Sized (width_size ty) rd ∷ operand.Sized (width_size ty) rs ∷ operand.Sized (width_size ty) rt ∷ operand.Base rn ∷ [])
-memory_text frame (insts.AtomicCAS128 args) =
+-- a comparison and exchange of two registers
+abbrev pub cas128_text : AtomicCAS128Args → List ℕ
+cas128_text args =
     line_text (codes "caspal") (operand.X args.rd_lo ∷ operand.X args.rd_hi ∷ operand.X args.rs_lo ∷ operand.X args.rs_hi
     ∷ operand.X args.rt_lo ∷ operand.X args.rt_hi ∷ operand.Base args.rn ∷ [])
-memory_text frame (insts.LoadAcquire access_ty rt rn flags) =
-    codes "ldar" ++ line_text (width_suffix access_ty) (operand.Sized (width_size access_ty) rt ∷ operand.Base rn ∷ [])
-memory_text frame (insts.StoreRelease access_ty rt rn flags) =
-    codes "stlr" ++ line_text (width_suffix access_ty) (operand.Sized (width_size access_ty) rt ∷ operand.Base rn ∷ [])
-memory_text frame (insts.VecLoadReplicate rd rn size flags) = line_text (codes "ld1r") (operand.Table size rd ∷ operand.Base rn ∷ [])
-memory_text frame (insts.ULoad8 rd mem flags) = access_text frame ops.ULoad8 rd mem
-memory_text frame (insts.SLoad8 rd mem flags) = access_text frame ops.SLoad8 rd mem
-memory_text frame (insts.ULoad16 rd mem flags) = access_text frame ops.ULoad16 rd mem
-memory_text frame (insts.SLoad16 rd mem flags) = access_text frame ops.SLoad16 rd mem
-memory_text frame (insts.ULoad32 rd mem flags) = access_text frame ops.ULoad32 rd mem
-memory_text frame (insts.SLoad32 rd mem flags) = access_text frame ops.SLoad32 rd mem
-memory_text frame (insts.ULoad64 rd mem flags) = access_text frame ops.ULoad64 rd mem
-memory_text frame (insts.FpuLoad16 rd mem flags) = access_text frame ops.FpuLoad16 rd mem
-memory_text frame (insts.FpuLoad32 rd mem flags) = access_text frame ops.FpuLoad32 rd mem
-memory_text frame (insts.FpuLoad64 rd mem flags) = access_text frame ops.FpuLoad64 rd mem
-memory_text frame (insts.FpuLoad128 rd mem flags) = access_text frame ops.FpuLoad128 rd mem
-memory_text frame (insts.Store8 rd mem flags) = access_text frame ops.Store8 rd mem
-memory_text frame (insts.Store16 rd mem flags) = access_text frame ops.Store16 rd mem
-memory_text frame (insts.Store32 rd mem flags) = access_text frame ops.Store32 rd mem
-memory_text frame (insts.Store64 rd mem flags) = access_text frame ops.Store64 rd mem
-memory_text frame (insts.FpuStore16 rd mem flags) = access_text frame ops.FpuStore16 rd mem
-memory_text frame (insts.FpuStore32 rd mem flags) = access_text frame ops.FpuStore32 rd mem
-memory_text frame (insts.FpuStore64 rd mem flags) = access_text frame ops.FpuStore64 rd mem
-memory_text frame (insts.FpuStore128 rd mem flags) = access_text frame ops.FpuStore128 rd mem
-memory_text frame _ = []

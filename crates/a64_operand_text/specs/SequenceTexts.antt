@@ -28,6 +28,13 @@ arg_text pair = pair_text pair.vreg pair.preg
 abbrev pub ret_text : RetPair → List ℕ
 ret_text pair = pair_text pair.vreg pair.preg
 
+-- the registers in which arguments come, and those in which results go
+abbrev pub args_text : List ArgPair → List ℕ
+args_text args = codes "args" ++ flat_map arg_text args
+
+abbrev pub rets_text : List RetPair → List ℕ
+rets_text rets = codes "rets" ++ flat_map ret_text rets
+
 -- a label behind another
 abbrev pub behind_label_text : MachLabel → List ℕ
 behind_label_text label = codes ", label" ++ decimal label.0

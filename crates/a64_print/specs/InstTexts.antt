@@ -11,7 +11,7 @@ use Rattle.a64_inst.specs.declared.item.Item.TheVariants.{Bind, Emit}
 use Rattle.a64_operand.specs.declared.virtuals.VirtualRegisters.TheVariants.{Allowed}
 use Rattle.a64_inst.specs.Faults.{has_operands, has_mode}
 use Rattle.a64_inst.specs.Groups.{group_of}
-use Rattle.a64_operand_text.specs.MemoryTexts.{memory_text}
+use Rattle.a64_operand_text.specs.FrameTexts.{memory_text}
 use Rattle.a64_operand_text.specs.Texts.{own_text}
 
 -- the text of an instruction; of loads, stores and addresses it depends on the frame

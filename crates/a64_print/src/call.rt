@@ -1,13 +1,13 @@
 //! The texts of calls, and of returns that call.
 
-ghost use Rattle.std.specs.Prelude.{◌≡◌, ◌++◌, [], ◌∷◌, OnOk};
+ghost use Rattle.std.specs.Prelude.{◌≡◌, ◌++◌, OnOk};
 ghost use Rattle.std.specs.String.{string_bytes};
 ghost use Rattle.a64_inst.specs.Groups.{group_of};
 ghost use Rattle.a64_inst.specs.declared.group.Group.TheVariants as groups;
 ghost use Rattle.a64_operand_text.specs.CallTexts as texts;
-ghost use Rattle.a64_operand_text.specs.Lines.{line_text};
 ghost use Rattle.a64_operand_text.specs.Texts.{own_text};
 
+use crate::call_texts;
 use crate::sequence::{RegisterPair, push_pair, push_pairs};
 use a64_base::push_numbered;
 use a64_inst::{CallArgPair, Inst};
@@ -34,15 +34,15 @@ fn push_return_part(out: &mut String, bytes: u32, uses: &[CallArgPair]) -> Resul
 }
 
 /// Appends a return that calls.
-fn push_return(
+fn push_return_call(
     out: &mut String,
     name: &str,
     callee: Operand,
     bytes: u32,
     uses: &[CallArgPair],
 ) -> Result<(), AllocError>
-    ensures { OnOk result (string_bytes out.new ≡ string_bytes out.old
-        ++ (line_text name.now (callee ∷ []) ++ texts.return_part bytes uses.now)) }
+    ensures { OnOk result (string_bytes out.new
+        ≡ string_bytes out.old ++ texts.return_call_text name.now callee bytes uses.now) }
 {
     line1(out, name, callee)?;
     push_return_part(out, bytes, uses)
@@ -57,23 +57,5 @@ pub fn push_call(out: &mut String, inst: &Inst) -> Result<(), AllocError>
     requires { group_of inst.now ≡ groups.Call }
     ensures { OnOk result (string_bytes out.new ≡ string_bytes out.old ++ own_text inst.now) }
 {
-    match inst {
-        Inst::Call { .. } => out.push_str("bl 0"),
-        Inst::CallInd { info } => line1(out, "blr", X(info.dest)),
-        Inst::ReturnCall { info } => push_return(
-            out,
-            "return_call",
-            Symbol(info.dest),
-            info.new_stack_arg_size,
-            info.uses.as_slice(),
-        ),
-        Inst::ReturnCallInd { info } => push_return(
-            out,
-            "return_call_ind",
-            X(info.dest),
-            info.new_stack_arg_size,
-            info.uses.as_slice(),
-        ),
-        _ => unreachable!(),
-    }
+    call_texts!(out, inst)
 }

@@ -10,6 +10,7 @@ ghost use Rattle.a64_operand_text.specs.ControlTexts as texts;
 ghost use Rattle.a64_operand_text.specs.Lines.{line_text, two_lines_text};
 ghost use Rattle.a64_operand_text.specs.Texts.{own_text};
 
+use crate::control_texts;
 use crate::system::key_name;
 use a64_base::{
     APIKey, BranchTarget, Cond, CondBrKind, Reg, TestBitAndBranchKind, TrapCode, push_numbered,
@@ -116,6 +117,27 @@ fn test_bit_name(kind: TestBitAndBranchKind) -> &'static str
     }
 }
 
+/// Appends the text of a branch on one bit, and of one where the bit is another.
+fn push_test_bit(
+    out: &mut String,
+    kind: TestBitAndBranchKind,
+    taken: BranchTarget,
+    not_taken: BranchTarget,
+    rn: Reg,
+    bit: u8,
+) -> Result<(), AllocError>
+    ensures { OnOk result (string_bytes out.new
+        ≡ string_bytes out.old ++ texts.test_bit_text kind taken not_taken rn bit) }
+{
+    push_two_lines(
+        out,
+        test_bit_name(kind),
+        &[X(rn), Number(u64::from(bit)), Target(taken)],
+        "b",
+        &[Target(not_taken)],
+    )
+}
+
 /// Appends a name and a number that no `#` stands before.
 #[tactic(auto, unfolding(a64_operand_text::specs::ControlTexts::bare_number_text))]
 fn push_bare_number(out: &mut String, name: &str, number: u64) -> Result<(), AllocError>
@@ -135,49 +157,5 @@ pub fn push_control(out: &mut String, inst: &Inst) -> Result<(), AllocError>
     requires { group_of inst.now ≡ groups.Control }
     ensures { OnOk result (string_bytes out.new ≡ string_bytes out.old ++ own_text inst.now) }
 {
-    match inst {
-        Inst::Nop0 => out.push_str("nop-zero-len"),
-        Inst::Nop4 => out.push_str("nop"),
-        Inst::MovToNZCV { rn } => line2(out, "msr", Nzcv, X(*rn)),
-        Inst::MovFromNZCV { rd } => line2(out, "mrs", X(rd.to_reg()), Nzcv),
-        Inst::Ret => out.push_str("ret"),
-        Inst::AuthenticatedRet { key, is_hint } => push_authenticated_ret(out, *key, *is_hint),
-        Inst::Jump { dest } => line1(out, "b", Target(*dest)),
-        Inst::CondBr {
-            taken,
-            not_taken,
-            kind,
-        } => push_cond_br(out, *kind, *taken, *not_taken),
-        Inst::TestBitAndBranch {
-            kind,
-            taken,
-            not_taken,
-            rn,
-            bit,
-        } => push_two_lines(
-            out,
-            test_bit_name(*kind),
-            &[X(*rn), Number(u64::from(*bit)), Target(*taken)],
-            "b",
-            &[Target(*not_taken)],
-        ),
-        Inst::TrapIf { kind, trap_code } => push_trap_if(out, *kind, *trap_code),
-        Inst::IndirectBr { rn, .. } => line1(out, "br", X(*rn)),
-        Inst::Brk => out.push_str("brk #0xf000"),
-        Inst::Udf { .. } => out.push_str("udf #0xc11f"),
-        Inst::Word4 { value } => push_bare_number(out, "data.i32", u64::from(*value)),
-        Inst::Word8 { value } => push_bare_number(out, "data.i64", *value),
-        Inst::EmitIsland { needed_space } => push_bare_number(
-            out,
-            "emit_island",
-            u64::from(*needed_space),
-        ),
-        Inst::LabelAddress { dst, label } => line2(
-            out,
-            "label_address",
-            X(dst.to_reg()),
-            Target(BranchTarget::Label(*label)),
-        ),
-        _ => unreachable!(),
-    }
+    control_texts!(out, inst)
 }

@@ -8,6 +8,7 @@ ghost use Rattle.a64_inst.specs.declared.group.PlainGroup.TheVariants as plain;
 ghost use Rattle.a64_operand_text.specs.FloatTexts as texts;
 ghost use Rattle.a64_operand_text.specs.Texts.{own_text};
 
+use crate::float_texts;
 use a64_base::{OperandSize, Reg, ScalarSize, VectorSize};
 use a64_inst::{FPUOpRI, FPUOpRIMod, Inst};
 use a64_operand_text::Operand::{
@@ -155,126 +156,5 @@ pub fn push_float(out: &mut String, inst: &Inst) -> Result<(), AllocError>
     requires { group_of inst.now ≡ groups.Plain plain.Float }
     ensures { OnOk result (string_bytes out.new ≡ string_bytes out.old ++ own_text inst.now) }
 {
-    match inst {
-        Inst::FpuMove32 { rd, rn } => line2(
-            out,
-            "fmov",
-            Scalar(ScalarSize::Size32, rd.to_reg()),
-            Scalar(ScalarSize::Size32, *rn),
-        ),
-        Inst::FpuMove64 { rd, rn } => line2(
-            out,
-            "fmov",
-            Scalar(ScalarSize::Size64, rd.to_reg()),
-            Scalar(ScalarSize::Size64, *rn),
-        ),
-        Inst::FpuMove128 { rd, rn } => line2(out, "mov", Bytes(rd.to_reg()), Bytes(*rn)),
-        Inst::FpuMoveFromVec { rd, rn, idx, size } => line2(
-            out,
-            "mov",
-            Scalar(size.lane_size(), rd.to_reg()),
-            Element(*idx, size.lane_size(), *rn),
-        ),
-        Inst::FpuExtend { rd, rn, size } => {
-            line2(out, "fmov", Scalar(*size, rd.to_reg()), Scalar(*size, *rn))
-        }
-        Inst::FpuRR {
-            fpu_op,
-            size,
-            rd,
-            rn,
-        } => line2(
-            out,
-            fpu_op.op_str(),
-            Scalar(fpu_rr_size(*fpu_op, *size), rd.to_reg()),
-            Scalar(*size, *rn),
-        ),
-        Inst::FpuRRR {
-            fpu_op,
-            size,
-            rd,
-            rn,
-            rm,
-        } => line3(
-            out,
-            fpu_op.op_str(),
-            Scalar(*size, rd.to_reg()),
-            Scalar(*size, *rn),
-            Scalar(*size, *rm),
-        ),
-        Inst::FpuRRI { fpu_op, rd, rn } => push_fpu_rri(out, *fpu_op, rd.to_reg(), *rn),
-        Inst::FpuRRIMod { fpu_op, rd, ri, rn } => {
-            push_fpu_rri_mod(out, *fpu_op, rd.to_reg(), *ri, *rn)
-        }
-        Inst::FpuRRRR {
-            fpu_op,
-            size,
-            rd,
-            rn,
-            rm,
-            ra,
-        } => line4(
-            out,
-            fpu_op.op_str(),
-            Scalar(*size, rd.to_reg()),
-            Scalar(*size, *rn),
-            Scalar(*size, *rm),
-            Scalar(*size, *ra),
-        ),
-        Inst::FpuCmp { size, rn, rm } => {
-            line2(out, "fcmp", Scalar(*size, *rn), Scalar(*size, *rm))
-        }
-        Inst::FpuToInt { op, rd, rn } => line2(
-            out,
-            op.op_str(),
-            Sized(to_int_size(*op), rd.to_reg()),
-            Scalar(from_float_size(*op), *rn),
-        ),
-        Inst::IntToFpu { op, rd, rn } => line2(
-            out,
-            op.op_str(),
-            Scalar(to_float_size(*op), rd.to_reg()),
-            Sized(from_int_size(*op), *rn),
-        ),
-        Inst::FpuCSel16 { rd, rn, rm, cond } => line4(
-            out,
-            "fcsel",
-            Scalar(ScalarSize::Size16, rd.to_reg()),
-            Scalar(ScalarSize::Size16, *rn),
-            Scalar(ScalarSize::Size16, *rm),
-            Condition(*cond),
-        ),
-        Inst::FpuCSel32 { rd, rn, rm, cond } => line4(
-            out,
-            "fcsel",
-            Scalar(ScalarSize::Size32, rd.to_reg()),
-            Scalar(ScalarSize::Size32, *rn),
-            Scalar(ScalarSize::Size32, *rm),
-            Condition(*cond),
-        ),
-        Inst::FpuCSel64 { rd, rn, rm, cond } => line4(
-            out,
-            "fcsel",
-            Scalar(ScalarSize::Size64, rd.to_reg()),
-            Scalar(ScalarSize::Size64, *rn),
-            Scalar(ScalarSize::Size64, *rm),
-            Condition(*cond),
-        ),
-        Inst::FpuRound { op, rd, rn } => line2(
-            out,
-            op.op_str(),
-            Scalar(round_size(*op), rd.to_reg()),
-            Scalar(round_size(*op), *rn),
-        ),
-        Inst::MovToFpu { rd, rn, size } => line2(
-            out,
-            "fmov",
-            Scalar(*size, rd.to_reg()),
-            Sized(scalar_operand(*size), *rn),
-        ),
-        Inst::FpuMoveFPImm { rd, imm, size } => {
-            line2(out, "fmov", Scalar(*size, rd.to_reg()), FloatImm(*imm))
-        }
-        _ => unreachable!(),
-    }
+    float_texts!(out, inst)
 }

@@ -9,6 +9,7 @@ ghost use Rattle.a64_inst.specs.declared.group.PlainGroup.TheVariants as plain;
 ghost use Rattle.a64_operand_text.specs.IntegerTexts as texts;
 ghost use Rattle.a64_operand_text.specs.Texts.{own_text};
 
+use crate::immediate_texts;
 use a64_base::{OperandSize, Reg};
 use a64_imms::Imm12;
 use a64_inst::Inst;
@@ -166,95 +167,5 @@ pub fn push_immediate(out: &mut String, inst: &Inst) -> Result<(), AllocError>
     requires { group_of inst.now ≡ groups.Plain plain.Immediate }
     ensures { OnOk result (string_bytes out.new ≡ string_bytes out.old ++ own_text inst.now) }
 {
-    match inst {
-        Inst::AluRRImm12 {
-            alu_op,
-            size,
-            rd,
-            rn,
-            imm12,
-        } => push_alu_rr_imm12(out, *alu_op, *size, rd.to_reg(), *rn, *imm12),
-        Inst::AluRRImmLogic {
-            alu_op,
-            size,
-            rd,
-            rn,
-            imml,
-        } => line3(
-            out,
-            alu_op.op_str(),
-            Sized(*size, rd.to_reg()),
-            Sized(*size, *rn),
-            Number(imml.value()),
-        ),
-        Inst::AluRRImmShift {
-            alu_op,
-            size,
-            rd,
-            rn,
-            immshift,
-        } => line3(
-            out,
-            alu_op.op_str(),
-            Sized(*size, rd.to_reg()),
-            Sized(*size, *rn),
-            Number(u64::from(immshift.imm)),
-        ),
-        Inst::MovWide { op, rd, imm, size } => line2(
-            out,
-            op.op_str(),
-            Sized(*size, rd.to_reg()),
-            Wide(*imm),
-        ),
-        Inst::MovK { rd, rn, imm, size } => line3(
-            out,
-            "movk",
-            Sized(*size, rd.to_reg()),
-            Sized(*size, *rn),
-            Wide(*imm),
-        ),
-        Inst::Extend {
-            rd,
-            rn,
-            signed,
-            from_bits,
-            to_bits,
-        } => push_extend(out, rd.to_reg(), *rn, *signed, *from_bits, *to_bits),
-        Inst::BitfieldMove {
-            size,
-            bfm_op,
-            rd,
-            rn,
-            immr,
-            imms,
-        } => line4(
-            out,
-            bfm_op.op_str(),
-            Sized(*size, rd.to_reg()),
-            Sized(*size, *rn),
-            Number(u64::from(immr.imm)),
-            Number(u64::from(imms.imm)),
-        ),
-        Inst::BitfieldMoveMod {
-            size,
-            rd,
-            ri,
-            rn,
-            immr,
-            imms,
-        } => line5(
-            out,
-            "bfm",
-            Sized(*size, rd.to_reg()),
-            Sized(*size, *ri),
-            Sized(*size, *rn),
-            Number(u64::from(immr.imm)),
-            Number(u64::from(imms.imm)),
-        ),
-        Inst::Adr { rd, off } => line2(out, "adr", X(rd.to_reg()), Near(i64::from(*off))),
-        Inst::Adrp { rd, off } => {
-            line2(out, "adrp", X(rd.to_reg()), Near(i64::from(*off) * 4096))
-        }
-        _ => unreachable!(),
-    }
+    immediate_texts!(out, inst)
 }

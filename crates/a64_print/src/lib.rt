@@ -11,6 +11,7 @@ mod print;
 mod register;
 mod sequence;
 mod system;
+mod texts;
 mod vector;
 mod vector_move;
 

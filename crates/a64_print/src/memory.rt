@@ -1,6 +1,6 @@
 //! The texts of loads and stores, and of the addresses of their modes.
 
-ghost use Rattle.std.specs.Prelude.{◌≡◌, ◌++◌, [], ◌∷◌, if◌then◌else◌, codes, true, is_some, OnOk};
+ghost use Rattle.std.specs.Prelude.{◌≡◌, ◌++◌, [], ◌∷◌, if◌then◌else◌, true, is_some, OnOk};
 ghost use Rattle.std.specs.List.{flat_map};
 ghost use Rattle.std.specs.String.{string_bytes};
 ghost use Rattle.a64_imms.specs.Scales.{type_bytes};
@@ -8,11 +8,12 @@ ghost use Rattle.a64_inst.specs.declared.group.Group.TheVariants.{Memory};
 ghost use Rattle.a64_inst.specs.Accesses.{access_of, access_type};
 ghost use Rattle.a64_inst.specs.FinalModes.{parts_of};
 ghost use Rattle.a64_inst.specs.Groups.{group_of};
-ghost use Rattle.a64_operand_text.specs.declared.operand.Operand.TheVariants as operand;
+ghost use Rattle.a64_operand_text.specs.AccessTexts as accesses;
+ghost use Rattle.a64_operand_text.specs.FrameTexts.{memory_text};
 ghost use Rattle.a64_operand_text.specs.Lines.{line_text};
 ghost use Rattle.a64_operand_text.specs.MemoryTexts as texts;
-ghost use Rattle.a64_operand_text.specs.MemoryTexts.{memory_text};
 
+use crate::{access_names, access_operands, access_texts, access_types, memory_texts};
 use a64_base::{IrType, OperandSize, Reg, ScalarSize, writable_spilltmp_reg};
 use a64_inst::{AMode, AccessOp, AtomicCAS128Args, ConstStep, FrameLayout, Inst};
 use a64_mode::{final_steps, shown_mode};
@@ -32,48 +33,16 @@ fn one_of<'a>(is_first: bool, first: &'a str, second: &'a str) -> &'a str
 /// The name of a load or a store, where the mode that is written has a signed offset of 9 bits, or
 /// has not.
 fn access_name<'a>(unscaled: bool, op: AccessOp) -> &'a str
-    ensures { result.now ≡ texts.access_name unscaled op }
+    ensures { result.now ≡ accesses.access_name unscaled op }
 {
-    match op {
-        AccessOp::ULoad8 => one_of(unscaled, "ldurb", "ldrb"),
-        AccessOp::SLoad8 => one_of(unscaled, "ldursb", "ldrsb"),
-        AccessOp::ULoad16 => one_of(unscaled, "ldurh", "ldrh"),
-        AccessOp::SLoad16 => one_of(unscaled, "ldursh", "ldrsh"),
-        AccessOp::ULoad32 | AccessOp::ULoad64 => one_of(unscaled, "ldur", "ldr"),
-        AccessOp::SLoad32 => one_of(unscaled, "ldursw", "ldrsw"),
-        AccessOp::FpuLoad16 | AccessOp::FpuLoad32 | AccessOp::FpuLoad64 | AccessOp::FpuLoad128 =>
-            "ldr",
-        AccessOp::Store8 => one_of(unscaled, "sturb", "strb"),
-        AccessOp::Store16 => one_of(unscaled, "sturh", "strh"),
-        AccessOp::Store32 | AccessOp::Store64 => one_of(unscaled, "stur", "str"),
-        AccessOp::FpuStore16
-        | AccessOp::FpuStore32
-        | AccessOp::FpuStore64
-        | AccessOp::FpuStore128 => "str",
-    }
+    access_names!(unscaled, op)
 }
 
 /// The register of a load or a store, at the size that is loaded into it or stored.
 fn access_operand(op: AccessOp, reg: Reg) -> Operand
-    ensures { result ≡ texts.access_operand op reg }
+    ensures { result ≡ accesses.access_operand op reg }
 {
-    match op {
-        AccessOp::ULoad8
-        | AccessOp::ULoad16
-        | AccessOp::ULoad32
-        | AccessOp::Store8
-        | AccessOp::Store16
-        | AccessOp::Store32 => Sized(OperandSize::Size32, reg),
-        AccessOp::SLoad8
-        | AccessOp::SLoad16
-        | AccessOp::SLoad32
-        | AccessOp::ULoad64
-        | AccessOp::Store64 => Sized(OperandSize::Size64, reg),
-        AccessOp::FpuLoad16 | AccessOp::FpuStore16 => Scalar(ScalarSize::Size16, reg),
-        AccessOp::FpuLoad32 | AccessOp::FpuStore32 => Scalar(ScalarSize::Size32, reg),
-        AccessOp::FpuLoad64 | AccessOp::FpuStore64 => Scalar(ScalarSize::Size64, reg),
-        AccessOp::FpuLoad128 | AccessOp::FpuStore128 => Scalar(ScalarSize::Size128, reg),
-    }
+    access_operands!(op, reg)
 }
 
 /// Whether the mode that is written has a signed offset of 9 bits.
@@ -88,16 +57,7 @@ fn access_type(op: AccessOp) -> (IrType, u8)
     ensures ty { result.0 ≡ access_type op }
     ensures bytes { result.1 ≡ type_bytes (access_type op) }
 {
-    match op {
-        AccessOp::ULoad8 | AccessOp::SLoad8 | AccessOp::Store8 => (IrType::I8, 1),
-        AccessOp::ULoad16 | AccessOp::SLoad16 | AccessOp::Store16 => (IrType::I16, 2),
-        AccessOp::ULoad32 | AccessOp::SLoad32 | AccessOp::Store32 => (IrType::I32, 4),
-        AccessOp::ULoad64 | AccessOp::Store64 => (IrType::I64, 8),
-        AccessOp::FpuLoad16 | AccessOp::FpuStore16 => (IrType::F16, 2),
-        AccessOp::FpuLoad32 | AccessOp::FpuStore32 => (IrType::F32, 4),
-        AccessOp::FpuLoad64 | AccessOp::FpuStore64 => (IrType::F64, 8),
-        AccessOp::FpuLoad128 | AccessOp::FpuStore128 => (IrType::I8X16, 16),
-    }
+    access_types!(op)
 }
 
 /// Appends a step that a mode needs before it, and a semicolon.
@@ -251,10 +211,8 @@ fn push_cas(
     rt: Reg,
     rn: Reg,
 ) -> Result<(), AllocError>
-    ensures { OnOk result (string_bytes out.new ≡ string_bytes out.old
-        ++ (codes "casal" ++ line_text (texts.width_suffix ty)
-        (operand.Sized (texts.width_size ty) rd ∷ operand.Sized (texts.width_size ty) rs
-        ∷ operand.Sized (texts.width_size ty) rt ∷ operand.Base rn ∷ []))) }
+    ensures { OnOk result (string_bytes out.new
+        ≡ string_bytes out.old ++ texts.cas_text ty rd rs rt rn) }
 {
     let size = width_size(ty);
     out.push_str("casal")?;
@@ -270,10 +228,7 @@ fn push_cas(
 
 /// Appends a comparison and exchange of two registers.
 fn push_cas128(out: &mut String, args: AtomicCAS128Args) -> Result<(), AllocError>
-    ensures { OnOk result (string_bytes out.new ≡ string_bytes out.old
-        ++ line_text (codes "caspal") (operand.X args.rd_lo ∷ operand.X args.rd_hi
-        ∷ operand.X args.rs_lo ∷ operand.X args.rs_hi ∷ operand.X args.rt_lo
-        ∷ operand.X args.rt_hi ∷ operand.Base args.rn ∷ [])) }
+    ensures { OnOk result (string_bytes out.new ≡ string_bytes out.old ++ texts.cas128_text args) }
 {
     push_line(
         out,
@@ -296,88 +251,7 @@ fn push_access_inst(out: &mut String, frame: &FrameLayout, inst: &Inst) -> Resul
     ensures { OnOk result
         (string_bytes out.new ≡ string_bytes out.old ++ memory_text frame.now inst.now) }
 {
-    match inst {
-        Inst::ULoad8 { rd, mem, .. } => push_access(out, frame, AccessOp::ULoad8, rd.to_reg(), mem),
-        Inst::SLoad8 { rd, mem, .. } => push_access(out, frame, AccessOp::SLoad8, rd.to_reg(), mem),
-        Inst::ULoad16 { rd, mem, .. } => push_access(
-            out,
-            frame,
-            AccessOp::ULoad16,
-            rd.to_reg(),
-            mem,
-        ),
-        Inst::SLoad16 { rd, mem, .. } => push_access(
-            out,
-            frame,
-            AccessOp::SLoad16,
-            rd.to_reg(),
-            mem,
-        ),
-        Inst::ULoad32 { rd, mem, .. } => push_access(
-            out,
-            frame,
-            AccessOp::ULoad32,
-            rd.to_reg(),
-            mem,
-        ),
-        Inst::SLoad32 { rd, mem, .. } => push_access(
-            out,
-            frame,
-            AccessOp::SLoad32,
-            rd.to_reg(),
-            mem,
-        ),
-        Inst::ULoad64 { rd, mem, .. } => push_access(
-            out,
-            frame,
-            AccessOp::ULoad64,
-            rd.to_reg(),
-            mem,
-        ),
-        Inst::FpuLoad16 { rd, mem, .. } => push_access(
-            out,
-            frame,
-            AccessOp::FpuLoad16,
-            rd.to_reg(),
-            mem,
-        ),
-        Inst::FpuLoad32 { rd, mem, .. } => push_access(
-            out,
-            frame,
-            AccessOp::FpuLoad32,
-            rd.to_reg(),
-            mem,
-        ),
-        Inst::FpuLoad64 { rd, mem, .. } => push_access(
-            out,
-            frame,
-            AccessOp::FpuLoad64,
-            rd.to_reg(),
-            mem,
-        ),
-        Inst::FpuLoad128 { rd, mem, .. } => push_access(
-            out,
-            frame,
-            AccessOp::FpuLoad128,
-            rd.to_reg(),
-            mem,
-        ),
-        Inst::Store8 { rd, mem, .. } => push_access(out, frame, AccessOp::Store8, *rd, mem),
-        Inst::Store16 { rd, mem, .. } => push_access(out, frame, AccessOp::Store16, *rd, mem),
-        Inst::Store32 { rd, mem, .. } => push_access(out, frame, AccessOp::Store32, *rd, mem),
-        Inst::Store64 { rd, mem, .. } => push_access(out, frame, AccessOp::Store64, *rd, mem),
-        Inst::FpuStore16 { rd, mem, .. } => push_access(out, frame, AccessOp::FpuStore16, *rd, mem),
-        Inst::FpuStore32 { rd, mem, .. } => push_access(out, frame, AccessOp::FpuStore32, *rd, mem),
-        Inst::FpuStore64 { rd, mem, .. } => push_access(out, frame, AccessOp::FpuStore64, *rd, mem),
-        Inst::FpuStore128 { rd, mem, .. } => push_access(
-            out,
-            frame,
-            AccessOp::FpuStore128,
-            *rd,
-            mem,
-        ),
-        _ => unreachable!(),
-    }
+    access_texts!(out, frame, inst)
 }
 
 /// Appends the text of a load or a store, or of the address of a mode, in a frame: with the steps
@@ -391,91 +265,5 @@ pub fn push_memory(out: &mut String, frame: &FrameLayout, inst: &Inst) -> Result
     ensures { OnOk result
         (string_bytes out.new ≡ string_bytes out.old ++ memory_text frame.now inst.now) }
 {
-    match inst {
-        Inst::LoadP64 { rt, rt2, mem, .. } => {
-            line3(out, "ldp", X(rt.to_reg()), X(rt2.to_reg()), PairMode(*mem))
-        }
-        Inst::StoreP64 { rt, rt2, mem, .. } => line3(out, "stp", X(*rt), X(*rt2), PairMode(*mem)),
-        Inst::FpuLoadP64 { rt, rt2, mem, .. } => line3(
-            out,
-            "ldp",
-            Scalar(ScalarSize::Size64, rt.to_reg()),
-            Scalar(ScalarSize::Size64, rt2.to_reg()),
-            PairMode(*mem),
-        ),
-        Inst::FpuStoreP64 { rt, rt2, mem, .. } => line3(
-            out,
-            "stp",
-            Scalar(ScalarSize::Size64, *rt),
-            Scalar(ScalarSize::Size64, *rt2),
-            PairMode(*mem),
-        ),
-        Inst::FpuLoadP128 { rt, rt2, mem, .. } => line3(
-            out,
-            "ldp",
-            Scalar(ScalarSize::Size128, rt.to_reg()),
-            Scalar(ScalarSize::Size128, rt2.to_reg()),
-            PairMode(*mem),
-        ),
-        Inst::FpuStoreP128 { rt, rt2, mem, .. } => line3(
-            out,
-            "stp",
-            Scalar(ScalarSize::Size128, *rt),
-            Scalar(ScalarSize::Size128, *rt2),
-            PairMode(*mem),
-        ),
-        Inst::LoadAddr { rd, mem } => push_address(out, frame, rd.to_reg(), mem),
-        Inst::AtomicRMW {
-            ty,
-            op,
-            rs,
-            rt,
-            rn,
-            ..
-        } => push_wide3(
-            out,
-            op.op_str(),
-            *ty,
-            Sized(width_size(*ty), *rs),
-            Sized(width_size(*ty), rt.to_reg()),
-            Base(*rn),
-        ),
-        Inst::AtomicCAS {
-            rd,
-            rs,
-            rt,
-            rn,
-            ty,
-            ..
-        } => push_cas(out, *ty, rd.to_reg(), *rs, *rt, *rn),
-        Inst::AtomicCAS128 { args } => push_cas128(out, *args),
-        Inst::LoadAcquire {
-            access_ty,
-            rt,
-            rn,
-            ..
-        } => push_wide2(
-            out,
-            "ldar",
-            *access_ty,
-            Sized(width_size(*access_ty), rt.to_reg()),
-            Base(*rn),
-        ),
-        Inst::StoreRelease {
-            access_ty,
-            rt,
-            rn,
-            ..
-        } => push_wide2(
-            out,
-            "stlr",
-            *access_ty,
-            Sized(width_size(*access_ty), *rt),
-            Base(*rn),
-        ),
-        Inst::VecLoadReplicate { rd, rn, size, .. } => {
-            line2(out, "ld1r", Table(*size, rd.to_reg()), Base(*rn))
-        }
-        _ => push_access_inst(out, frame, inst),
-    }
+    memory_texts!(out, frame, inst)
 }

@@ -1,6 +1,6 @@
 //! The texts of hints and barriers.
 
-ghost use Rattle.std.specs.Prelude.{◌≡◌, ◌++◌, codes, OnOk};
+ghost use Rattle.std.specs.Prelude.{◌≡◌, ◌++◌, OnOk};
 ghost use Rattle.std.specs.String.{string_bytes};
 ghost use Rattle.a64_inst.specs.Groups.{group_of};
 ghost use Rattle.a64_inst.specs.declared.group.Group.TheVariants as groups;
@@ -8,6 +8,7 @@ ghost use Rattle.a64_inst.specs.declared.group.PlainGroup.TheVariants as plain;
 ghost use Rattle.a64_operand_text.specs.ControlTexts as texts;
 ghost use Rattle.a64_operand_text.specs.Texts.{own_text};
 
+use crate::system_texts;
 use a64_base::APIKey;
 use a64_inst::Inst;
 use a64_ops::BranchTargetType;
@@ -40,7 +41,7 @@ fn bti_text(targets: BranchTargetType) -> &'static str
 /// Appends the text of a hint that signs the link register.
 fn push_paci(out: &mut String, key: APIKey) -> Result<(), AllocError>
     ensures { OnOk result (string_bytes out.new
-        ≡ string_bytes out.old ++ (codes "paci" ++ texts.key_name key)) }
+        ≡ string_bytes out.old ++ texts.paci_text key) }
 {
     out.push_str("paci")?;
     out.push_str(key_name(key))
@@ -55,12 +56,5 @@ pub fn push_system(out: &mut String, inst: &Inst) -> Result<(), AllocError>
     requires { group_of inst.now ≡ groups.Plain plain.System }
     ensures { OnOk result (string_bytes out.new ≡ string_bytes out.old ++ own_text inst.now) }
 {
-    match inst {
-        Inst::Csdb => out.push_str("csdb"),
-        Inst::Fence => out.push_str("dmb ish"),
-        Inst::Paci { key } => push_paci(out, *key),
-        Inst::Xpaclri => out.push_str("xpaclri"),
-        Inst::Bti { targets } => out.push_str(bti_text(*targets)),
-        _ => unreachable!(),
-    }
+    system_texts!(out, inst)
 }
