@@ -4,6 +4,7 @@ from __future__ import annotations
 import re
 from dataclasses import dataclass, field
 
+from .file_kinds import InFile, Part, in_file_of
 from .grammar import Call, Line, Names, Record, Test, Value, call_of, names_in, records_of, snake_case, tests_of
 from .words import Words
 
@@ -37,14 +38,17 @@ class Group:
 
 @dataclass(frozen=True)
 class Kind:
-    """A kind of fields: its name, their type, and the kind of their values in a file."""
+    """A kind of fields: its name, their type, and what stands for them in a file."""
 
     name: str
     type: str
-    in_file: str
+    in_file: InFile
 
 
-REGISTERS = {"writes": Kind("Reg", "Writable<Reg>", "Reg"), "reads": Kind("Reg", "Reg", "Reg")}
+REGISTERS = {
+    "writes": Kind("Reg", "Writable<Reg>", InFile((Part("", "Reg", is_written=True),))),
+    "reads": Kind("Reg", "Reg", InFile((Part("", "Reg"),))),
+}
 
 
 @dataclass
@@ -182,8 +186,8 @@ class _Reader:
         if word == "plain":
             self.groups.add(line.name(name), Group(name, words), line)
             return
-        of_type, _, in_file = (half.strip() for half in words.partition("|"))
-        self.kinds.add(line.name(name), Kind(name, of_type, in_file or name), line)
+        of_type, in_file, *_ = (*(column.strip() for column in words.split("|")), "")
+        self.kinds.add(line.name(name), Kind(name, of_type, in_file_of(line, in_file or name)), line)
 
     def instruction(self, record: Record) -> None:
         """An instruction: its head, what it does, its fields, and its other lines."""

@@ -75,15 +75,36 @@ def pieces(text: str) -> list[str]:
     return found
 
 
+def filled(items: list[str], width: int) -> list[str]:
+    """The items with spaces between them, in lines of this width where they have room."""
+    lines = [""]
+    for item in items:
+        joined = f"{lines[-1]} {item}".strip()
+        if lines[-1] and len(joined) > width:
+            lines.append(item)
+        else:
+            lines[-1] = joined
+    return lines
+
+
 def equation(left: str, right: str) -> list[str]:
     """An equation of a definition, on a line where it has room, else with its right side below."""
     if len(left) + len(right) + 3 <= LINE_WIDTH:
         return [f"{left} = {right}"]
-    lines = [""]
-    for piece in pieces(right):
-        joined = f"{lines[-1]} {piece}".strip()
-        if lines[-1] and len(INDENT) + len(joined) > LINE_WIDTH:
-            lines.append(piece)
-        else:
-            lines[-1] = joined
-    return [f"{left} =", *indented(lines)]
+    return [f"{left} =", *indented(filled(pieces(right), LINE_WIDTH - len(INDENT)))]
+
+
+def record_equation(left: str, fields: dict[str, str], opening: str = "record {", closing: str = "}") -> list[str]:
+    """An equation whose right side is a record, on a line where it has room, else with a line for each field; a list that
+    has no room there is broken between its items.
+    """
+    line = f"{left} = {opening} {'; '.join(f'{name} = {value}' for name, value in fields.items())} {closing}"
+    if len(line) <= LINE_WIDTH:
+        return [line]
+    lines = [f"{left} = {opening}"]
+    for name, value in fields.items():
+        first, *others = f"{value};".split(" ∷ ")
+        broken = filled([first, *(f"∷ {item}" for item in others)], LINE_WIDTH - 6)
+        fits = len(broken) == 1 and len(f"  {name} = {broken[0]}") <= LINE_WIDTH
+        lines += [f"  {name} = {broken[0]}"] if fits else [f"  {name} =", *(f"      {part}" for part in broken)]
+    return [*lines, closing]
