@@ -22,6 +22,12 @@ class NameClass:
         return "AccessOp" if self.name == "Access" else f"{self.name}Name"
 
     @property
+    def declared(self) -> str:
+        """The module of definitions that declares this type."""
+        path = "a64_ops.specs.declared.access" if self.name == "Access" else "a64_text.specs.declared.name"
+        return f"{path}.{self.type}"
+
+    @property
     def module(self) -> str:
         """The name under which definitions import its names."""
         return "ops" if self.name == "Access" else self.function

@@ -26,14 +26,12 @@ READERS = {"Bool": "truth_at", "TestBitAndBranchKind": "test_bit_kind_at"}
 
 def type_uses(of: NameClass) -> list[str]:
     """The lines that import the type of the names of a class, and its names."""
-    module = "a64_ops.specs.declared.access" if of.type == "AccessOp" else "a64_text.specs.declared.name"
-    return [use(f"{module}.{of.type}", [of.type]), variants_use(of)]
+    return [use(of.declared, [of.type]), variants_use(of)]
 
 
 def variants_use(of: NameClass) -> str:
     """The line that imports the names of a class."""
-    module = "a64_ops.specs.declared.access" if of.type == "AccessOp" else "a64_text.specs.declared.name"
-    return f"use Rattle.{module}.{of.type}.TheVariants as {of.module}"
+    return f"use Rattle.{of.declared}.TheVariants as {of.module}"
 
 
 # ---- what names make
