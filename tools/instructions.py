@@ -13,7 +13,8 @@ import sys
 from functools import partial
 from typing import Callable
 
-from tables import files, inst_files, instruction_marks, instruction_parts, instruction_roles, text_code, text_specs, text_table
+from tables import files, format_rows, inst_files, instruction_marks, instruction_parts, instruction_roles
+from tables import name_classes, name_code, name_specs, text_code, text_specs, text_table
 from tables.instruction_table import InstructionTable, instruction_table_of
 from tables.script import Script
 from tables.words import words_of
@@ -25,9 +26,13 @@ CRATES = ["crates/a64_ops", "crates/a64_inst", "crates/a64_emit", "crates/a64_op
 COMMAND = "python3 tools/instructions.py"
 MARK = files.mark_of(COMMAND, TABLE)
 CLASSES = "crates/a64_operand/src/class.rt"
+FILE_KINDS = "crates/a64_read/src/value.rt"
 
 # The modules whose `written` says, by the table, which files are written, and what writes each.
-MODULES = (inst_files, instruction_marks, instruction_roles, text_code, text_specs)
+MODULES = (inst_files, instruction_marks, instruction_roles, name_code, name_specs, text_code, text_specs)
+
+# What sees that the lines of records say what can be written.
+CHECKS = (format_rows.checked, instruction_marks.check, instruction_roles.check, text_table.checked)
 
 
 def text_of(path: str) -> str:
@@ -35,18 +40,18 @@ def text_of(path: str) -> str:
     return (files.ROOT / path).read_text(encoding="utf-8")
 
 
-def known_classes() -> list[str]:
-    """The classes of registers."""
-    behind = text_of(CLASSES).partition("pub enum Class {")[2]
-    return re.findall(r"^    (\w+),$", behind.partition("\n}\n")[0], re.MULTILINE)
+def variants_of(path: str, enum: str) -> list[str]:
+    """The variants of an enum."""
+    behind = text_of(path).partition(f"pub enum {enum} {{")[2]
+    return re.findall(r"^    (\w+)(?:\(\w+\))?,$", behind.partition("\n}\n")[0], re.MULTILINE)
 
 
 def read(text: str, file: str) -> InstructionTable:
     """The table of a text."""
-    table = instruction_table_of(text, file, known_classes(), words_of(text_of(WORDS), WORDS))
-    instruction_marks.check(table)
-    instruction_roles.check(table)
-    text_table.checked(table)
+    table = instruction_table_of(text, file, variants_of(CLASSES, "Class"), words_of(text_of(WORDS), WORDS))
+    name_classes.checked(table, variants_of(FILE_KINDS, "Kind"))
+    for checked in CHECKS:
+        checked(table)
     return table
 
 

@@ -25,7 +25,7 @@ def marked(path: str, mark: str, lines: list[str]) -> list[str]:
 @dataclass(frozen=True)
 class Part:
     """A part of a file that is written: behind the lines that begin so, one after another, and before the next line
-    that is `closing`.
+    that begins with `closing`, or is empty where that is.
     """
 
     behind: tuple[str, ...]
@@ -40,7 +40,12 @@ class Part:
             if not found:
                 raise SystemExit(f"{path}: there is no line that begins with `{start}`")
             first = found[0] + 1
-        return [*there[:first], *self.lines, *there[there.index(self.closing, first):]]
+        last = next(number for number in range(first, len(there)) if self.closes(there[number]))
+        return [*there[:first], *self.lines, *there[last:]]
+
+    def closes(self, line: str) -> bool:
+        """Whether the part stands before this line."""
+        return line.startswith(self.closing) if self.closing else not line
 
 
 def with_parts(path: str, parts: list[Part]) -> list[str]:

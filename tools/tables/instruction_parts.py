@@ -3,7 +3,7 @@ from __future__ import annotations
 
 from typing import Callable
 
-from . import instruction_files, instruction_names, instruction_specs
+from . import format_rows, instruction_files, instruction_specs
 from .files import Part
 from .grammar import snake_case
 from .instruction_table import InstructionTable
@@ -45,43 +45,13 @@ def words(table: InstructionTable, mark: str) -> list[Part]:
     ]
 
 
-def names(table: InstructionTable, mark: str) -> list[Part]:
-    """The names of the groups of plain words."""
-    return [
-        arms((f"pub enum {group.name}Name {{",), "}", mark, instruction_names.variants(table, group))
-        for group in instruction_names.named_groups(table)
-    ]
-
-
-def name_texts(table: InstructionTable, mark: str) -> list[Part]:
-    """These names as texts."""
-    return [
-        equations(f"{snake_case(group.name)}_text", "", mark, instruction_names.texts(table, group))
-        for group in instruction_names.named_groups(table)
-    ]
-
-
-def plain_fields(table: InstructionTable, mark: str) -> list[Part]:
-    """What these names make of the fields at their places."""
-    return [
-        equations(f"{snake_case(group.name)}_of", "", mark, instruction_names.makes(table, group))
-        for group in instruction_names.named_groups(table)
-    ]
-
-
-def name_table(table: InstructionTable, mark: str) -> list[Part]:
-    """The tables of these names, each with the kinds of its fields."""
-    return [
-        arms((f"/// The names of {words}.",), "];", mark, instruction_names.rows(table, title))
-        for title, (words, _) in instruction_names.TABLES.items()
-    ]
+def format_page(table: InstructionTable, _: str) -> list[Part]:
+    """The rows of instructions, which are told apart by what stands around them: no comment may stand in a table."""
+    return [format_rows.rows(table)]
 
 
 PARTS: dict[str, Parts] = {
+    format_rows.PAGE: format_page,
     "crates/a64_ops/specs/Accesses.antt": access_fields,
     "crates/a64_emit/src/word/plain.rt": words,
-    "crates/a64_text/specs/Names.antt": name_texts,
-    "crates/a64_text/specs/PlainFields.antt": plain_fields,
-    "crates/a64_text/src/name.rt": names,
-    "crates/a64_text/src/name_table.rt": name_table,
 }

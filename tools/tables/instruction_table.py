@@ -4,6 +4,7 @@ from __future__ import annotations
 import re
 from dataclasses import dataclass, field
 
+from .file_kinds import InFile, Part, in_file_of
 from .grammar import Call, Line, Names, Record, Test, Value, call_of, names_in, records_of, snake_case, tests_of
 from .words import Words
 
@@ -40,13 +41,13 @@ class Group:
 
 @dataclass(frozen=True)
 class Kind:
-    """A kind of fields: its name, their type, the kind of their values in a file, and what they are in a text: the
-    operand that such a value alone is, `name` where the name of an operator begins one, or nothing.
+    """A kind of fields: its name, their type, what stands for them in a file, and what they are in a text: the operand
+    that such a value alone is, `name` where the name of an operator begins one, or nothing.
     """
 
     name: str
     type: str
-    in_file: str
+    in_file: InFile
     in_text: str = ""
 
     @property
@@ -55,7 +56,10 @@ class Kind:
         return self.type.startswith(("ListVec<", "CallInfo<", "ReturnCallInfo<"))
 
 
-REGISTERS = {"writes": Kind("Reg", "Writable<Reg>", "Reg"), "reads": Kind("Reg", "Reg", "Reg")}
+REGISTERS = {
+    "writes": Kind("Reg", "Writable<Reg>", InFile((Part("", "Reg", is_written=True),))),
+    "reads": Kind("Reg", "Reg", InFile((Part("", "Reg"),))),
+}
 
 
 @dataclass
@@ -212,7 +216,7 @@ class _Reader:
         if len(parts) > 3:
             line.fail("`kind NAME | TYPE | KIND IN A FILE | IN A TEXT` is wanted")
         of_type, in_file, in_text = parts + [""] * (3 - len(parts))
-        self.kinds.add(line.name(name), Kind(name, of_type, in_file or name, in_text), line)
+        self.kinds.add(line.name(name), Kind(name, of_type, in_file_of(line, in_file or name), in_text), line)
 
     def instruction(self, record: Record) -> None:
         """An instruction: its head, what it does, its fields, and its other lines."""

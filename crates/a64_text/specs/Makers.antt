@@ -50,8 +50,11 @@ use Rattle.a64_text.specs.Names.{dup_float_name, dup_name, name_text, kinds_of}
 use Rattle.a64_read.specs.RegisterPairs.{arg_pair_text, IsArgPair, ret_pair_text, IsRetPair}
 use Rattle.a64_read.specs.Same.{at_their_places}
 use Rattle.a64_read.specs.PairModes.{written_pair, IsPairAt}
-use Rattle.a64_text.specs.Pairs.{pair_of, pair_scale}
-use Rattle.a64_text.specs.Tokens.{inst_parts, pair_parts, name_of, fields_of, IsOwnInst, IsOwn}
+use Rattle.a64_text.specs.InstParts.{inst_parts}
+use Rattle.a64_text.specs.NameInsts.{pair_of}
+use Rattle.a64_text.specs.Pairs.{pair_scale}
+use Rattle.a64_text.specs.Parts.{pair_parts}
+use Rattle.a64_text.specs.Tokens.{name_of, fields_of, IsOwnInst, IsOwn}
 use Rattle.a64_read.specs.Values.{kind_of, IsValue}
 
 made : (P : Entry → Type 0) (r : Option Entry) (e : Entry) → r ≡ Some e → P e → IfSome r P

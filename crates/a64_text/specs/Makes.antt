@@ -21,19 +21,15 @@ use Rattle.a64_ops.specs.declared.operator.ALUOp.{ALUOp}
 use Rattle.a64_text.specs.declared.entry.Entry.{Entry}
 use Rattle.a64_text.specs.declared.entry.Entry.TheVariants as entries
 use Rattle.a64_text.specs.declared.name.CallName.TheVariants as call
-use Rattle.a64_text.specs.declared.name.ControlName.{ControlName}
 use Rattle.a64_text.specs.declared.name.ControlName.TheVariants as control
 use Rattle.a64_text.specs.declared.name.FloatName.TheVariants as float
 use Rattle.a64_text.specs.declared.name.ImmediateName.TheVariants as immediate
-use Rattle.a64_text.specs.declared.name.MemoryName.{MemoryName}
-use Rattle.a64_text.specs.declared.name.MemoryName.TheVariants as memory
 use Rattle.a64_text.specs.declared.name.VectorMoveName.TheVariants as vector_move
-use Rattle.a64_text.specs.declared.name.SequenceName.{SequenceName}
 use Rattle.a64_text.specs.declared.name.SequenceName.TheVariants as sequence
 use Rattle.a64_text.specs.declared.name.Name.{Name}
 use Rattle.a64_text.specs.declared.name.Name.TheVariants as names
 use Rattle.a64_read.specs.declared.value.Value.{Value}
-use Rattle.a64_read.specs.At.{api_key_at, atomic_rmw_loop_op_at, atomic_rmw_op_at, cond_at, cond_br_kind_at, convention_at, emit_flag_at, flags_at, frame_field_at, i64_at, imm12_at, key_at, label_at, list_at, map_at, mode_at, mov_imm_at, pair_mode_at, reg_at, target_at, test_bit_kind_at, truth_at, type_at, u32_at, u64_at, u8_at, vector_size_at}
+use Rattle.a64_read.specs.At.{convention_at, emit_flag_at, flags_at, frame_field_at, key_at, label_at, list_at, map_at, mode_at, mov_imm_at, pair_mode_at, reg_at, truth_at, u32_at, u8_at, vector_size_at}
 use Rattle.a64_read.specs.Calls.{call_arg_text, call_lists_text, AreCallLists, CallLists, IsCallArg}
 use Rattle.a64_read.specs.Fields.{label_text, IsLabel}
 use Rattle.a64_read.specs.Hex.{hex_text}
@@ -44,8 +40,8 @@ use Rattle.a64_read.specs.PairModes.{written_pair, IsPairAt}
 use Rattle.a64_text.specs.Names.{float_imm_name, kinds_of, logic_name}
 use Rattle.a64_text.specs.FloatImms.{IsFloatAt}
 use Rattle.a64_text.specs.MovImms.{written_mov, IsMovAt}
-use Rattle.a64_text.specs.Pairs.{pair_of, pair_scale}
-use Rattle.a64_text.specs.PlainFields.{float_of, immediate_of, register_of, system_of, vector_move_of, vector_of}
+use Rattle.a64_text.specs.NameInsts.{control_of, float_of, immediate_of, memory_of, pair_of, register_of, sequence_of, system_of, vector_move_of, vector_of}
+use Rattle.a64_text.specs.Pairs.{pair_scale}
 use Rattle.a64_read.specs.RegisterPairs.{arg_pair_text, IsArgPair, ret_pair_text, IsRetPair}
 use Rattle.a64_text.specs.Tokens.{name_of, fields_of, IsOwn, IsPlain}
 use Rattle.a64_read.specs.Values.{kind_of}
@@ -53,55 +49,6 @@ use Rattle.a64_read.specs.Values.{kind_of}
 -- the entry that is an instruction without a map
 abbrev pub emitted : Inst → Entry
 emitted inst = entries.Item (Emit inst None)
-
-abbrev pub control_of : ControlName → List Value → Inst
-control_of control.Ret values = insts.Ret
-control_of control.Jump values = insts.Jump (target_at values 0)
-control_of control.CondBr values = insts.CondBr (target_at values 0) (target_at values 1) (cond_br_kind_at values 2)
-control_of control.TestBitAndBranch values = insts.TestBitAndBranch (test_bit_kind_at values 0) (target_at values 1) (target_at values 2) (reg_at values 3) (u8_at values 4)
-control_of control.TrapIf values = insts.TrapIf (cond_br_kind_at values 0) (record { 0 = u8_at values 1 })
-control_of control.Udf values = insts.Udf (record { 0 = u8_at values 0 })
-control_of control.Word4 values = insts.Word4 (u32_at values 0)
-control_of control.Word8 values = insts.Word8 (u64_at values 0)
-control_of control.EmitIsland values = insts.EmitIsland (u32_at values 0)
-control_of control.LabelAddress values = insts.LabelAddress (reg_at values 0) (label_at values 1)
-control_of control.AuthenticatedRet values = insts.AuthenticatedRet (api_key_at values 0) (truth_at values 1)
-control_of _ values = insts.Brk
-
-abbrev pub sequence_of : SequenceName → List Value → Inst
-sequence_of sequence.DummyUse values = insts.DummyUse (reg_at values 0)
-sequence_of sequence.LoadExtNameGot values = insts.LoadExtNameGot (reg_at values 0) (record { 0 = u32_at values 1 })
-sequence_of sequence.LoadExtNameNear values = insts.LoadExtNameNear (reg_at values 0) (record { 0 = u32_at values 1 }) (i64_at values 2)
-sequence_of sequence.LoadExtNameFar values = insts.LoadExtNameFar (reg_at values 0) (record { 0 = u32_at values 1 }) (i64_at values 2)
-sequence_of sequence.StackProbeLoop values = insts.StackProbeLoop (reg_at values 0) (reg_at values 1) (imm12_at values 2)
-sequence_of sequence.VecCSel values = insts.VecCSel (reg_at values 0) (reg_at values 1) (reg_at values 2) (cond_at values 3)
-sequence_of _ values = insts.SequencePoint
-
-abbrev pub memory_of : MemoryName → List Value → Inst
-memory_of memory.LoadAddr values = insts.LoadAddr (reg_at values 0) (mode_at values 1)
-memory_of memory.AtomicRMW values =
-    insts.AtomicRMW (type_at values 0) (atomic_rmw_op_at values 1) (reg_at values 2) (reg_at values 3) (reg_at values 4) (flags_at values 5)
-memory_of memory.AtomicRMWLoop values =
-    insts.AtomicRMWLoop (type_at values 0) (atomic_rmw_loop_op_at values 1) (flags_at values 2)
-    (reg_at values 3) (reg_at values 4) (reg_at values 5) (reg_at values 6) (reg_at values 7)
-memory_of memory.AtomicCAS values =
-    insts.AtomicCAS (reg_at values 0) (reg_at values 1) (reg_at values 2) (reg_at values 3) (type_at values 4) (flags_at values 5)
-memory_of memory.AtomicCAS128 values = insts.AtomicCAS128 (record {
-  rd_lo = reg_at values 0;
-  rd_hi = reg_at values 1;
-  rs_lo = reg_at values 2;
-  rs_hi = reg_at values 3;
-  rt_lo = reg_at values 4;
-  rt_hi = reg_at values 5;
-  rn = reg_at values 6;
-  flags = flags_at values 7;
-})
-memory_of memory.AtomicCASLoop values =
-    insts.AtomicCASLoop (type_at values 0) (flags_at values 1)
-    (reg_at values 2) (reg_at values 3) (reg_at values 4) (reg_at values 5) (reg_at values 6)
-memory_of memory.LoadAcquire values = insts.LoadAcquire (type_at values 0) (reg_at values 1) (reg_at values 2) (flags_at values 3)
-memory_of memory.StoreRelease values = insts.StoreRelease (type_at values 0) (reg_at values 1) (reg_at values 2) (flags_at values 3)
-memory_of memory.VecLoadReplicate values = insts.VecLoadReplicate (reg_at values 0) (reg_at values 1) (vector_size_at values 2) (flags_at values 3)
 
 -- the jump through a table of these fields, with these targets
 abbrev pub jump_of : List Value → List MachLabel → Inst

@@ -2,6 +2,7 @@
 
 pub mod call;
 pub mod control;
+mod insts;
 pub mod memory;
 pub mod pair;
 pub mod plain;

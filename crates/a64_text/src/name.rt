@@ -1,3 +1,4 @@
+// Written by `python3 tools/instructions.py` from tables/instructions.txt.
 //! The names with which lines begin.
 
 use a64_inst::AccessOp;
@@ -5,7 +6,6 @@ use a64_inst::AccessOp;
 /// The name of an integer operation with an immediate.
 #[derive(Clone, Copy)]
 pub enum ImmediateName {
-    // Written by `python3 tools/instructions.py` from tables/instructions.txt.
     /// `Adr`.
     Adr,
     /// `Adrp`.
@@ -31,7 +31,6 @@ pub enum ImmediateName {
 /// The name of an integer operation on registers.
 #[derive(Clone, Copy)]
 pub enum RegisterName {
-    // Written by `python3 tools/instructions.py` from tables/instructions.txt.
     /// `AluRRR`.
     AluRRR,
     /// `BitRR`.
@@ -65,7 +64,6 @@ pub enum RegisterName {
 /// The name of an operation on scalar floats.
 #[derive(Clone, Copy)]
 pub enum FloatName {
-    // Written by `python3 tools/instructions.py` from tables/instructions.txt.
     /// `FpuMoveFromVec`.
     FpuMoveFromVec,
     /// `FpuRRI`.
@@ -109,7 +107,6 @@ pub enum FloatName {
 /// The name of an operation on vectors.
 #[derive(Clone, Copy)]
 pub enum VectorName {
-    // Written by `python3 tools/instructions.py` from tables/instructions.txt.
     /// `VecRRPair`.
     VecRRPair,
     /// `VecMisc`.
@@ -142,10 +139,9 @@ pub enum VectorName {
     VecFmlaElem,
 }
 
-/// The name of a move of lanes, or of a table of bytes.
+/// The name of a move of lanes, or a table of bytes.
 #[derive(Clone, Copy)]
 pub enum VectorMoveName {
-    // Written by `python3 tools/instructions.py` from tables/instructions.txt.
     /// `VecTbl`.
     VecTbl,
     /// `VecTblExt`.
@@ -174,61 +170,61 @@ pub enum VectorMoveName {
     VecDupImm,
 }
 
-/// The name of a hint, of a barrier, or of an access to the flags.
+/// The name of a hint, a barrier, or an access to the flags.
 #[derive(Clone, Copy)]
 pub enum SystemName {
-    /// `Nop0`.
-    Nop0,
+    /// `Xpaclri`.
+    Xpaclri,
+    /// `Csdb`.
+    Csdb,
+    /// `Paci`.
+    Paci,
+    /// `Bti`.
+    Bti,
+    /// `Fence`.
+    Fence,
     /// `Nop4`.
     Nop4,
     /// `MovToNZCV`.
     MovToNZCV,
     /// `MovFromNZCV`.
     MovFromNZCV,
-    /// `Csdb`.
-    Csdb,
-    /// `Fence`.
-    Fence,
-    /// `Paci`.
-    Paci,
-    /// `Xpaclri`.
-    Xpaclri,
-    /// `Bti`.
-    Bti,
+    /// `Nop0`.
+    Nop0,
 }
 
-/// The name of a control instruction.
+/// The name of a branch or another instruction of control.
 #[derive(Clone, Copy)]
 pub enum ControlName {
-    /// `Ret`.
-    Ret,
-    /// `Jump`.
-    Jump,
-    /// `CondBr`.
-    CondBr,
-    /// `TestBitAndBranch`.
-    TestBitAndBranch,
-    /// `TrapIf`.
-    TrapIf,
-    /// `IndirectBr`.
-    IndirectBr,
-    /// `Brk`.
-    Brk,
     /// `Udf`.
     Udf,
+    /// `CondBr`.
+    CondBr,
+    /// `TrapIf`.
+    TrapIf,
+    /// `Brk`.
+    Brk,
+    /// `IndirectBr`.
+    IndirectBr,
+    /// `Ret`.
+    Ret,
+    /// `AuthenticatedRet`.
+    AuthenticatedRet,
+    /// `Jump`.
+    Jump,
+    /// `TestBitAndBranch`.
+    TestBitAndBranch,
+    /// `LabelAddress`.
+    LabelAddress,
     /// `Word4`.
     Word4,
     /// `Word8`.
     Word8,
     /// `EmitIsland`.
     EmitIsland,
-    /// `LabelAddress`.
-    LabelAddress,
-    /// `AuthenticatedRet`.
-    AuthenticatedRet,
 }
 
-/// The name of a sequence around a table, a symbol or the stack, or of what has no word.
+/// The name of a sequence around a table, a symbol or the stack, or what has no word.
 #[derive(Clone, Copy)]
 pub enum SequenceName {
     /// `Args`.
@@ -253,7 +249,7 @@ pub enum SequenceName {
     VecCSel,
 }
 
-/// The name of a call, or of a return that calls.
+/// The name of a call, or a return that calls.
 #[derive(Clone, Copy)]
 pub enum CallName {
     /// `Call`.
@@ -269,41 +265,41 @@ pub enum CallName {
 /// The name of a load or a store of a pair of registers.
 #[derive(Clone, Copy)]
 pub enum PairName {
-    /// `LoadP64`.
-    LoadP64,
     /// `StoreP64`.
     StoreP64,
-    /// `FpuLoadP64`.
-    FpuLoadP64,
+    /// `LoadP64`.
+    LoadP64,
     /// `FpuStoreP64`.
     FpuStoreP64,
-    /// `FpuLoadP128`.
-    FpuLoadP128,
+    /// `FpuLoadP64`.
+    FpuLoadP64,
     /// `FpuStoreP128`.
     FpuStoreP128,
+    /// `FpuLoadP128`.
+    FpuLoadP128,
 }
 
 /// The name of an instruction of memory that is no load or store of one register.
 #[derive(Clone, Copy)]
 pub enum MemoryName {
-    /// `LoadAddr`.
-    LoadAddr,
-    /// `AtomicRMW`.
-    AtomicRMW,
     /// `AtomicRMWLoop`.
     AtomicRMWLoop,
-    /// `AtomicCAS`.
-    AtomicCAS,
-    /// `AtomicCAS128`.
-    AtomicCAS128,
     /// `AtomicCASLoop`.
     AtomicCASLoop,
-    /// `LoadAcquire`.
-    LoadAcquire,
-    /// `StoreRelease`.
-    StoreRelease,
+    /// `AtomicCAS128`.
+    AtomicCAS128,
     /// `VecLoadReplicate`.
     VecLoadReplicate,
+    /// `StoreRelease`.
+    StoreRelease,
+    /// `LoadAcquire`.
+    LoadAcquire,
+    /// `AtomicCAS`.
+    AtomicCAS,
+    /// `AtomicRMW`.
+    AtomicRMW,
+    /// `LoadAddr`.
+    LoadAddr,
 }
 
 /// The name with which a line begins.

@@ -7,6 +7,7 @@ ghost use Rattle.a64_text.specs.declared.name.Name.TheVariants as names;
 ghost use Rattle.a64_text.specs.Makes.{emitted, Makes};
 ghost use Rattle.a64_text.specs.Puts.{Puts};
 
+use crate::control_insts;
 use crate::make::{emit, emit_some};
 use crate::name::ControlName;
 use a64_base::{MachLabel, TrapCode, Writable};
@@ -38,50 +39,7 @@ fn control_inst(name: ControlName, values: &[Value]) -> Inst
     requires other { name ≢ control.IndirectBr }
     ensures { Makes (names.Control name) values.now (Some (emitted result)) }
 {
-    match name {
-        ControlName::IndirectBr => unreachable!(),
-        ControlName::Ret => Inst::Ret,
-        ControlName::Jump => Inst::Jump {
-            dest: at::get(values, 0),
-        },
-        ControlName::CondBr => Inst::CondBr {
-            taken: at::get(values, 0),
-            not_taken: at::get(values, 1),
-            kind: at::get(values, 2),
-        },
-        ControlName::TestBitAndBranch => Inst::TestBitAndBranch {
-            kind: at::get(values, 0),
-            taken: at::get(values, 1),
-            not_taken: at::get(values, 2),
-            rn: at::get(values, 3),
-            bit: at::get(values, 4),
-        },
-        ControlName::TrapIf => Inst::TrapIf {
-            kind: at::get(values, 0),
-            trap_code: TrapCode(at::get(values, 1)),
-        },
-        ControlName::Brk => Inst::Brk,
-        ControlName::Udf => Inst::Udf {
-            trap_code: TrapCode(at::get(values, 0)),
-        },
-        ControlName::Word4 => Inst::Word4 {
-            value: at::get(values, 0),
-        },
-        ControlName::Word8 => Inst::Word8 {
-            value: at::get(values, 0),
-        },
-        ControlName::EmitIsland => Inst::EmitIsland {
-            needed_space: at::get(values, 0),
-        },
-        ControlName::LabelAddress => Inst::LabelAddress {
-            dst: Writable::from_reg(at::get(values, 0)),
-            label: at::get(values, 1),
-        },
-        ControlName::AuthenticatedRet => Inst::AuthenticatedRet {
-            key: at::get(values, 0),
-            is_hint: at::get(values, 1),
-        },
-    }
+    control_insts!(name, values)
 }
 
 /// Puts the instruction of this name with these fields behind the items.

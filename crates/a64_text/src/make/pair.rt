@@ -5,11 +5,13 @@ ghost use Rattle.std.specs.Vec.{vec_len, vec_capacity};
 ghost use Rattle.a64_imms.specs.Scales.{IsPairScale};
 ghost use Rattle.a64_text.specs.declared.name.Name.TheVariants as names;
 ghost use Rattle.a64_text.specs.Makes.{emitted, Makes};
-ghost use Rattle.a64_text.specs.Pairs as pairs;
+ghost use Rattle.a64_text.specs.NameInsts as name_insts;
+ghost use Rattle.a64_text.specs.Pairs.{pair_scale};
 ghost use Rattle.a64_text.specs.Puts.{Puts};
 
 use crate::make::emit_some;
 use crate::name::PairName;
+use crate::pair_insts;
 use a64_base::{IrType, MemFlagsData, Reg, Writable};
 use a64_inst::{Inst, Item, PairAMode};
 use a64_read::at;
@@ -18,7 +20,7 @@ use a64_read::value::Value;
 
 /// The type whose size scales the offset of a pair.
 fn scale_of(name: PairName) -> IrType
-    ensures value { result ≡ pairs.pair_scale name }
+    ensures value { result ≡ pair_scale name }
     ensures scale { IsPairScale result }
 {
     match name {
@@ -30,46 +32,9 @@ fn scale_of(name: PairName) -> IrType
 
 /// The load or store of these registers.
 fn pair_of(name: PairName, rt: Reg, rt2: Reg, mem: PairAMode, flags: MemFlagsData) -> Inst
-    ensures { result ≡ pairs.pair_of name rt rt2 mem flags }
+    ensures { result ≡ name_insts.pair_of name rt rt2 mem flags }
 {
-    match name {
-        PairName::LoadP64 => Inst::LoadP64 {
-            rt: Writable::from_reg(rt),
-            rt2: Writable::from_reg(rt2),
-            mem,
-            flags,
-        },
-        PairName::StoreP64 => Inst::StoreP64 {
-            rt,
-            rt2,
-            mem,
-            flags,
-        },
-        PairName::FpuLoadP64 => Inst::FpuLoadP64 {
-            rt: Writable::from_reg(rt),
-            rt2: Writable::from_reg(rt2),
-            mem,
-            flags,
-        },
-        PairName::FpuStoreP64 => Inst::FpuStoreP64 {
-            rt,
-            rt2,
-            mem,
-            flags,
-        },
-        PairName::FpuLoadP128 => Inst::FpuLoadP128 {
-            rt: Writable::from_reg(rt),
-            rt2: Writable::from_reg(rt2),
-            mem,
-            flags,
-        },
-        PairName::FpuStoreP128 => Inst::FpuStoreP128 {
-            rt,
-            rt2,
-            mem,
-            flags,
-        },
-    }
+    pair_insts!(name, rt, rt2, mem, flags)
 }
 
 /// The load or store of this name, where its offset is one at its scale.

@@ -6,12 +6,13 @@ ghost use Rattle.a64_text.specs.declared.name.Name.TheVariants as names;
 ghost use Rattle.a64_text.specs.declared.name.ImmediateName.TheVariants as immediate;
 ghost use Rattle.a64_text.specs.Makes.{emitted, Makes};
 ghost use Rattle.a64_text.specs.Names.{logic_name};
-ghost use Rattle.a64_text.specs.PlainFields.{register_of, system_of};
+ghost use Rattle.a64_text.specs.NameInsts.{register_of, system_of};
 ghost use Rattle.a64_text.specs.Puts.{Puts};
 
 use crate::logic::logic_of;
 use crate::make::{emit, emit_some};
 use crate::name::{ImmediateName, RegisterName, SystemName};
+use crate::system_insts;
 use a64_base::{OperandSize, Writable};
 use a64_inst::{Inst, Item, immediate_list, register_list};
 use a64_read::at;
@@ -117,25 +118,7 @@ pub fn put_register(items: &mut Vec<Item>, name: RegisterName, values: &[Value])
 fn system_inst(name: SystemName, values: &[Value]) -> Inst
     ensures { result ≡ system_of name values.now }
 {
-    match name {
-        SystemName::Nop0 => Inst::Nop0,
-        SystemName::Nop4 => Inst::Nop4,
-        SystemName::MovToNZCV => Inst::MovToNZCV {
-            rn: at::get(values, 0),
-        },
-        SystemName::MovFromNZCV => Inst::MovFromNZCV {
-            rd: Writable::from_reg(at::get(values, 0)),
-        },
-        SystemName::Csdb => Inst::Csdb,
-        SystemName::Fence => Inst::Fence,
-        SystemName::Paci => Inst::Paci {
-            key: at::get(values, 0),
-        },
-        SystemName::Xpaclri => Inst::Xpaclri,
-        SystemName::Bti => Inst::Bti {
-            targets: at::get(values, 0),
-        },
-    }
+    system_insts!(name, values)
 }
 
 /// Puts the hint, the barrier, or the access to the flags, of this name with these fields behind the items. A `Nop4`,

@@ -9,6 +9,7 @@ ghost use Rattle.a64_text.specs.Puts.{Puts};
 
 use crate::make::{emit, emit_some};
 use crate::name::SequenceName;
+use crate::sequence_insts;
 use a64_base::{ExternalName, MachLabel, Writable};
 use a64_inst::{ArgPair, Inst, Item, RetPair};
 use a64_read::at;
@@ -67,38 +68,7 @@ fn sequence_inst(name: SequenceName, values: &[Value]) -> Inst
     requires no_table { name ≢ sequence.JTSequence }
     ensures { Makes (names.Sequence name) values.now (Some (emitted result)) }
 {
-    match name {
-        SequenceName::Args | SequenceName::Rets | SequenceName::JTSequence => unreachable!(),
-        SequenceName::DummyUse => Inst::DummyUse {
-            reg: at::get(values, 0),
-        },
-        SequenceName::SequencePoint => Inst::SequencePoint,
-        SequenceName::LoadExtNameGot => Inst::LoadExtNameGot {
-            rd: Writable::from_reg(at::get(values, 0)),
-            name: ExternalName(at::get(values, 1)),
-        },
-        SequenceName::LoadExtNameNear => Inst::LoadExtNameNear {
-            rd: Writable::from_reg(at::get(values, 0)),
-            name: ExternalName(at::get(values, 1)),
-            offset: at::get(values, 2),
-        },
-        SequenceName::LoadExtNameFar => Inst::LoadExtNameFar {
-            rd: Writable::from_reg(at::get(values, 0)),
-            name: ExternalName(at::get(values, 1)),
-            offset: at::get(values, 2),
-        },
-        SequenceName::StackProbeLoop => Inst::StackProbeLoop {
-            start: Writable::from_reg(at::get(values, 0)),
-            end: at::get(values, 1),
-            step: at::get(values, 2),
-        },
-        SequenceName::VecCSel => Inst::VecCSel {
-            rd: Writable::from_reg(at::get(values, 0)),
-            rn: at::get(values, 1),
-            rm: at::get(values, 2),
-            cond: at::get(values, 3),
-        },
-    }
+    sequence_insts!(name, values)
 }
 
 /// Puts the instruction of this name with these fields behind the items.

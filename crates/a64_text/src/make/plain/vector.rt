@@ -6,7 +6,7 @@ ghost use Rattle.a64_text.specs.declared.name.VectorMoveName.TheVariants as vect
 ghost use Rattle.a64_text.specs.declared.name.Name.TheVariants as names;
 ghost use Rattle.a64_text.specs.Makes.{emitted, Makes};
 ghost use Rattle.a64_text.specs.Names.{dup_float_name, dup_name};
-ghost use Rattle.a64_text.specs.PlainFields.{vector_of};
+ghost use Rattle.a64_text.specs.NameInsts.{vector_of};
 ghost use Rattle.a64_text.specs.Puts.{Puts};
 
 use crate::float_imm::float_imm_of;
