@@ -6,6 +6,8 @@ pub mod ControlForms
 pub mod MemoryForms
 pub mod AtomicForms
 pub mod LoopForms
+pub mod Shapes
+pub mod PlainShapes
 pub mod Cells
 pub mod FormCells
 pub mod Words

@@ -6,7 +6,9 @@ ghost use Rattle.a64_inst.specs.declared.group.Group.TheVariants.{Call, Control,
 ghost use Rattle.a64_inst.specs.Groups.{group_of};
 ghost use Rattle.a64_rows.specs.Forms.{Form};
 ghost use Rattle.a64_emit.specs.Cells as cells;
-ghost use Rattle.a64_emit.specs.Cells.{branches, uses_of, listed_uses, inst_uses, table_forms};
+ghost use Rattle.a64_emit.specs.Shapes as shapes;
+ghost use Rattle.a64_emit.specs.Shapes.{branches, table_forms};
+ghost use Rattle.a64_emit.specs.Cells.{uses_of, listed_uses, inst_uses};
 
 use crate::site::{Site, Table, Uses};
 use crate::word::sequence::has_barrier;
@@ -18,7 +20,7 @@ use a64_label_use::LabelUse;
 /// The use that a branch is: none where it has its offset already.
 #[inline(always)]
 pub fn branch_site(kind: LabelUse, dest: BranchTarget) -> Option<Site>
-    ensures { result ≡ cells.branch_site kind dest }
+    ensures { result ≡ shapes.branch_site kind dest }
 {
     match dest {
         BranchTarget::Label(label) => Some(Site {
@@ -32,7 +34,7 @@ pub fn branch_site(kind: LabelUse, dest: BranchTarget) -> Option<Site>
 /// The use that a branch to a trap word is.
 #[inline(always)]
 pub fn trap_site(code: TrapCode) -> Site
-    ensures { result ≡ cells.trap_site code }
+    ensures { result ≡ shapes.trap_site code }
 {
     Site {
         kind: LabelUse::Branch19,

@@ -8,7 +8,8 @@ ghost use Rattle.a64_inst.specs.Faults.{has_operands};
 ghost use Rattle.a64_inst.specs.ControlOperands.{are_jump_operands, is_target, is_test};
 ghost use Rattle.a64_operand.specs.Operands.{is_register_or_zero};
 ghost use Rattle.a64_rows.specs.Forms.{form_word};
-ghost use Rattle.a64_emit.specs.Cells.{plain, shape_of, only_word};
+ghost use Rattle.a64_emit.specs.Shapes.{plain};
+ghost use Rattle.a64_emit.specs.Cells.{shape_of, only_word};
 ghost use Rattle.a64_emit.specs.ControlForms as forms;
 ghost use Rattle.a64_emit.specs.ControlForms.{ret_form, jump_form};
 

@@ -13,7 +13,8 @@ ghost use Rattle.a64_inst.specs.Groups.{group_of};
 ghost use Rattle.a64_inst.specs.Faults.{has_operands, has_mode};
 ghost use Rattle.a64_inst.specs.MemoryOperands as memory;
 ghost use Rattle.a64_inst.specs.Modes.{base_offset_of};
-ghost use Rattle.a64_emit.specs.Cells.{Words, access_shape, inst_cells, literal_use, shape_of};
+ghost use Rattle.a64_emit.specs.Shapes.{Words};
+ghost use Rattle.a64_emit.specs.Cells.{access_shape, inst_cells, literal_use, shape_of};
 ghost use Rattle.a64_emit.specs.Words.{AreSeveral};
 
 use crate::site::Site;
