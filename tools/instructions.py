@@ -13,7 +13,8 @@ import sys
 from functools import partial
 from typing import Callable
 
-from tables import files, instruction_files, instruction_parts
+import rows
+from tables import files, instruction_files, instruction_parts, word_code, word_keys, word_specs
 from tables.instruction_table import InstructionTable, instruction_table_of
 from tables.script import Script
 from tables.words import words_of
@@ -27,7 +28,7 @@ MARK = files.mark_of(COMMAND, TABLE)
 CLASSES = "crates/a64_operand/src/class.rt"
 
 # The modules whose `written` says, by the table, which files are written, and what writes each.
-MODULES = (instruction_files,)
+MODULES = (instruction_files, word_specs, word_code)
 
 
 def text_of(path: str) -> str:
@@ -43,7 +44,8 @@ def known_classes() -> list[str]:
 
 def read(text: str, file: str) -> InstructionTable:
     """The table of a text."""
-    return instruction_table_of(text, file, known_classes(), words_of(text_of(WORDS), WORDS))
+    table = instruction_table_of(text, file, known_classes(), words_of(text_of(WORDS), WORDS))
+    return word_keys.checked(table, rows.read(text_of(rows.TABLE), rows.TABLE))
 
 
 def written(table: InstructionTable) -> files.Files:

@@ -42,34 +42,12 @@ def access(table: InstructionTable, mark: str) -> list[Part]:
     ]
 
 
-def access_fields(table: InstructionTable, mark: str) -> list[Part]:
-    """The fields of the words of loads and stores of one register, and what they are."""
-    return [
-        equations("fields_of", "", mark, instruction_specs.fields_of(table)),
-        equations("moves_vector", "moves_vector _ = false", mark, instruction_specs.moves_vector(table)),
-        equations("loads", "loads _ = true", mark, instruction_specs.loads(table)),
-    ]
-
-
 def accesses(table: InstructionTable, mark: str) -> list[Part]:
     """Loads and stores of one register as data, and back, in definitions."""
     return [
         equations("access_type", "", mark, instruction_specs.access_type(table)),
         equations("access_of", "access_of _ = None", mark, instruction_specs.access_of(table)),
         equations("inst_with", "", mark, instruction_specs.inst_with(table)),
-    ]
-
-
-def words(table: InstructionTable, mark: str) -> list[Part]:
-    """The words of each group of plain words."""
-    return [
-        arms(
-            (f"pub fn {snake_case(group.name)}_word(", "    word_arms!("),
-            "    )",
-            mark,
-            instruction_files.word_arms(table, group),
-        )
-        for group in table.plain_groups
     ]
 
 
@@ -106,12 +84,10 @@ def name_table(table: InstructionTable, mark: str) -> list[Part]:
 
 
 PARTS: dict[str, Parts] = {
-    "crates/a64_ops/specs/Accesses.antt": access_fields,
     "crates/a64_inst/specs/Accesses.antt": accesses,
     "crates/a64_inst/specs/Sheets.antt": sheets,
     "crates/a64_inst/src/access.rt": access,
     "crates/a64_inst/src/inst.rt": inst,
-    "crates/a64_emit/src/word/plain.rt": words,
     "crates/a64_text/specs/Names.antt": name_texts,
     "crates/a64_text/specs/PlainFields.antt": plain_fields,
     "crates/a64_text/src/name.rt": names,

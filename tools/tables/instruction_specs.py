@@ -1,4 +1,4 @@
-"""What the definitions of crates/a64_inst and a64_ops repeat of the table of instructions."""
+"""What the definitions of crates/a64_inst repeat of the table of instructions."""
 from __future__ import annotations
 
 from .grammar import Call, Test, Value
@@ -45,24 +45,6 @@ def has_rest(table: InstructionTable) -> list[str]:
 
 
 # ---- loads and stores of one register
-
-def fields_of(table: InstructionTable) -> list[str]:
-    """specs/Accesses.antt (a64_ops): the fields of their words."""
-    return [
-        f"fields_of {one.name} = record {{ size = {one.access.size}; vector = {one.access.vector}; opc = {one.access.opc} }}"
-        for one in table.accesses
-    ]
-
-
-def moves_vector(table: InstructionTable) -> list[str]:
-    """specs/Accesses.antt (a64_ops): which move vector registers."""
-    return [f"moves_vector {one.name} = true" for one in table.accesses if one.access.vector]
-
-
-def loads(table: InstructionTable) -> list[str]:
-    """specs/Accesses.antt (a64_ops): which do not load."""
-    return [f"loads {one.name} = false" for one in table.accesses if not one.loads]
-
 
 def access_type(table: InstructionTable) -> list[str]:
     """specs/Accesses.antt: the type of the value that is moved."""

@@ -23,8 +23,12 @@ BESIDE = (VIRTUALS, "true", "false")
 # The words with which a line of an instruction begins that is neither a sentence nor a field. Each stands once, and what
 # stands behind it is read where it is written.
 KEYS = (
-    "if", "manual", "row", "form", "word", "traps", "cells", "text", "let", "roles", "access", "made", "kinds", "file", "also",
+    "if", "manual", "row", "form", "word", "traps", "cells", "marks", "text", "let", "roles", "access", "made", "kinds", "file",
+    "also",
 )
+
+# What the line `marks` may say of an instruction.
+MARKS = ("stops", "quiet", "unbounded")
 
 
 @dataclass(frozen=True)
@@ -82,7 +86,7 @@ class Access:
 class Instruction:
     """An instruction: its name, its group, the class of its name in a file, whether its result is the register behind
     it, where it stands, what is said of it, its fields, and its lines by the words with which they begin; and of these
-    what must hold of a plain word, and its word, or what a load or a store of one register moves.
+    what must hold of a plain word, and its word, or what a load or a store of one register moves, and its marks.
     """
 
     name: str
@@ -96,6 +100,7 @@ class Instruction:
     test: Test | None = None
     word: Call | None = None
     access: Access | None = None
+    marks: tuple[str, ...] = ()
 
     @property
     def is_made(self) -> bool:
@@ -160,7 +165,9 @@ class _Reader:
         self.groups = Names("group")
         self.kinds = Names("kind")
         self.instructions = Names("instruction")
-        self.read = {"if": self.test, "form": self.form, "word": self.word, "made": self.made, "access": self.access}
+        self.read = {
+            "if": self.test, "form": self.form, "word": self.word, "marks": self.marks, "made": self.made, "access": self.access,
+        }
 
     def record(self, record: Record) -> None:
         """Reads a record by its first word."""
@@ -275,6 +282,15 @@ class _Reader:
         """The function that gives the word."""
         one.word = call_of(line)
         _known(one, one.word.values, line)
+
+    def marks(self, one: Instruction, line: Line) -> None:
+        """What is true of it, by the names of marks."""
+        one.marks = tuple(line.text.split(", "))
+        for place, mark in enumerate(one.marks):
+            if mark not in MARKS:
+                line.fail(f"there is no mark `{mark}`")
+            if mark in one.marks[:place]:
+                line.fail(f"the mark `{mark}` stands here a second time")
 
     def made(self, one: Instruction, line: Line) -> None:
         """That the immediate of a plain word is made by hand."""

@@ -15,6 +15,7 @@ pub mod Bounds
 pub mod Reach
 pub mod Lights
 pub mod Leads
+pub mod Stops
 pub mod Falls
 pub mod Layout
 pub mod Contents

@@ -18,6 +18,7 @@ ghost use Rattle.a64_emit.specs.Rooms as rooms;
 
 use crate::call_extent::call_count;
 use crate::site::{Site, Uses};
+use crate::where_quiet;
 use crate::uses::{call_uses, control_uses, memory_uses, only_use, sequence_uses, table_start};
 use crate::word::control::authenticated_ret_count;
 use crate::word::exclusive::operator_count;
@@ -381,27 +382,16 @@ fn control_light(inst: &Inst, _frame: &FrameLayout, _info: &EmitInfo) -> Option<
         (size_of (inst_cells _frame.now _info.now inst.now)
         + charge_of (inst_cells _frame.now _info.now inst.now)) light) }
 {
-    match inst {
-        Inst::Nop4
-        | Inst::MovToNZCV { .. }
-        | Inst::MovFromNZCV { .. }
-        | Inst::Ret
-        | Inst::IndirectBr { .. }
-        | Inst::Brk
-        | Inst::Word4 { .. } => Some(without_use(QUIET_WORD_GROWTH)),
+    where_quiet!(inst, Some(without_use(QUIET_WORD_GROWTH));
         Inst::Jump { dest } => Some(jump_light(*dest)),
-        Inst::CondBr {
-            taken,
-            not_taken,
-            ..
-        } => branches_light(LabelUse::Branch19, *taken, *not_taken),
-        Inst::TestBitAndBranch {
-            taken,
-            not_taken,
-            ..
-        } => branches_light(LabelUse::Branch14, *taken, *not_taken),
+        Inst::CondBr { taken, not_taken, .. } => {
+            branches_light(LabelUse::Branch19, *taken, *not_taken)
+        }
+        Inst::TestBitAndBranch { taken, not_taken, .. } => {
+            branches_light(LabelUse::Branch14, *taken, *not_taken)
+        }
         _ => None,
-    }
+    )
 }
 
 /// What an access adds in a mode that an instruction holds, where its word is no use of a label.

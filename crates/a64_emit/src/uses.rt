@@ -10,6 +10,7 @@ ghost use Rattle.a64_emit.specs.Shapes as shapes;
 ghost use Rattle.a64_emit.specs.Shapes.{branches, table_forms};
 ghost use Rattle.a64_emit.specs.Cells.{uses_of, listed_uses, inst_uses};
 
+use crate::access_sites;
 use crate::site::{Site, Table, Uses};
 use crate::word::sequence::has_barrier;
 use a64_base::{BranchTarget, TrapCode};
@@ -145,28 +146,7 @@ pub fn mode_site(mem: &AMode) -> Option<Site>
 fn memory_site(inst: &Inst) -> Option<Site>
     ensures { result ≡ cells.memory_site inst.now }
 {
-    match inst {
-        Inst::ULoad8 { mem, .. }
-        | Inst::SLoad8 { mem, .. }
-        | Inst::ULoad16 { mem, .. }
-        | Inst::SLoad16 { mem, .. }
-        | Inst::ULoad32 { mem, .. }
-        | Inst::SLoad32 { mem, .. }
-        | Inst::ULoad64 { mem, .. }
-        | Inst::FpuLoad16 { mem, .. }
-        | Inst::FpuLoad32 { mem, .. }
-        | Inst::FpuLoad64 { mem, .. }
-        | Inst::FpuLoad128 { mem, .. }
-        | Inst::Store8 { mem, .. }
-        | Inst::Store16 { mem, .. }
-        | Inst::Store32 { mem, .. }
-        | Inst::Store64 { mem, .. }
-        | Inst::FpuStore16 { mem, .. }
-        | Inst::FpuStore32 { mem, .. }
-        | Inst::FpuStore64 { mem, .. }
-        | Inst::FpuStore128 { mem, .. } => mode_site(mem),
-        _ => None,
-    }
+    access_sites!(inst)
 }
 
 /// The uses of the words of a load or a store, or of an address.
