@@ -1,5 +1,5 @@
 // Written by `python3 tools/instructions.py` from tables/instructions.txt.
-//! The arms of functions that go by the instruction: each macro is a match over what it says.
+//! The arms of functions that go by the instruction: each macro is a match that gives what its name says.
 //!
 //! Behind `;` stand the arms of the other instructions, where a macro takes them.
 

@@ -18,8 +18,8 @@ ghost use Rattle.a64_emit.specs.Rooms as rooms;
 
 use crate::call_extent::call_count;
 use crate::site::{Site, Uses};
-use crate::where_quiet;
 use crate::uses::{call_uses, control_uses, memory_uses, only_use, sequence_uses, table_start};
+use crate::where_quiet;
 use crate::word::control::authenticated_ret_count;
 use crate::word::exclusive::operator_count;
 use crate::word::memory::memory_count;

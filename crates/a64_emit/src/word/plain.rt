@@ -15,9 +15,6 @@ ghost use Rattle.a64_inst.specs.Groups.{group_of};
 ghost use Rattle.a64_inst.specs.Faults.{has_operands};
 ghost use Rattle.a64_emit.specs.Cells.{shape_of, only_word};
 
-use crate::{
-    float_words, immediate_words, register_words, system_words, vector_move_words, vector_words,
-};
 use crate::word::plain::float::{
     bits_to_float, conversion_word, float_immediate_word, from_int, kept_shift_word,
     move_lane_word, move_vector_word, move_word, one_float_word, right_shift_word, round_word,
@@ -40,6 +37,9 @@ use crate::word::plain::vector::{
     long_product_word, misc_word, pair_word, three_word, two_word,
 };
 use crate::word::system::{bti_word, csdb_word, paci_word, xpaclri_word};
+use crate::{
+    float_words, immediate_words, register_words, system_words, vector_move_words, vector_words,
+};
 use a64_base::{OperandSize, Reg, ScalarSize, Writable, zero_reg};
 use a64_enc_int::{
     enc_bfm, enc_bit_rr, enc_ccmp, enc_ccmp_imm, enc_csel, enc_dmb_ish, register_field,
