@@ -1,6 +1,6 @@
 #!/usr/bin/env python3
-"""Writes the files of crates that repeat the table of instructions, tables/instructions.txt, and the parts of files by
-hand that do (tools/tables/instruction_parts.py). tables/words.txt says how its words are spelled.
+"""Writes the files of crates that repeat the table of instructions, tables/instructions.txt, and the rows of instructions
+in docs/FORMAT.md. tables/words.txt says how its words are spelled.
 
 Usage: tools/instructions.py [--check | --test]
 
@@ -13,8 +13,10 @@ import sys
 from functools import partial
 from typing import Callable
 
-from tables import files, format_rows, inst_files, instruction_marks, instruction_parts, instruction_roles
+import rows
+from tables import files, format_rows, inst_files, instruction_marks, instruction_roles
 from tables import name_classes, name_code, name_specs, text_code, text_specs, text_table
+from tables import word_code, word_keys, word_specs
 from tables.instruction_table import InstructionTable, instruction_table_of
 from tables.script import Script
 from tables.words import words_of
@@ -29,7 +31,9 @@ CLASSES = "crates/a64_operand/src/class.rt"
 FILE_KINDS = "crates/a64_read/src/value.rt"
 
 # The modules whose `written` says, by the table, which files are written, and what writes each.
-MODULES = (inst_files, instruction_marks, instruction_roles, name_code, name_specs, text_code, text_specs)
+MODULES = (
+    inst_files, instruction_marks, instruction_roles, name_code, name_specs, text_code, text_specs, word_code, word_specs,
+)
 
 # What sees that the lines of records say what can be written.
 CHECKS = (format_rows.checked, instruction_marks.check, instruction_roles.check, text_table.checked)
@@ -49,6 +53,7 @@ def variants_of(path: str, enum: str) -> list[str]:
 def read(text: str, file: str) -> InstructionTable:
     """The table of a text."""
     table = instruction_table_of(text, file, variants_of(CLASSES, "Class"), words_of(text_of(WORDS), WORDS))
+    word_keys.checked(table, rows.read(text_of(rows.TABLE), rows.TABLE))
     name_classes.checked(table, variants_of(FILE_KINDS, "Kind"))
     for checked in CHECKS:
         checked(table)
@@ -60,19 +65,13 @@ def written(table: InstructionTable) -> files.Files:
     found: files.Files = {}
     for module in MODULES:
         found |= {path: partial(whole, path, lines) for path, lines in module.written(table).items()}
-    for path, parts in instruction_parts.PARTS.items():
-        found[path] = partial(with_parts, path, parts, table)
+    found[format_rows.PAGE] = partial(files.with_parts, format_rows.PAGE, [format_rows.rows(table)])
     return found
 
 
 def whole(path: str, lines: Callable[[], list[str]]) -> list[str]:
     """What a file has to be."""
     return files.marked(path, MARK, lines())
-
-
-def with_parts(path: str, parts: instruction_parts.Parts, table: InstructionTable) -> list[str]:
-    """What a file has to be of which parts are written."""
-    return files.with_parts(path, parts(table, MARK))
 
 
 if __name__ == "__main__":

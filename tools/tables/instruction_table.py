@@ -27,8 +27,11 @@ KEYS = (
     "made", "kinds", "file", "also",
 )
 
-# What else is said of an instruction, each by a name.
-MARKS = ("trap", "args", "safepoint", "pair_access", "regular_call", "tail_call", "ret", "ret_call", "branch")
+# What the line `marks` may say of an instruction: what queries answer of it, and where its emission goes by it.
+MARKS = (
+    "trap", "args", "safepoint", "pair_access", "regular_call", "tail_call", "ret", "ret_call", "branch",
+    "stops", "quiet", "unbounded",
+)
 
 
 @dataclass(frozen=True)

@@ -14,7 +14,8 @@ use Rattle.a64_emit.specs.declared.code.Code.{Code}
 use Rattle.a64_label_use.specs.declared.label_use.LabelUse.{LabelUse}
 use Rattle.a64_emit.specs.declared.site.Site.{Site}
 use Rattle.a64_label_use.specs.LabelUses.{label_kinds}
-use Rattle.a64_emit.specs.Cells.{Cell, cell_word, cells_of}
+use Rattle.a64_emit.specs.Shapes.{Cell}
+use Rattle.a64_emit.specs.Cells.{cell_word, cells_of}
 use Rattle.a64_emit.specs.Emission.{HasUse}
 use Rattle.a64_emit.specs.FormCells.{IsFormCell, RestoresHalfwords, HoldsHalfword}
 use Rattle.a64_emit.specs.Faults.{own_fault}

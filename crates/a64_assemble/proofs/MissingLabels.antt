@@ -6,7 +6,8 @@ use Rattle.std.proofs.lemmas.List.Folds.{find-append}
 use Rattle.a64_base.specs.declared.entity.MachLabel.{MachLabel}
 use Rattle.a64_emit.specs.declared.site.Site.{Site}
 use Rattle.a64_emit.specs.declared.site.Uses.{Uses}
-use Rattle.a64_emit.specs.Cells.{Cell, listed_uses, sites_of, table_labels, two_uses, uses_of}
+use Rattle.a64_emit.specs.Shapes.{Cell, table_labels}
+use Rattle.a64_emit.specs.Cells.{listed_uses, sites_of, two_uses, uses_of}
 use Rattle.a64_emit.specs.Faults.{first_missing, is_among, used_label}
 use Rattle.a64_emit.proofs.UseLists.{listed_labels, listed_two, missing_listed}
 

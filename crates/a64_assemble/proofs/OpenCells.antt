@@ -35,7 +35,8 @@ use Rattle.a64_emit.specs.IntegerForms.{adr_form}
 use Rattle.a64_emit.specs.ControlForms.{authenticated_ret_forms, jump_form, cond_br_form, trap_if_form, test_bit_and_branch_form, label_address_form}
 use Rattle.a64_emit.specs.LoopForms.{awaited_forms, new_register, operator_forms, stored_register}
 use Rattle.a64_emit.specs.MemoryForms.{step_forms, offset_register, literal_form, held_form, access_steps, access_form}
-use Rattle.a64_emit.specs.Cells.{Body, FormOf, Data, Cell, plain, branch, trap_site, last_cell, several, entry_site, table_labels, table_cells, table_forms, table_jump, mode_site, shape_cells, access_shape, other_shape, inst_cells, kept_by, keep, cells_of, sites_of}
+use Rattle.a64_emit.specs.Shapes.{Body, FormOf, Data, Cell, plain, branch, trap_site, last_cell, several, entry_site, table_labels, table_cells, table_forms, table_jump}
+use Rattle.a64_emit.specs.Cells.{mode_site, shape_cells, access_shape, other_shape, inst_cells, kept_by, keep, cells_of, sites_of}
 use Rattle.a64_emit.proofs.CallSites.{calls_sites}
 use Rattle.a64_emit.proofs.Loops.{loop_sites}
 use Rattle.a64_emit.proofs.Several.{plain_sites, address_sites}

@@ -22,7 +22,8 @@ use Rattle.a64_buffer.proofs.Pays.{label_is}
 use Rattle.a64_label_use.specs.declared.label_use.LabelUse.{LabelUse}
 use Rattle.a64_emit.specs.declared.site.Site.{Site}
 use Rattle.a64_label_use.specs.LabelUses.{label_kinds}
-use Rattle.a64_emit.specs.Cells.{Cell, sites_of}
+use Rattle.a64_emit.specs.Shapes.{Cell}
+use Rattle.a64_emit.specs.Cells.{sites_of}
 use Rattle.a64_emit.specs.Emission.{use_at, uses_from, appended}
 use Rattle.a64_assemble.specs.Elements.{Element, Binding, Words, Asking, size_in, sizes_in, next_room}
 use Rattle.a64_assemble.specs.Asks.{Asks, AsksNext, PutsWords, Moves}

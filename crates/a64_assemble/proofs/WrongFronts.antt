@@ -17,7 +17,8 @@ use Rattle.a64_emit.specs.declared.code.Code.{Code}
 use Rattle.a64_emit.specs.declared.site.Site.{Site}
 use Rattle.a64_label_use.specs.declared.label_use.LabelUse.TheVariants as uses
 use Rattle.a64_label_use.specs.LabelUses.{distance_in, mask_for}
-use Rattle.a64_emit.specs.Cells.{Cell, cells_of}
+use Rattle.a64_emit.specs.Shapes.{Cell}
+use Rattle.a64_emit.specs.Cells.{cells_of}
 use Rattle.a64_emit.specs.Contents.{IsCellUse, HasPiece, Fills}
 use Rattle.a64_emit.specs.Falls.{falls_at}
 use Rattle.a64_emit.specs.Layout.{standing, IsIslandAfter}

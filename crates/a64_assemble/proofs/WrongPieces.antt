@@ -20,7 +20,7 @@ use Rattle.a64_emit.specs.declared.site.Site.{Site}
 use Rattle.a64_label_use.specs.LabelUses.{label_kinds, adds_distance}
 use Rattle.a64_emit.proofs.Burdens.{target_kinded}
 use Rattle.a64_emit.proofs.Targets.{IsCodeSite}
-use Rattle.a64_emit.specs.Cells.{Cell}
+use Rattle.a64_emit.specs.Shapes.{Cell}
 use Rattle.a64_emit.specs.Contents.{site_class, order_of, piece_size, HasPiece, Fills}
 use Rattle.a64_assemble.specs.Placement.{UseStopsAt, IsWanting}
 use Rattle.a64_assemble.specs.Fillings.{StopsBetween, StopsBy, HoldsPieces}

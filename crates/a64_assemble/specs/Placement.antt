@@ -20,7 +20,8 @@ use Rattle.a64_label_use.specs.declared.label_use.LabelUse.{LabelUse}
 use Rattle.a64_label_use.specs.declared.label_use.LabelUse.TheVariants as uses
 use Rattle.a64_emit.specs.declared.site.Site.{Site}
 use Rattle.a64_label_use.specs.LabelUses.{mask_for, forward_range}
-use Rattle.a64_emit.specs.Cells.{Cell, cells_of}
+use Rattle.a64_emit.specs.Shapes.{Cell}
+use Rattle.a64_emit.specs.Cells.{cells_of}
 use Rattle.a64_emit.specs.Bounds.{whole}
 use Rattle.a64_emit.specs.Falls.{falls_at}
 use Rattle.a64_emit.specs.Layout.{standing, IsIslandAfter}

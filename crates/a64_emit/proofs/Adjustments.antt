@@ -24,7 +24,8 @@ use Rattle.a64_inst.specs.MemoryOperands.{is_addend}
 use Rattle.a64_rows.specs.Forms.{Form, form_word}
 use Rattle.a64_emit.specs.declared.call.Callee.{Callee}
 use Rattle.a64_emit.specs.declared.call.Callee.TheVariants.{Symbol}
-use Rattle.a64_emit.specs.Cells.{adjust_forms, call_cells, frame_forms, inst_cells, key_forms, leave_forms, patchable_cells, plain, pop_forms, restored_cell, result_cells, return_cell, return_cells}
+use Rattle.a64_emit.specs.Shapes.{plain}
+use Rattle.a64_emit.specs.Cells.{adjust_forms, call_cells, frame_forms, inst_cells, key_forms, leave_forms, patchable_cells, pop_forms, restored_cell, result_cells, return_cell, return_cells}
 use Rattle.a64_emit.specs.IntegerForms.{alu_rrr_extend_form}
 use Rattle.a64_emit.specs.MemoryForms.{addend_form, is_negative, offset_register, step_form, step_forms, sum_op}
 

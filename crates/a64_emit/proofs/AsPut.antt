@@ -14,7 +14,8 @@ use Rattle.a64_rows.specs.Forms.{Form, form_word}
 use Rattle.a64_label_use.specs.declared.label_use.LabelUse.{LabelUse}
 use Rattle.a64_emit.specs.declared.site.Site.{Site}
 use Rattle.a64_label_use.specs.LabelUses.{label_kinds}
-use Rattle.a64_emit.specs.Cells.{Cell, Shape, OneWord, Several, Words, body_word, cell_word, plain, last_cell, branch_site, shape_cells, only_word, other_cells}
+use Rattle.a64_emit.specs.Shapes.{Cell, Shape, OneWord, Several, Words, plain, last_cell, branch_site}
+use Rattle.a64_emit.specs.Cells.{body_word, cell_word, shape_cells, only_word, other_cells}
 use Rattle.a64_emit.specs.Layout.{placed, reloc_at, call_at, patchable_at, map_at, trap_at, records_in, more_records}
 use Rattle.a64_emit.specs.Emission.{use_at, uses_from, appended, Parts, part_records, IsAppendedInPart, HasRoom, CellsFit, CanPut}
 use Rattle.a64_emit.specs.Words.{AreSeveral, MayBePut, put_cell, put_cells, as_put}

@@ -7,7 +7,7 @@ use Rattle.a64_buffer.specs.Classes.{Fits}
 use Rattle.a64_rows.specs.Forms.{Form, form_word}
 use Rattle.a64_label_use.specs.declared.label_use.LabelUse.{LabelUse}
 use Rattle.a64_label_use.specs.LabelUses.{label_kinds}
-use Rattle.a64_emit.specs.Cells.{Cell, plain}
+use Rattle.a64_emit.specs.Shapes.{Cell, plain}
 use Rattle.a64_emit.specs.Emission.{appended, PutsInPart, IsAppendedInPart, CanPut, PutsCells}
 use Rattle.a64_emit.specs.Words.{as_put}
 use Rattle.a64_emit.proofs.AsPut.{plain_put}

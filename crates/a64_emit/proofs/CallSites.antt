@@ -20,7 +20,8 @@ use Rattle.a64_rows.specs.Forms.{Form}
 use Rattle.a64_emit.specs.declared.call.Callee.{Callee}
 use Rattle.a64_emit.specs.declared.call.Callee.TheVariants.{Symbol, Address}
 use Rattle.a64_emit.specs.declared.site.Site.{Site}
-use Rattle.a64_emit.specs.Cells.{Cell, FormOf, call_cells, inst_cells, leave_forms, lone_cell, other_shape, patchable_cells, plain, pop_forms, restored_cell, result_cells, return_cell, return_cells, shape_cells, sites_of}
+use Rattle.a64_emit.specs.Shapes.{Cell, FormOf, plain}
+use Rattle.a64_emit.specs.Cells.{call_cells, inst_cells, leave_forms, lone_cell, other_shape, patchable_cells, pop_forms, restored_cell, result_cells, return_cell, return_cells, shape_cells, sites_of}
 use Rattle.a64_emit.specs.MemoryForms.{access_form, access_steps}
 use Rattle.a64_emit.proofs.CallLoads.{loading, loaded_cells, no_load, no_load_at}
 use Rattle.a64_emit.proofs.Several.{plain_sites, several_sites}

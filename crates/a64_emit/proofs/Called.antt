@@ -11,7 +11,8 @@ use Rattle.a64_emit.specs.declared.call.Callee.{Callee}
 use Rattle.a64_emit.specs.declared.call.Callee.TheVariants.{Symbol, Address}
 use Rattle.a64_label_use.specs.declared.label_use.LabelUse.{LabelUse}
 use Rattle.a64_label_use.specs.LabelUses.{label_kinds}
-use Rattle.a64_emit.specs.Cells.{Data, Cell, call_marks, cell_word, plain, pop_forms, call_form, call_cell, patchable_cells, return_form, return_cell, keep}
+use Rattle.a64_emit.specs.Shapes.{Data, Cell, plain}
+use Rattle.a64_emit.specs.Cells.{call_marks, cell_word, pop_forms, call_form, call_cell, patchable_cells, return_form, return_cell, keep}
 use Rattle.a64_emit.specs.Layout.{placed, relocs_in, calls_in, patchable_in, maps_in, traps_in}
 use Rattle.a64_emit.specs.Emission.{uses_from, appended, linked, mapped, Parts, IsAppendedInPart, CanPut}
 use Rattle.a64_emit.specs.Words.{as_put, put_cell, put_kept}

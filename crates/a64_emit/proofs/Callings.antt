@@ -22,7 +22,8 @@ use Rattle.a64_inst.specs.CallOperands.{are_call_uses, are_call_defs, are_call_o
 use Rattle.a64_inst.specs.Faults.{is_restorable, has_operands}
 use Rattle.a64_operand.specs.Operands.{is_register_or_zero}
 use Rattle.a64_emit.specs.declared.call.Callee.TheVariants.{Symbol, Address}
-use Rattle.a64_emit.specs.Cells.{keep, kept_cells, plain, call_cells, patchable_cells, leave_forms, restored_cell, return_cell, return_cells}
+use Rattle.a64_emit.specs.Shapes.{plain}
+use Rattle.a64_emit.specs.Cells.{keep, kept_cells, call_cells, patchable_cells, leave_forms, restored_cell, return_cell, return_cells}
 
 -- ---- operands
 

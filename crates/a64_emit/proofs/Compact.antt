@@ -29,7 +29,8 @@ use Rattle.a64_label_use.specs.LabelUses.{label_kinds}
 use Rattle.a64_emit.specs.ControlForms as control
 use Rattle.a64_emit.specs.LoopForms.{awaited_forms, new_register, operator_forms, stored_register}
 use Rattle.a64_emit.specs.MemoryForms.{step_forms, offset_register, access_form}
-use Rattle.a64_emit.specs.Cells.{Cell, FormOf, branch, branches, entry_site, table_labels, table_jump, mode_site, shape_cells, access_shape, other_shape, several, inst_cells, keep, rmw_loop_cells, cas_loop_cells, sites_of}
+use Rattle.a64_emit.specs.Shapes.{Cell, FormOf, branch, branches, entry_site, table_labels, table_jump, several, rmw_loop_cells, cas_loop_cells}
+use Rattle.a64_emit.specs.Cells.{mode_site, shape_cells, access_shape, other_shape, inst_cells, keep, sites_of}
 use Rattle.a64_emit.specs.Bounds.{ranges_in, size_of}
 use Rattle.a64_emit.specs.Contents.{site_class}
 use Rattle.a64_emit.specs.Rooms.{AreCompact}

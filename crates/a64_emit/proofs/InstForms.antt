@@ -45,7 +45,9 @@ use Rattle.a64_emit.specs.declared.call.Callee.{Callee}
 use Rattle.a64_emit.specs.declared.call.Callee.TheVariants.{Symbol, Address}
 use Rattle.a64_label_use.specs.declared.label_use.LabelUse.{LabelUse}
 use Rattle.a64_label_use.specs.declared.label_use.LabelUse.TheVariants as uses
-use Rattle.a64_emit.specs.Cells.{Cell, Shape, OneWord, Several, Words, plain, last_cell, branch, branches, quiet, sum_shape, address_shape, access_shape, plain_shape, other_shape, shape_of, shape_cells, inst_cells, cells_of, pop_forms, call_cell, call_cells, patchable_cells, result_cells, lone_cell, restored_cell, leave_forms, return_cell, return_cells, keep, kept_by}
+use Rattle.a64_emit.specs.Shapes.{Cell, Shape, OneWord, Several, Words, plain, last_cell, branch, branches, quiet, sum_shape, address_shape}
+use Rattle.a64_emit.specs.PlainShapes.{plain_shape}
+use Rattle.a64_emit.specs.Cells.{access_shape, other_shape, shape_of, shape_cells, inst_cells, cells_of, pop_forms, call_cell, call_cells, patchable_cells, result_cells, lone_cell, restored_cell, leave_forms, return_cell, return_cells, keep, kept_by}
 use Rattle.a64_emit.specs.FormCells.{IsFormBody, IsFormCell, HasHalfword, RestoresHalfwords, HoldsHalfword}
 use Rattle.a64_emit.specs.Faults.{item_fault}
 use Rattle.a64_emit.specs.ControlForms.{jump_form, ret_form, brk_form}

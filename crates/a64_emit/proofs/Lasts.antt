@@ -13,7 +13,8 @@ use Rattle.a64_buffer.specs.Classes.{Fits}
 use Rattle.a64_label_use.specs.declared.label_use.LabelUse.{LabelUse}
 use Rattle.a64_emit.specs.declared.site.Site.{Site}
 use Rattle.a64_label_use.specs.LabelUses.{label_kinds}
-use Rattle.a64_emit.specs.Cells.{Data, Cell, cell_word, reloc_cell}
+use Rattle.a64_emit.specs.Shapes.{Data, Cell, reloc_cell}
+use Rattle.a64_emit.specs.Cells.{cell_word}
 use Rattle.a64_emit.specs.Layout.{placed, relocs_in, calls_in, patchable_in, maps_in, traps_in, records_in, more_records}
 use Rattle.a64_emit.specs.Emission.{uses_from, appended, trapped, PutsInPart, IsAppendedInPart, HasRoom, CellsFit}
 use Rattle.a64_emit.specs.Words.{put_cell}

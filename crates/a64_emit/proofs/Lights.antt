@@ -13,7 +13,8 @@ use Rattle.a64_inst.specs.Accesses.{access_of, access_type}
 use Rattle.a64_inst.specs.FinalModes.{final_mode, held_mode, parts_of, placed_mode}
 use Rattle.a64_inst.specs.Modes.{BaseOffset, base_offset_of, steps_to}
 use Rattle.a64_emit.specs.Bounds.{asked_of}
-use Rattle.a64_emit.specs.Cells.{FormOf, access_shape, inst_cells, last_cell, mode_site, other_shape, several, shape_cells}
+use Rattle.a64_emit.specs.Shapes.{FormOf, last_cell, several}
+use Rattle.a64_emit.specs.Cells.{access_shape, inst_cells, mode_site, other_shape, shape_cells}
 use Rattle.a64_emit.specs.MemoryForms.{access_form, access_steps, offset_register, step_forms}
 
 pub none_of : (o : Option BaseOffset) → is_some o ≡ false → o ≡ None

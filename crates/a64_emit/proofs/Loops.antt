@@ -7,7 +7,8 @@ use Rattle.a64_base.specs.declared.ir_type.IrType.{IrType}
 use Rattle.a64_base.specs.declared.key.APIKey.{APIKey}
 use Rattle.a64_base.specs.declared.reg.Reg.{Reg}
 use Rattle.a64_rows.specs.Forms.{Form, form_word}
-use Rattle.a64_emit.specs.Cells.{Body, FormOf, Cell, Several, plain, last_cell, several, loop_cells, sites_of, uses_of}
+use Rattle.a64_emit.specs.Shapes.{Body, FormOf, Cell, Several, plain, last_cell, several, loop_cells}
+use Rattle.a64_emit.specs.Cells.{sites_of, uses_of}
 use Rattle.a64_emit.specs.ControlForms.{authenticated_ret_forms}
 use Rattle.a64_emit.specs.LoopForms.{address_register, failed_register, old_register, load_exclusive_form, store_exclusive_form, back_form}
 use Rattle.a64_emit.specs.Words.{as_put, put_cell, put_cells}

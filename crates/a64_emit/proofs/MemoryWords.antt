@@ -3,7 +3,8 @@ use Rattle.std.proofs.Common.{ℕ, ◌≡◌, ◌+◌, ◌*◌, ◌/◌, ◌%◌
 use Rattle.a64_base.specs.declared.reg.Reg.{Reg}
 use Rattle.a64_imms.specs.declared.offset.SImm7Scaled.{SImm7Scaled}
 use Rattle.a64_ops.specs.declared.access.AccessOp.{AccessOp}
-use Rattle.a64_ops.specs.Accesses.{size_of, vector_of, opc_of, literal_of}
+use Rattle.a64_ops.specs.AccessFields.{size_of, vector_of, opc_of}
+use Rattle.a64_ops.specs.Accesses.{literal_of}
 use Rattle.a64_rows.specs.Forms.{form_word}
 use Rattle.a64_rows.specs.Memory.{ld_st_pair}
 use Rattle.a64_enc_int.specs.Operators.{simm7_field}

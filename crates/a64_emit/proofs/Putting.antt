@@ -14,7 +14,8 @@ use Rattle.a64_label_use.specs.declared.label_use.LabelUse.{LabelUse}
 use Rattle.a64_label_use.specs.LabelUses.{label_kinds}
 use Rattle.a64_label_use.specs.LabelLaws.{label_kinds_lawful}
 use Rattle.a64_emit.specs.declared.site.Site.{Site}
-use Rattle.a64_emit.specs.Cells.{Cell, Data, no_marks, sites_of}
+use Rattle.a64_emit.specs.Shapes.{Cell, Data, no_marks}
+use Rattle.a64_emit.specs.Cells.{sites_of}
 use Rattle.a64_emit.specs.Bounds.{ranges_in, size_of}
 use Rattle.a64_emit.specs.Contents.{site_class}
 use Rattle.a64_emit.specs.Emission.{use_at, uses_from, site_of, CellsFit}

@@ -6,7 +6,7 @@ use Rattle.a64_buffer.specs.Buffer.{Buffer, end_of}
 use Rattle.a64_buffer.specs.Classes.{Fits}
 use Rattle.a64_label_use.specs.declared.label_use.LabelUse.{LabelUse}
 use Rattle.a64_label_use.specs.LabelUses.{label_kinds}
-use Rattle.a64_emit.specs.Cells.{plain}
+use Rattle.a64_emit.specs.Shapes.{plain}
 use Rattle.a64_emit.specs.Emission.{CanPut, PutsCells, PutsInPart}
 use Rattle.a64_emit.specs.Words.{as_put}
 use Rattle.a64_emit.proofs.AsPut.{plain_put}

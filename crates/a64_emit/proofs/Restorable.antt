@@ -45,7 +45,8 @@ use Rattle.a64_rows.specs.Forms.{Form}
 use Rattle.a64_emit.specs.declared.call.Callee.{Callee}
 use Rattle.a64_emit.specs.declared.call.Callee.TheVariants.{Symbol, Address}
 use Rattle.a64_emit.specs.declared.site.Site.{Site}
-use Rattle.a64_emit.specs.Cells.{Body, FormOf, Cell, Shape, Words, quiet, several, mode_site, sum_shape, address_shape, access_shape, other_shape, shape_cells, inst_cells, call_cell, call_cells, leave_forms, patchable_cells, plain, pop_forms, restored_cell, result_cells, return_cell, is_lone_cells, loop_cells, table_jump}
+use Rattle.a64_emit.specs.Shapes.{Body, FormOf, Cell, Shape, Words, quiet, several, sum_shape, address_shape, plain, loop_cells, table_jump}
+use Rattle.a64_emit.specs.Cells.{mode_site, access_shape, other_shape, shape_cells, inst_cells, call_cell, call_cells, leave_forms, patchable_cells, pop_forms, restored_cell, result_cells, return_cell, is_lone_cells}
 use Rattle.a64_emit.specs.IntegerForms.{mov_form, alu_rrr_extend_form}
 use Rattle.a64_emit.specs.LoopForms.{awaited_forms, new_register, operator_forms, stored_register}
 use Rattle.a64_emit.specs.MemoryForms.{step_forms, offset_register, addend_register, addend_form, sum_form, access_steps, access_form}

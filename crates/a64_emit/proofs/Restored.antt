@@ -41,7 +41,9 @@ use Rattle.a64_plan.specs.declared.step.ConstStep.{ConstStep}
 use Rattle.a64_rows.specs.Forms.{Form}
 use Rattle.a64_emit.specs.declared.site.Site.{Site}
 use Rattle.a64_emit.specs.Bounds.{asked_of}
-use Rattle.a64_emit.specs.Cells.{Body, FormOf, Shape, Words, plain, quiet, mode_site, several, sum_shape, address_shape, access_shape, plain_shape, other_shape, shape_cells, inst_cells, lone_cell, restored_cell}
+use Rattle.a64_emit.specs.Shapes.{Body, FormOf, Shape, Words, plain, quiet, several, sum_shape, address_shape}
+use Rattle.a64_emit.specs.PlainShapes.{plain_shape}
+use Rattle.a64_emit.specs.Cells.{mode_site, access_shape, other_shape, shape_cells, inst_cells, lone_cell, restored_cell}
 use Rattle.a64_emit.specs.ControlForms.{authenticated_ret_forms}
 use Rattle.a64_emit.specs.IntegerForms.{mov_form, alu_rrr_extend_form}
 use Rattle.a64_emit.specs.MemoryForms.{step_forms, offset_register, addend_register, addend_form, sum_form, access_steps, access_form}

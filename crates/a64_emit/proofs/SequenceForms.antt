@@ -42,7 +42,7 @@ use Rattle.a64_operand.specs.IntegerOperands.{is_extended}
 use Rattle.a64_operand.specs.Operands.{is_imm12, is_register, is_register_or_zero}
 use Rattle.a64_inst.specs.SequenceOperands.{are_probe_operands}
 use Rattle.a64_rows.specs.Forms.{Form, IsFormOf}
-use Rattle.a64_emit.specs.Cells.{Data, plain, last_cell, entry_site, table_labels, table_cells, barrier_forms, table_forms, table_jump, got_cells, near_cells, far_cells, probe_forms, vector_select_forms, FormOf, Cell, loop_cells, rmw_loop_cells, cas_loop_cells}
+use Rattle.a64_emit.specs.Shapes.{Data, plain, last_cell, entry_site, table_labels, table_cells, barrier_forms, table_forms, table_jump, got_cells, near_cells, far_cells, probe_forms, vector_select_forms, FormOf, Cell, loop_cells, rmw_loop_cells, cas_loop_cells}
 use Rattle.a64_emit.specs.ControlForms.{csdb_form, indirect_br_form, auti_form, authenticated_ret_forms, cond_br_form, ret_auth_form, ret_form}
 use Rattle.a64_enc_int.proofs.Registers.{field_below}
 use Rattle.a64_emit.specs.FormCells.{IsFormCell}

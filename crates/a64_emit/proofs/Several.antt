@@ -31,7 +31,8 @@ use Rattle.a64_rows.specs.Forms.{Form}
 use Rattle.a64_emit.specs.IntegerForms.{mov_form, alu_rrr_extend_form}
 use Rattle.a64_emit.specs.MemoryForms.{step_forms, addend_form, addend_register, sum_form, offset_register, access_steps, access_form}
 use Rattle.a64_emit.specs.declared.site.Site.{Site}
-use Rattle.a64_emit.specs.Cells.{Body, FormOf, Cell, Shape, OneWord, Several, Words, plain, quiet, several, literal_site, mode_site, memory_site, sum_shape, address_shape, access_shape, other_shape, shape_of, shape_cells, inst_cells, sites_of, use_of, uses_of}
+use Rattle.a64_emit.specs.Shapes.{Body, FormOf, Cell, Shape, OneWord, Several, Words, plain, quiet, several, sum_shape, address_shape}
+use Rattle.a64_emit.specs.Cells.{literal_site, mode_site, memory_site, access_shape, other_shape, shape_of, shape_cells, inst_cells, sites_of, use_of, uses_of}
 use Rattle.a64_emit.specs.Words.{AreSeveral, MayBePut, IsThere}
 
 -- ---- the uses of several words

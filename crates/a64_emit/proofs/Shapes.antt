@@ -1,7 +1,8 @@
 -- The words of an instruction that is one word without a use, and of the others.
 use Rattle.std.proofs.Common.{◌≡◌, ℕ, [], ◌∷◌, Some, None, refl}
 use Rattle.a64_rows.specs.Forms.{Form, form_word}
-use Rattle.a64_emit.specs.Cells.{Shape, OneWord, Several, Words, plain, shape_cells, only_word, other_cells}
+use Rattle.a64_emit.specs.Shapes.{Shape, OneWord, Several, Words, plain}
+use Rattle.a64_emit.specs.Cells.{shape_cells, only_word, other_cells}
 
 pub some_word : (shape : Shape) (word : ℕ) → Some word ≡ only_word shape → (form : Form) × (shape_cells shape ≡ plain form ∷ []) × (word ≡ form_word form)
 some_word (OneWord form) word e = (form, refl, cc)

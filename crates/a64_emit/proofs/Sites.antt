@@ -3,7 +3,7 @@ use Rattle.std.proofs.Common.{ℕ, ◌≡◌, ◌+◌, ◌*◌, ◌<◌, suc, ze
 use Rattle.std.specs.List.{filter_map, cons_option}
 use Rattle.std.proofs.lemmas.List.{append-nil}
 use Rattle.a64_emit.specs.declared.site.Site.{Site}
-use Rattle.a64_emit.specs.Cells.{Cell}
+use Rattle.a64_emit.specs.Shapes.{Cell}
 use Rattle.a64_emit.specs.Layout.{placed, standing}
 
 -- ---- from uses to cells, and back

@@ -12,7 +12,8 @@ use Rattle.a64_emit.specs.declared.site.Site.{Site}
 use Rattle.a64_emit.specs.declared.site.CellUse.{CellUse}
 use Rattle.a64_emit.specs.declared.site.Table.{Table}
 use Rattle.a64_emit.specs.declared.site.Uses.{Uses}
-use Rattle.a64_emit.specs.Cells.{Cell, use_of, uses_of, two_uses, sites_of, entry_site, table_labels, table_uses, listed_uses}
+use Rattle.a64_emit.specs.Shapes.{Cell, entry_site, table_labels}
+use Rattle.a64_emit.specs.Cells.{use_of, uses_of, two_uses, sites_of, table_uses, listed_uses}
 use Rattle.a64_emit.specs.Bounds.{veneer_range, ranges_in, lesser, least}
 use Rattle.a64_emit.specs.Faults.{used_label, first_missing}
 use Rattle.a64_emit.specs.Reach.{is_near, first_some}

@@ -43,7 +43,8 @@ use Rattle.a64_label_use.specs.declared.label_use.LabelUse.TheVariants as uses
 use Rattle.a64_rows.specs.Forms.{Form}
 use Rattle.a64_emit.specs.declared.site.Site.{Site}
 use Rattle.a64_emit.specs.Bounds.{asked_of, charge_of, size_of, veneer_range}
-use Rattle.a64_emit.specs.Cells.{Body, Cell, FormOf, Shape, Words, access_shape, address_shape, branch, branch_site, branches, cas_loop_cells, cell_word, inst_cells, keep, kept_by, kept_cells, last_cell, mode_site, other_shape, plain, quiet, rmw_loop_cells, several, shape_cells, sites_of, sum_shape}
+use Rattle.a64_emit.specs.Shapes.{Body, Cell, FormOf, Shape, Words, address_shape, branch, branch_site, branches, cas_loop_cells, last_cell, plain, quiet, rmw_loop_cells, several, sum_shape}
+use Rattle.a64_emit.specs.Cells.{access_shape, cell_word, inst_cells, keep, kept_by, kept_cells, mode_site, other_shape, shape_cells, sites_of}
 use Rattle.a64_emit.specs.ControlForms.{authenticated_ret_forms}
 use Rattle.a64_emit.specs.Emission.{Emits, Puts, appended}
 use Rattle.a64_emit.specs.IntegerForms.{alu_rrr_extend_form, mov_form}

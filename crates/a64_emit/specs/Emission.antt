@@ -22,7 +22,8 @@ use Rattle.a64_emit.specs.declared.call.Callee.TheVariants.{Symbol, Address}
 use Rattle.a64_label_use.specs.declared.label_use.LabelUse.{LabelUse}
 use Rattle.a64_emit.specs.declared.site.Site.{Site}
 use Rattle.a64_label_use.specs.LabelUses.{label_kinds}
-use Rattle.a64_emit.specs.Cells.{Cell, cell_word, inst_cells, kept_cells}
+use Rattle.a64_emit.specs.Shapes.{Cell}
+use Rattle.a64_emit.specs.Cells.{cell_word, inst_cells, kept_cells}
 use Rattle.a64_emit.specs.Bounds.{asked_of}
 use Rattle.a64_emit.specs.Layout.{placed, relocs_in, calls_in, patchable_in, maps_in, traps_in, records_in, more_records}
 

@@ -1,11 +1,12 @@
 -- Behind which items execution may go on.
-use Rattle.std.specs.Prelude.{ℕ, Bool, true, false, ◌||◌, List, slice_get, None, Some, is_none}
+use Rattle.std.specs.Prelude.{ℕ, Bool, true, false, ◌||◌, not, List, slice_get, None, Some, is_none}
 use Rattle.a64_base.specs.Target.{label_of}
 use Rattle.a64_base.specs.declared.target.BranchTarget.{BranchTarget}
 use Rattle.a64_inst.specs.declared.inst.Inst.{Inst}
 use Rattle.a64_inst.specs.declared.inst.Inst.TheVariants as insts
 use Rattle.a64_inst.specs.declared.item.Item.{Item}
 use Rattle.a64_inst.specs.declared.item.Item.TheVariants.{Bind, Emit}
+use Rattle.a64_emit.specs.Stops.{stops}
 
 -- a branch goes to no label but a distance, which may lead right behind it
 abbrev pub is_distance : BranchTarget → Bool
@@ -19,14 +20,7 @@ inst_falls (insts.Jump dest) = is_distance dest
 inst_falls (insts.CondBr taken not_taken kind) = is_distance taken || is_distance not_taken
 inst_falls (insts.TestBitAndBranch kind taken not_taken rn bit) =
     is_distance taken || is_distance not_taken
-inst_falls insts.Ret = false
-inst_falls (insts.AuthenticatedRet key is_hint) = false
-inst_falls (insts.IndirectBr rn targets) = false
-inst_falls (insts.JTSequence default targets ridx rtmp1 rtmp2) = false
-inst_falls (insts.ReturnCall info) = false
-inst_falls (insts.ReturnCallInd info) = false
-inst_falls (insts.Udf trap_code) = false
-inst_falls _ = true
+inst_falls inst = not (stops inst)
 
 -- the same of an item: what has no words falls, and so does a place for an island
 abbrev pub falls : Item → Bool

@@ -6,7 +6,7 @@ use Rattle.a64_inst.specs.declared.inst.Inst.TheVariants as insts
 use Rattle.a64_inst.specs.declared.item.Item.{Item}
 use Rattle.a64_inst.specs.declared.item.Item.TheVariants.{Bind, Emit}
 use Rattle.a64_rows.specs.Forms.{IsFormOf}
-use Rattle.a64_emit.specs.Cells.{Body, FormOf, Data, Cell}
+use Rattle.a64_emit.specs.Shapes.{Body, FormOf, Data, Cell}
 
 -- a form has as many values as its row has fields, each in its width, and they meet the row's limits
 abbrev pub IsFormBody : Body → Type 0

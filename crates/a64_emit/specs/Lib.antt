@@ -6,6 +6,8 @@ pub mod ControlForms
 pub mod MemoryForms
 pub mod AtomicForms
 pub mod LoopForms
+pub mod Shapes
+pub mod PlainShapes
 pub mod Cells
 pub mod FormCells
 pub mod Words
@@ -13,6 +15,7 @@ pub mod Bounds
 pub mod Reach
 pub mod Lights
 pub mod Leads
+pub mod Stops
 pub mod Falls
 pub mod Layout
 pub mod Contents

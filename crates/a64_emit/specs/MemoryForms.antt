@@ -10,7 +10,8 @@ use Rattle.a64_imms.specs.declared.offset.SImm7Scaled.{SImm7Scaled}
 use Rattle.a64_imms.specs.Offsets.{residue}
 use Rattle.a64_imms.specs.Scales.{type_bytes}
 use Rattle.a64_ops.specs.declared.access.AccessOp.{AccessOp}
-use Rattle.a64_ops.specs.Accesses.{size_of, vector_of, opc_of, literal_of}
+use Rattle.a64_ops.specs.AccessFields.{size_of, vector_of, opc_of}
+use Rattle.a64_ops.specs.Accesses.{literal_of}
 use Rattle.a64_ops.specs.declared.operator.ALUOp.{ALUOp}
 use Rattle.a64_ops.specs.declared.operator.ALUOp.TheVariants as alu
 use Rattle.a64_ops.specs.declared.operator.MoveWideOp.TheVariants as wide

@@ -34,7 +34,8 @@ use Rattle.a64_emit.specs.ControlForms.{cond_br_form, jump_form, label_address_f
 use Rattle.a64_emit.specs.declared.word.exclusive.LoopWords.{LoopWords}
 use Rattle.a64_emit.specs.declared.call.Callee.{Callee}
 use Rattle.a64_emit.specs.declared.call.Callee.TheVariants.{Symbol, Address}
-use Rattle.a64_emit.specs.Cells.{Data, Cell, Shape, OneWord, Several, Words, body_word, call_marks, cell_word, last_cell, branch_site, trap_site, shape_of, other_cells}
+use Rattle.a64_emit.specs.Shapes.{Data, Cell, Shape, OneWord, Several, Words, last_cell, branch_site, trap_site}
+use Rattle.a64_emit.specs.Cells.{body_word, call_marks, cell_word, shape_of, other_cells}
 
 -- the immediate of a step is in its set
 abbrev pub CanStep : ConstStep → Type 0

@@ -10,7 +10,8 @@ ghost use Rattle.a64_inst.specs.CallOperands.{are_call_defs, has_return_frame};
 ghost use Rattle.a64_inst.specs.Faults.{has_operands, is_restorable, can_restore};
 ghost use Rattle.a64_inst.specs.Groups.{group_of};
 ghost use Rattle.a64_inst.specs.MemoryOperands.{is_signed_64};
-ghost use Rattle.a64_emit.specs.Cells.{plain, keep, kept_cells, result_cells, pop_forms, call_cells, patchable_cells, restored_cell, result_load, leave_forms, return_cell, return_cells};
+ghost use Rattle.a64_emit.specs.Shapes.{plain};
+ghost use Rattle.a64_emit.specs.Cells.{keep, kept_cells, result_cells, pop_forms, call_cells, patchable_cells, restored_cell, result_load, leave_forms, return_cell, return_cells};
 ghost use Rattle.a64_emit.specs.Words.{IsCalled, as_put, put_kept};
 ghost use Rattle.a64_emit.specs.Emission.{linked, mapped, CanPut, PutsCells};
 

@@ -13,8 +13,9 @@ ghost use Rattle.a64_buffer.specs.Buffer.{Buffer, end_of};
 ghost use Rattle.a64_buffer.specs.Classes.{Fits};
 ghost use Rattle.a64_label_use.specs.declared.label_use.LabelUse.{LabelUse};
 ghost use Rattle.a64_emit.specs.Bounds.{asked_of, charge_of, size_of};
-ghost use Rattle.a64_emit.specs.Cells as cells;
-ghost use Rattle.a64_emit.specs.Cells.{Cell, Data, data_cell, plain, reloc_cell, inst_cells, kept_cells};
+ghost use Rattle.a64_emit.specs.Shapes as shapes;
+ghost use Rattle.a64_emit.specs.Shapes.{Cell, Data, data_cell, plain, reloc_cell};
+ghost use Rattle.a64_emit.specs.Cells.{inst_cells, kept_cells};
 ghost use Rattle.a64_emit.specs.ControlForms.{authenticated_ret_forms};
 ghost use Rattle.a64_emit.specs.Words.{MayBePut, IsThere, as_put, put_branches, put_cell, put_cells, put_cond_br, put_for, put_jump, put_label_address, put_test_bit, put_trap_if};
 ghost use Rattle.a64_label_use.specs.LabelUses.{label_kinds};
@@ -218,9 +219,9 @@ fn emit_branch(
     kind: LabelUse,
     dest: BranchTarget,
 ) -> Result<(), AllocError>
-    requires { CanPut sink.old (put_cell word (cells.branch_site kind dest) None ∷ []) }
+    requires { CanPut sink.old (put_cell word (shapes.branch_site kind dest) None ∷ []) }
     ensures { PutsCells result sink.old sink.new
-        (put_cell word (cells.branch_site kind dest) None ∷ []) }
+        (put_cell word (shapes.branch_site kind dest) None ∷ []) }
 {
     emit_last(sink, word, branch_site(kind, dest), None)
 }

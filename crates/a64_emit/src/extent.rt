@@ -10,7 +10,8 @@ ghost use Rattle.a64_emit.specs.Bounds as bounds;
 ghost use Rattle.a64_emit.specs.Bounds.{asked, IsExtent, AreExtent, ranges_in, least, saturated, charge_of, growth_of, size_of, asked_of};
 ghost use Rattle.a64_rows.specs.Forms.{Form};
 ghost use Rattle.a64_label_use.specs.declared.label_use.LabelUse.TheVariants as uses;
-ghost use Rattle.a64_emit.specs.Cells.{branch, branches, cells_of, inst_cells, inst_uses, listed_uses, two_uses, uses_of};
+ghost use Rattle.a64_emit.specs.Shapes.{branch, branches};
+ghost use Rattle.a64_emit.specs.Cells.{cells_of, inst_cells, inst_uses, listed_uses, two_uses, uses_of};
 ghost use Rattle.a64_label_use.specs.LabelUses.{has_veneer};
 ghost use Rattle.a64_emit.specs.Lights.{IsLight, IsModeLight};
 ghost use Rattle.a64_emit.specs.Rooms as rooms;
@@ -18,6 +19,7 @@ ghost use Rattle.a64_emit.specs.Rooms as rooms;
 use crate::call_extent::call_count;
 use crate::site::{Site, Uses};
 use crate::uses::{call_uses, control_uses, memory_uses, only_use, sequence_uses, table_start};
+use crate::where_quiet;
 use crate::word::control::authenticated_ret_count;
 use crate::word::exclusive::operator_count;
 use crate::word::memory::memory_count;
@@ -380,27 +382,16 @@ fn control_light(inst: &Inst, _frame: &FrameLayout, _info: &EmitInfo) -> Option<
         (size_of (inst_cells _frame.now _info.now inst.now)
         + charge_of (inst_cells _frame.now _info.now inst.now)) light) }
 {
-    match inst {
-        Inst::Nop4
-        | Inst::MovToNZCV { .. }
-        | Inst::MovFromNZCV { .. }
-        | Inst::Ret
-        | Inst::IndirectBr { .. }
-        | Inst::Brk
-        | Inst::Word4 { .. } => Some(without_use(QUIET_WORD_GROWTH)),
+    where_quiet!(inst, Some(without_use(QUIET_WORD_GROWTH));
         Inst::Jump { dest } => Some(jump_light(*dest)),
-        Inst::CondBr {
-            taken,
-            not_taken,
-            ..
-        } => branches_light(LabelUse::Branch19, *taken, *not_taken),
-        Inst::TestBitAndBranch {
-            taken,
-            not_taken,
-            ..
-        } => branches_light(LabelUse::Branch14, *taken, *not_taken),
+        Inst::CondBr { taken, not_taken, .. } => {
+            branches_light(LabelUse::Branch19, *taken, *not_taken)
+        }
+        Inst::TestBitAndBranch { taken, not_taken, .. } => {
+            branches_light(LabelUse::Branch14, *taken, *not_taken)
+        }
         _ => None,
-    }
+    )
 }
 
 /// What an access adds in a mode that an instruction holds, where its word is no use of a label.

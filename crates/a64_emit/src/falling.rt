@@ -3,6 +3,7 @@
 ghost use Rattle.std.specs.Prelude.{◌≡◌};
 ghost use Rattle.a64_emit.specs.Falls.{inst_falls};
 
+use crate::where_stops;
 use a64_inst::Inst;
 
 /// Whether execution may go on behind an instruction. Behind one that always goes to a label, to an address
@@ -10,25 +11,11 @@ use a64_inst::Inst;
 pub fn falls(inst: &Inst) -> bool
     ensures { result ≡ inst_falls inst.now }
 {
-    match inst {
+    where_stops!(inst, false;
         Inst::Jump { dest } => dest.as_label().is_none(),
-        Inst::CondBr {
-            taken,
-            not_taken,
-            ..
+        Inst::CondBr { taken, not_taken, .. } | Inst::TestBitAndBranch { taken, not_taken, .. } => {
+            taken.as_label().is_none() || not_taken.as_label().is_none()
         }
-        | Inst::TestBitAndBranch {
-            taken,
-            not_taken,
-            ..
-        } => taken.as_label().is_none() || not_taken.as_label().is_none(),
-        Inst::Ret
-        | Inst::AuthenticatedRet { .. }
-        | Inst::IndirectBr { .. }
-        | Inst::JTSequence { .. }
-        | Inst::ReturnCall { .. }
-        | Inst::ReturnCallInd { .. }
-        | Inst::Udf { .. } => false,
         _ => true,
-    }
+    )
 }

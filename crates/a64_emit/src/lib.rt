@@ -1,6 +1,7 @@
 //! Emission of A64 instructions, and what lists of them are: their cells, bounds, faults, layout and records.
 #![tactic(auto)]
 
+mod arms;
 mod call;
 mod call_extent;
 mod code;

@@ -10,7 +10,7 @@ ghost use Rattle.a64_inst.specs.Groups.{group_of};
 ghost use Rattle.a64_operand.specs.Operands.{is_register};
 ghost use Rattle.a64_inst.specs.SequenceOperands.{are_table_operands, are_probe_operands};
 ghost use Rattle.a64_operand.specs.VectorOperands.{are_select_operands};
-ghost use Rattle.a64_emit.specs.Cells.{Data, plain, data_cell, reloc_cell, entry_site, table_labels, table_cells, table_jump, got_cells, near_cells, far_cells, probe_forms, vector_select_forms, cas_loop_cells, rmw_loop_cells};
+ghost use Rattle.a64_emit.specs.Shapes.{Data, plain, data_cell, reloc_cell, entry_site, table_labels, table_cells, table_jump, got_cells, near_cells, far_cells, probe_forms, vector_select_forms, cas_loop_cells, rmw_loop_cells};
 ghost use Rattle.a64_emit.specs.Words.{put_cell, as_put, put_for, put_loop, put_rest};
 ghost use Rattle.a64_emit.specs.Emission.{CanPut, PutsCells};
 

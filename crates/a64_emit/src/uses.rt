@@ -6,8 +6,11 @@ ghost use Rattle.a64_inst.specs.declared.group.Group.TheVariants.{Call, Control,
 ghost use Rattle.a64_inst.specs.Groups.{group_of};
 ghost use Rattle.a64_rows.specs.Forms.{Form};
 ghost use Rattle.a64_emit.specs.Cells as cells;
-ghost use Rattle.a64_emit.specs.Cells.{branches, uses_of, listed_uses, inst_uses, table_forms};
+ghost use Rattle.a64_emit.specs.Shapes as shapes;
+ghost use Rattle.a64_emit.specs.Shapes.{branches, table_forms};
+ghost use Rattle.a64_emit.specs.Cells.{uses_of, listed_uses, inst_uses};
 
+use crate::access_sites;
 use crate::site::{Site, Table, Uses};
 use crate::word::sequence::has_barrier;
 use a64_base::{BranchTarget, TrapCode};
@@ -18,7 +21,7 @@ use a64_label_use::LabelUse;
 /// The use that a branch is: none where it has its offset already.
 #[inline(always)]
 pub fn branch_site(kind: LabelUse, dest: BranchTarget) -> Option<Site>
-    ensures { result ≡ cells.branch_site kind dest }
+    ensures { result ≡ shapes.branch_site kind dest }
 {
     match dest {
         BranchTarget::Label(label) => Some(Site {
@@ -32,7 +35,7 @@ pub fn branch_site(kind: LabelUse, dest: BranchTarget) -> Option<Site>
 /// The use that a branch to a trap word is.
 #[inline(always)]
 pub fn trap_site(code: TrapCode) -> Site
-    ensures { result ≡ cells.trap_site code }
+    ensures { result ≡ shapes.trap_site code }
 {
     Site {
         kind: LabelUse::Branch19,
@@ -143,28 +146,7 @@ pub fn mode_site(mem: &AMode) -> Option<Site>
 fn memory_site(inst: &Inst) -> Option<Site>
     ensures { result ≡ cells.memory_site inst.now }
 {
-    match inst {
-        Inst::ULoad8 { mem, .. }
-        | Inst::SLoad8 { mem, .. }
-        | Inst::ULoad16 { mem, .. }
-        | Inst::SLoad16 { mem, .. }
-        | Inst::ULoad32 { mem, .. }
-        | Inst::SLoad32 { mem, .. }
-        | Inst::ULoad64 { mem, .. }
-        | Inst::FpuLoad16 { mem, .. }
-        | Inst::FpuLoad32 { mem, .. }
-        | Inst::FpuLoad64 { mem, .. }
-        | Inst::FpuLoad128 { mem, .. }
-        | Inst::Store8 { mem, .. }
-        | Inst::Store16 { mem, .. }
-        | Inst::Store32 { mem, .. }
-        | Inst::Store64 { mem, .. }
-        | Inst::FpuStore16 { mem, .. }
-        | Inst::FpuStore32 { mem, .. }
-        | Inst::FpuStore64 { mem, .. }
-        | Inst::FpuStore128 { mem, .. } => mode_site(mem),
-        _ => None,
-    }
+    access_sites!(inst)
 }
 
 /// The uses of the words of a load or a store, or of an address.

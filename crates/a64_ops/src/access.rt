@@ -1,7 +1,10 @@
 //! The loads and stores of one register.
 
 ghost use Rattle.std.specs.Prelude.{◌≡◌};
-ghost use Rattle.a64_ops.specs.Accesses.{size_of, vector_of, moves_vector, opc_of, loads, literal_of};
+ghost use Rattle.a64_ops.specs.AccessFields.{size_of, vector_of, opc_of};
+ghost use Rattle.a64_ops.specs.Accesses.{moves_vector, loads, literal_of};
+
+use crate::{access_literals, access_loads, access_opcs, access_sizes, access_vectors};
 
 /// A load or a store of one register, named as Cranelift's instruction for it.
 ///
@@ -53,24 +56,7 @@ impl AccessOp {
     pub fn size_field(self) -> u32
         ensures { result ≡ size_of self }
     {
-        match self {
-            AccessOp::ULoad8
-            | AccessOp::SLoad8
-            | AccessOp::Store8
-            | AccessOp::FpuLoad128
-            | AccessOp::FpuStore128 => 0,
-            AccessOp::ULoad16
-            | AccessOp::SLoad16
-            | AccessOp::Store16
-            | AccessOp::FpuLoad16
-            | AccessOp::FpuStore16 => 1,
-            AccessOp::ULoad32
-            | AccessOp::SLoad32
-            | AccessOp::Store32
-            | AccessOp::FpuLoad32
-            | AccessOp::FpuStore32 => 2,
-            AccessOp::ULoad64 | AccessOp::Store64 | AccessOp::FpuLoad64 | AccessOp::FpuStore64 => 3,
-        }
+        access_sizes!(self)
     }
 
     /// The bit V of its word: 1 where its register is a vector register.
@@ -84,58 +70,21 @@ impl AccessOp {
     pub fn is_vector(self) -> bool
         ensures { result ≡ moves_vector self }
     {
-        match self {
-            AccessOp::FpuLoad16
-            | AccessOp::FpuLoad32
-            | AccessOp::FpuLoad64
-            | AccessOp::FpuLoad128
-            | AccessOp::FpuStore16
-            | AccessOp::FpuStore32
-            | AccessOp::FpuStore64
-            | AccessOp::FpuStore128 => true,
-            _ => false,
-        }
+        access_vectors!(self)
     }
 
     /// The field opc of its word, 0 to 3.
     pub fn opc_field(self) -> u32
         ensures { result ≡ opc_of self }
     {
-        match self {
-            AccessOp::Store8
-            | AccessOp::Store16
-            | AccessOp::Store32
-            | AccessOp::Store64
-            | AccessOp::FpuStore16
-            | AccessOp::FpuStore32
-            | AccessOp::FpuStore64 => 0,
-            AccessOp::ULoad8
-            | AccessOp::ULoad16
-            | AccessOp::ULoad32
-            | AccessOp::ULoad64
-            | AccessOp::FpuLoad16
-            | AccessOp::FpuLoad32
-            | AccessOp::FpuLoad64 => 1,
-            AccessOp::SLoad8 | AccessOp::SLoad16 | AccessOp::SLoad32 | AccessOp::FpuStore128 => 2,
-            AccessOp::FpuLoad128 => 3,
-        }
+        access_opcs!(self)
     }
 
     /// Whether it loads.
     pub fn is_load(self) -> bool
         ensures { result ≡ loads self }
     {
-        match self {
-            AccessOp::Store8
-            | AccessOp::Store16
-            | AccessOp::Store32
-            | AccessOp::Store64
-            | AccessOp::FpuStore16
-            | AccessOp::FpuStore32
-            | AccessOp::FpuStore64
-            | AccessOp::FpuStore128 => false,
-            _ => true,
-        }
+        access_loads!(self)
     }
 
     /// The field opc of its word with a literal, 0 to 2, where it has such a form.
@@ -143,11 +92,6 @@ impl AccessOp {
     pub fn literal_field(self) -> Option<u32>
         ensures { result ≡ literal_of self }
     {
-        match self {
-            AccessOp::ULoad32 | AccessOp::FpuLoad32 => Some(0),
-            AccessOp::ULoad64 | AccessOp::FpuLoad64 => Some(1),
-            AccessOp::SLoad32 | AccessOp::FpuLoad128 => Some(2),
-            _ => None,
-        }
+        access_literals!(self)
     }
 }

@@ -2,6 +2,7 @@
 #![tactic(auto)]
 
 mod access;
+mod arms;
 mod float;
 mod operator;
 mod system;

@@ -8,10 +8,12 @@ ghost use Rattle.a64_inst.specs.Faults.{has_operands};
 ghost use Rattle.a64_inst.specs.ControlOperands.{are_jump_operands, is_target, is_test};
 ghost use Rattle.a64_operand.specs.Operands.{is_register_or_zero};
 ghost use Rattle.a64_rows.specs.Forms.{form_word};
-ghost use Rattle.a64_emit.specs.Cells.{plain, shape_of, only_word};
+ghost use Rattle.a64_emit.specs.Shapes.{plain};
+ghost use Rattle.a64_emit.specs.Cells.{shape_of, only_word};
 ghost use Rattle.a64_emit.specs.ControlForms as forms;
 ghost use Rattle.a64_emit.specs.ControlForms.{ret_form, jump_form};
 
+use crate::control_words;
 use crate::word::plain::immediate::adr_word;
 use crate::word::system::{auti_word, mov_from_nzcv_word, mov_to_nzcv_word, nop4_word};
 use a64_base::{APIKey, BranchTarget, CondBrKind, Reg, TestBitAndBranchKind, Writable};
@@ -30,26 +32,7 @@ pub fn only_control_word(inst: &Inst, frame: &FrameLayout, info: &EmitInfo) -> O
     requires good { has_operands frame.now info.now Refused inst.now ≡ true }
     ensures { result ≡ only_word (shape_of frame.now info.now inst.now) }
 {
-    match inst {
-        Inst::Nop0 => None,
-        Inst::Nop4 => Some(nop4_word()),
-        Inst::MovToNZCV { rn } => Some(mov_to_nzcv_word(*rn)),
-        Inst::MovFromNZCV { rd } => Some(mov_from_nzcv_word(*rd)),
-        Inst::Ret => Some(ret_word()),
-        Inst::IndirectBr { rn, targets: _ } => Some(indirect_br_word(*rn)),
-        Inst::Brk => Some(brk_word()),
-        Inst::Jump { .. }
-        | Inst::CondBr { .. }
-        | Inst::TestBitAndBranch { .. }
-        | Inst::TrapIf { .. }
-        | Inst::EmitIsland { .. }
-        | Inst::AuthenticatedRet { .. }
-        | Inst::Udf { .. }
-        | Inst::Word4 { .. }
-        | Inst::Word8 { .. }
-        | Inst::LabelAddress { .. } => None,
-        _ => unreachable!(),
-    }
+    control_words!(inst)
 }
 
 /// The word of a `Ret`.

@@ -5,7 +5,7 @@ ghost use Rattle.a64_operand.specs.declared.virtuals.VirtualRegisters.TheVariant
 ghost use Rattle.a64_operand.specs.AtomicOperands.{is_atomic_type};
 ghost use Rattle.a64_operand.specs.Operands.{is_register_or_zero};
 ghost use Rattle.a64_rows.specs.Forms.{Form, form_word};
-ghost use Rattle.a64_emit.specs.Cells.{cas_loop_cells, loop_cells, rmw_loop_cells};
+ghost use Rattle.a64_emit.specs.Shapes.{cas_loop_cells, loop_cells, rmw_loop_cells};
 ghost use Rattle.a64_emit.specs.LoopForms as forms;
 ghost use Rattle.a64_emit.specs.LoopForms.{address_register, failed_register, old_register};
 ghost use Rattle.a64_emit.specs.Words.{AreLoop};

@@ -13,10 +13,12 @@ ghost use Rattle.a64_inst.specs.Groups.{group_of};
 ghost use Rattle.a64_inst.specs.Faults.{has_operands, has_mode};
 ghost use Rattle.a64_inst.specs.MemoryOperands as memory;
 ghost use Rattle.a64_inst.specs.Modes.{base_offset_of};
-ghost use Rattle.a64_emit.specs.Cells.{Words, access_shape, inst_cells, literal_use, shape_of};
+ghost use Rattle.a64_emit.specs.Shapes.{Words};
+ghost use Rattle.a64_emit.specs.Cells.{access_shape, inst_cells, literal_use, shape_of};
 ghost use Rattle.a64_emit.specs.Words.{AreSeveral};
 
 use crate::site::Site;
+use crate::trapping_words;
 use crate::uses::{mode_site, mode_target};
 use crate::word::memory::access::{held_word, in_code_word, pair_word, pair64_word, pair128_word};
 use crate::word::memory::address::{address_count, address_words};
@@ -138,81 +140,10 @@ pub fn memory_words(inst: &Inst, frame: &FrameLayout, info: &EmitInfo) -> Option
     if let Some(access) = inst.access_ref() {
         return Some(access_words(&access, frame));
     }
-    let (last, flags) = match inst {
-        Inst::LoadP64 {
-            rt,
-            rt2,
-            mem,
-            flags,
-        } => (pair_word(1, rt.to_reg(), rt2.to_reg(), mem), flags),
-        Inst::StoreP64 {
-            rt,
-            rt2,
-            mem,
-            flags,
-        } => (pair_word(0, *rt, *rt2, mem), flags),
-        Inst::FpuLoadP64 {
-            rt,
-            rt2,
-            mem,
-            flags,
-        } => (pair64_word(true, rt.to_reg(), rt2.to_reg(), mem), flags),
-        Inst::FpuStoreP64 {
-            rt,
-            rt2,
-            mem,
-            flags,
-        } => (pair64_word(false, *rt, *rt2, mem), flags),
-        Inst::FpuLoadP128 {
-            rt,
-            rt2,
-            mem,
-            flags,
-        } => (pair128_word(true, rt.to_reg(), rt2.to_reg(), mem), flags),
-        Inst::FpuStoreP128 {
-            rt,
-            rt2,
-            mem,
-            flags,
-        } => (pair128_word(false, *rt, *rt2, mem), flags),
+    let (last, flags) = trapping_words!(inst;
         Inst::LoadAddr { rd, mem } => return address_words(*rd, frame, mem),
-        Inst::AtomicRMW {
-            ty,
-            op,
-            rs,
-            rt,
-            rn,
-            flags,
-        } => (rmw_word(*ty, *op, *rs, *rt, *rn), flags),
-        Inst::AtomicCAS {
-            rd,
-            rs,
-            rt,
-            rn,
-            ty,
-            flags,
-        } => (cas_word(*rd, *rs, *rt, *rn, *ty), flags),
-        Inst::AtomicCAS128 { args } => (cas128_word(args), &args.flags),
-        Inst::LoadAcquire {
-            access_ty,
-            rt,
-            rn,
-            flags,
-        } => (load_acquire_word(*access_ty, *rt, *rn), flags),
-        Inst::VecLoadReplicate {
-            rd,
-            rn,
-            size,
-            flags,
-        } => (replicate_word(*size, *rd, *rn), flags),
-        Inst::StoreRelease {
-            access_ty,
-            rt,
-            rn,
-            flags,
-        } => (store_release_word(*access_ty, *rt, *rn), flags),
         _ => unreachable!(),
-    };
+    );
     Some(SeveralWords {
         first: ArrayVec::new(),
         last,

@@ -11,7 +11,7 @@ ghost use Rattle.a64_operand.specs.Operands.{is_register, is_register_or_zero};
 ghost use Rattle.a64_inst.specs.SequenceOperands.{are_table_operands, are_probe_operands};
 ghost use Rattle.a64_operand.specs.VectorOperands.{are_select_operands};
 ghost use Rattle.a64_rows.specs.Forms.{form_word};
-ghost use Rattle.a64_emit.specs.Cells.{barrier_forms, table_forms, probe_forms, vector_select_forms};
+ghost use Rattle.a64_emit.specs.Shapes.{barrier_forms, table_forms, probe_forms, vector_select_forms};
 ghost use Rattle.a64_emit.specs.ControlForms.{jump_form, indirect_br_form};
 ghost use Rattle.a64_emit.specs.IntegerForms.{csel_form, alu_rrr_form, alu_rr_imm12_form, adr_form, adrp_form};
 ghost use Rattle.a64_emit.specs.MemoryForms.{indexed_form, unsigned_form, literal_form};

@@ -1,6 +1,6 @@
 use Rattle.std.proofs.Common.{[], ◌∷◌, None, sym, subst}
 use Rattle.a64_label_use.specs.declared.label_use.LabelUse.TheVariants.{Branch26}
-use Rattle.a64_emit.specs.Cells.{branch_site}
+use Rattle.a64_emit.specs.Shapes.{branch_site}
 use Rattle.a64_emit.specs.Emission.{CanPut, PutsCells}
 use Rattle.a64_emit.specs.Words.{put_cell, put_branches, put_jump}
 use Rattle.a64_emit.proofs.Fitting.{failed}

@@ -3,7 +3,7 @@ use Rattle.std.proofs.lemmas.Option.{IfSome_then}
 use Rattle.a64_inst.specs.declared.access.Access.{Access}
 use Rattle.a64_inst.specs.Accesses.{access_of}
 use Rattle.a64_emit.specs.Bounds.{charge_of, size_of}
-use Rattle.a64_emit.specs.Cells.{FormOf}
+use Rattle.a64_emit.specs.Shapes.{FormOf}
 use Rattle.a64_emit.specs.Lights.{IsLight}
 use Rattle.a64_emit.specs.MemoryForms.{access_form}
 use Rattle.a64_emit.proofs.Lights.{access_unasked, held_cells}

@@ -1,6 +1,6 @@
 use Rattle.std.proofs.Common.{◌≡◌, List, [], ◌∷◌, ◌++◌, Option, None, sym, ap, subst}
 use Rattle.std.specs.Prelude.{IfSome}
-use Rattle.a64_emit.specs.Cells.{Cell}
+use Rattle.a64_emit.specs.Shapes.{Cell}
 use Rattle.a64_emit.specs.declared.site.Site.{Site}
 use Rattle.a64_emit.specs.declared.word.exclusive.LoopWords.{LoopWords}
 use Rattle.a64_emit.specs.Words.{MayBePut, put_cell, put_cells, put_rest}

@@ -10,7 +10,8 @@ ghost use Rattle.a64_operand.specs.declared.virtuals.VirtualRegisters.TheVariant
 ghost use Rattle.a64_inst.specs.FinalModes.{held_mode, parts_of};
 ghost use Rattle.a64_inst.specs.MemoryOperands.{is_data_register, are_float_pair_operands, are_pair_operands, is_simm7_of};
 ghost use Rattle.a64_operand.specs.Operands.{is_offset, is_register_or_zero};
-ghost use Rattle.a64_ops.specs.Accesses.{size_of, vector_of, opc_of, literal_of};
+ghost use Rattle.a64_ops.specs.AccessFields.{size_of, vector_of, opc_of};
+ghost use Rattle.a64_ops.specs.Accesses.{literal_of};
 ghost use Rattle.a64_rows.specs.Forms.{form_word};
 ghost use Rattle.a64_rows.specs.Limits as limits;
 ghost use Rattle.a64_enc_int.specs.Operators.{bit_of};

@@ -9,7 +9,8 @@ ghost use Rattle.a64_inst.specs.FinalModes as finals;
 ghost use Rattle.a64_inst.specs.MemoryOperands as memory;
 ghost use Rattle.a64_operand.specs.Operands as operands;
 ghost use Rattle.a64_plan.specs.Plans.{plan_of};
-ghost use Rattle.a64_emit.specs.Cells.{Words, quiet, sum_shape, address_shape, shape_cells};
+ghost use Rattle.a64_emit.specs.Shapes.{Words, quiet, sum_shape, address_shape};
+ghost use Rattle.a64_emit.specs.Cells.{shape_cells};
 ghost use Rattle.a64_emit.specs.MemoryForms as forms;
 ghost use Rattle.a64_emit.specs.Words.{AreSeveral};
 

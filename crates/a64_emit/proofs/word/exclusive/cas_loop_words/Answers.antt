@@ -1,5 +1,5 @@
 use Rattle.std.proofs.Common.{subst}
-use Rattle.a64_emit.specs.Cells.{loop_cells}
+use Rattle.a64_emit.specs.Shapes.{loop_cells}
 use Rattle.a64_emit.specs.LoopForms.{awaited_forms}
 use Rattle.a64_emit.specs.Words.{AreLoop}
 use Rattle.a64_emit.proofs.word.exclusive.cas_loop_words.Goals as goal

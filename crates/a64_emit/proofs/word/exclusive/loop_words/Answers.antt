@@ -1,7 +1,7 @@
 use Rattle.std.proofs.Common.{◌≡◌, ◌∙◌, [], ◌∷◌, ◌++◌, map, None, ap, refl, subst, sym}
 use Rattle.a64_enc_int.specs.declared.exclusive.LoopTraps.{LoopTraps}
 use Rattle.a64_rows.specs.Forms.{form_word}
-use Rattle.a64_emit.specs.Cells.{loop_cells}
+use Rattle.a64_emit.specs.Shapes.{loop_cells}
 use Rattle.a64_emit.specs.LoopForms.{back_form}
 use Rattle.a64_emit.specs.Words.{as_put, put_cell, put_cells}
 use Rattle.a64_emit.proofs.Loops.{loop_put}

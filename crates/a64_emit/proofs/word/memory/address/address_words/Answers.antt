@@ -9,7 +9,7 @@ use Rattle.a64_inst.specs.FinalModes.{parts_of, final_mode, final_steps}
 use Rattle.a64_inst.specs.MemoryOperands.{are_address_operands, are_mode_operands, needs_x17_beside}
 use Rattle.a64_operand.specs.Operands.{is_register, is_register_or_stack, is_register_or_zero}
 use Rattle.a64_rows.specs.Forms.{form_word}
-use Rattle.a64_emit.specs.Cells.{address_shape}
+use Rattle.a64_emit.specs.Shapes.{address_shape}
 use Rattle.a64_emit.specs.MemoryForms.{step_forms, offset_register}
 use Rattle.a64_emit.specs.Words.{CanStep, AreSeveral}
 use Rattle.a64_emit.proofs.Accesses.{can_steps, are_address_parts, address_good}
