@@ -1,12 +1,13 @@
 """What the code of crates/a64_inst repeats of the table of instructions: one function for each file."""
 from __future__ import annotations
 
-from typing import Iterable
+from typing import Callable, Iterable
 
-from .grammar import Call, Compare, Test, snake_case
+from .grammar import Call, Compare, Test
 from .inst_heads import ARMS_HEAD, INST_HEAD, LISTS_HEAD, MAKERS_HEAD
 from .instruction_table import Field, Group, Instruction, InstructionTable, class_call
-from .layout import INDENT, LINE_WIDTH, bracketed, indented, spaced
+from .layout import indented, spaced
+from .macros import NEVER, arm, arms_by_value, macro, matching, name_of, pattern, whole
 from .spelling import Code
 from .words import Words
 
@@ -61,17 +62,9 @@ def list_of(table: InstructionTable, group: Group) -> list[str]:
     for one in table.of_group(group):
         fields = ", ".join(listed(part, one, table.words) for part in one.fields)
         rows.append(f"{one.name} {{ {fields + ' ' if fields else ''}}} if {tests_of(one, table.words)};")
-    return [
-        f"/// Hands {group.plain} to a macro.",
-        "#[macro_export]",
-        f"macro_rules! {snake_case(group.name)}_list {{",
-        "    ($arms:ident, $virtuals:ident, $($args:tt),+) => {",
-        "        $arms! { $virtuals, $($args),+;",
-        *indented(rows, 3),
-        "        }",
-        "    };",
-        "}",
-    ]
+    body = ["$arms! { $virtuals, $($args),+;", *indented(rows), "}"]
+    places = "$arms:ident, $virtuals:ident, $($args:tt),+"
+    return macro(name_of(group, "list"), f"hands {group.plain} to a macro", places, body)
 
 
 def lists(table: InstructionTable) -> list[str]:
@@ -81,78 +74,27 @@ def lists(table: InstructionTable) -> list[str]:
 
 # ---- arms
 
-def pattern(one: Instruction, text: str) -> str:
-    """An instruction as a pattern that binds the fields of which a text tells."""
-    spelled = Code.names_in(text)
-    names = [part.name for part in one.fields if part.name in spelled]
-    if not one.fields:
-        return f"Inst::{one.name}"
-    rest = [".."] if len(names) < len(one.fields) else []
-    return f"Inst::{one.name} {{ {', '.join([*names, *rest])} }}"
-
-
-def arm(patterns: list[str], text: str) -> list[str]:
-    """An arm of some patterns, on a line where it has room."""
-    room = LINE_WIDTH - len(INDENT) * 3
-    line = f"{' | '.join(patterns)} => {text},"
-    if len(line) <= room:
-        return [line]
-    heads = [patterns[0], *(f"| {other}" for other in patterns[1:])]
-    if len(heads[-1]) + len(text) + 5 <= room:
-        return [*heads[:-1], f"{heads[-1]} => {text},"]
-    return [*heads[:-1], f"{heads[-1]} => {{", *indented(conjunction(text)), "}"]
-
-
-def conjunction(text: str) -> list[str]:
-    """Tests that are joined, one to a line, each with its arguments on lines of their own where it is long."""
-    lines: list[str] = []
-    for number, test in enumerate(text.split(" && ")):
-        name, _, values = test.removesuffix(")").partition("(")
-        lines += bracketed(f"{'&& ' if number else ''}{name}(", values.split(", "), ")")
-    return lines
-
-
-def arms_of(instructions: Iterable[Instruction], text_of) -> list[str]:
-    """An arm for each text, with the instructions that have it."""
-    found: dict[str, list[str]] = {}
-    for one in instructions:
-        text = text_of(one)
-        found.setdefault(text, []).append(pattern(one, text))
-    return [line for text, patterns in found.items() for line in arm(patterns, text)]
-
-
-def matching(about: str, name: str, given: list[str], arms: list[str]) -> list[str]:
-    """A macro that matches an instruction."""
-    head = ", ".join(f"${word}:expr" for word in ["inst", *given])
-    return [
-        f"/// {about}",
-        "#[macro_export]",
-        f"macro_rules! {name} {{",
-        f"    ({head}) => {{",
-        "        match $inst {",
-        *indented(arms, 3),
-        "        }",
-        "    };",
-        "}",
-    ]
+def arms_of(instructions: Iterable[Instruction], text_of: Callable[[Instruction], str]) -> list[str]:
+    """An arm for each text, with the instructions that have it, and those of their fields of which it tells."""
+    texts = {one.name: text_of(one) for one in instructions}
+    return arms_by_value({pattern(one, Code.names_in(texts[one.name])): texts[one.name] for one in instructions})
 
 
 def group_arms(table: InstructionTable) -> list[str]:
     """The group of each instruction."""
     named = {group.name: f"Plain(PlainGroup::{group.name})" if group.plain else group.name for group in table.groups.values()}
     arms = arms_of(table.instructions, lambda one: f"Group::{named[one.group.name]}")
-    return matching("The group of an instruction.", "group_arms", [], arms)
+    return matching("group_arms", "the group of an instruction", ["inst"], arms)
 
 
 def access_arms(table: InstructionTable) -> list[str]:
     """Loads and stores of one register as data."""
     arms = []
     for one in table.accesses:
-        names = [part.name for part in one.fields]
-        values = ", ".join([Code(table.words, one)(names[0]), *names[1:]])
-        arms.append(f"Inst::{one.name} {{ {', '.join(names)} }} => (AccessOp::{one.name}, {values}),")
-    about = "The operator, the register, the address and what is known of a load or a store of one register."
-    return matching(about, "access_arms", [], [*arms, "_ => return None,"])
+        register, *others = (part.name for part in one.fields)
+        arms += arm([whole(one)], f"({', '.join([f'AccessOp::{one.name}', Code(table.words, one)(register), *others])})")
+    says = "the operator, the register, the address and what is known of a load or a store of one register"
+    return matching("access_arms", says, ["inst"], [*arms, "_ => return None,"])
 
 
 def made(one: Instruction, table: InstructionTable) -> str:
@@ -165,34 +107,24 @@ def made(one: Instruction, table: InstructionTable) -> str:
 
 def made_arms(table: InstructionTable) -> list[str]:
     """Loads and stores of one register of what they are as data."""
-    arms = [f"AccessOp::{one.name} => {made(one, table)}," for one in table.accesses]
-    return matching("The load or store of one register of an operator.", "made_arms", ["reg", "mem", "flags"], arms)
+    arms = [line for one in table.accesses for line in arm([f"AccessOp::{one.name}"], made(one, table))]
+    says = "the load or store of one register of an operator"
+    return matching("made_arms", says, ["op", "reg", "mem", "flags"], arms, over="op")
 
 
 def type_arms(table: InstructionTable) -> list[str]:
     """The types of values of loads and stores of one register."""
-    found: dict[str, list[str]] = {}
-    for one in table.accesses:
-        found.setdefault(f"IrType::{one.access.type}", []).append(f"AccessOp::{one.name}")
-    arms = [line for text, patterns in found.items() for line in arm(patterns, text)]
-    return matching("The type of the value that an operator moves.", "type_arms", [], arms)
+    arms = arms_by_value({f"AccessOp::{one.name}": f"IrType::{one.access.type}" for one in table.accesses})
+    return matching("type_arms", "the type of the value that an operator moves", ["op"], arms, over="op")
 
 
 def copies(table: InstructionTable, group: Group) -> list[str]:
     """The instructions of a group that own no memory, with their fields."""
     copied = [one for one in table.of_group(group) if not one.access and not any(part.kind.owns for part in one.fields)]
     rows = [f"{one.name} {{ {', '.join(part.name for part in one.fields)} }}".replace("{  }", "{}") for one in copied]
-    return [
-        f"/// Hands the instructions of {group.name.lower()} that own no memory to a macro.",
-        "#[macro_export]",
-        f"macro_rules! {snake_case(group.name)}_copies {{",
-        "    ($copied:ident, $inst:expr) => {",
-        "        $copied!($inst;",
-        *indented([*(f"{row}," for row in rows[:-1]), rows[-1]], 3),
-        "        )",
-        "    };",
-        "}",
-    ]
+    says = f"Hands the instructions of {group.name.lower()} that own no memory to a macro"
+    body = ["$copied!($inst;", *indented([*(f"{row}," for row in rows[:-1]), rows[-1]]), ")"]
+    return macro(name_of(group, "copies"), says, "$copied:ident, $inst:expr", body)
 
 
 # What the tests of a group's operands need beside the instruction.
@@ -208,8 +140,8 @@ def operand_arms(table: InstructionTable, group: Group) -> list[str]:
     """Whether the operands of an instruction of a group are in their sets."""
     others = [one for one in table.of_group(group) if not one.access]
     arms = arms_of(others, lambda one: tests_of(one, table.words))
-    about = f"Whether the operands of an instruction of {group.name.lower()} are in their sets."
-    return matching(about, f"{snake_case(group.name)}_operands", GIVEN[group.name], [*arms, "_ => unreachable!(),"])
+    says = f"whether the operands of an instruction of {group.name.lower()} are in their sets"
+    return matching(name_of(group, "operands"), says, ["inst", *GIVEN[group.name]], [*arms, NEVER])
 
 
 def alone_of(one: Instruction, words: Words) -> str:
@@ -221,9 +153,9 @@ def alone_arms(table: InstructionTable, group: Group) -> list[str]:
     """Whether an instruction of a group is one word that is no use."""
     others = [one for one in table.of_group(group) if not one.access and one.alone is not True]
     arms = arms_of(others, lambda one: alone_of(one, table.words))
-    about = f"Whether an instruction of {group.name.lower()} is one word that is no use."
-    given = ["frame"] if group.name == "Memory" else []
-    return matching(about, f"{snake_case(group.name)}_alone", given, [*arms, "_ => true,"])
+    says = f"whether an instruction of {group.name.lower()} is one word that is no use"
+    given = ["inst", "frame"] if group.name == "Memory" else ["inst"]
+    return matching(name_of(group, "alone"), says, given, [*arms, "_ => true,"])
 
 
 def arms(table: InstructionTable) -> list[str]:

@@ -99,7 +99,7 @@ def answered(table: InstructionTable, query: Query) -> list[str]:
     found = {mark: [pattern(one, []) for one in table.instructions if mark in one.marks] for mark in query.answers}
     if query.type == "Bool":
         return matches("$inst", [name for names in found.values() for name in names])
-    arms = [line for mark, answer in query.answers.items() for line in arm(found[mark], [f"{query.type}::{answer}"])]
+    arms = [line for mark, answer in query.answers.items() for line in arm(found[mark], f"{query.type}::{answer}")]
     return ["match $inst {", *indented([*arms, f"_ => {query.type}::{query.otherwise},"]), "}"]
 
 

@@ -7,8 +7,8 @@ from typing import Callable
 
 from .grammar import Call, names_in, snake_case, values_of
 from .instruction_table import Group, Instruction, InstructionTable
-from .layout import bracketed, chain, equation, indented, spaced
-from .macros import arm, macro, pattern
+from .layout import chain, equation, indented, spaced
+from .macros import NEVER, arm, arms_by_value, macro, name_of, pattern
 from .spelling import Code, Definition
 
 # The roles that an instruction may name, and how many values each has.
@@ -135,29 +135,26 @@ def definitions(table: InstructionTable) -> list[str]:
 
 # ---- code
 
-def told(table: InstructionTable, one: Instruction) -> list[str]:
+def told(table: InstructionTable, one: Instruction) -> str:
     """The call that tells a visitor the roles of an instruction."""
     roles, spell = roles_of(one), Code(table.words, one)
     function = f"hand_{roles.rest.name}" if roles.rest else "hand"
-    single = bracketed("&[", [spell(role) for role in roles.single], "]")
-    if roles.rest and roles.rest.name not in BEHIND:
-        single = []
+    has_single = not roles.rest or roles.rest.name in BEHIND
+    single = [f"&[{', '.join(spell(role) for role in roles.single)}]"] if has_single else []
     rest = [spell(value) for value in roles.rest.values] if roles.rest else []
-    if len(single) < 2:
-        return bracketed(f"{function}(", ["$visitor", *single, *rest], ")")
-    return [f"{function}(", "    $visitor,", *indented([*single[:-1], f"{single[-1]},"]), ")"]
+    return f"{function}({', '.join(['$visitor', *single, *rest])})"
 
 
 def arms_of(table: InstructionTable, group: Group) -> list[str]:
     """The arms of a group, one for all instructions whose roles are told by one call. A plain word without roles of its
     own is told by its list, and a load or a store of one register as such.
     """
-    arms: dict[tuple[str, ...], list[str]] = {}
+    arms: dict[str, str] = {}
     for one in table.of_group(group):
         if "roles" in one.lines or not (group.plain or one.access):
             names = [name for call in roles_of(one).values for name in names_in(call.values)]
-            arms.setdefault(tuple(told(table, one)), []).append(pattern(one, names))
-    return [line for body, patterns in arms.items() for line in arm(patterns, list(body))]
+            arms[pattern(one, names)] = told(table, one)
+    return arms_by_value(arms)
 
 
 def body_of(table: InstructionTable, group: Group) -> list[str]:
@@ -165,7 +162,7 @@ def body_of(table: InstructionTable, group: Group) -> list[str]:
     arms, others = arms_of(table, group), f"{snake_case(group.name)}_list!(role_arms, $visitor"
     if group.plain and not arms:
         return [f"{others}, $inst)"]
-    last = [f"other => {others}, other),"] if group.plain else ["_ => unreachable!(),"]
+    last = [f"other => {others}, other),"] if group.plain else [NEVER]
     if any(one.access for one in table.of_group(group)):
         last = ACCESS_ARM.split("\n")
     return ["match $inst {", *indented([*arms, *last]), "}"]
@@ -175,14 +172,14 @@ def group_macro(table: InstructionTable, group: Group) -> list[str]:
     """The macro that tells a visitor the roles of an instruction of a group."""
     says = f"Tells a visitor the roles of {group.plain or GROUPS[group.name]}"
     places = "$visitor:ident, $inst:expr"
-    return macro(f"{snake_case(group.name)}_roles", says, places, body_of(table, group))
+    return macro(name_of(group, "roles"), says, places, body_of(table, group))
 
 
 def moved_role(table: InstructionTable) -> list[str]:
     """The macro of the role of the register of a load or a store."""
     loads = [f"AccessOp::{one.name}" for one in table.accesses if one.loads]
     stores = [f"AccessOp::{one.name}" for one in table.accesses if not one.loads]
-    arms = [*arm(stores, ["RegUse($reg)"]), *arm(loads, ["RegDef($reg)"])]
+    arms = [*arm(stores, "RegUse($reg)"), *arm(loads, "RegDef($reg)")]
     says = "The role of the register of a load or a store, by its operator"
     return macro("moved_role_of", says, "$op:expr, $reg:expr", ["match $op {", *indented(arms), "}"])
 

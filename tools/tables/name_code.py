@@ -7,7 +7,8 @@ from typing import Callable
 from .file_kinds import Part
 from .homes import home_table
 from .instruction_table import Field, Instruction, InstructionTable
-from .layout import LINE_WIDTH, LIST_WIDTH, indented, spaced
+from .layout import LIST_WIDTH, indented, spaced
+from .macros import DEPTH, arm, fits, matching
 from .name_classes import CLASSES, ENTRIES, TABLES, NameClass, NameRows, class_of, file_kinds, is_of_its_fields, named
 
 NAMES_HEAD = """\
@@ -158,34 +159,24 @@ def inst_lines(one: Instruction) -> list[str]:
     for field in one.fields:
         fields += field_lines(field, place)
         place += len(field.kind.in_file.parts)
-    return arm(one, fields)
+    return literal(one, fields)
 
 
-def arm(one: Instruction, fields: list[str]) -> list[str]:
+def literal(one: Instruction, fields: list[str]) -> list[str]:
     """The arm of the name of an instruction, with its fields, on a line where it has room."""
     head = f"{one.named}Name::{one.name} => Inst::{one.name}"
     line = f"{head} {{ {' '.join(fields).rstrip(',')} }}," if fields else f"{head},"
-    return [line] if len(line) <= LINE_WIDTH - 12 else [f"{head} {{", *indented(fields), "},"]
+    return [line] if fits(line, DEPTH) else [f"{head} {{", *indented(fields), "},"]
 
 
 def unreached(others: list[Instruction]) -> list[str]:
     """The arm of the names to which a function does not come."""
-    return [" | ".join(f"{one.named}Name::{one.name}" for one in others) + " => unreachable!(),"] if others else []
+    return arm([f"{one.named}Name::{one.name}" for one in others], "unreachable!()") if others else []
 
 
-def macro(of: NameClass, values: list[str], arms: list[str]) -> list[str]:
+def made_by(of: NameClass, values: list[str], arms: list[str]) -> list[str]:
     """The macro that hands out the arms of the names of a class."""
-    return [
-        f"/// The arms that make {of.names}.",
-        "#[macro_export]",
-        f"macro_rules! {of.function}_insts {{",
-        f"    ({', '.join(f'${value}:expr' for value in ['name', *values])}) => {{",
-        "        match $name {",
-        *indented(arms, 3),
-        "        }",
-        "    };",
-        "}",
-    ]
+    return matching(f"{of.function}_insts", f"the arms that make {of.names}", ["name", *values], arms, over="name")
 
 
 def insts_of(table: InstructionTable, of: NameClass) -> list[str]:
@@ -193,7 +184,7 @@ def insts_of(table: InstructionTable, of: NameClass) -> list[str]:
     own = named(table, of)
     arms = unreached([one for one in own if not is_of_its_fields(one)])
     arms += [line for one in own if is_of_its_fields(one) for line in inst_lines(one)]
-    return macro(of, ["values"], arms)
+    return made_by(of, ["values"], arms)
 
 
 def pair_insts(table: InstructionTable) -> list[str]:
@@ -202,9 +193,9 @@ def pair_insts(table: InstructionTable) -> list[str]:
     arms: list[str] = []
     for one in named(table, of):
         values = [f"Writable::from_reg(${field.name})" if field.way == "writes" else f"${field.name}" for field in one.fields]
-        arms += arm(one, [f"{field.name}: {value}," for field, value in zip(one.fields, values)])
+        arms += literal(one, [f"{field.name}: {value}," for field, value in zip(one.fields, values)])
     values = [field.name for field in named(table, of)[0].fields]
-    return macro(of, values, arms)
+    return made_by(of, values, arms)
 
 
 def insts(table: InstructionTable) -> list[str]:

@@ -5,9 +5,10 @@ import re
 from functools import partial
 from typing import Callable
 
-from .grammar import Call, Value, names_in, snake_case
+from .grammar import Call, names_in
 from .instruction_table import Group, Instruction, InstructionTable
-from .layout import INDENT, LINE_WIDTH, indented, spaced
+from .layout import indented, spaced
+from .macros import DEPTH, NEVER, arm, arms_by_value, expression, matching, name_of, pattern
 from .spelling import Code
 from .text_table import FRAME, REGISTER, Text, replaced, texts_of
 
@@ -23,77 +24,12 @@ GROUPS = {
     "Memory": "loads and stores, and of the address of a mode, but for those of one register",
 }
 
-# How far to the right the arms of a `match` in a macro stand.
-DEPTH = 3
-
-UNREACHABLE = "_ => unreachable!(),"
-
-
-def parts_of(items: str) -> list[str]:
-    """The items of a list of code."""
-    found: list[str] = []
-    depth = 0
-    for part in items.split(", "):
-        if depth:
-            found[-1] += f", {part}"
-        else:
-            found.append(part)
-        depth += sum(map(part.count, "([{")) - sum(map(part.count, ")]}"))
-    return found
-
-
-def fits(line: str, depth: int) -> bool:
-    """Whether a line of code has room."""
-    return len(INDENT) * depth + len(line) <= LINE_WIDTH
-
-
-def code(line: str, depth: int) -> list[str]:
-    """A line of code that ends with a call or a list, where it has no room with one item of that to a line."""
-    if fits(line, depth) or not line.endswith(("),", "],")):
-        return [line]
-    start = opening(line[:-2])
-    items = parts_of(line[start + 1 : -2])
-    return [line[: start + 1], *indented(row for item in items for row in code(f"{item},", depth + 1)), line[-2:]]
-
-
-def arm(pattern: str, body: str) -> list[str]:
-    """An arm, on a line where it has room; its body stands below where it has a line there, or its call has no room."""
-    line, below = f"{pattern} => {body},", code(f"{body},", DEPTH + 1)
-    if fits(line, DEPTH):
-        return [line]
-    if len(below) == 1 or not fits(f"{pattern} => {below[0]}", DEPTH):
-        return [f"{pattern} =>", *indented(below)]
-    return code(line, DEPTH)
-
-
-def opening(line: str) -> int:
-    """Where the bracket stands that is open at the end of a line."""
-    depth = 1
-    for place in range(len(line) - 1, -1, -1):
-        depth += (line[place] in ")]") - (line[place] in "([")
-        if not depth:
-            return place
-    raise ValueError(line)
-
-
-def macro(name: str, says: str, places: tuple[str, ...], over: str, arms: list[str]) -> list[str]:
-    """A macro that is a `match` over one of its places."""
-    given = ", ".join(f"${place}:expr" for place in places)
-    body = [f"match ${over} {{", *indented(arms), "}"]
-    inner = [f"({given}) => {{", *indented(body), "};"]
-    return [f"/// {says}", "#[macro_export]", f"macro_rules! {name} {{", *indented(inner), "}"]
-
-
 # ---- texts
 
-def pattern(one: Instruction, text: Text) -> str:
+def pattern_of(one: Instruction, text: Text) -> str:
     """An instruction, with the fields that its text has."""
     values = (*text.values, *text.operands, *(text.let[1:] if text.let else ()))
-    used = set(names_in(values)) if not one.access else {part.name for part in one.fields[:2]}
-    names = [part.name for part in one.fields if part.name in used]
-    if len(names) < len(one.fields):
-        names.append("..")
-    return f"Inst::{one.name} {{ {', '.join(names)} }}" if names else f"Inst::{one.name}"
+    return pattern(one, [part.name for part in one.fields[:2]] if one.access else names_in(values))
 
 
 def appended(table: InstructionTable, one: Instruction, text: Text) -> str:
@@ -119,10 +55,10 @@ def text_arm(table: InstructionTable, one: Instruction, text: Text) -> list[str]
     """The arm of an instruction."""
     body = appended(table, one, text)
     if not text.let:
-        return arm(pattern(one, text), body)
+        return arm([pattern_of(one, text)], body)
     name, value = text.let
     let = f"let {name} = {Code(table.words, one)(value)};"
-    return [f"{pattern(one, text)} => {{", *indented([let, *code(f"{body},", DEPTH + 1)[:-1], ")"]), "}"]
+    return [f"{pattern_of(one, text)} => {{", *indented([let, *expression(f"{body},", DEPTH + 1)[:-1], ")"]), "}"]
 
 
 def group_texts(table: InstructionTable, group: Group) -> list[str]:
@@ -131,10 +67,9 @@ def group_texts(table: InstructionTable, group: Group) -> list[str]:
     own = [one for one in table.of_group(group) if not one.access]
     arms = [row for one in own for row in text_arm(table, one, texts[one.name])]
     is_memory = group.name == "Memory"
-    arms.append("_ => push_access_inst($out, $frame, $inst)," if is_memory else UNREACHABLE)
-    says = f"Appends the texts of {group.plain or GROUPS[group.name]}."
-    places = ("out", FRAME, "inst") if is_memory else ("out", "inst")
-    return macro(f"{snake_case(group.name)}_texts", says, places, "inst", arms)
+    arms.append("_ => push_access_inst($out, $frame, $inst)," if is_memory else NEVER)
+    says = f"appends the texts of {group.plain or GROUPS[group.name]}"
+    return matching(name_of(group, "texts"), says, ["out", FRAME, "inst"] if is_memory else ["out", "inst"], arms)
 
 
 # ---- loads and stores of one register
@@ -145,21 +80,13 @@ def access_arms(table: InstructionTable) -> list[str]:
     for one in table.accesses:
         register, mode = (part.name for part in one.fields[:2])
         values = ["$out", f"${FRAME}", f"AccessOp::{one.name}", Code(table.words, one)(register), mode]
-        arms += arm(pattern(one, texts[one.name]), f"push_access({', '.join(values)})")
-    return [*arms, UNREACHABLE]
+        arms += arm([pattern_of(one, texts[one.name])], f"push_access({', '.join(values)})")
+    return [*arms, NEVER]
 
 
 def operator_arms(found: dict[str, str]) -> list[str]:
-    """Arms over operators, by what each has: those that have the same are one arm."""
-    arms = []
-    for body in dict.fromkeys(found.values()):
-        patterns = [f"AccessOp::{name}" for name, other in found.items() if other == body]
-        line = f"{' | '.join(patterns)} => {body},"
-        if fits(line, DEPTH):
-            arms.append(line)
-        else:
-            arms += [patterns[0], *(f"| {part}" for part in patterns[1:-1]), f"| {patterns[-1]} => {body},"]
-    return arms
+    """Arms over operators, by what each has."""
+    return arms_by_value({f"AccessOp::{name}": body for name, body in found.items()})
 
 
 def access_name(text: Text) -> str:
@@ -188,14 +115,14 @@ def accesses(table: InstructionTable) -> list[list[str]]:
     operands = {one.name: access_operand(table, one, texts[one.name]) for one in table.accesses}
     types = {one.name: access_type(one) for one in table.accesses}
     return [
-        macro("access_texts", "Appends the texts of loads and stores of one register.", ("out", FRAME, "inst"), "inst",
-              access_arms(table)),
-        macro("access_names", "The names of loads and stores of one register.", ("unscaled", "op"), "op",
-              operator_arms(names)),
-        macro("access_operands", "The registers of loads and stores of one register.", ("op", REGISTER), "op",
-              operator_arms(operands)),
-        macro("access_types", "The types of the values that loads and stores of one register move, and their bytes.",
-              ("op",), "op", operator_arms(types)),
+        matching("access_texts", "appends the texts of loads and stores of one register", ["out", FRAME, "inst"],
+                 access_arms(table)),
+        matching("access_names", "the names of loads and stores of one register", ["unscaled", "op"],
+                 operator_arms(names), over="op"),
+        matching("access_operands", "the registers of loads and stores of one register", ["op", REGISTER],
+                 operator_arms(operands), over="op"),
+        matching("access_types", "the types of the values that loads and stores of one register move, and their bytes",
+                 ["op"], operator_arms(types), over="op"),
     ]
 
 

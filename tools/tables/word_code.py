@@ -6,9 +6,9 @@ from __future__ import annotations
 from functools import partial
 from typing import Callable
 
-from .grammar import snake_case
 from .instruction_table import Group, Instruction, InstructionTable
-from .layout import INDENT, LINE_WIDTH, indented, spaced
+from .layout import spaced
+from .macros import NEVER, arm, arms_by_value, matching, name_of, pattern, whole
 from .spelling import Code
 
 EMIT_HEAD = """\
@@ -19,61 +19,9 @@ EMIT_HEAD = """\
 OPS_HEAD = """\
 //! The arms of functions that go by the load or the store: each macro is a match that gives what its name says."""
 
-# The arm of what a function is not called with, and the place of the arms that stand where a macro is called.
-NEVER = "_ => unreachable!(),"
+# The place of the arms that stand where a macro is called, and what takes them.
 OTHERS = "$($others)+"
-TAKEN = "$($others:tt)+"
-
-# How far to the right the arms of a macro stand.
-DEPTH = 3
-
-
-def arm(pattern: str, value: str) -> list[str]:
-    """An arm, on a line where it has room."""
-    line = f"{pattern} => {value},"
-    if len(INDENT) * DEPTH + len(line) <= LINE_WIDTH:
-        return [line]
-    return [f"{pattern} =>", f"{INDENT}{value},"]
-
-
-def bound(one: Instruction) -> str:
-    """An instruction as a pattern that names its fields."""
-    names = ", ".join(part.name for part in one.fields)
-    return f"Inst::{one.name} {{ {names} }}" if names else f"Inst::{one.name}"
-
-
-def unbound(one: Instruction, field: str = "") -> str:
-    """An instruction as a pattern that names one of its fields, or none."""
-    if not one.fields:
-        return f"Inst::{one.name}"
-    return f"Inst::{one.name} {{ {field}, .. }}" if field else f"Inst::{one.name} {{ .. }}"
-
-
-def any_of(patterns: list[str], value: str) -> list[str]:
-    """An arm of some patterns, on a line where they have room."""
-    line = f"{' | '.join(patterns)} => {value},"
-    if len(INDENT) * DEPTH + len(line) <= LINE_WIDTH:
-        return [line]
-    first, *others = patterns
-    lines = [first, *(f"| {pattern}" for pattern in others)]
-    return [*lines[:-1], f"{lines[-1]} => {value},"]
-
-
-def macro(says: str, name: str, arms: list[str], values: str = "$inst:expr") -> list[str]:
-    """A macro that is a match over an instruction, with these arms. `values` is what it takes, of which `$others` are the
-    arms of the other instructions.
-    """
-    return [
-        f"/// {says}",
-        "#[macro_export]",
-        f"macro_rules! {name} {{",
-        f"    ({values}) => {{",
-        f"        match {values.partition(':')[0]} {{",
-        *indented(arms, DEPTH),
-        "        }",
-        "    };",
-        "}",
-    ]
+TAKEN = "; $($others:tt)+"
 
 
 def word(one: Instruction, table: InstructionTable) -> str:
@@ -83,17 +31,17 @@ def word(one: Instruction, table: InstructionTable) -> str:
 
 def plain_words(table: InstructionTable, group: Group) -> list[str]:
     """src/word/plain.rt: the words of a group of plain words."""
-    arms = [line for one in table.of_group(group) for line in arm(bound(one), word(one, table))]
-    return macro(f"The words of {group.plain}.", f"{snake_case(group.name)}_words", [*arms, NEVER])
+    arms = [line for one in table.of_group(group) for line in arm([whole(one)], word(one, table))]
+    return matching(name_of(group, "words"), f"the words of {group.plain}", ["inst"], [*arms, NEVER])
 
 
 def control_words(table: InstructionTable) -> list[str]:
     """src/word/control.rt: the words of instructions of control that are one word, and nothing of the others."""
     own = table.of_group(table.groups["Control"])
-    arms = [line for one in own if one.word for line in arm(bound(one), f"Some({word(one, table)})")]
-    arms += any_of([unbound(one) for one in own if not one.word], "None")
-    return macro("The words of branches and the like that are one word without a use, and nothing of the others.",
-                 "control_words", [*arms, NEVER])
+    arms = [line for one in own if one.word for line in arm([whole(one)], f"Some({word(one, table)})")]
+    arms += arm([pattern(one, []) for one in own if not one.word], "None")
+    says = "the words of branches and the like that are one word without a use, and nothing of the others"
+    return matching("control_words", says, ["inst"], [*arms, NEVER])
 
 
 def trapping_words(table: InstructionTable) -> list[str]:
@@ -102,22 +50,22 @@ def trapping_words(table: InstructionTable) -> list[str]:
     for one in table.instructions:
         if "traps" in one.lines:
             traps = one.lines["traps"].text
-            arms += arm(bound(one), f"({word(one, table)}, {'&' if '.' in traps else ''}{traps})")
-    return macro("The words of loads and stores that are one word, each with what is known of the access.",
-                 "trapping_words", [*arms, OTHERS], f"$inst:expr; {TAKEN}")
+            arms += arm([whole(one)], f"({word(one, table)}, {'&' if '.' in traps else ''}{traps})")
+    says = "the words of loads and stores that are one word, each with what is known of the access"
+    return matching("trapping_words", says, ["inst"], [*arms, OTHERS], behind=TAKEN)
 
 
 def access_sites(table: InstructionTable) -> list[str]:
     """src/uses.rt: the use that a load or a store of one register is, by its mode."""
-    arms = any_of([unbound(one, "mem") for one in table.accesses], "mode_site(mem)")
-    return macro("The use that a load or a store of one register is, and none of the others.", "access_sites",
-                 [*arms, "_ => None,"])
+    arms = arm([pattern(one, ["mem"]) for one in table.accesses], "mode_site(mem)")
+    says = "the use that a load or a store of one register is, and none of the others"
+    return matching("access_sites", says, ["inst"], [*arms, "_ => None,"])
 
 
 def where_marked(table: InstructionTable, mark: str, says: str) -> list[str]:
     """src/falling.rt, src/extent.rt: a value for the instructions with a mark."""
-    arms = any_of([unbound(one) for one in table.instructions if mark in one.marks], "$value")
-    return macro(f"A value for {says}.", f"where_{mark}", [*arms, OTHERS], f"$inst:expr, $value:expr; {TAKEN}")
+    arms = arm([pattern(one, []) for one in table.instructions if mark in one.marks], "$value")
+    return matching(f"where_{mark}", f"a value for {says}", ["inst", "value"], [*arms, OTHERS], behind=TAKEN)
 
 
 def emit_arms(table: InstructionTable) -> list[str]:
@@ -135,12 +83,10 @@ def emit_arms(table: InstructionTable) -> list[str]:
 
 # ---- loads and stores of one register
 
-def by_value(says: str, name: str, values: dict[str, str], other: str = "") -> list[str]:
-    """A macro that gives the values of operators: those of one value have one arm. `other` is the value of the others."""
-    arms = []
-    for value in sorted(set(values.values())):
-        arms += any_of([f"AccessOp::{op}" for op in values if values[op] == value], value)
-    return macro(says, name, [*arms, f"_ => {other},"] if other else arms, "$op:expr")
+def by_value(name: str, says: str, values: dict[str, str], other: str = "") -> list[str]:
+    """A macro that gives the values of operators. `other` is the value of those that have none."""
+    arms = arms_by_value({f"AccessOp::{op}": value for op, value in values.items()})
+    return matching(name, says, ["op"], [*arms, f"_ => {other},"] if other else arms, over="op")
 
 
 def ops_arms(table: InstructionTable) -> list[str]:
@@ -149,12 +95,12 @@ def ops_arms(table: InstructionTable) -> list[str]:
     literals = {name: f"Some({access.literal})" for name, access in own if access.literal is not None}
     return spaced([
         OPS_HEAD.split("\n"),
-        by_value("The field size of the word.", "access_sizes", {name: str(access.size) for name, access in own}),
-        by_value("Whether the register is a vector register.", "access_vectors",
+        by_value("access_sizes", "the field size of the word", {name: str(access.size) for name, access in own}),
+        by_value("access_vectors", "whether the register is a vector register",
                  {name: "true" for name, access in own if access.vector}, "false"),
-        by_value("The field opc of the word.", "access_opcs", {name: str(access.opc) for name, access in own}),
-        by_value("Whether it loads.", "access_loads", {one.name: "false" for one in table.accesses if not one.loads}, "true"),
-        by_value("The field opc of the form with a literal, where there is one.", "access_literals", literals, "None"),
+        by_value("access_opcs", "the field opc of the word", {name: str(access.opc) for name, access in own}),
+        by_value("access_loads", "whether it loads", {one.name: "false" for one in table.accesses if not one.loads}, "true"),
+        by_value("access_literals", "the field opc of the form with a literal, where there is one", literals, "None"),
     ])
 
 

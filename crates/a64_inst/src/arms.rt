@@ -79,11 +79,8 @@ macro_rules! group_arms {
             | Inst::VecMovElement { .. }
             | Inst::VecDupFPImm { .. }
             | Inst::VecDupImm { .. } => Group::Plain(PlainGroup::VectorMove),
-            Inst::Xpaclri
-            | Inst::Csdb
-            | Inst::Paci { .. }
-            | Inst::Bti { .. }
-            | Inst::Fence => Group::Plain(PlainGroup::System),
+            Inst::Xpaclri | Inst::Csdb | Inst::Paci { .. } | Inst::Bti { .. } | Inst::Fence =>
+                Group::Plain(PlainGroup::System),
             Inst::Udf { .. }
             | Inst::CondBr { .. }
             | Inst::TrapIf { .. }
@@ -185,14 +182,20 @@ macro_rules! access_arms {
 /// The load or store of one register of an operator.
 #[macro_export]
 macro_rules! made_arms {
-    ($inst:expr, $reg:expr, $mem:expr, $flags:expr) => {
-        match $inst {
-            AccessOp::ULoad8 => Inst::ULoad8 { rd: Writable::from_reg($reg), mem: $mem, flags: $flags },
-            AccessOp::SLoad8 => Inst::SLoad8 { rd: Writable::from_reg($reg), mem: $mem, flags: $flags },
-            AccessOp::ULoad16 => Inst::ULoad16 { rd: Writable::from_reg($reg), mem: $mem, flags: $flags },
-            AccessOp::SLoad16 => Inst::SLoad16 { rd: Writable::from_reg($reg), mem: $mem, flags: $flags },
-            AccessOp::ULoad32 => Inst::ULoad32 { rd: Writable::from_reg($reg), mem: $mem, flags: $flags },
-            AccessOp::SLoad32 => Inst::SLoad32 { rd: Writable::from_reg($reg), mem: $mem, flags: $flags },
+    ($op:expr, $reg:expr, $mem:expr, $flags:expr) => {
+        match $op {
+            AccessOp::ULoad8 =>
+                Inst::ULoad8 { rd: Writable::from_reg($reg), mem: $mem, flags: $flags },
+            AccessOp::SLoad8 =>
+                Inst::SLoad8 { rd: Writable::from_reg($reg), mem: $mem, flags: $flags },
+            AccessOp::ULoad16 =>
+                Inst::ULoad16 { rd: Writable::from_reg($reg), mem: $mem, flags: $flags },
+            AccessOp::SLoad16 =>
+                Inst::SLoad16 { rd: Writable::from_reg($reg), mem: $mem, flags: $flags },
+            AccessOp::ULoad32 =>
+                Inst::ULoad32 { rd: Writable::from_reg($reg), mem: $mem, flags: $flags },
+            AccessOp::SLoad32 =>
+                Inst::SLoad32 { rd: Writable::from_reg($reg), mem: $mem, flags: $flags },
             AccessOp::ULoad64 => Inst::uload64(Writable::from_reg($reg), $mem, $flags),
             AccessOp::FpuLoad16 => Inst::fpu_load16(Writable::from_reg($reg), $mem, $flags),
             AccessOp::FpuLoad32 => Inst::fpu_load32(Writable::from_reg($reg), $mem, $flags),
@@ -213,8 +216,8 @@ macro_rules! made_arms {
 /// The type of the value that an operator moves.
 #[macro_export]
 macro_rules! type_arms {
-    ($inst:expr) => {
-        match $inst {
+    ($op:expr) => {
+        match $op {
             AccessOp::ULoad8 | AccessOp::SLoad8 | AccessOp::Store8 => IrType::I8,
             AccessOp::ULoad16 | AccessOp::SLoad16 | AccessOp::Store16 => IrType::I16,
             AccessOp::ULoad32 | AccessOp::SLoad32 | AccessOp::Store32 => IrType::I32,
@@ -266,17 +269,15 @@ macro_rules! control_operands {
             | Inst::Word4 { .. }
             | Inst::Word8 { .. }
             | Inst::EmitIsland { .. } => true,
-            Inst::CondBr { taken, not_taken, kind } => {
-                are_cond_br_operands($virtuals, *taken, *not_taken, *kind)
-            }
+            Inst::CondBr { taken, not_taken, kind } =>
+                are_cond_br_operands($virtuals, *taken, *not_taken, *kind),
             Inst::TrapIf { kind, .. } => is_test($virtuals, *kind),
-            Inst::MovToNZCV { rn }
-            | Inst::IndirectBr { rn, .. } => is_register_or_zero($virtuals, *rn),
+            Inst::MovToNZCV { rn } | Inst::IndirectBr { rn, .. } =>
+                is_register_or_zero($virtuals, *rn),
             Inst::MovFromNZCV { rd } => is_register_or_zero($virtuals, rd.to_reg()),
             Inst::Jump { dest } => are_jump_operands(*dest),
-            Inst::TestBitAndBranch { taken, not_taken, rn, bit, .. } => {
-                are_test_bit_operands($virtuals, *taken, *not_taken, *rn, *bit)
-            }
+            Inst::TestBitAndBranch { taken, not_taken, rn, bit, .. } =>
+                are_test_bit_operands($virtuals, *taken, *not_taken, *rn, *bit),
             Inst::LabelAddress { dst, .. } => is_register_or_zero($virtuals, dst.to_reg()),
             _ => unreachable!(),
         }
@@ -329,16 +330,14 @@ macro_rules! sequence_operands {
             Inst::Rets { rets } => are_rets($virtuals, rets.as_slice()),
             Inst::DummyUse { reg } => is_any_register($virtuals, *reg),
             Inst::SequencePoint => true,
-            Inst::JTSequence { ridx, rtmp1, rtmp2, .. } => {
-                are_table_operands($virtuals, *ridx, &rtmp1.to_reg(), &rtmp2.to_reg())
-            }
+            Inst::JTSequence { ridx, rtmp1, rtmp2, .. } =>
+                are_table_operands($virtuals, *ridx, &rtmp1.to_reg(), &rtmp2.to_reg()),
             Inst::LoadExtNameGot { rd, .. }
             | Inst::LoadExtNameNear { rd, .. }
             | Inst::LoadExtNameFar { rd, .. } => is_register($virtuals, &rd.to_reg()),
-            Inst::StackProbeLoop { start, end, step } => {
-                are_probe_operands($info, $virtuals, &start.to_reg(), *end, *step)
-            }
-            Inst::AtomicRMWLoop { ty, op, addr, operand, oldval, scratch1, scratch2, .. } => {
+            Inst::StackProbeLoop { start, end, step } =>
+                are_probe_operands($info, $virtuals, &start.to_reg(), *end, *step),
+            Inst::AtomicRMWLoop { ty, op, addr, operand, oldval, scratch1, scratch2, .. } =>
                 are_rmw_loop_operands(
                     $virtuals,
                     *ty,
@@ -348,9 +347,8 @@ macro_rules! sequence_operands {
                     &oldval.to_reg(),
                     &scratch1.to_reg(),
                     &scratch2.to_reg(),
-                )
-            }
-            Inst::AtomicCASLoop { ty, addr, expected, replacement, oldval, scratch, .. } => {
+                ),
+            Inst::AtomicCASLoop { ty, addr, expected, replacement, oldval, scratch, .. } =>
                 are_cas_loop_operands(
                     $virtuals,
                     *ty,
@@ -359,11 +357,9 @@ macro_rules! sequence_operands {
                     replacement,
                     &oldval.to_reg(),
                     &scratch.to_reg(),
-                )
-            }
-            Inst::VecCSel { rd, rn, rm, .. } => {
-                are_select_operands($virtuals, rd.to_reg(), *rn, *rm)
-            }
+                ),
+            Inst::VecCSel { rd, rn, rm, .. } =>
+                are_select_operands($virtuals, rd.to_reg(), *rn, *rm),
             _ => unreachable!(),
         }
     };
@@ -374,42 +370,34 @@ macro_rules! sequence_operands {
 macro_rules! call_operands {
     ($inst:expr, $frame:expr, $virtuals:expr, $restorable:expr) => {
         match $inst {
-            Inst::Call { info } => {
-                are_call_operands(
+            Inst::Call { info } => are_call_operands(
+                $virtuals,
+                info.uses.as_slice(),
+                info.defs.as_slice(),
+                info.callee_pop_size,
+            ),
+            Inst::CallInd { info } =>
+                is_register_or_zero($virtuals, info.dest) && are_call_operands(
                     $virtuals,
                     info.uses.as_slice(),
                     info.defs.as_slice(),
                     info.callee_pop_size,
-                )
-            }
-            Inst::CallInd { info } => {
-                is_register_or_zero($virtuals, info.dest)
-                && are_call_operands(
-                    $virtuals,
-                    info.uses.as_slice(),
-                    info.defs.as_slice(),
-                    info.callee_pop_size,
-                )
-            }
-            Inst::ReturnCall { info } => {
-                are_return_operands(
+                ),
+            Inst::ReturnCall { info } => are_return_operands(
+                $frame,
+                $virtuals,
+                $restorable,
+                info.uses.as_slice(),
+                info.new_stack_arg_size,
+            ),
+            Inst::ReturnCallInd { info } =>
+                is_register_or_zero($virtuals, info.dest) && are_return_operands(
                     $frame,
                     $virtuals,
                     $restorable,
                     info.uses.as_slice(),
                     info.new_stack_arg_size,
-                )
-            }
-            Inst::ReturnCallInd { info } => {
-                is_register_or_zero($virtuals, info.dest)
-                && are_return_operands(
-                    $frame,
-                    $virtuals,
-                    $restorable,
-                    info.uses.as_slice(),
-                    info.new_stack_arg_size,
-                )
-            }
+                ),
             _ => unreachable!(),
         }
     };
@@ -443,37 +431,27 @@ macro_rules! memory_operands {
     ($inst:expr, $frame:expr, $virtuals:expr) => {
         match $inst {
             Inst::AtomicCAS128 { args } => are_cas128_operands($virtuals, args),
-            Inst::VecLoadReplicate { rd, rn, .. } => {
-                are_replicate_operands($virtuals, rd.to_reg(), *rn)
-            }
-            Inst::StoreRelease { access_ty, rt, rn, .. } => {
-                are_ordered_operands($virtuals, *access_ty, *rt, *rn)
-            }
-            Inst::LoadAcquire { access_ty, rt, rn, .. } => {
-                are_ordered_operands($virtuals, *access_ty, rt.to_reg(), *rn)
-            }
-            Inst::AtomicCAS { rd, rs, rt, rn, ty, .. } => {
-                are_cas_operands($virtuals, rd.to_reg(), *rs, *rt, *rn, *ty)
-            }
+            Inst::VecLoadReplicate { rd, rn, .. } =>
+                are_replicate_operands($virtuals, rd.to_reg(), *rn),
+            Inst::StoreRelease { access_ty, rt, rn, .. } =>
+                are_ordered_operands($virtuals, *access_ty, *rt, *rn),
+            Inst::LoadAcquire { access_ty, rt, rn, .. } =>
+                are_ordered_operands($virtuals, *access_ty, rt.to_reg(), *rn),
+            Inst::AtomicCAS { rd, rs, rt, rn, ty, .. } =>
+                are_cas_operands($virtuals, rd.to_reg(), *rs, *rt, *rn, *ty),
             Inst::StoreP64 { rt, rt2, mem, .. } => are_pair_operands($virtuals, *rt, *rt2, mem),
-            Inst::LoadP64 { rt, rt2, mem, .. } => {
-                are_pair_operands($virtuals, rt.to_reg(), rt2.to_reg(), mem)
-            }
-            Inst::FpuStoreP64 { rt, rt2, mem, .. } => {
-                are_float_pair_operands($virtuals, IrType::F64, *rt, *rt2, mem)
-            }
-            Inst::FpuLoadP64 { rt, rt2, mem, .. } => {
-                are_float_pair_operands($virtuals, IrType::F64, rt.to_reg(), rt2.to_reg(), mem)
-            }
-            Inst::FpuStoreP128 { rt, rt2, mem, .. } => {
-                are_float_pair_operands($virtuals, IrType::I8X16, *rt, *rt2, mem)
-            }
-            Inst::FpuLoadP128 { rt, rt2, mem, .. } => {
-                are_float_pair_operands($virtuals, IrType::I8X16, rt.to_reg(), rt2.to_reg(), mem)
-            }
-            Inst::AtomicRMW { ty, rs, rt, rn, .. } => {
-                are_rmw_operands($virtuals, *ty, *rs, rt.to_reg(), *rn)
-            }
+            Inst::LoadP64 { rt, rt2, mem, .. } =>
+                are_pair_operands($virtuals, rt.to_reg(), rt2.to_reg(), mem),
+            Inst::FpuStoreP64 { rt, rt2, mem, .. } =>
+                are_float_pair_operands($virtuals, IrType::F64, *rt, *rt2, mem),
+            Inst::FpuLoadP64 { rt, rt2, mem, .. } =>
+                are_float_pair_operands($virtuals, IrType::F64, rt.to_reg(), rt2.to_reg(), mem),
+            Inst::FpuStoreP128 { rt, rt2, mem, .. } =>
+                are_float_pair_operands($virtuals, IrType::I8X16, *rt, *rt2, mem),
+            Inst::FpuLoadP128 { rt, rt2, mem, .. } =>
+                are_float_pair_operands($virtuals, IrType::I8X16, rt.to_reg(), rt2.to_reg(), mem),
+            Inst::AtomicRMW { ty, rs, rt, rn, .. } =>
+                are_rmw_operands($virtuals, *ty, *rs, rt.to_reg(), *rn),
             Inst::LoadAddr { rd, mem } => are_address_operands($frame, $virtuals, rd.to_reg(), mem),
             _ => unreachable!(),
         }

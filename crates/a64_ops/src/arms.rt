@@ -49,13 +49,6 @@ macro_rules! access_vectors {
 macro_rules! access_opcs {
     ($op:expr) => {
         match $op {
-            AccessOp::Store8
-            | AccessOp::Store16
-            | AccessOp::Store32
-            | AccessOp::Store64
-            | AccessOp::FpuStore16
-            | AccessOp::FpuStore32
-            | AccessOp::FpuStore64 => 0,
             AccessOp::ULoad8
             | AccessOp::ULoad16
             | AccessOp::ULoad32
@@ -65,6 +58,13 @@ macro_rules! access_opcs {
             | AccessOp::FpuLoad64 => 1,
             AccessOp::SLoad8 | AccessOp::SLoad16 | AccessOp::SLoad32 | AccessOp::FpuStore128 => 2,
             AccessOp::FpuLoad128 => 3,
+            AccessOp::Store8
+            | AccessOp::Store16
+            | AccessOp::Store32
+            | AccessOp::Store64
+            | AccessOp::FpuStore16
+            | AccessOp::FpuStore32
+            | AccessOp::FpuStore64 => 0,
         }
     };
 }
@@ -93,8 +93,8 @@ macro_rules! access_literals {
     ($op:expr) => {
         match $op {
             AccessOp::ULoad32 | AccessOp::FpuLoad32 => Some(0),
-            AccessOp::ULoad64 | AccessOp::FpuLoad64 => Some(1),
             AccessOp::SLoad32 | AccessOp::FpuLoad128 => Some(2),
+            AccessOp::ULoad64 | AccessOp::FpuLoad64 => Some(1),
             _ => None,
         }
     };

@@ -2,6 +2,7 @@
 use Rattle.std.proofs.Common.{◌≡◌, ℕ, suc, ◌<◌, ◌+◌, ◌*◌, ◌/◌, ◌%◌, ◌^◌, List, [], ◌∷◌, length, get_or, Option, Some, None, refl, sym, ap, ap₂, ◌∙◌, arith}
 use Rattle.a64_read.specs.Hex.{hex_digit, hex_word, byte_digits}
 use Rattle.a64_read.specs.Reads.{Reads, IsU8, IsU32}
+use Rattle.a64_read.proofs.HexWords.{hex_word_pairs}
 
 -- two digits of eight
 abbrev pair : List ℕ → ℕ → ℕ × ℕ
@@ -40,16 +41,7 @@ byte0 word = word % 256
 -- the digits of a word are those of its bytes
 by_bytes : (word : ℕ) → word < 2 ^ 32
     → hex_word word ≡ hex_digit (byte3 word / 16) ∷ hex_digit (byte3 word % 16) ∷ hex_digit (byte2 word / 16) ∷ hex_digit (byte2 word % 16) ∷ hex_digit (byte1 word / 16) ∷ hex_digit (byte1 word % 16) ∷ hex_digit (byte0 word / 16) ∷ hex_digit (byte0 word % 16) ∷ []
-by_bytes word h =
-    let a : word / 16777216 / 16 ≡ word / 16 ^ 7 % 16 = omega arith in
-    let b : word / 16777216 % 16 ≡ word / 16 ^ 6 % 16 = omega arith in
-    let c : word / 65536 % 256 / 16 ≡ word / 16 ^ 5 % 16 = omega arith in
-    let d : word / 65536 % 256 % 16 ≡ word / 16 ^ 4 % 16 = omega arith in
-    let e : word / 256 % 256 / 16 ≡ word / 16 ^ 3 % 16 = omega arith in
-    let f : word / 256 % 256 % 16 ≡ word / 16 ^ 2 % 16 = omega arith in
-    let g : word % 256 / 16 ≡ word / 16 ^ 1 % 16 = omega arith in
-    let i : word % 256 % 16 ≡ word / 16 ^ 0 % 16 = omega arith in
-    rw (a, b, c, d, e, f, g, i) refl
+by_bytes word h = hex_word_pairs word h
 
 module _ (token : List ℕ) where
   -- where the digits are those of a word, each two are those of its byte

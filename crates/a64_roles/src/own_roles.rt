@@ -7,9 +7,8 @@
 macro_rules! immediate_roles {
     ($visitor:ident, $inst:expr) => {
         match $inst {
-            Inst::MovK { rd, rn, .. } => {
-                hand($visitor, &[RegUse(*rn), RegReuseDef(rd.to_reg(), 0)])
-            }
+            Inst::MovK { rd, rn, .. } =>
+                hand($visitor, &[RegUse(*rn), RegReuseDef(rd.to_reg(), 0)]),
             other => immediate_list!(role_arms, $visitor, other),
         }
     };
@@ -36,13 +35,10 @@ macro_rules! float_roles {
 macro_rules! vector_roles {
     ($visitor:ident, $inst:expr) => {
         match $inst {
-            Inst::VecRRNarrowLow { rd, rn, .. } => {
-                hand($visitor, &[RegUse(*rn), RegDef(rd.to_reg())])
-            }
-            Inst::VecRRNarrowHigh { rd, ri, rn, .. } => hand(
-                $visitor,
-                &[RegUse(*rn), RegReuseDef(rd.to_reg(), 2), RegUse(*ri)],
-            ),
+            Inst::VecRRNarrowLow { rd, rn, .. } =>
+                hand($visitor, &[RegUse(*rn), RegDef(rd.to_reg())]),
+            Inst::VecRRNarrowHigh { rd, ri, rn, .. } =>
+                hand($visitor, &[RegUse(*rn), RegReuseDef(rd.to_reg(), 2), RegUse(*ri)]),
             other => vector_list!(role_arms, $visitor, other),
         }
     };
@@ -53,17 +49,11 @@ macro_rules! vector_roles {
 macro_rules! vector_move_roles {
     ($visitor:ident, $inst:expr) => {
         match $inst {
-            Inst::VecTbl { rd, rn, rm } => {
-                hand($visitor, &[RegUse(*rn), RegUse(*rm), RegDef(rd.to_reg())])
-            }
+            Inst::VecTbl { rd, rn, rm } =>
+                hand($visitor, &[RegUse(*rn), RegUse(*rm), RegDef(rd.to_reg())]),
             Inst::VecTblExt { rd, ri, rn, rm } => hand(
                 $visitor,
-                &[
-                    RegUse(*rn),
-                    RegUse(*rm),
-                    RegReuseDef(rd.to_reg(), 3),
-                    RegUse(*ri),
-                ],
+                &[RegUse(*rn), RegUse(*rm), RegReuseDef(rd.to_reg(), 3), RegUse(*ri)],
             ),
             Inst::VecTbl2 { rd, rn, rn2, rm } => hand(
                 $visitor,
@@ -134,27 +124,23 @@ macro_rules! sequence_roles {
             Inst::SequencePoint => hand($visitor, &[]),
             Inst::JTSequence { ridx, rtmp1, rtmp2, .. } => hand(
                 $visitor,
-                &[
-                    RegUse(*ridx),
-                    RegEarlyDef(rtmp1.to_reg()),
-                    RegEarlyDef(rtmp2.to_reg()),
-                ],
+                &[RegUse(*ridx), RegEarlyDef(rtmp1.to_reg()), RegEarlyDef(rtmp2.to_reg())],
             ),
             Inst::LoadExtNameGot { rd, .. }
             | Inst::LoadExtNameNear { rd, .. }
             | Inst::LoadExtNameFar { rd, .. } => hand($visitor, &[RegDef(rd.to_reg())]),
-            Inst::StackProbeLoop { start, end, .. } => {
-                hand($visitor, &[RegEarlyDef(start.to_reg()), RegUse(*end)])
-            }
-            Inst::AtomicRMWLoop { op, addr, operand, oldval, scratch1, scratch2, .. } => hand_rmw_loop(
-                $visitor,
-                *op,
-                *addr,
-                *operand,
-                oldval.to_reg(),
-                scratch1.to_reg(),
-                scratch2.to_reg(),
-            ),
+            Inst::StackProbeLoop { start, end, .. } =>
+                hand($visitor, &[RegEarlyDef(start.to_reg()), RegUse(*end)]),
+            Inst::AtomicRMWLoop { op, addr, operand, oldval, scratch1, scratch2, .. } =>
+                hand_rmw_loop(
+                    $visitor,
+                    *op,
+                    *addr,
+                    *operand,
+                    oldval.to_reg(),
+                    scratch1.to_reg(),
+                    scratch2.to_reg(),
+                ),
             Inst::AtomicCASLoop { addr, expected, replacement, oldval, scratch, .. } => hand(
                 $visitor,
                 &[
@@ -165,9 +151,8 @@ macro_rules! sequence_roles {
                     RegFixedDef(scratch.to_reg(), xreg(24)),
                 ],
             ),
-            Inst::VecCSel { rd, rn, rm, .. } => {
-                hand($visitor, &[RegDef(rd.to_reg()), RegUse(*rn), RegUse(*rm)])
-            }
+            Inst::VecCSel { rd, rn, rm, .. } =>
+                hand($visitor, &[RegDef(rd.to_reg()), RegUse(*rn), RegUse(*rm)]),
             _ => unreachable!(),
         }
     };
@@ -178,13 +163,8 @@ macro_rules! sequence_roles {
 macro_rules! call_roles {
     ($visitor:ident, $inst:expr) => {
         match $inst {
-            Inst::Call { info } => hand_call(
-                $visitor,
-                &[],
-                info.uses.as_slice(),
-                info.defs.as_slice(),
-                info.clobbers,
-            ),
+            Inst::Call { info } =>
+                hand_call($visitor, &[], info.uses.as_slice(), info.defs.as_slice(), info.clobbers),
             Inst::CallInd { info } => hand_call(
                 $visitor,
                 &[RegUse(info.dest)],
@@ -209,33 +189,24 @@ macro_rules! memory_roles {
     ($visitor:ident, $inst:expr) => {
         match $inst {
             Inst::AtomicCAS128 { args } => hand_pair_swap($visitor, args),
-            Inst::VecLoadReplicate { rd, rn, .. } => {
-                hand($visitor, &[RegDef(rd.to_reg()), RegUse(*rn)])
-            }
+            Inst::VecLoadReplicate { rd, rn, .. } =>
+                hand($visitor, &[RegDef(rd.to_reg()), RegUse(*rn)]),
             Inst::StoreRelease { rt, rn, .. } => hand($visitor, &[RegUse(*rn), RegUse(*rt)]),
             Inst::LoadAcquire { rt, rn, .. } => hand($visitor, &[RegUse(*rn), RegDef(rt.to_reg())]),
             Inst::AtomicCAS { rd, rs, rt, rn, .. } => hand(
                 $visitor,
-                &[
-                    RegReuseDef(rd.to_reg(), 1),
-                    RegUse(*rs),
-                    RegUse(*rt),
-                    RegUse(*rn),
-                ],
+                &[RegReuseDef(rd.to_reg(), 1), RegUse(*rs), RegUse(*rt), RegUse(*rn)],
             ),
             Inst::StoreP64 { rt, rt2, mem, .. }
             | Inst::FpuStoreP64 { rt, rt2, mem, .. }
-            | Inst::FpuStoreP128 { rt, rt2, mem, .. } => {
-                hand_pair_mode($visitor, &[RegUse(*rt), RegUse(*rt2)], mem)
-            }
+            | Inst::FpuStoreP128 { rt, rt2, mem, .. } =>
+                hand_pair_mode($visitor, &[RegUse(*rt), RegUse(*rt2)], mem),
             Inst::LoadP64 { rt, rt2, mem, .. }
             | Inst::FpuLoadP64 { rt, rt2, mem, .. }
-            | Inst::FpuLoadP128 { rt, rt2, mem, .. } => {
-                hand_pair_mode($visitor, &[RegDef(rt.to_reg()), RegDef(rt2.to_reg())], mem)
-            }
-            Inst::AtomicRMW { rs, rt, rn, .. } => {
-                hand($visitor, &[RegUse(*rs), RegDef(rt.to_reg()), RegUse(*rn)])
-            }
+            | Inst::FpuLoadP128 { rt, rt2, mem, .. } =>
+                hand_pair_mode($visitor, &[RegDef(rt.to_reg()), RegDef(rt2.to_reg())], mem),
+            Inst::AtomicRMW { rs, rt, rn, .. } =>
+                hand($visitor, &[RegUse(*rs), RegDef(rt.to_reg()), RegUse(*rn)]),
             Inst::LoadAddr { rd, mem } => hand_mode($visitor, &[RegDef(rd.to_reg())], mem),
             other => match other.access_ref() {
                 Some(access) => hand_access($visitor, &access),
