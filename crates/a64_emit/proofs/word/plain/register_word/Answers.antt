@@ -15,5 +15,5 @@ shifted_word-requires c =
     let i = c.in-AluRRRShift in
     let good = subst (λ (inst : Inst). has_operands c.args.frame.now c.args.info.now Refused inst ≡ true) i.is c.requires.good in
     let shifted = rest_of (insts.AluRRRShift i.alu_op i.size i.rd i.rn i.rm i.shiftop) good in
-    subst (λ (r : TwoRegisters). IsFormOf (shifted_form i.alu_op i.shiftop r)) (sym c.two_registers-in-AluRRRShift.ensures.value)
+    subst (λ (r : TwoRegisters). IsFormOf (shifted_form i.alu_op i.shiftop r)) (sym c.two_registers.ensures.value)
     (shifted_is_form i.alu_op i.size i.rd i.rn i.rm i.shiftop shifted)
