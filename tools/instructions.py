@@ -35,9 +35,6 @@ MODULES = (
     inst_files, instruction_marks, instruction_roles, name_code, name_specs, text_code, text_specs, word_code, word_specs,
 )
 
-# What sees that the lines of records say what can be written.
-CHECKS = (format_rows.checked, instruction_marks.check, instruction_roles.check, text_table.checked)
-
 
 def text_of(path: str) -> str:
     """What stands in a file of the repository."""
@@ -53,10 +50,12 @@ def variants_of(path: str, enum: str) -> list[str]:
 def read(text: str, file: str) -> InstructionTable:
     """The table of a text."""
     table = instruction_table_of(text, file, variants_of(CLASSES, "Class"), words_of(text_of(WORDS), WORDS))
+    instruction_marks.check(table)
+    instruction_roles.check(table)
     word_keys.checked(table, rows.read(text_of(rows.TABLE), rows.TABLE))
     name_classes.checked(table, variants_of(FILE_KINDS, "Kind"))
-    for checked in CHECKS:
-        checked(table)
+    format_rows.checked(table)
+    text_table.checked(table)
     return table
 
 

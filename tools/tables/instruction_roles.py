@@ -5,7 +5,7 @@ from dataclasses import dataclass
 from functools import partial
 from typing import Callable
 
-from .grammar import Call, names_in, snake_case, values_of
+from .grammar import Call, Line, names_in, snake_case, values_of
 from .instruction_table import Group, Instruction, InstructionTable
 from .layout import chain, equation, indented, spaced
 from .macros import NEVER, arm, arms_by_value, macro, name_of, pattern
@@ -81,22 +81,28 @@ def roles_of(one: Instruction) -> Roles:
     if "roles" not in one.lines:
         return NONE
     line = one.lines["roles"]
-    calls = values_of(line)
-    for place, call in enumerate(calls):
-        if not isinstance(call, Call):
-            line.fail(f"`{call}` is neither a role nor a list of roles")
+    calls = [call if isinstance(call, Call) else line.fail(f"`{call}` is no call") for call in values_of(line)]
+    for name in names_in(tuple(calls)):
+        if not one.field_of(name):
+            line.fail(f"the instruction `{one.name}` has no field `{name}`")
+    *single, last = calls
+    if last.name[0].isupper():
+        return Roles(roles_in(calls, line), None)
+    if single and last.name not in BEHIND:
+        line.fail(f"the list `{last.name}` is told alone")
+    return Roles(roles_in(single, line), last)
+
+
+def roles_in(calls: list[Call], line: Line) -> tuple[Call, ...]:
+    """The calls, of which each has to be a single role."""
+    for call in calls:
         if call.name[0].islower():
-            if place != len(calls) - 1:
-                line.fail(f"a role stands behind the list `{call.name}`")
-            if place and call.name not in BEHIND:
-                line.fail(f"the list `{call.name}` is told alone")
-        elif ROLES.get(call.name) != len(call.values):
-            line.fail(f"there is no role `{call.name}` of {len(call.values)} values")
-        for name in names_in(call.values):
-            if not one.field_of(name):
-                line.fail(f"the instruction `{one.name}` has no field `{name}`")
-    has_rest = calls[-1].name[0].islower()
-    return Roles(tuple(calls[:-1] if has_rest else calls), calls[-1] if has_rest else None)
+            line.fail(f"behind the list `{call.name}` stands nothing")
+        if call.name not in ROLES:
+            line.fail(f"there is no role `{call.name}`")
+        if len(call.values) != ROLES[call.name]:
+            line.fail(f"the role `{call.name}` has another number of values")
+    return tuple(calls)
 
 
 def check(table: InstructionTable) -> None:
