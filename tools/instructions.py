@@ -4,9 +4,9 @@ in docs/FORMAT.md. tables/words.txt says how its words are spelled.
 
 Usage: tools/instructions.py [--check | --test]
 
-With --check nothing is written, and the status is 1 where a file is not what the table gives. With --test the
-wrong tables of tools/tables/wrong_instructions are read, and the status is 1 where one gives another error than it
-should.
+With --check nothing is written, and the status is 1 where a file is not what the table gives, or where a recipe of
+docs/ADDING.md or docs/RECIPES.md names what is not there. With --test the wrong tables of
+tools/tables/wrong_instructions are read, and the status is 1 where one gives another error than it should.
 """
 import re
 import sys
@@ -15,7 +15,7 @@ from typing import Callable
 
 import rows
 from tables import files, format_rows, inst_files, instruction_marks, instruction_roles
-from tables import name_classes, name_code, name_specs, text_code, text_specs, text_table
+from tables import name_classes, name_code, name_specs, recipes, text_code, text_specs, text_table
 from tables import word_code, word_keys, word_specs
 from tables.instruction_table import InstructionTable, instruction_table_of
 from tables.script import Script
@@ -75,4 +75,7 @@ def whole(path: str, lines: Callable[[], list[str]]) -> list[str]:
 
 if __name__ == "__main__":
     script = Script(__doc__, COMMAND, TABLE, CRATES, "tools/tables/wrong_instructions", read, written)
-    sys.exit(script.run(sys.argv[1:]))
+    status = script.run(sys.argv[1:])
+    if sys.argv[1:] == ["--check"] and recipes.check():
+        status = 1
+    sys.exit(status)
