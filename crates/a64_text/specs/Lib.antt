@@ -3,8 +3,13 @@ pub mod MovImms
 pub mod Pairs
 pub mod PlainFields
 pub mod FloatImms
+pub mod NameInsts
+pub mod Headings
 pub mod Names
 pub mod NameRows
+pub mod PlainNames
+pub mod Parts
+pub mod InstParts
 pub mod Tokens
 pub mod Makes
 pub mod Makers
