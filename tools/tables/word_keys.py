@@ -86,6 +86,8 @@ def check_words(one: Instruction, rows: RowTable) -> None:
         one.lines[there[-1]].fail(f"`{there[-1]}` says a second time what the words of `{one.name}` are")
     if "row" in there:
         check_row(one, rows)
+        if one.word is None:
+            one.lines["row"].fail(f"no `word` stands beside the row of `{one.name}`")
     for key in ("traps", "word"):
         if key in one.lines and "cells" in there:
             one.lines[key].fail(f"`{key}` stands beside `cells`")
