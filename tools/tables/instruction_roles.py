@@ -97,7 +97,7 @@ def roles_in(calls: list[Call], line: Line) -> tuple[Call, ...]:
     """The calls, of which each has to be a single role."""
     for call in calls:
         if call.name[0].islower():
-            line.fail(f"behind the list `{call.name}` stands nothing")
+            line.fail(f"the list `{call.name}` has to be the last")
         if call.name not in ROLES:
             line.fail(f"there is no role `{call.name}`")
         if len(call.values) != ROLES[call.name]:
