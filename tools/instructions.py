@@ -14,9 +14,8 @@ from functools import partial
 from typing import Callable
 
 import rows
-from tables import files, format_rows, inst_files, instruction_marks, instruction_roles
-from tables import name_classes, name_code, name_specs, recipes, text_code, text_specs, text_table
-from tables import word_code, word_keys, word_specs
+from tables import files, format_rows, inst_files, marks, name_classes, name_code, name_specs, recipes, roles
+from tables import text_code, text_specs, text_table, word_code, word_keys, word_specs
 from tables.instruction_table import InstructionTable, instruction_table_of
 from tables.script import Script
 from tables.words import words_of
@@ -31,9 +30,7 @@ CLASSES = "crates/a64_operand/src/class.rt"
 FILE_KINDS = "crates/a64_read/src/value.rt"
 
 # The modules whose `written` says, by the table, which files are written, and what writes each.
-MODULES = (
-    inst_files, instruction_marks, instruction_roles, name_code, name_specs, text_code, text_specs, word_code, word_specs,
-)
+MODULES = (inst_files, marks, roles, name_code, name_specs, text_code, text_specs, word_code, word_specs)
 
 
 def text_of(path: str) -> str:
@@ -49,10 +46,11 @@ def variants_of(path: str, enum: str) -> list[str]:
 
 def read(text: str, file: str) -> InstructionTable:
     """The table of a text."""
-    table = instruction_table_of(text, file, variants_of(CLASSES, "Class"), words_of(text_of(WORDS), WORDS))
-    instruction_marks.check(table)
-    instruction_roles.check(table)
-    word_keys.checked(table, rows.read(text_of(rows.TABLE), rows.TABLE))
+    words, row_table = words_of(text_of(WORDS), WORDS), rows.read(text_of(rows.TABLE), rows.TABLE)
+    table = instruction_table_of(text, file, variants_of(CLASSES, "Class"), words, row_table)
+    marks.check(table)
+    roles.check(table)
+    word_keys.checked(table)
     name_classes.checked(table, variants_of(FILE_KINDS, "Kind"))
     format_rows.checked(table)
     text_table.checked(table)

@@ -6,6 +6,7 @@ from dataclasses import dataclass, field
 
 from .file_kinds import InFile, Part, in_file_of
 from .grammar import Call, Line, Names, Record, Test, Value, call_of, names_in, records_of, snake_case, tests_of
+from .row_table import RowTable
 from .words import Words
 
 ACCESS = re.compile(r"(\w+) size ([0-3]) v ([01]) opc ([0-3])(?: literal ([0-3]))?")
@@ -155,11 +156,14 @@ class Instruction:
 
 @dataclass
 class InstructionTable:
-    """The table: its groups, the instructions in their order, and how the words of their expressions are spelled."""
+    """The table: its groups, the instructions in their order, how the words of their expressions are spelled, and the
+    rows of words.
+    """
 
     groups: Names
     instructions: list[Instruction]
     words: Words
+    rows: RowTable
 
     @property
     def plain_groups(self) -> list[Group]:
@@ -184,9 +188,10 @@ class InstructionTable:
 class _Reader:
     """What is known of a table while it is read. `classes` are the names of the classes of registers."""
 
-    def __init__(self, classes: list[str], words: Words):
+    def __init__(self, classes: list[str], words: Words, rows: RowTable):
         self.classes = classes
         self.words = words
+        self.rows = rows
         self.groups = Names("group")
         self.kinds = Names("kind")
         self.instructions = Names("instruction")
@@ -343,7 +348,7 @@ class _Reader:
 
     def table(self) -> InstructionTable:
         """What was read."""
-        return InstructionTable(self.groups, list(self.instructions.values()), self.words)
+        return InstructionTable(self.groups, list(self.instructions.values()), self.words, self.rows)
 
 
 def _known(one: Instruction, values: tuple[Value, ...], line: Line) -> None:
@@ -359,9 +364,9 @@ def class_call(of_class: str) -> Call | None:
     return Call(found[1], (found[2],)) if found else None
 
 
-def instruction_table_of(text: str, file: str, classes: list[str], words: Words) -> InstructionTable:
+def instruction_table_of(text: str, file: str, classes: list[str], words: Words, rows: RowTable) -> InstructionTable:
     """The table of a text. `classes` are the names of the classes of registers."""
-    reader = _Reader(classes, words)
+    reader = _Reader(classes, words, rows)
     for record in records_of(text, file):
         reader.record(record)
     return reader.table()

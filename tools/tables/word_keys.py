@@ -5,9 +5,11 @@ from __future__ import annotations
 
 import re
 from dataclasses import dataclass
+from typing import Iterable
 
 from .grammar import Line, Value, names_in, values_of
 from .instruction_table import BESIDE, Instruction, InstructionTable
+from .layout import use
 from .row_table import Row, RowTable
 
 ROW = re.compile(r"(\w+)(?: \{ (.*) \})?")
@@ -36,6 +38,13 @@ def row_form_of(one: Instruction) -> RowForm | None:
     if not found:
         line.fail("`ROW`, or `ROW { FIELD; FIELD = VALUE; .. }` is wanted")
     return RowForm(found[1], tuple(row_field(part.strip(), line) for part in (found[2] or "").split(";") if part.strip()))
+
+
+def row_imports(instructions: Iterable[Instruction], rows: RowTable) -> list[str]:
+    """The lines that import the forms of the rows by which some instructions are told."""
+    used = {form.name for form in map(row_form_of, instructions) if form}
+    names = {module: sorted(used & {row.form for row in rows.of_module(module)}) for module in sorted(rows.modules)}
+    return [use(f"a64_rows.specs.{module}", own) for module, own in names.items() if own]
 
 
 def row_field(text: str, line: Line) -> tuple[str, Value]:
@@ -106,8 +115,8 @@ def check_plain(one: Instruction) -> None:
         one.head.fail(f"the plain word `{one.name}` has no section of the manual")
 
 
-def checked(table: InstructionTable, rows: RowTable) -> InstructionTable:
+def checked(table: InstructionTable) -> InstructionTable:
     """The table, whose lines on words are as they have to be."""
     for one in table.instructions:
-        check_words(one, rows)
+        check_words(one, table.rows)
     return table

@@ -9,7 +9,7 @@ from .grammar import Call, Value, call_of
 from .instruction_table import Instruction, InstructionTable
 from .layout import INDENT, LINE_WIDTH, equation, spaced
 from .spelling import Definition
-from .word_keys import IN_ROWS, row_form_of
+from .word_keys import IN_ROWS, row_form_of, row_imports
 
 # The module that has the forms of a group. (Those of another module are placed by words.txt.)
 HOMES = {
@@ -38,8 +38,7 @@ use Rattle.a64_imms.specs.Unsigned.{uimm5_value}
 use Rattle.a64_inst.specs.declared.inst.Inst.{Inst}
 use Rattle.a64_inst.specs.declared.inst.Inst.TheVariants as insts
 use Rattle.a64_rows.specs.Forms.{Form}
-use Rattle.a64_rows.specs.Control.{barrier}
-use Rattle.a64_rows.specs.DataProcessing.{bitfield, cond_compare, cond_select, data_proc1}
+ROWS
 use Rattle.a64_enc_int.specs.Operators.{bit_of}
 use Rattle.a64_enc_int.specs.Registers.{register_field}
 use Rattle.a64_emit.specs.ControlForms as control
@@ -157,7 +156,8 @@ def section(one: Instruction) -> list[str]:
 
 def plain_forms(table: InstructionTable) -> list[str]:
     """specs/PlainForms.antt: the forms of plain words, by their sections of the manual."""
-    lines = PLAIN_FORMS_HEAD.split("\n")
+    plain = [one for one in table.instructions if one.group.plain]
+    lines = PLAIN_FORMS_HEAD.replace("ROWS", "\n".join(row_imports(plain, table.rows))).split("\n")
     for group in table.plain_groups:
         lines.append(f"-- ---- {group.plain}")
         before: list[str] = []
