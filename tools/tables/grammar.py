@@ -215,10 +215,12 @@ class _Tokens:
         return Call(name, tuple(values))
 
     def test(self) -> Test:
-        """The next test: a call, or a comparison."""
-        name = self.name()
+        """The next test: a call, or a comparison of a name, or of a part of one."""
+        name = self.take()
         if self.items[:1] == ["("]:
             return self.call(name)
+        for part in name.split("."):
+            self.line.name(part)
         return Compare(name, self.take("(", *SIGNS), self.number())
 
 
