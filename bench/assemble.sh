@@ -1,6 +1,7 @@
 #!/usr/bin/env bash
 # Times the program against GNU as and llvm-mc on the same items, in one run: the least of three
 # times of each, and beside those of the two assemblers how many times the program's own they are.
+# Then, for the program and GNU as, the peak of memory and the seconds of the processor.
 # It installs the two assemblers where they are missing, and builds the program.
 set -eu
 cd "$(dirname "$0")/.."
@@ -96,6 +97,23 @@ for name in near far one_label shuffled nops mixed; do
     llvm=$(least llvm-mc -triple=aarch64 -filetype=obj "$work/$name.s" -o "$work/$name.llvm.o")
     printf '| %s | %s | %s | %s | %s | %s |\n' "$name" "$(seconds "$own")" \
         "$(seconds "$gnu")" "$(ratio "$gnu" "$own")" "$(seconds "$llvm")" "$(ratio "$llvm" "$own")"
+done
+
+# Peak of memory, and seconds of the processor with the system's, of one run.
+usage() {
+    python3 -c '
+import resource, subprocess, sys
+subprocess.run(sys.argv[1:], stdout=subprocess.DEVNULL, check=True)
+used = resource.getrusage(resource.RUSAGE_CHILDREN)
+print(f"{used.ru_maxrss // 1000} MB | {used.ru_utime:.2f} s + {used.ru_stime:.2f} s")' "$@"
+}
+
+echo
+echo "| file | memory | user + system | memory of GNU as | user + system |"
+echo "|---|---|---|---|---|"
+for name in nops mixed; do
+    printf '| %s | %s | %s |\n' "$name" "$(usage "$program" < "$work/$name.txt")" \
+        "$(usage aarch64-linux-gnu-as "$work/$name.s" -o "$work/$name.gas.o")"
 done
 
 # What has islands, or a pool: the two assemblers write no veneers, and one pool for each section or where it is asked for.

@@ -1,5 +1,6 @@
 #!/usr/bin/env python3
-"""Writes the tables of homes of crates/a64_read: `NAME_HOMES`, of the names in the tables of rows behind it.
+"""Writes the tables of homes of crates/a64_tokens and crates/a64_read: `NAME_HOMES`, of the names in the tables of rows
+behind it.
 
 Usage: tools/homes.py [--check]
 
@@ -13,7 +14,7 @@ from pathlib import Path
 from tables import files
 from tables.homes import home_table
 
-FOLDER = files.ROOT / "crates" / "a64_read" / "src"
+FOLDERS = [files.ROOT / "crates" / crate / "src" for crate in ("a64_tokens", "a64_read")]
 HOMES = re.compile(r"pub static (\w+_HOMES): \[u8; \d+\] = \[[^\]]*\];")
 ROWS = re.compile(r"pub static \w+: \[Row<[\w<>]+>; \d+\] = \[\n(.*?)\n\];", re.DOTALL)
 
@@ -30,7 +31,8 @@ def with_homes(text: str) -> str:
 
 def stale() -> dict[Path, str]:
     """The files that have other homes, and what they should be."""
-    found = {path: with_homes(path.read_text(encoding="utf-8")) for path in sorted(FOLDER.glob("*.rt"))}
+    paths = [path for folder in FOLDERS for path in sorted(folder.glob("*.rt"))]
+    found = {path: with_homes(path.read_text(encoding="utf-8")) for path in paths}
     return {path: text for path, text in found.items() if path.read_text(encoding="utf-8") != text}
 
 

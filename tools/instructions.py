@@ -22,12 +22,12 @@ from tables.words import words_of
 
 TABLE = "tables/instructions.txt"
 WORDS = "tables/words.txt"
-CRATES = ["crates/a64_ops", "crates/a64_inst", "crates/a64_emit", "crates/a64_operand_text", "crates/a64_print",
-          "crates/a64_role", "crates/a64_roles", "crates/a64_text"]
+CRATES = ["crates/a64_ops", "crates/a64_inst", "crates/a64_cells", "crates/a64_emit", "crates/a64_operand_text",
+          "crates/a64_print", "crates/a64_role", "crates/a64_roles", "crates/a64_text"]
 COMMAND = "python3 tools/instructions.py"
 MARK = files.mark_of(COMMAND, TABLE)
 CLASSES = "crates/a64_operand/src/class.rt"
-FILE_KINDS = "crates/a64_read/src/value.rt"
+FILE_KINDS = "crates/a64_tokens/src/value.rt"
 
 # The modules whose `written` says, by the table, which files are written, and what writes each.
 MODULES = (inst_files, marks, roles, name_code, name_specs, text_code, text_specs, word_code, word_specs)

@@ -1,4 +1,4 @@
-"""Tables of homes, by which names are looked up (`hash_of` of crates/a64_read/src/named.rt).
+"""Tables of homes, by which names are looked up (`hash_of` of crates/a64_tokens/src/named.rt).
 
 The names are those of a table's rows, in their order. A table that is divided has several classes of rows, of
 at most 32 each. The home of a name is 32 times the number of its class, plus the number of its row there, both from

@@ -20,7 +20,7 @@ TABLE_HEAD = """\
 //! The names with which lines begin, each with the kinds of the fields behind it.
 
 ghost use Rattle.std.specs.Prelude.{{map}};
-ghost use Rattle.a64_read.specs.Hash.{{AreRows}};
+ghost use Rattle.a64_tokens.specs.Hash.{{AreRows}};
 ghost use Rattle.a64_text.specs.declared.name_table.TheConstants.{{{tables}}};
 ghost use Rattle.a64_text.specs.Names.{{name_text, kinds_of}};
 
@@ -29,9 +29,9 @@ use crate::name::{{
     SequenceName, SystemName, VectorMoveName, VectorName,
 }};
 use a64_inst::AccessOp;
-use a64_read::named::Row;
-use a64_read::value::Kind;
-use a64_read::vec_op::VecOpKind;
+use a64_tokens::named::Row;
+use a64_tokens::value::Kind;
+use a64_tokens::vec_op::VecOpKind;
 
 /// For each remainder of a hash, the home of the name that has it: 32 times the number of its class, plus
 /// the number of its row there."""

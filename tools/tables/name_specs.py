@@ -104,7 +104,7 @@ def name_insts(table: InstructionTable) -> list[str]:
     blocks = [makes(table, class_of(name)) for name in OF_FIELDS]
     readers = sorted(set(re.findall(r"\b\w+_at\b", "\n".join(line for block in blocks for line in block))))
     uses = [line for of in classes for line in type_uses(of)] + [
-        use("a64_read.specs.declared.value.Value", ["Value"]),
+        use("a64_tokens.specs.declared.value.Value", ["Value"]),
         use("a64_read.specs.At", [name for name in readers if not name.startswith("vec_")]),
         use("a64_read.specs.VecAt", [name for name in readers if name.startswith("vec_")]),
     ]
@@ -117,7 +117,7 @@ HEADINGS_HEAD = """\
 -- The names of instructions as texts, and their headings: each with the kinds of the fields behind it.
 use Rattle.std.specs.Prelude.{ℕ, List, [], ◌∷◌, codes}
 use Rattle.a64_read.specs.Heading.{Heading}
-use Rattle.a64_read.specs.declared.value.Kind.TheVariants as kinds"""
+use Rattle.a64_tokens.specs.declared.value.Kind.TheVariants as kinds"""
 
 
 def texts(table: InstructionTable, of: NameClass) -> list[str]:
@@ -194,9 +194,9 @@ INST_PARTS_HEAD = """\
 use Rattle.std.specs.Prelude.{[], ◌∷◌}
 use Rattle.a64_inst.specs.declared.inst.Inst.{Inst}
 use Rattle.a64_inst.specs.declared.inst.Inst.TheVariants as insts
-use Rattle.a64_read.specs.declared.value.Value.TheVariants as values
-use Rattle.a64_read.specs.Fields.{label_text}
-use Rattle.a64_read.specs.Lists.{list_text}
+use Rattle.a64_tokens.specs.declared.value.Value.TheVariants as values
+use Rattle.a64_tokens.specs.Fields.{label_text}
+use Rattle.a64_tokens.specs.Lists.{list_text}
 use Rattle.a64_read.specs.RegisterPairs.{arg_pair_text, ret_pair_text}
 use Rattle.a64_text.specs.declared.name.Name.TheVariants as names
 use Rattle.a64_text.specs.Parts.{Parts, access_parts, call_parts, pair_parts, return_call_parts}

@@ -16,7 +16,7 @@ OPERANDS = "operand"
 TEXTS_HEAD = """\
 -- The text of each instruction, but for loads, stores and addresses of their modes, whose texts depend on the frame.
 use Rattle.std.specs.Prelude.{ℕ, pos, ◌*ℤ◌, true, false, List, [], ◌∷◌, codes}
-use Rattle.a64_base.specs.declared.reg.Reg.TheVariants.{Real}
+use Rattle.a64_base.specs.declared.reg.RegKind.TheVariants.{Real}
 use Rattle.a64_base.specs.declared.size.ScalarSize.TheVariants as scalars
 use Rattle.a64_base.specs.declared.size.VectorSize.TheVariants as vectors
 use Rattle.a64_base.specs.declared.target.BranchTarget.TheVariants.{Label}

@@ -1,5 +1,5 @@
-"""What the code of crates/a64_emit and a64_ops repeats of the table of instructions: the arms of functions, as macros of one
-file of the crate.
+"""What the code of crates/a64_cells, a64_emit and a64_ops repeats of the table of instructions: the arms of functions, as
+macros of one file of the crate.
 """
 from __future__ import annotations
 
@@ -11,7 +11,7 @@ from .layout import spaced
 from .macros import NEVER, arm, arms_by_value, matching, name_of, pattern, whole
 from .spelling import Code
 
-EMIT_HEAD = """\
+INST_HEAD = """\
 //! The arms of functions that go by the instruction: each macro is a match that gives what its name says.
 //!
 //! Behind `;` stand the arms of the other instructions, where a macro takes them."""
@@ -68,13 +68,20 @@ def where_marked(table: InstructionTable, mark: str, says: str) -> list[str]:
     return matching(f"where_{mark}", f"a value for {says}", ["inst", "value"], [*arms, OTHERS], behind=TAKEN)
 
 
-def emit_arms(table: InstructionTable) -> list[str]:
-    """src/arms.rt (a64_emit): the arms of functions of the crate."""
+def cells_arms(table: InstructionTable) -> list[str]:
+    """src/arms.rt (a64_cells): the arms of functions of the crate."""
     return spaced([
-        EMIT_HEAD.split("\n"),
+        INST_HEAD.split("\n"),
         *(plain_words(table, group) for group in table.plain_groups),
         control_words(table),
         trapping_words(table),
+    ])
+
+
+def emit_arms(table: InstructionTable) -> list[str]:
+    """src/arms.rt (a64_emit): the arms of functions of the crate."""
+    return spaced([
+        INST_HEAD.split("\n"),
         access_sites(table),
         where_marked(table, "stops", "the instructions behind which execution never goes on"),
         where_marked(table, "quiet", "the instructions of control that are one word and no use"),
@@ -107,6 +114,7 @@ def ops_arms(table: InstructionTable) -> list[str]:
 def written(table: InstructionTable) -> dict[str, Callable[[], list[str]]]:
     """The files that are written, and what writes each."""
     return {
+        "crates/a64_cells/src/arms.rt": partial(cells_arms, table),
         "crates/a64_emit/src/arms.rt": partial(emit_arms, table),
         "crates/a64_ops/src/arms.rt": partial(ops_arms, table),
     }

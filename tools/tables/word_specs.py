@@ -1,4 +1,6 @@
-"""What the definitions of crates/a64_emit and a64_ops repeat of the table of instructions: one function for each file."""
+"""What the definitions of crates/a64_cells, a64_emit and a64_ops repeat of the table of instructions: one function for each
+file.
+"""
 from __future__ import annotations
 
 import textwrap
@@ -28,7 +30,7 @@ PLAIN_FORMS_HEAD = """\
 -- Immediate", "Data Processing -- Register", "Data Processing -- Scalar Floating-Point and Advanced SIMD", and hints and barriers of
 -- "Branches, Exception Generating and System instructions").
 use Rattle.std.specs.Prelude.{true, false, Option, None, Some}
-use Rattle.a64_base.specs.declared.reg.Reg.TheVariants.{Real}
+use Rattle.a64_base.specs.declared.reg.RegKind.TheVariants.{Real}
 use Rattle.a64_base.specs.declared.size.OperandSize.TheVariants.{Size64}
 use Rattle.a64_base.specs.declared.size.ScalarSize.TheVariants as scalars
 use Rattle.a64_base.specs.Conditions.{condition_bits, inverse_of}
@@ -41,11 +43,11 @@ use Rattle.a64_rows.specs.Forms.{Form}
 ROWS
 use Rattle.a64_enc_int.specs.Operators.{bit_of}
 use Rattle.a64_enc_int.specs.Registers.{register_field}
-use Rattle.a64_emit.specs.ControlForms as control
-use Rattle.a64_emit.specs.FloatForms as float
-use Rattle.a64_emit.specs.IntegerForms as integer
-use Rattle.a64_emit.specs.IntegerForms.{bfm_opc, bit_opcode, product_form, shifted_form, two_registers}
-use Rattle.a64_emit.specs.VectorForms as vector
+use Rattle.a64_cells.specs.ControlForms as control
+use Rattle.a64_cells.specs.FloatForms as float
+use Rattle.a64_cells.specs.IntegerForms as integer
+use Rattle.a64_cells.specs.IntegerForms.{bfm_opc, bit_opcode, product_form, shifted_form, two_registers}
+use Rattle.a64_cells.specs.VectorForms as vector
 use Rattle.a64_enc_vec.specs.VectorOperators as operators
 
 abbrev pub plain_form : Inst → Option Form"""
@@ -65,16 +67,16 @@ use Rattle.a64_inst.specs.declared.frame.FrameLayout.{FrameLayout}
 use Rattle.a64_inst.specs.declared.inst.Inst.{Inst}
 use Rattle.a64_inst.specs.declared.inst.Inst.TheVariants as insts
 use Rattle.a64_label_use.specs.declared.label_use.LabelUse.TheVariants as uses
-use Rattle.a64_emit.specs.AtomicForms as atomic
-use Rattle.a64_emit.specs.ControlForms as control
-use Rattle.a64_emit.specs.IntegerForms as integer
-use Rattle.a64_emit.specs.MemoryForms as memory
-use Rattle.a64_emit.specs.VectorForms as vector
-use Rattle.a64_emit.specs.PlainForms.{plain_form}
-use Rattle.a64_emit.specs.Shapes.{FormOf, Data, Shape, OneWord, Several, Words, plain, last_cell, data_cell}
-use Rattle.a64_emit.specs.Shapes.{branch, branches, trap_site, address_shape, table_jump}
-use Rattle.a64_emit.specs.Shapes.{got_cells, near_cells, far_cells, probe_forms, vector_select_forms}
-use Rattle.a64_emit.specs.Shapes.{rmw_loop_cells, cas_loop_cells}
+use Rattle.a64_cells.specs.AtomicForms as atomic
+use Rattle.a64_cells.specs.ControlForms as control
+use Rattle.a64_cells.specs.IntegerForms as integer
+use Rattle.a64_cells.specs.MemoryForms as memory
+use Rattle.a64_cells.specs.VectorForms as vector
+use Rattle.a64_cells.specs.PlainForms.{plain_form}
+use Rattle.a64_cells.specs.Shapes.{FormOf, Data, Shape, OneWord, Several, Words, plain, last_cell, data_cell}
+use Rattle.a64_cells.specs.Shapes.{branch, branches, trap_site, address_shape, table_jump}
+use Rattle.a64_cells.specs.Shapes.{got_cells, near_cells, far_cells, probe_forms, vector_select_forms}
+use Rattle.a64_cells.specs.Shapes.{rmw_loop_cells, cas_loop_cells}
 
 -- Loads and stores of one register have the shape of their access, calls their words, and neither has one here: what is left at
 -- the end has the form of its plain word, if it is one.
@@ -251,8 +253,8 @@ def access_fields(one: Instruction) -> str:
 def written(table: InstructionTable) -> dict[str, Callable[[], list[str]]]:
     """The files that are written, and what writes each."""
     return {
-        "crates/a64_emit/specs/PlainForms.antt": partial(plain_forms, table),
-        "crates/a64_emit/specs/PlainShapes.antt": partial(plain_shapes, table),
+        "crates/a64_cells/specs/PlainForms.antt": partial(plain_forms, table),
+        "crates/a64_cells/specs/PlainShapes.antt": partial(plain_shapes, table),
         "crates/a64_emit/specs/Stops.antt": partial(stops, table),
         "crates/a64_emit/specs/WorstCases.antt": partial(worst_cases, table),
         "crates/a64_ops/specs/Accesses.antt": partial(accesses, table),

@@ -21,11 +21,11 @@ use Rattle.a64_buffer.proofs.Sounds.{bind_weight}
 use Rattle.a64_buffer.proofs.Uses.{leads_same}
 use Rattle.a64_label_use.specs.declared.label_use.LabelUse.{LabelUse}
 use Rattle.a64_label_use.specs.declared.label_use.LabelUse.TheVariants as uses
-use Rattle.a64_emit.specs.declared.site.Site.{Site}
+use Rattle.a64_cells.specs.declared.site.Site.{Site}
 use Rattle.a64_label_use.specs.LabelUses.{label_kinds}
 use Rattle.a64_label_use.specs.LabelLaws.{label_kinds_lawful}
-use Rattle.a64_emit.specs.Shapes.{Cell}
-use Rattle.a64_emit.specs.Cells.{sites_of}
+use Rattle.a64_cells.specs.Shapes.{Cell}
+use Rattle.a64_cells.specs.Cells.{sites_of}
 use Rattle.a64_emit.specs.Emission.{use_at, uses_from, appended}
 use Rattle.a64_assemble.specs.Elements.{Element, Binding, Words, Asking, cells_in, binds_number, is_bound_by, next_room}
 use Rattle.a64_assemble.specs.Asks.{Asks, AsksNext, PutsWords, Moves}

@@ -33,7 +33,7 @@ use Rattle.a64_words.proofs.WordLists.{words_whole}
 use Rattle.a64_emit.specs.declared.code.Code.{Code}
 use Rattle.a64_label_use.specs.declared.label_use.LabelUse.{LabelUse}
 use Rattle.a64_label_use.specs.declared.label_use.LabelUse.TheVariants as uses
-use Rattle.a64_emit.specs.declared.site.Site.{Site}
+use Rattle.a64_cells.specs.declared.site.Site.{Site}
 use Rattle.a64_label_use.specs.LabelUses.{label_kinds, distance_in, adds_distance}
 use Rattle.a64_emit.specs.Emission.{site_of}
 use Rattle.a64_emit.specs.Contents.{ComesBefore, Fills, site_class}

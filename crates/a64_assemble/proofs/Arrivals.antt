@@ -17,11 +17,11 @@ use Rattle.a64_buffer.specs.Leads as buffer
 use Rattle.a64_buffer.specs.Finished.{IsSettled, IsFinished}
 use Rattle.a64_label_use.specs.declared.label_use.LabelUse.{LabelUse}
 use Rattle.a64_label_use.specs.declared.label_use.LabelUse.TheVariants as uses
-use Rattle.a64_emit.specs.declared.site.Site.{Site}
+use Rattle.a64_cells.specs.declared.site.Site.{Site}
 use Rattle.a64_emit.specs.declared.code.Code.{Code}
 use Rattle.a64_label_use.specs.LabelUses.{label_kinds, mask_for}
-use Rattle.a64_emit.specs.Shapes.{Cell}
-use Rattle.a64_emit.specs.Cells.{cell_word}
+use Rattle.a64_cells.specs.Shapes.{Cell}
+use Rattle.a64_cells.specs.Cells.{cell_word}
 use Rattle.a64_emit.specs.Emission.{site_of, HasUse, IsPut}
 use Rattle.a64_emit.specs.Layout.{site_mask}
 use Rattle.a64_emit.specs.Leads.{areas, StopsAt, FarVeneerAt, JumpWordAt, Arrives, LeadsOn, CopyAt, TargetAt, SiteLeads}

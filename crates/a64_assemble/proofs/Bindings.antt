@@ -15,8 +15,8 @@ use Rattle.a64_inst.specs.declared.frame.FrameLayout.{FrameLayout}
 use Rattle.a64_inst.specs.declared.item.Item.{Item}
 use Rattle.a64_inst.specs.declared.item.Item.TheVariants.{Bind}
 use Rattle.a64_emit.specs.declared.error.EmitError.TheVariants.{LabelBoundTwice}
-use Rattle.a64_emit.specs.Shapes.{Cell}
-use Rattle.a64_emit.specs.Cells.{sites_of, cells_of, all_cells, two_uses, uses_of}
+use Rattle.a64_cells.specs.Shapes.{Cell}
+use Rattle.a64_cells.specs.Cells.{sites_of, cells_of, all_cells, two_uses, uses_of}
 use Rattle.a64_emit.specs.Faults.{binding_of, bindings, used_label, is_among, first_repeat, HasLabels, first_missing, second_binding, used_labels}
 use Rattle.a64_assemble.proofs.MissingLabels.{missing_pair, or_none}
 

@@ -6,7 +6,7 @@ use Rattle.a64_inst.specs.declared.emission.EmitFlags.{EmitFlags}
 use Rattle.a64_inst.specs.declared.frame.FrameLayout.{FrameLayout}
 use Rattle.a64_inst.specs.declared.item.Item.{Item}
 use Rattle.a64_inst.specs.declared.item.Item.TheVariants.{Bind, Emit}
-use Rattle.a64_emit.specs.Cells.{inst_cells, kept_by, kept_cells}
+use Rattle.a64_cells.specs.Cells.{inst_cells, kept_by, kept_cells}
 use Rattle.a64_emit.specs.Bounds.{asked_of}
 use Rattle.a64_assemble.specs.Elements.{Words, Asking, element_of, elements_of, IsCompact}
 use Rattle.a64_emit.proofs.Compact.{no_sites, inst_compact, kept_compact}

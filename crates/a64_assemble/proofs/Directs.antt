@@ -14,9 +14,9 @@ use Rattle.a64_buffer.specs.Buffer.{Buffer, end_of, label_of, IsBound, IsReached
 use Rattle.a64_buffer.specs.Sound.{IsWhole}
 use Rattle.a64_label_use.specs.declared.label_use.LabelUse.{LabelUse}
 use Rattle.a64_label_use.specs.declared.label_use.LabelUse.TheVariants as uses
-use Rattle.a64_emit.specs.declared.site.Site.{Site}
+use Rattle.a64_cells.specs.declared.site.Site.{Site}
 use Rattle.a64_label_use.specs.LabelUses.{label_kinds}
-use Rattle.a64_emit.specs.Cells.{sites_of}
+use Rattle.a64_cells.specs.Cells.{sites_of}
 use Rattle.a64_emit.specs.Emission.{site_of}
 use Rattle.a64_emit.specs.Reach.{is_near}
 use Rattle.a64_assemble.specs.Elements.{Element, Binding, cells_in, size_in, growth_in, charge_in, sizes_in, growths_in, element_at}

@@ -2,7 +2,7 @@
 use Rattle.std.proofs.Common.{ℕ, ◌+◌, suc, zero, List, [], ◌∷◌, map, arith}
 use Rattle.std.specs.Prelude.{All}
 use Rattle.std.proofs.lemmas.List.Elements.{All-append}
-use Rattle.a64_emit.specs.Shapes.{Cell}
+use Rattle.a64_cells.specs.Shapes.{Cell}
 use Rattle.a64_emit.specs.Layout.{placed, standing}
 
 module _ (P : Cell → Type 0) where

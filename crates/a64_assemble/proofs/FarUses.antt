@@ -13,9 +13,9 @@ use Rattle.a64_inst.specs.declared.inst.Inst.{Inst}
 use Rattle.a64_inst.specs.declared.item.Item.{Item}
 use Rattle.a64_inst.specs.declared.item.Item.TheVariants.{Emit}
 use Rattle.a64_buffer.specs.declared.force.ForceVeneers.{ForceVeneers}
-use Rattle.a64_emit.specs.declared.site.Site.{Site}
+use Rattle.a64_cells.specs.declared.site.Site.{Site}
 use Rattle.a64_emit.specs.Bounds.{whole}
-use Rattle.a64_emit.specs.Cells.{inst_cells, kept_by, cells_of, sites_of}
+use Rattle.a64_cells.specs.Cells.{inst_cells, kept_by, cells_of, sites_of}
 use Rattle.a64_emit.specs.Reach.{binding_index, near_label, is_near, has_near, first_some, is_far, far_label, first_far_from, reach}
 use Rattle.a64_emit.proofs.Keeping.{keep_sites}
 use Rattle.a64_assemble.specs.Tally.{HasBindings}

@@ -18,7 +18,7 @@ use Rattle.a64_buffer.specs.Pieces as pieces
 use Rattle.a64_buffer.proofs.Islands.{begun_new}
 use Rattle.a64_label_use.specs.declared.label_use.LabelUse.{LabelUse}
 use Rattle.a64_label_use.specs.LabelUses.{label_kinds}
-use Rattle.a64_emit.specs.Cells.{kept_cells}
+use Rattle.a64_cells.specs.Cells.{kept_cells}
 use Rattle.a64_emit.specs.Bounds.{asked_of}
 use Rattle.a64_emit.specs.Falls.{inst_falls, falls, falls_at}
 use Rattle.a64_emit.proofs.Asked.{asked_falls}

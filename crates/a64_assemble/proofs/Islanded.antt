@@ -22,8 +22,8 @@ use Rattle.a64_emit.specs.declared.code.Code.{Code}
 use Rattle.a64_label_use.specs.declared.label_use.LabelUse.{LabelUse}
 use Rattle.a64_label_use.specs.declared.label_use.LabelUse.TheVariants as uses
 use Rattle.a64_label_use.specs.LabelUses.{label_kinds, mask_for, distance_in}
-use Rattle.a64_emit.specs.Shapes.{Cell}
-use Rattle.a64_emit.specs.Cells.{cells_of}
+use Rattle.a64_cells.specs.Shapes.{Cell}
+use Rattle.a64_cells.specs.Cells.{cells_of}
 use Rattle.a64_emit.specs.Bounds.{asked}
 use Rattle.a64_emit.specs.Falls.{inst_falls}
 use Rattle.a64_emit.specs.Layout.{standing, Stands, IsBoundAt, IsIslandAfter, IsFollowed, StandsOnce, Laid, end_of_item}

@@ -19,8 +19,8 @@ use Rattle.a64_buffer.specs.declared.force.ForceVeneers.TheVariants.{No, Yes}
 use Rattle.a64_buffer.specs.declared.site.Target.{Target}
 use Rattle.a64_buffer.specs.declared.site.Target.TheVariants.{Label, Constant, Trap, IslandEnd}
 use Rattle.a64_buffer.specs.Buffer.{label_of}
-use Rattle.a64_emit.specs.declared.site.Site.{Site}
-use Rattle.a64_emit.specs.Cells.{sites_of, cells_of, all_cells}
+use Rattle.a64_cells.specs.declared.site.Site.{Site}
+use Rattle.a64_cells.specs.Cells.{sites_of, cells_of, all_cells}
 use Rattle.a64_emit.specs.Bounds.{veneer_range, ranges_in, lesser, least, growth_of, item_size, item_charge, whole}
 use Rattle.a64_emit.specs.Faults.{used_label, second_binding, unbound_use}
 use Rattle.a64_emit.specs.Reach.{binds, span, is_unforced, needs_near, near_label, is_near, far_label, sizes, charges, is_quiet, is_loose, loose, reach, first_far_from}

@@ -12,12 +12,12 @@ use Rattle.a64_buffer.specs.Buffer.{Buffer, IsFree}
 use Rattle.a64_buffer.specs.Finished.{IsFinished}
 use Rattle.a64_emit.specs.declared.code.Code.{Code}
 use Rattle.a64_label_use.specs.declared.label_use.LabelUse.{LabelUse}
-use Rattle.a64_emit.specs.declared.site.Site.{Site}
+use Rattle.a64_cells.specs.declared.site.Site.{Site}
 use Rattle.a64_label_use.specs.LabelUses.{label_kinds}
-use Rattle.a64_emit.specs.Shapes.{Cell}
-use Rattle.a64_emit.specs.Cells.{cell_word, cells_of}
+use Rattle.a64_cells.specs.Shapes.{Cell}
+use Rattle.a64_cells.specs.Cells.{cell_word, cells_of}
 use Rattle.a64_emit.specs.Emission.{HasUse}
-use Rattle.a64_emit.specs.FormCells.{IsFormCell, RestoresHalfwords, HoldsHalfword}
+use Rattle.a64_cells.specs.FormCells.{IsFormCell, RestoresHalfwords, HoldsHalfword}
 use Rattle.a64_emit.specs.Faults.{own_fault}
 use Rattle.a64_emit.specs.Layout.{standing, Laid}
 use Rattle.a64_emit.proofs.InstForms.{item_forms}

@@ -7,10 +7,10 @@ use Rattle.a64_base.specs.declared.entity.MachLabel.{MachLabel}
 use Rattle.a64_buffer.specs.declared.site.Use.{Use}
 use Rattle.a64_buffer.specs.Buffer.{Buffer, end_of, closed_at, IsFree}
 use Rattle.a64_label_use.specs.declared.label_use.LabelUse.{LabelUse}
-use Rattle.a64_emit.specs.declared.site.Site.{Site}
+use Rattle.a64_cells.specs.declared.site.Site.{Site}
 use Rattle.a64_label_use.specs.LabelUses.{label_kinds}
-use Rattle.a64_emit.specs.Shapes.{Cell}
-use Rattle.a64_emit.specs.Cells.{cell_word}
+use Rattle.a64_cells.specs.Shapes.{Cell}
+use Rattle.a64_cells.specs.Cells.{cell_word}
 use Rattle.a64_emit.specs.Emission.{uses_from, appended, site_of, HasUse, IsPut, Binds}
 use Rattle.a64_emit.specs.Layout.{placed}
 use Rattle.a64_emit.proofs.Putting.{sites_of_uses, made_from}

@@ -17,10 +17,10 @@ use Rattle.a64_buffer.specs.Finished.{IsFinished}
 use Rattle.a64_emit.specs.declared.code.Code.{Code}
 use Rattle.a64_buffer.proofs.OwnStops.{own_traps}
 use Rattle.a64_label_use.specs.declared.label_use.LabelUse.{LabelUse}
-use Rattle.a64_emit.specs.declared.site.Site.{Site}
+use Rattle.a64_cells.specs.declared.site.Site.{Site}
 use Rattle.a64_label_use.specs.LabelUses.{label_kinds, adds_distance}
-use Rattle.a64_emit.specs.Shapes.{Cell}
-use Rattle.a64_emit.specs.Cells.{cell_word, inst_cells, kept_by, cells_of, sites_of}
+use Rattle.a64_cells.specs.Shapes.{Cell}
+use Rattle.a64_cells.specs.Cells.{cell_word, inst_cells, kept_by, cells_of, sites_of}
 use Rattle.a64_emit.specs.Emission.{HasUse, IsPut}
 use Rattle.a64_emit.specs.Layout.{standing}
 use Rattle.a64_emit.specs.Leads.{Leads, SiteLeads, UseStops, CellStops, IsTrapUse, IsDeferred, HaveOwnTraps}

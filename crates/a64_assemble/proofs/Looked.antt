@@ -12,7 +12,7 @@ use Rattle.a64_emit.specs.declared.extent.Light.{Light}
 use Rattle.a64_emit.specs.declared.error.EmitError.{EmitError}
 use Rattle.a64_emit.specs.declared.error.EmitError.TheVariants.{TooLarge, UnboundLabel}
 use Rattle.a64_emit.specs.Bounds.{IsExtent, asked, growth_of, item_charge, item_size, lesser, saturated, shortest, whole}
-use Rattle.a64_emit.specs.Cells.{cells_of, sites_of}
+use Rattle.a64_cells.specs.Cells.{cells_of, sites_of}
 use Rattle.a64_emit.specs.Faults.{bindings, or_else, too_large, unbound_use}
 use Rattle.a64_emit.specs.Lights.{IsLight}
 use Rattle.a64_emit.specs.Reach.{has_near, is_near}

@@ -11,9 +11,9 @@ use Rattle.a64_inst.specs.declared.item.Item.{Item}
 use Rattle.a64_buffer.specs.declared.force.ForceVeneers.{ForceVeneers}
 use Rattle.a64_buffer.specs.declared.site.Target.{Target}
 use Rattle.a64_buffer.specs.declared.site.Target.TheVariants.{Label, Constant, Trap, IslandEnd}
-use Rattle.a64_emit.specs.declared.site.Site.{Site}
+use Rattle.a64_cells.specs.declared.site.Site.{Site}
 use Rattle.a64_label_use.specs.LabelUses.{has_veneer}
-use Rattle.a64_emit.specs.Cells.{cells_of, sites_of}
+use Rattle.a64_cells.specs.Cells.{cells_of, sites_of}
 use Rattle.a64_emit.specs.Bounds.{item_size, item_charge}
 use Rattle.a64_emit.specs.Reach.{span, sizes, charges, is_quiet, loose, reach}
 use Rattle.a64_assemble.specs.declared.marks.Mark.{Mark}

@@ -14,8 +14,8 @@ use Rattle.a64_emit.specs.declared.error.EmitError.TheVariants.{OutOfReach}
 use Rattle.a64_label_use.specs.declared.label_use.LabelUse.{LabelUse}
 use Rattle.a64_label_use.specs.LabelUses.{label_kinds}
 use Rattle.a64_emit.specs.Bounds.{whole}
-use Rattle.a64_emit.specs.Cells.{cells_of, sites_of, all_cells}
-use Rattle.a64_emit.specs.FormCells.{RestoresHalfwords, HoldsHalfword}
+use Rattle.a64_cells.specs.Cells.{cells_of, sites_of, all_cells}
+use Rattle.a64_cells.specs.FormCells.{RestoresHalfwords, HoldsHalfword}
 use Rattle.a64_emit.specs.Faults.{own_fault, second_binding, unbound_use, too_large, or_else, fault_of}
 use Rattle.a64_emit.specs.Reach.{out_of_reach, first_far_from, is_quiet}
 use Rattle.a64_emit.specs.Layout.{standing}

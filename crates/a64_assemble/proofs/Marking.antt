@@ -12,9 +12,9 @@ use Rattle.a64_inst.specs.declared.frame.FrameLayout.{FrameLayout}
 use Rattle.a64_inst.specs.declared.item.Item.{Item}
 use Rattle.a64_buffer.specs.declared.site.Target.{Target}
 use Rattle.a64_buffer.specs.declared.site.Target.TheVariants.{Label, Constant, Trap, IslandEnd}
-use Rattle.a64_emit.specs.declared.site.Site.{Site}
+use Rattle.a64_cells.specs.declared.site.Site.{Site}
 use Rattle.a64_label_use.specs.LabelUses.{has_veneer, forward_range}
-use Rattle.a64_emit.specs.Cells.{cells_of, sites_of}
+use Rattle.a64_cells.specs.Cells.{cells_of, sites_of}
 use Rattle.a64_emit.specs.Bounds.{veneer_range, item_size, item_charge, growth_of, whole}
 use Rattle.a64_emit.specs.Reach.{binds, sizes, charges}
 use Rattle.a64_emit.proofs.Asked.{item_least}

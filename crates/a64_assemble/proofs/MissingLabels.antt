@@ -4,10 +4,10 @@ use Rattle.std.specs.List.{cons_option, filter_map}
 use Rattle.std.specs.Option.{option_or}
 use Rattle.std.proofs.lemmas.List.Folds.{find-append}
 use Rattle.a64_base.specs.declared.entity.MachLabel.{MachLabel}
-use Rattle.a64_emit.specs.declared.site.Site.{Site}
-use Rattle.a64_emit.specs.declared.site.Uses.{Uses}
-use Rattle.a64_emit.specs.Shapes.{Cell, table_labels}
-use Rattle.a64_emit.specs.Cells.{listed_uses, sites_of, two_uses, uses_of}
+use Rattle.a64_cells.specs.declared.site.Site.{Site}
+use Rattle.a64_cells.specs.declared.site.Uses.{Uses}
+use Rattle.a64_cells.specs.Shapes.{Cell, table_labels}
+use Rattle.a64_cells.specs.Cells.{listed_uses, sites_of, two_uses, uses_of}
 use Rattle.a64_emit.specs.Faults.{first_missing, is_among, used_label}
 use Rattle.a64_emit.proofs.UseLists.{listed_labels, listed_two, missing_listed}
 

@@ -13,7 +13,7 @@ use Rattle.a64_buffer.specs.Islands.{HasIsland}
 use Rattle.a64_buffer.proofs.Laters.{later_none, later_trans}
 use Rattle.a64_label_use.specs.declared.label_use.LabelUse.{LabelUse}
 use Rattle.a64_label_use.specs.LabelUses.{label_kinds}
-use Rattle.a64_emit.specs.Shapes.{Cell}
+use Rattle.a64_cells.specs.Shapes.{Cell}
 use Rattle.a64_emit.specs.Emission.{appended}
 use Rattle.a64_assemble.specs.Elements.{Element, Binding, Words, Asking, size_in, hosts, falls_in, next_room, ahead, element_at}
 use Rattle.a64_assemble.specs.Asks.{AsksNext, PutsWords, Moves}

@@ -18,8 +18,8 @@ use Rattle.a64_buffer.proofs.Sounds as sounds
 use Rattle.a64_label_use.specs.declared.label_use.LabelUse.{LabelUse}
 use Rattle.a64_label_use.specs.LabelUses.{label_kinds}
 use Rattle.a64_label_use.specs.LabelLaws.{label_kinds_lawful}
-use Rattle.a64_emit.specs.Shapes.{Cell}
-use Rattle.a64_emit.specs.Cells.{cell_word}
+use Rattle.a64_cells.specs.Shapes.{Cell}
+use Rattle.a64_cells.specs.Cells.{cell_word}
 use Rattle.a64_emit.specs.Bounds.{ranges_in, size_of, charge_of}
 use Rattle.a64_emit.specs.Layout.{placed, relocs_in, calls_in, patchable_in, maps_in, traps_in}
 use Rattle.a64_emit.specs.Emission.{uses_from, appended, CellsFit, Binds}

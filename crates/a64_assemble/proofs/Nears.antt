@@ -8,8 +8,8 @@ use Rattle.std.proofs.lemmas.List.Folds.{list_any-append}
 use Rattle.a64_inst.specs.declared.emission.EmitFlags.{EmitFlags}
 use Rattle.a64_inst.specs.declared.frame.FrameLayout.{FrameLayout}
 use Rattle.a64_inst.specs.declared.item.Item.{Item}
-use Rattle.a64_emit.specs.Shapes.{Cell}
-use Rattle.a64_emit.specs.Cells.{cells_of, all_cells, sites_of}
+use Rattle.a64_cells.specs.Shapes.{Cell}
+use Rattle.a64_cells.specs.Cells.{cells_of, all_cells, sites_of}
 use Rattle.a64_emit.specs.Reach.{is_near, has_near}
 use Rattle.a64_assemble.proofs.Sizes.{cells_more}
 

@@ -25,7 +25,7 @@ use Rattle.a64_buffer.specs.Finished.{IsFinished}
 use Rattle.a64_buffer.proofs.Rooms.{wanting_range}
 use Rattle.a64_emit.specs.declared.code.Code.{Code}
 use Rattle.a64_label_use.specs.declared.label_use.LabelUse.{LabelUse}
-use Rattle.a64_emit.specs.declared.site.Site.{Site}
+use Rattle.a64_cells.specs.declared.site.Site.{Site}
 use Rattle.a64_label_use.specs.LabelUses.{label_kinds, forward_range}
 use Rattle.a64_label_use.specs.LabelLaws.{label_kinds_lawful}
 use Rattle.a64_emit.specs.Emission.{site_of}

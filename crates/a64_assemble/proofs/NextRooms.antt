@@ -10,8 +10,8 @@ use Rattle.a64_inst.specs.declared.item.Item.{Item}
 use Rattle.a64_inst.specs.declared.item.Item.TheVariants.{Bind, Emit}
 use Rattle.a64_emit.specs.declared.extent.Light.{Light}
 use Rattle.a64_emit.specs.Bounds.{IsExtent, item_charge, charge_of, growth_of, asked}
-use Rattle.a64_emit.specs.Shapes.{Cell}
-use Rattle.a64_emit.specs.Cells.{cells_of, kept_cells}
+use Rattle.a64_cells.specs.Shapes.{Cell}
+use Rattle.a64_cells.specs.Cells.{cells_of, kept_cells}
 use Rattle.a64_emit.specs.Lights.{IsLight}
 use Rattle.a64_assemble.specs.Elements.{Element, Binding, Words, Asking, size_in, charge_in, space_in, growth_in, add_more, element_of, elements_of, whole_in, next_room}
 use Rattle.a64_assemble.proofs.Itemized.{cells_same}

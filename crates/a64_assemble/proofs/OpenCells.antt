@@ -29,17 +29,17 @@ use Rattle.a64_inst.specs.FinalModes.{final_mode, final_steps}
 use Rattle.a64_rows.specs.Forms.{Form}
 use Rattle.a64_label_use.specs.declared.label_use.LabelUse.{LabelUse}
 use Rattle.a64_label_use.specs.declared.label_use.LabelUse.TheVariants as uses
-use Rattle.a64_emit.specs.declared.site.Site.{Site}
+use Rattle.a64_cells.specs.declared.site.Site.{Site}
 use Rattle.a64_label_use.specs.LabelUses.{mask_for}
-use Rattle.a64_emit.specs.IntegerForms.{adr_form}
-use Rattle.a64_emit.specs.ControlForms.{authenticated_ret_forms, jump_form, cond_br_form, trap_if_form, test_bit_and_branch_form, label_address_form}
-use Rattle.a64_emit.specs.LoopForms.{awaited_forms, new_register, operator_forms, stored_register}
-use Rattle.a64_emit.specs.MemoryForms.{step_forms, offset_register, literal_form, held_form, access_steps, access_form}
-use Rattle.a64_emit.specs.Shapes.{Body, FormOf, Data, Cell, plain, branch, trap_site, last_cell, several, entry_site, table_labels, table_cells, table_forms, table_jump}
-use Rattle.a64_emit.specs.Cells.{mode_site, shape_cells, access_shape, other_shape, inst_cells, kept_by, keep, cells_of, sites_of}
+use Rattle.a64_cells.specs.IntegerForms.{adr_form}
+use Rattle.a64_cells.specs.ControlForms.{authenticated_ret_forms, jump_form, cond_br_form, trap_if_form, test_bit_and_branch_form, label_address_form}
+use Rattle.a64_cells.specs.LoopForms.{awaited_forms, new_register, operator_forms, stored_register}
+use Rattle.a64_cells.specs.MemoryForms.{step_forms, offset_register, literal_form, held_form, access_steps, access_form}
+use Rattle.a64_cells.specs.Shapes.{Body, FormOf, Data, Cell, plain, branch, trap_site, last_cell, several, entry_site, table_labels, table_cells, table_forms, table_jump}
+use Rattle.a64_cells.specs.Cells.{mode_site, shape_cells, access_shape, other_shape, inst_cells, kept_by, keep, cells_of, sites_of}
 use Rattle.a64_emit.proofs.CallSites.{calls_sites}
-use Rattle.a64_emit.proofs.Loops.{loop_sites}
-use Rattle.a64_emit.proofs.Several.{plain_sites, address_sites}
+use Rattle.a64_cells.proofs.Loops.{loop_sites}
+use Rattle.a64_cells.proofs.Several.{plain_sites, address_sites}
 use Rattle.a64_assemble.proofs.ReadingBack.{IsOpenTo, IsOpenUse, IsOpenCell, open_branch26, open_branch_cond, open_compare_branch, open_test_branch, open_adr, open_ld_literal}
 
 -- ---- cells without a use, and single ones

@@ -23,7 +23,7 @@ use Rattle.a64_buffer.proofs.Laters.{later_none}
 use Rattle.a64_label_use.specs.declared.label_use.LabelUse.{LabelUse}
 use Rattle.a64_label_use.specs.declared.label_use.LabelUse.TheVariants as uses
 use Rattle.a64_label_use.specs.LabelUses.{label_kinds}
-use Rattle.a64_emit.specs.Shapes.{Cell}
+use Rattle.a64_cells.specs.Shapes.{Cell}
 use Rattle.a64_emit.specs.Layout.{placed, standing}
 use Rattle.a64_emit.specs.Emission.{site_of, appended}
 use Rattle.a64_emit.specs.Contents.{IsCellUse}

@@ -14,8 +14,8 @@ use Rattle.a64_buffer.proofs.Rooms.{open_wants}
 use Rattle.a64_label_use.specs.declared.label_use.LabelUse.{LabelUse}
 use Rattle.a64_label_use.specs.declared.label_use.LabelUse.TheVariants as uses
 use Rattle.a64_label_use.specs.LabelUses.{label_kinds}
-use Rattle.a64_emit.specs.Shapes.{Cell}
-use Rattle.a64_emit.specs.Cells.{sites_of}
+use Rattle.a64_cells.specs.Shapes.{Cell}
+use Rattle.a64_cells.specs.Cells.{sites_of}
 use Rattle.a64_emit.specs.Bounds.{size_of, charge_of}
 use Rattle.a64_emit.specs.Emission.{uses_from, appended}
 use Rattle.a64_assemble.specs.Elements.{Element, Binding, Words, Asking, growth_in, space_in, whole_in, add_more, words_room, next_room, room_of}

@@ -10,9 +10,9 @@ use Rattle.a64_buffer.specs.declared.force.ForceVeneers.{ForceVeneers}
 use Rattle.a64_buffer.specs.declared.site.Target.{Target}
 use Rattle.a64_buffer.specs.declared.site.Target.TheVariants.{Label, Constant, Trap, IslandEnd}
 use Rattle.a64_label_use.specs.declared.label_use.LabelUse.{LabelUse}
-use Rattle.a64_emit.specs.declared.site.Site.{Site}
+use Rattle.a64_cells.specs.declared.site.Site.{Site}
 use Rattle.a64_label_use.specs.LabelUses.{forward_range, has_veneer}
-use Rattle.a64_emit.specs.Cells.{cells_of, sites_of}
+use Rattle.a64_cells.specs.Cells.{cells_of, sites_of}
 use Rattle.a64_emit.specs.Bounds.{veneer_range, item_size, item_charge, growth_of, whole}
 use Rattle.a64_emit.specs.Reach.{binds, span, sizes, charges, is_quiet, is_loose, loose, reach}
 use Rattle.a64_emit.proofs.Asked.{item_least}

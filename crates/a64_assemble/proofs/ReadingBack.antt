@@ -19,12 +19,12 @@ use Rattle.a64_rows.proofs.Table.{row_sound}
 use Rattle.a64_rows.proofs.Matching.{word_values, word_fixed, one_form, match_is_word}
 use Rattle.a64_words.specs.Word.{outside, word_at}
 use Rattle.a64_label_use.specs.declared.label_use.LabelUse.TheVariants as uses
-use Rattle.a64_emit.specs.declared.site.Site.{Site}
+use Rattle.a64_cells.specs.declared.site.Site.{Site}
 use Rattle.a64_label_use.specs.LabelUses.{mask_for}
-use Rattle.a64_emit.specs.Shapes.{Body, FormOf, Data, Cell}
-use Rattle.a64_emit.specs.Cells.{body_word, cell_word}
+use Rattle.a64_cells.specs.Shapes.{Body, FormOf, Data, Cell}
+use Rattle.a64_cells.specs.Cells.{body_word, cell_word}
 use Rattle.a64_emit.specs.Layout.{site_mask, Stands}
-use Rattle.a64_emit.specs.FormCells.{IsFormBody, IsFormCell}
+use Rattle.a64_cells.specs.FormCells.{IsFormBody, IsFormCell}
 use Rattle.a64_assemble.specs.ReadBack.{IsReadForm, IsReadBody, IsReadBack}
 
 -- ---- words of bytes

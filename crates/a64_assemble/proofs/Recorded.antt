@@ -9,8 +9,8 @@ use Rattle.a64_base.specs.declared.entity.UserStackMap.{UserStackMap}
 use Rattle.a64_inst.specs.declared.emission.EmitFlags.{EmitFlags}
 use Rattle.a64_inst.specs.declared.frame.FrameLayout.{FrameLayout}
 use Rattle.a64_inst.specs.declared.item.Item.{Item}
-use Rattle.a64_emit.specs.Shapes.{Relocation, Marks, Cell}
-use Rattle.a64_emit.specs.Cells.{cells_of}
+use Rattle.a64_cells.specs.Shapes.{Relocation, Marks, Cell}
+use Rattle.a64_cells.specs.Cells.{cells_of}
 use Rattle.a64_emit.specs.Layout.{placed, standing, relocs_in, calls_in, patchable_in, maps_in, traps_in}
 use Rattle.a64_emit.specs.Records.{all_from, reloc_from, number_from, map_from, relocs_of, calls_of, patchable_of, maps_of, traps_of, IsTrapOf}
 

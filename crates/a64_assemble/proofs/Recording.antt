@@ -22,7 +22,7 @@ use Rattle.a64_buffer.specs.Pieces as pieces
 use Rattle.a64_buffer.specs.Pieces.{Serves, IsServed, StopsAtPiece}
 use Rattle.a64_label_use.specs.declared.label_use.LabelUse.{LabelUse}
 use Rattle.a64_label_use.specs.LabelUses.{label_kinds}
-use Rattle.a64_emit.specs.Shapes.{Cell}
+use Rattle.a64_cells.specs.Shapes.{Cell}
 use Rattle.a64_emit.specs.Layout.{placed, standing, reloc_at, call_at, patchable_at, map_at, trap_at, traps_in, records_in, more_records}
 use Rattle.a64_emit.specs.Emission.{appended}
 use Rattle.a64_emit.proofs.Holding.{same_records}

@@ -9,8 +9,8 @@ use Rattle.std.proofs.lemmas.List.Sums.{sum_by_more}
 use Rattle.a64_inst.specs.declared.emission.EmitFlags.{EmitFlags}
 use Rattle.a64_inst.specs.declared.frame.FrameLayout.{FrameLayout}
 use Rattle.a64_inst.specs.declared.item.Item.{Item}
-use Rattle.a64_emit.specs.Shapes.{Cell}
-use Rattle.a64_emit.specs.Cells.{sites_of, cells_of, all_cells}
+use Rattle.a64_cells.specs.Shapes.{Cell}
+use Rattle.a64_cells.specs.Cells.{sites_of, cells_of, all_cells}
 use Rattle.a64_emit.specs.declared.error.EmitError.TheVariants.{TooLarge}
 use Rattle.a64_emit.specs.Faults.{too_large}
 use Rattle.a64_emit.specs.Bounds.{veneer_range, ranges_in, lesser, least, growth_of, whole, shortest, saturated}

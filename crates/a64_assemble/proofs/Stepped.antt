@@ -25,8 +25,8 @@ use Rattle.a64_buffer.specs.declared.force.ForceVeneers.TheVariants.{No, Yes}
 use Rattle.a64_label_use.specs.declared.label_use.LabelUse.{LabelUse}
 use Rattle.a64_label_use.specs.LabelUses.{label_kinds}
 use Rattle.a64_label_use.specs.LabelLaws.{label_kinds_lawful}
-use Rattle.a64_emit.specs.Shapes.{Cell}
-use Rattle.a64_emit.specs.Cells.{inst_cells, kept_by, keep, kept_cells}
+use Rattle.a64_cells.specs.Shapes.{Cell}
+use Rattle.a64_cells.specs.Cells.{inst_cells, kept_by, keep, kept_cells}
 use Rattle.a64_emit.specs.Bounds.{asked_of}
 use Rattle.a64_emit.specs.Emission.{uses_from, appended, HasRoom, CellsFit, IsReady, Puts, Emits}
 use Rattle.a64_assemble.specs.Elements.{Element, Words, Asking, element_of, next_room, room_of}

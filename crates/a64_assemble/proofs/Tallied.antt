@@ -17,11 +17,11 @@ use Rattle.a64_inst.specs.declared.frame.FrameLayout.{FrameLayout}
 use Rattle.a64_inst.specs.declared.inst.Inst.{Inst}
 use Rattle.a64_inst.specs.declared.item.Item.{Item}
 use Rattle.a64_inst.specs.declared.item.Item.TheVariants.{Bind, Emit}
-use Rattle.a64_emit.specs.declared.site.Site.{Site}
-use Rattle.a64_emit.specs.declared.site.Uses.{Uses}
+use Rattle.a64_cells.specs.declared.site.Site.{Site}
+use Rattle.a64_cells.specs.declared.site.Uses.{Uses}
 use Rattle.a64_label_use.specs.LabelUses.{has_veneer}
-use Rattle.a64_emit.specs.Shapes.{Cell, entry_site}
-use Rattle.a64_emit.specs.Cells.{cells_of, sites_of, listed_uses, uses_of}
+use Rattle.a64_cells.specs.Shapes.{Cell, entry_site}
+use Rattle.a64_cells.specs.Cells.{cells_of, sites_of, listed_uses, uses_of}
 use Rattle.a64_emit.specs.Reach.{binds}
 use Rattle.a64_emit.proofs.UseLists.{listed_labels, sites_apart}
 use Rattle.a64_assemble.specs.Tally.{branch_label, is_alive, every, same, branches, count_of, alive, IsTally}

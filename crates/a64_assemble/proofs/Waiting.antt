@@ -20,10 +20,10 @@ use Rattle.a64_buffer.proofs.Costs.{sums_le}
 use Rattle.a64_buffer.proofs.Laters.{was_open}
 use Rattle.a64_buffer.proofs.Pays.{label_is}
 use Rattle.a64_label_use.specs.declared.label_use.LabelUse.{LabelUse}
-use Rattle.a64_emit.specs.declared.site.Site.{Site}
+use Rattle.a64_cells.specs.declared.site.Site.{Site}
 use Rattle.a64_label_use.specs.LabelUses.{label_kinds}
-use Rattle.a64_emit.specs.Shapes.{Cell}
-use Rattle.a64_emit.specs.Cells.{sites_of}
+use Rattle.a64_cells.specs.Shapes.{Cell}
+use Rattle.a64_cells.specs.Cells.{sites_of}
 use Rattle.a64_emit.specs.Emission.{use_at, uses_from, appended}
 use Rattle.a64_assemble.specs.Elements.{Element, Binding, Words, Asking, size_in, sizes_in, next_room}
 use Rattle.a64_assemble.specs.Asks.{Asks, AsksNext, PutsWords, Moves}

@@ -10,7 +10,7 @@ use Rattle.a64_inst.specs.declared.frame.FrameLayout.{FrameLayout}
 use Rattle.a64_inst.specs.declared.item.Item.{Item}
 use Rattle.a64_inst.specs.declared.item.Item.TheVariants.{Bind, Emit}
 use Rattle.a64_emit.specs.Bounds.{IsExtent, asked, charge_of, growth_of, saturated, size_of, whole}
-use Rattle.a64_emit.specs.Shapes.{Cell}
+use Rattle.a64_cells.specs.Shapes.{Cell}
 use Rattle.a64_assemble.specs.Elements.{Element, Binding, Words, Asking, BoundsRooms, charge_in, element_of, elements_of, growth_in, is_asking, next_room, room_of, size_in, space_in, whole_in, words_room}
 use Rattle.a64_assemble.proofs.Itemized.{cells_same, grows_same, whole_same}
 use Rattle.a64_assemble.proofs.NextRooms.{charge_same}

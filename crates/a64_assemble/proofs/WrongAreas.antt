@@ -26,11 +26,11 @@ use Rattle.a64_buffer.specs.Chain.{constant_of}
 use Rattle.a64_buffer.specs.Pieces.{front_size}
 use Rattle.a64_words.specs.Word.{outside, word_at}
 use Rattle.a64_emit.specs.declared.code.Code.{Code}
-use Rattle.a64_emit.specs.declared.site.Site.{Site}
+use Rattle.a64_cells.specs.declared.site.Site.{Site}
 use Rattle.a64_label_use.specs.declared.label_use.LabelUse.TheVariants as uses
 use Rattle.a64_label_use.specs.LabelUses.{label_kinds, mask_for}
-use Rattle.a64_emit.specs.Shapes.{Cell, plain}
-use Rattle.a64_emit.specs.Cells.{cells_of}
+use Rattle.a64_cells.specs.Shapes.{Cell, plain}
+use Rattle.a64_cells.specs.Cells.{cells_of}
 use Rattle.a64_emit.specs.Contents.{site_class, order_of, IsCellUse, IsFarOff}
 use Rattle.a64_emit.specs.Layout.{standing, IsIslandAfter}
 use Rattle.a64_emit.specs.Leads.{areas}

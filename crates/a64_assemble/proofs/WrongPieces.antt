@@ -16,11 +16,11 @@ use Rattle.a64_buffer.specs.Chain.{constant_of}
 use Rattle.a64_buffer.specs.Pieces.{content_of, stop_for}
 use Rattle.a64_words.specs.Word.{word_at}
 use Rattle.a64_emit.specs.declared.code.Code.{Code}
-use Rattle.a64_emit.specs.declared.site.Site.{Site}
+use Rattle.a64_cells.specs.declared.site.Site.{Site}
 use Rattle.a64_label_use.specs.LabelUses.{label_kinds, adds_distance}
 use Rattle.a64_emit.proofs.Burdens.{target_kinded}
 use Rattle.a64_emit.proofs.Targets.{IsCodeSite}
-use Rattle.a64_emit.specs.Shapes.{Cell}
+use Rattle.a64_cells.specs.Shapes.{Cell}
 use Rattle.a64_emit.specs.Contents.{site_class, order_of, piece_size, HasPiece, Fills}
 use Rattle.a64_assemble.specs.Placement.{UseStopsAt, IsWanting}
 use Rattle.a64_assemble.specs.Fillings.{StopsBetween, StopsBy, HoldsPieces}

@@ -9,7 +9,7 @@ use Rattle.a64_buffer.specs.Sound.{IsWhole}
 use Rattle.a64_buffer.specs.Islands.{HasIsland}
 use Rattle.a64_label_use.specs.declared.label_use.LabelUse.{LabelUse}
 use Rattle.a64_label_use.specs.LabelUses.{label_kinds}
-use Rattle.a64_emit.specs.Shapes.{Cell}
+use Rattle.a64_cells.specs.Shapes.{Cell}
 use Rattle.a64_emit.specs.Emission.{appended, Binds}
 use Rattle.a64_assemble.specs.Elements.{Element, Binding, Words, Asking, growth_in, whole_in, IsCompact, next_room, room_of}
 

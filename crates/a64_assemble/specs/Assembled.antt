@@ -10,7 +10,7 @@ use Rattle.a64_buffer.specs.declared.force.ForceVeneers.TheVariants.{Yes}
 use Rattle.a64_emit.specs.declared.code.Code.{Code}
 use Rattle.a64_emit.specs.declared.error.EmitError.{EmitError}
 use Rattle.a64_emit.specs.declared.error.EmitError.TheVariants.{OutOfMemory}
-use Rattle.a64_emit.specs.Cells.{cells_of}
+use Rattle.a64_cells.specs.Cells.{cells_of}
 use Rattle.a64_emit.specs.Leads.{Leads, HaveOwnTraps}
 use Rattle.a64_emit.specs.Layout.{standing, Laid}
 use Rattle.a64_emit.specs.Reach.{is_quiet}

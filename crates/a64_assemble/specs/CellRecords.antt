@@ -2,7 +2,7 @@
 use Rattle.std.specs.Prelude.{ℕ, ◌≡◌, List, map, take}
 use Rattle.a64_buffer.specs.Buffer.{Buffer}
 use Rattle.a64_label_use.specs.declared.label_use.LabelUse.{LabelUse}
-use Rattle.a64_emit.specs.Shapes.{Cell}
+use Rattle.a64_cells.specs.Shapes.{Cell}
 use Rattle.a64_emit.specs.Layout.{standing, records_in}
 use Rattle.a64_assemble.specs.Elements.{Element, cells_in}
 use Rattle.a64_assemble.specs.TrapRecords.{HasTraps}

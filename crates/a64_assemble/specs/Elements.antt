@@ -6,8 +6,8 @@ use Rattle.a64_inst.specs.declared.emission.EmitFlags.{EmitFlags}
 use Rattle.a64_inst.specs.declared.frame.FrameLayout.{FrameLayout}
 use Rattle.a64_inst.specs.declared.item.Item.{Item}
 use Rattle.a64_inst.specs.declared.item.Item.TheVariants.{Bind, Emit}
-use Rattle.a64_emit.specs.Shapes.{Cell}
-use Rattle.a64_emit.specs.Cells.{kept_cells}
+use Rattle.a64_cells.specs.Shapes.{Cell}
+use Rattle.a64_cells.specs.Cells.{kept_cells}
 use Rattle.a64_emit.specs.Bounds.{ranges_in, size_of, charge_of, asked}
 use Rattle.a64_emit.specs.Falls.{inst_falls}
 use Rattle.a64_emit.specs.Rooms.{AreCompact}

@@ -7,7 +7,7 @@ use Rattle.a64_inst.specs.declared.frame.FrameLayout.{FrameLayout}
 use Rattle.a64_inst.specs.declared.item.Item.{Item}
 use Rattle.a64_emit.specs.declared.extent.Light.{Light}
 use Rattle.a64_emit.specs.Bounds.{asked, growth_of}
-use Rattle.a64_emit.specs.Cells.{cells_of}
+use Rattle.a64_cells.specs.Cells.{cells_of}
 use Rattle.a64_emit.specs.Faults.{item_fault}
 use Rattle.a64_emit.specs.Lights.{IsLight}
 use Rattle.a64_assemble.specs.declared.look.Look.{Look}

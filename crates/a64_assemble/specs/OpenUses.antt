@@ -13,8 +13,8 @@ use Rattle.a64_buffer.specs.Sound.{IsWhole}
 use Rattle.a64_buffer.specs.Islands.{HasIsland}
 use Rattle.a64_label_use.specs.declared.label_use.LabelUse.{LabelUse}
 use Rattle.a64_label_use.specs.LabelUses.{label_kinds}
-use Rattle.a64_emit.specs.Cells.{sites_of}
-use Rattle.a64_emit.specs.declared.site.Site.{Site}
+use Rattle.a64_cells.specs.Cells.{sites_of}
+use Rattle.a64_cells.specs.declared.site.Site.{Site}
 use Rattle.a64_emit.specs.Contents.{site_class}
 use Rattle.a64_assemble.specs.Elements.{Element, cells_in, is_asking, falls_in, is_bound_by, ahead, element_at}
 use Rattle.a64_assemble.specs.Stations.{IsIslandBehind}

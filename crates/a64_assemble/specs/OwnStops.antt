@@ -8,7 +8,7 @@ use Rattle.a64_buffer.specs.Buffer.{Buffer, label_of, goal_of, IsOutside}
 use Rattle.a64_buffer.specs.Classes.{wants}
 use Rattle.a64_emit.specs.declared.code.Code.{Code}
 use Rattle.a64_label_use.specs.declared.label_use.LabelUse.{LabelUse}
-use Rattle.a64_emit.specs.declared.site.Site.{Site}
+use Rattle.a64_cells.specs.declared.site.Site.{Site}
 use Rattle.a64_emit.specs.Contents.{site_class, IsCellUse}
 use Rattle.a64_assemble.specs.Placement.{standing_cells, UseStopsAt, IsLabelAt}
 

@@ -18,10 +18,10 @@ use Rattle.a64_words.specs.Word.{outside, word_at}
 use Rattle.a64_emit.specs.declared.code.Code.{Code}
 use Rattle.a64_label_use.specs.declared.label_use.LabelUse.{LabelUse}
 use Rattle.a64_label_use.specs.declared.label_use.LabelUse.TheVariants as uses
-use Rattle.a64_emit.specs.declared.site.Site.{Site}
+use Rattle.a64_cells.specs.declared.site.Site.{Site}
 use Rattle.a64_label_use.specs.LabelUses.{mask_for, forward_range}
-use Rattle.a64_emit.specs.Shapes.{Cell}
-use Rattle.a64_emit.specs.Cells.{cells_of}
+use Rattle.a64_cells.specs.Shapes.{Cell}
+use Rattle.a64_cells.specs.Cells.{cells_of}
 use Rattle.a64_emit.specs.Bounds.{whole}
 use Rattle.a64_emit.specs.Falls.{falls_at}
 use Rattle.a64_emit.specs.Layout.{standing, IsIslandAfter}

@@ -4,8 +4,8 @@ use Rattle.a64_rows.specs.declared.slots.Slot.{Slot}
 use Rattle.a64_rows.specs.Rows.{slots_of}
 use Rattle.a64_rows.specs.Forms.{Form, IsWordOf, IsOnlyFormOf, mask_of}
 use Rattle.a64_words.specs.Word.{word_at}
-use Rattle.a64_emit.specs.declared.site.Site.{Site}
-use Rattle.a64_emit.specs.Shapes.{Body, FormOf, Data, Cell}
+use Rattle.a64_cells.specs.declared.site.Site.{Site}
+use Rattle.a64_cells.specs.Shapes.{Body, FormOf, Data, Cell}
 use Rattle.a64_emit.specs.Layout.{site_mask}
 
 -- a word is that of a form of the same row, and of no other form. Its fields have the values of the first form, but for those

@@ -9,9 +9,9 @@ use Rattle.a64_buffer.specs.declared.site.Target.TheVariants.{Label, Constant, T
 use Rattle.a64_inst.specs.declared.emission.EmitFlags.{EmitFlags}
 use Rattle.a64_inst.specs.declared.frame.FrameLayout.{FrameLayout}
 use Rattle.a64_inst.specs.declared.item.Item.{Item}
-use Rattle.a64_emit.specs.declared.site.Site.{Site}
+use Rattle.a64_cells.specs.declared.site.Site.{Site}
 use Rattle.a64_label_use.specs.LabelUses.{has_veneer}
-use Rattle.a64_emit.specs.Cells.{cells_of, sites_of}
+use Rattle.a64_cells.specs.Cells.{cells_of, sites_of}
 use Rattle.a64_emit.specs.Bounds.{whole}
 use Rattle.a64_emit.specs.Reach.{binds, binding_index, may_want, sizes, charges}
 use Rattle.a64_assemble.specs.LooseUses.{is_load}

@@ -7,7 +7,7 @@ ghost use Rattle.a64_inst.specs.declared.item.Item.{Item};
 ghost use Rattle.a64_buffer.specs.declared.force.ForceVeneers.{ForceVeneers};
 ghost use Rattle.a64_emit.specs.declared.error.EmitError.TheVariants.{OutOfMemory};
 ghost use Rattle.a64_emit.specs.Bounds.{whole};
-ghost use Rattle.a64_emit.specs.Cells.{inst_cells, sites_of};
+ghost use Rattle.a64_cells.specs.Cells.{inst_cells, sites_of};
 ghost use Rattle.a64_emit.specs.Faults.{second_binding};
 ghost use Rattle.a64_emit.specs.Reach as Reach;
 ghost use Rattle.a64_emit.specs.Reach.{first_some, out_of_reach};

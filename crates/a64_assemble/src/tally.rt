@@ -5,7 +5,7 @@ ghost use Rattle.std.specs.List.{cons_option};
 ghost use Rattle.a64_inst.specs.declared.emission.EmitFlags.{EmitFlags};
 ghost use Rattle.a64_inst.specs.declared.frame.FrameLayout.{FrameLayout};
 ghost use Rattle.a64_inst.specs.declared.item.Item.{Item};
-ghost use Rattle.a64_emit.specs.Cells.{cells_of, sites_of, listed_uses, uses_of};
+ghost use Rattle.a64_cells.specs.Cells.{cells_of, sites_of, listed_uses, uses_of};
 ghost use Rattle.a64_assemble.specs.LooseUses as loose_uses;
 ghost use Rattle.a64_assemble.specs.Tally as tally;
 ghost use Rattle.a64_assemble.specs.Tally.{branches, waiting, count_of, every, same, alive, IsTally};

@@ -22,6 +22,7 @@ pub use a64_base::PrettyPrint;
 pub use a64_base::RealReg;
 pub use a64_base::Reg;
 pub use a64_base::RegClass;
+pub use a64_base::RegKind;
 pub use a64_base::Reloc;
 pub use a64_base::ScalarSize;
 pub use a64_base::ShiftOp;

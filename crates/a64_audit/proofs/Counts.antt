@@ -7,7 +7,7 @@ use Rattle.a64_audit.specs.declared.entry.Entry.{Entry}
 use Rattle.a64_audit.specs.declared.entry.Entry.TheVariants.{Word, Trap, Data}
 use Rattle.a64_audit.specs.Entries.{Contents, entry_line, said, says}
 use Rattle.a64_lines.specs.Lines.{Leads, LeadAll, IsFile}
-use Rattle.a64_read.specs.Splitting.{lines_of}
+use Rattle.a64_tokens.specs.Splitting.{lines_of}
 
 -- how many bytes lines have
 total : List (List ℕ) → ℕ

@@ -7,10 +7,10 @@ use Rattle.a64_audit.specs.declared.entry.Entry.TheVariants.{Word, Trap, Data}
 use Rattle.a64_audit.specs.Entries.{IsEntry, entry_line, line_of_two}
 use Rattle.a64_audit.specs.declared.reading.LineParts.{LineParts}
 use Rattle.a64_audit.specs.LineParts.{AreParts, entry_parts}
-use Rattle.a64_read.specs.DigitLaws.{decimal_apart}
-use Rattle.a64_read.specs.Fields.{HasNo}
-use Rattle.a64_read.specs.Hex.{hex_word}
-use Rattle.a64_read.specs.Reads.{Reads, IsU32}
+use Rattle.a64_tokens.specs.DigitLaws.{decimal_apart}
+use Rattle.a64_tokens.specs.Fields.{HasNo}
+use Rattle.a64_tokens.specs.Hex.{hex_word}
+use Rattle.a64_tokens.specs.Reads.{Reads, IsU32}
 
 -- the first byte
 front : {a b : List ℕ} → a ≡ b → get_or a 0 0 ≡ get_or b 0 0

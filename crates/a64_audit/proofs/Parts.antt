@@ -6,9 +6,9 @@ use Rattle.std.proofs.lemmas.List.Splits.{join_with_byte-slice_split}
 use Rattle.a64_audit.specs.declared.reading.LineParts.{LineParts}
 use Rattle.a64_audit.specs.Entries.{line_of_two}
 use Rattle.a64_audit.specs.LineParts.{AreParts}
-use Rattle.a64_read.specs.Fields.{HasNo}
-use Rattle.a64_read.specs.SplitLaws.{split_at}
-use Rattle.a64_read.specs.TokenLaws.{some_token}
+use Rattle.a64_tokens.specs.Fields.{HasNo}
+use Rattle.a64_tokens.specs.SplitLaws.{split_at}
+use Rattle.a64_tokens.specs.TokenLaws.{some_token}
 
 abbrev pub cuts : List ℕ → List (List ℕ)
 cuts text = slice_split (λ b. b == 32) text

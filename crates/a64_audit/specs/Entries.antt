@@ -7,8 +7,8 @@ use Rattle.a64_audit.specs.declared.entry.Entry.TheVariants.{Word, Trap, Data}
 use Rattle.a64_audit.specs.declared.file.AuditFile.{AuditFile}
 use Rattle.a64_lines.specs.Entries.{SaysBut}
 use Rattle.a64_lines.specs.Lines as Lines
-use Rattle.a64_read.specs.Hex.{hex_word}
-use Rattle.a64_read.specs.Reads.{IsU8, IsU32}
+use Rattle.a64_tokens.specs.Hex.{hex_word}
+use Rattle.a64_tokens.specs.Reads.{IsU8, IsU32}
 
 -- what an entry says is a number of its kind
 abbrev pub IsEntry : Entry → Type 0

@@ -5,8 +5,8 @@ use Rattle.a64_audit.specs.declared.entry.Entry.{Entry}
 use Rattle.a64_audit.specs.declared.entry.Entry.TheVariants.{Word, Trap, Data}
 use Rattle.a64_audit.specs.declared.reading.LineParts.{LineParts}
 use Rattle.a64_audit.specs.Entries.{line_of_two}
-use Rattle.a64_read.specs.Fields.{HasNo}
-use Rattle.a64_read.specs.Hex.{hex_word}
+use Rattle.a64_tokens.specs.Fields.{HasNo}
+use Rattle.a64_tokens.specs.Hex.{hex_word}
 
 -- a name, and two fields
 abbrev pub Parts : Type 0

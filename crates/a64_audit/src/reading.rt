@@ -6,14 +6,14 @@ ghost use Rattle.a64_audit.specs.Entries.{IsEntry, MayStand, Contents, contents_
 ghost use Rattle.a64_audit.specs.LineParts.{AreParts, entry_parts};
 ghost use Rattle.a64_lines.specs.Entries.{BeginsWith};
 ghost use Rattle.a64_lines.specs.Lines.{Answers, told_by};
-ghost use Rattle.a64_read.specs.Reads.{Reads};
+ghost use Rattle.a64_tokens.specs.Reads.{Reads};
 
 use crate::entry::Entry;
 use crate::file::{AuditFile, AuditFileError};
 use a64_lines::{Lines, begins_with_any, read_lines};
-use a64_read::decimal::{read_u8, read_u32};
-use a64_read::hex::read_word;
-use a64_read::split::cut;
+use a64_tokens::decimal::{read_u8, read_u32};
+use a64_tokens::hex::read_word;
+use a64_tokens::split::cut;
 use std::alloc::{AllocError, Global};
 
 /// What the lines begin with that tell something else.

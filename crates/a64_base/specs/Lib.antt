@@ -1,4 +1,5 @@
 pub mod Bits
+pub mod Bytes
 pub mod Conditions
 pub mod Keys
 pub mod OperandSizes

@@ -1,7 +1,7 @@
 -- Names of registers in listings.
 use Rattle.std.specs.Prelude.{ℕ, ◌==◌, if◌then◌else◌, List, ◌++◌, Bool, true, false, IsTrue, codes, decimal}
 use Rattle.a64_base.specs.declared.reg.Reg.{Reg}
-use Rattle.a64_base.specs.declared.reg.Reg.TheVariants.{Real, Virtual}
+use Rattle.a64_base.specs.declared.reg.RegKind.TheVariants.{Real, Virtual}
 use Rattle.a64_base.specs.declared.reg.RegClass.{RegClass}
 use Rattle.a64_base.specs.declared.reg.RegClass.TheVariants.{Int, Float}
 use Rattle.a64_base.specs.declared.size.OperandSize.{OperandSize}

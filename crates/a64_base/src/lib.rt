@@ -22,7 +22,7 @@ pub use entity::{ExternalName, MachLabel, Reloc, TrapCode, UserStackMap, VCodeCo
 pub use ir_type::IrType;
 pub use key::APIKey;
 pub use mem_flags::MemFlagsData;
-pub use reg::{PReg, RealReg, Reg, RegClass, Writable};
+pub use reg::{PReg, RealReg, Reg, RegClass, RegKind, Writable};
 pub use reg_text::{
     pretty_print_ireg, pretty_print_reg, pretty_print_reg_sized, pretty_print_vreg_element,
     pretty_print_vreg_scalar, pretty_print_vreg_vector, push_element, push_register, push_scalar,

@@ -95,10 +95,9 @@ impl RealReg {
     }
 }
 
-/// A register: one of the machine, or a virtual one that stands for some register of its class
-/// (Cranelift's `Reg`).
+/// What a register is: one of the machine, or a virtual one that stands for some register of its class.
 #[derive(Clone, Copy, Debug, PartialEq, Eq)]
-pub enum Reg {
+pub enum RegKind {
     /// A register of the machine.
     Real(PReg),
     /// A virtual register.
@@ -110,30 +109,103 @@ pub enum Reg {
     },
 }
 
+/// The registers that share a numbering: those of the machine, or the virtual ones, of one class.
+#[derive(Clone, Copy, Debug, PartialEq, Eq)]
+enum Bank {
+    /// The machine's integer registers.
+    Int,
+    /// The machine's registers of floats and vectors.
+    Float,
+    /// The virtual registers that stand for integer registers.
+    VirtualInt,
+    /// The virtual registers that stand for registers of floats and vectors.
+    VirtualFloat,
+}
+
+/// A register: one of the machine, or a virtual one that stands for some register of its class
+/// (Cranelift's `Reg`). [`Reg::kind`] tells which. It takes 8 bytes.
+#[derive(Clone, Copy, Debug, PartialEq, Eq)]
+pub struct Reg {
+    number: u32,
+    bank: Bank,
+}
+
+impl Model for Reg {
+    ghost use Rattle.a64_base.specs.Registers.{kind_of, number_of, bank_of, IsNumbered};
+    ghost use Rattle.a64_base.specs.declared.reg.RegKind.{RegKind};
+
+    ghost Value = { RegKind };
+
+    ghost view = { λ r. kind_of r.bank r.number };
+
+    ghost invariant = { λ r. IsNumbered r.bank r.number };
+
+    ghost inverse = { λ kind. record { number = number_of kind; bank = bank_of kind } };
+}
+
 impl Reg {
     ghost use Rattle.a64_base.specs.Registers.{class_of, is_virtual_register, real_of};
 
     /// A register of the machine.
     pub fn from_real_reg(p: PReg) -> Reg
-        ensures { result ≡ Reg.Real p }
+        ensures { result ≡ RegKind.Real p }
     {
-        Reg::Real(p)
+        let bank = match p.class() {
+            RegClass::Int => Bank::Int,
+            RegClass::Float => Bank::Float,
+        };
+        Reg {
+            number: u32::from(p.hw_enc()),
+            bank,
+        }
     }
 
     /// A virtual register.
     pub fn virtual_reg(index: u32, class: RegClass) -> Reg
-        ensures { result ≡ Reg.Virtual index class }
+        ensures { result ≡ RegKind.Virtual index class }
     {
-        Reg::Virtual { index, class }
+        let bank = match class {
+            RegClass::Int => Bank::VirtualInt,
+            RegClass::Float => Bank::VirtualFloat,
+        };
+        Reg {
+            number: index,
+            bank,
+        }
+    }
+
+    /// What it is.
+    #[inline]
+    pub fn kind(self) -> RegKind
+        ensures { result ≡ self }
+    {
+        match self.bank {
+            Bank::Int => RegKind::Real(PReg {
+                hw: self.number as u8,
+                class: RegClass::Int,
+            }),
+            Bank::Float => RegKind::Real(PReg {
+                hw: self.number as u8,
+                class: RegClass::Float,
+            }),
+            Bank::VirtualInt => RegKind::Virtual {
+                index: self.number,
+                class: RegClass::Int,
+            },
+            Bank::VirtualFloat => RegKind::Virtual {
+                index: self.number,
+                class: RegClass::Float,
+            },
+        }
     }
 
     /// Its class.
     pub fn class(&self) -> RegClass
         ensures { result ≡ class_of self.now }
     {
-        match *self {
-            Reg::Real(p) => p.class(),
-            Reg::Virtual { class, .. } => class,
+        match self.bank {
+            Bank::Int | Bank::VirtualInt => RegClass::Int,
+            Bank::Float | Bank::VirtualFloat => RegClass::Float,
         }
     }
 
@@ -141,16 +213,16 @@ impl Reg {
     pub fn is_virtual(&self) -> bool
         ensures { result ≡ is_virtual_register self.now }
     {
-        matches!(*self, Reg::Virtual { .. })
+        matches!(self.bank, Bank::VirtualInt | Bank::VirtualFloat)
     }
 
     /// The machine's register, where it is one.
     pub fn to_real_reg(self) -> Option<RealReg>
         ensures { result ≡ real_of self }
     {
-        match self {
-            Reg::Real(p) => Some(RealReg(p)),
-            Reg::Virtual { .. } => None,
+        match self.kind() {
+            RegKind::Real(p) => Some(RealReg(p)),
+            RegKind::Virtual { .. } => None,
         }
     }
 }

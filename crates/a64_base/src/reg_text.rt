@@ -18,7 +18,7 @@ ghost use Rattle.a64_base.specs.RegisterText.{
   HasLanes,
 };
 
-use crate::reg::{Reg, RegClass};
+use crate::reg::{Reg, RegClass, RegKind};
 use crate::size::{OperandSize, ScalarSize, VectorSize};
 use crate::text::{Text, push_numbered};
 use std::alloc::{AllocError, Global};
@@ -76,9 +76,9 @@ fn push_virtual(out: &mut String, index: u32, class: RegClass) -> Result<(), All
 pub fn push_register(out: &mut String, size: OperandSize, reg: Reg) -> Result<(), AllocError>
     ensures { OnOk result (string_bytes out.new ≡ string_bytes out.old ++ sized_text size reg) }
 {
-    match reg {
-        Reg::Virtual { index, class } => push_virtual(out, index, class),
-        Reg::Real(p) => match p.class() {
+    match reg.kind() {
+        RegKind::Virtual { index, class } => push_virtual(out, index, class),
+        RegKind::Real(p) => match p.class() {
             RegClass::Int => push_integer(out, size, p.hw_enc()),
             RegClass::Float => push_numbered(out, "v", p.hw_enc()),
         },
@@ -153,9 +153,9 @@ fn scalar_prefix<'a>(size: ScalarSize) -> &'a str
 pub fn push_scalar(out: &mut String, size: ScalarSize, reg: Reg) -> Result<(), AllocError>
     ensures { OnOk result (string_bytes out.new ≡ string_bytes out.old ++ scalar_text size reg) }
 {
-    match reg {
-        Reg::Virtual { index, class } => push_virtual(out, index, class),
-        Reg::Real(p) => match p.class() {
+    match reg.kind() {
+        RegKind::Virtual { index, class } => push_virtual(out, index, class),
+        RegKind::Real(p) => match p.class() {
             RegClass::Int => push_integer(out, OperandSize::Size64, p.hw_enc()),
             RegClass::Float => push_numbered(out, scalar_prefix(size), p.hw_enc()),
         },

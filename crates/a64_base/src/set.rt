@@ -4,16 +4,63 @@ ghost use Rattle.std.specs.Prelude.{ℕ, ◌≡◌, ◌≢◌, ◌<◌, ◌||◌
 ghost use Rattle.a64_base.specs.Bits.{has_bit};
 
 use crate::reg::{PReg, RegClass};
+use std::marker::Model;
 
-/// A set of registers of the machine (Cranelift's `PRegSet`).
+/// 32 bits, kept as bytes, so that a value that holds them has no padding before them.
+#[derive(Clone, Copy, Debug)]
+struct Bits32 {
+    /// The bits, the lowest eight first.
+    bytes: [u8; 4],
+}
+
+impl Model for Bits32 {
+    ghost use Rattle.std.specs.Prelude.{ℕ};
+    ghost use Rattle.std.specs.Int.{w32, from_le_bytes, to_le_bytes};
+    ghost use Rattle.std.proofs.Common.{ap, refl};
+    ghost use Rattle.std.proofs.lemmas.Nat.{le_bytes_4};
+    ghost use Rattle.a64_base.specs.Bytes.{AreFourBytes};
+
+    ghost Value = { ℕ };
+
+    ghost view = { λ b. from_le_bytes w32 b.bytes };
+
+    ghost invariant = { λ b. AreFourBytes b.bytes };
+
+    ghost inverse = { λ n. record { bytes = to_le_bytes w32 n } };
+
+    ghost inverse_ok = { λ b are.
+        ap (λ bytes. record { bytes = bytes }) (le_bytes_4 b.bytes _ are.length are.small refl) };
+}
+
+impl Bits32 {
+    /// The bits of a number.
+    #[inline]
+    fn of(bits: u32) -> Bits32
+        ensures { result ≡ bits }
+    {
+        Bits32 {
+            bytes: bits.to_le_bytes(),
+        }
+    }
+
+    /// The number that has these bits.
+    #[inline]
+    fn get(self) -> u32
+        ensures { result ≡ self }
+    {
+        u32::from_le_bytes(self.bytes)
+    }
+}
+
+/// A set of registers of the machine (Cranelift's `PRegSet`). It takes 9 bytes, at any place.
 #[derive(Clone, Copy, Debug)]
 pub struct PRegSet {
     /// Bit N is set where the set has the integer register N, up to 31.
-    integers: u32,
+    integers: Bits32,
     /// Whether the set has the stack pointer.
     stack: bool,
     /// Bit N is set where the set has the float register N.
-    floats: u32,
+    floats: Bits32,
 }
 
 /// Whether one bit is set.
@@ -53,9 +100,9 @@ impl PRegSet {
         ensures { (q : PReg) → has result q ≡ false }
     {
         PRegSet {
-            integers: 0,
+            integers: Bits32::of(0),
             stack: false,
-            floats: 0,
+            floats: Bits32::of(0),
         }
     }
 
@@ -66,9 +113,9 @@ impl PRegSet {
     {
         let number = p.hw_enc();
         match p.class() {
-            RegClass::Float => self.floats = with_bit(self.floats, number),
+            RegClass::Float => self.floats = Bits32::of(with_bit(self.floats.get(), number)),
             RegClass::Int if number == 63 => self.stack = true,
-            RegClass::Int => self.integers = with_bit(self.integers, number),
+            RegClass::Int => self.integers = Bits32::of(with_bit(self.integers.get(), number)),
         }
     }
 
@@ -79,9 +126,9 @@ impl PRegSet {
     {
         let number = p.hw_enc();
         match p.class() {
-            RegClass::Float => self.floats = without_bit(self.floats, number),
+            RegClass::Float => self.floats = Bits32::of(without_bit(self.floats.get(), number)),
             RegClass::Int if number == 63 => self.stack = false,
-            RegClass::Int => self.integers = without_bit(self.integers, number),
+            RegClass::Int => self.integers = Bits32::of(without_bit(self.integers.get(), number)),
         }
     }
 
@@ -91,9 +138,9 @@ impl PRegSet {
     {
         let number = p.hw_enc();
         match p.class() {
-            RegClass::Float => is_set(self.floats, number),
+            RegClass::Float => is_set(self.floats.get(), number),
             RegClass::Int if number == 63 => self.stack,
-            RegClass::Int => is_set(self.integers, number),
+            RegClass::Int => is_set(self.integers.get(), number),
         }
     }
 
@@ -102,8 +149,8 @@ impl PRegSet {
     pub fn union_from(&mut self, other: PRegSet)
         ensures { (q : PReg) → has self.new q ≡ (has self.old q || has other q) }
     {
-        self.integers |= other.integers;
+        self.integers = Bits32::of(self.integers.get() | other.integers.get());
         self.stack |= other.stack;
-        self.floats |= other.floats;
+        self.floats = Bits32::of(self.floats.get() | other.floats.get());
     }
 }

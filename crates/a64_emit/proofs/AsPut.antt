@@ -3,23 +3,21 @@ use Rattle.std.proofs.Common.{ℕ, ◌≡◌, ◌+◌, ◌*◌, suc, zero, List,
 use Rattle.std.specs.Prelude.{IfSome}
 use Rattle.std.specs.FinMap.{FinMap}
 use Rattle.std.specs.List.{cons_option, filter_map}
-use Rattle.std.proofs.lemmas.List.{length-map, map-append}
-use Rattle.a64_base.specs.declared.entity.TrapCode.{TrapCode}
+use Rattle.std.proofs.lemmas.List.{length-map}
 use Rattle.a64_base.specs.declared.target.BranchTarget.{BranchTarget}
 use Rattle.a64_base.specs.declared.target.BranchTarget.TheVariants as branch_targets
 use Rattle.a64_buffer.specs.declared.site.Use.{Use}
 use Rattle.a64_buffer.specs.Buffer.{Buffer, end_of}
 use Rattle.a64_buffer.specs.Classes as classes
-use Rattle.a64_rows.specs.Forms.{Form, form_word}
+use Rattle.a64_rows.specs.Forms.{form_word}
 use Rattle.a64_label_use.specs.declared.label_use.LabelUse.{LabelUse}
-use Rattle.a64_emit.specs.declared.site.Site.{Site}
 use Rattle.a64_label_use.specs.LabelUses.{label_kinds}
-use Rattle.a64_emit.specs.Shapes.{Cell, Shape, OneWord, Several, Words, plain, last_cell, branch_site}
-use Rattle.a64_emit.specs.Cells.{body_word, cell_word, shape_cells, only_word, other_cells}
+use Rattle.a64_cells.specs.Shapes.{Cell, Shape, OneWord, Several, Words, branch_site}
+use Rattle.a64_cells.specs.Cells.{cell_word, shape_cells, only_word, other_cells}
 use Rattle.a64_emit.specs.Layout.{placed, reloc_at, call_at, patchable_at, map_at, trap_at, records_in, more_records}
 use Rattle.a64_emit.specs.Emission.{use_at, uses_from, appended, Parts, part_records, IsAppendedInPart, HasRoom, CellsFit, CanPut}
-use Rattle.a64_emit.specs.Words.{AreSeveral, MayBePut, put_cell, put_cells, as_put}
-use Rattle.a64_emit.proofs.Shapes.{no_word}
+use Rattle.a64_cells.specs.Words.{MayBePut, put_cell, as_put}
+use Rattle.a64_cells.proofs.Shapes.{no_word}
 use Rattle.a64_emit.proofs.Holding.{same_holding, same_records}
 
 -- ---- nothing that emission makes of cells depends on their rows
@@ -124,20 +122,3 @@ word_put (Words cells) word e = absurd cc
 
 pub other_put : (shape : Shape) → None ≡ only_word shape → map as_put (other_cells shape) ≡ map as_put (shape_cells shape)
 other_put shape e = ap (map as_put) (no_word shape e)
-
--- ---- the words of several cells
-
-pub plain_put : (forms : List Form) → map (λ word. put_cell word None None) (map form_word forms) ≡ map as_put (map plain forms)
-plain_put [] = refl
-plain_put (f ∷ forms) = ap (λ cells. as_put (plain f) ∷ cells) (plain_put forms)
-
-pub several_put : (first : List ℕ) (last : ℕ) (site : Option Site) (trap : Option TrapCode) (shape : Shape) → AreSeveral first last site trap shape → put_cells first last site trap ≡ map as_put (other_cells shape)
-several_put first last site trap (Several forms body own code) (e, f, g, h) =
-    ap (λ ws. put_cells ws last site trap) e
-    ∙ ap (λ w. put_cells (map form_word forms) w site trap) f
-    ∙ ap (λ s. put_cells (map form_word forms) (body_word body) s trap) g
-    ∙ ap (λ t. put_cells (map form_word forms) (body_word body) own t) h
-    ∙ ap (λ cells. cells ++ put_cell (body_word body) own code ∷ []) (plain_put forms)
-    ∙ sym (map-append as_put (map plain forms) (last_cell body own code ∷ []))
-several_put first last site trap (OneWord form) are = elim are [ ]
-several_put first last site trap (Words cells) are = elim are [ ]

@@ -10,8 +10,8 @@ use Rattle.a64_inst.specs.declared.inst.Inst.TheVariants as insts
 use Rattle.a64_inst.specs.declared.item.Item.{Item}
 use Rattle.a64_inst.specs.declared.item.Item.TheVariants.{Bind, Emit}
 use Rattle.a64_emit.specs.declared.extent.Light.{Light}
-use Rattle.a64_emit.specs.Shapes.{Cell}
-use Rattle.a64_emit.specs.Cells.{shape_of, only_word, inst_cells, kept_by, kept_cells, cells_of}
+use Rattle.a64_cells.specs.Shapes.{Cell}
+use Rattle.a64_cells.specs.Cells.{shape_of, only_word, inst_cells, kept_by, kept_cells, cells_of}
 use Rattle.a64_emit.specs.Bounds.{AreExtent, IsExtent, ranges_in, size_of, charge_of, asked_of, growth_of, item_charge, item_size, least, saturated}
 use Rattle.a64_emit.specs.Falls.{inst_falls}
 use Rattle.a64_emit.specs.Lights.{IsLight}

@@ -7,10 +7,10 @@ use Rattle.a64_buffer.specs.Classes.{Fits}
 use Rattle.a64_rows.specs.Forms.{Form, form_word}
 use Rattle.a64_label_use.specs.declared.label_use.LabelUse.{LabelUse}
 use Rattle.a64_label_use.specs.LabelUses.{label_kinds}
-use Rattle.a64_emit.specs.Shapes.{Cell, plain}
+use Rattle.a64_cells.specs.Shapes.{Cell, plain}
 use Rattle.a64_emit.specs.Emission.{appended, PutsInPart, IsAppendedInPart, CanPut, PutsCells}
-use Rattle.a64_emit.specs.Words.{as_put}
-use Rattle.a64_emit.proofs.AsPut.{plain_put}
+use Rattle.a64_cells.specs.Words.{as_put}
+use Rattle.a64_cells.proofs.PutWords.{plain_put}
 use Rattle.a64_emit.proofs.Fitting.{failed}
 use Rattle.a64_emit.proofs.Joined.{part_first, can_first, can_second, puts_second}
 use Rattle.a64_emit.proofs.Lasts.{silent, silent_appended, silent_part, silent_room, silent_fits}

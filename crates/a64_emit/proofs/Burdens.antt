@@ -17,10 +17,10 @@ use Rattle.a64_buffer.specs.Classes.{third, cost, wants, class_of, is_open, weig
 use Rattle.a64_buffer.proofs.Costs.{weight-cons}
 use Rattle.a64_label_use.specs.declared.label_use.LabelUse.{LabelUse}
 use Rattle.a64_label_use.specs.declared.label_use.LabelUse.TheVariants as uses
-use Rattle.a64_emit.specs.declared.site.Site.{Site}
+use Rattle.a64_cells.specs.declared.site.Site.{Site}
 use Rattle.a64_label_use.specs.LabelUses.{label_kinds, urgency_of, forward_range}
-use Rattle.a64_emit.specs.Shapes.{Cell}
-use Rattle.a64_emit.specs.Cells.{inst_cells, kept_by, cells_of, all_cells, sites_of}
+use Rattle.a64_cells.specs.Shapes.{Cell}
+use Rattle.a64_cells.specs.Cells.{inst_cells, kept_by, cells_of, all_cells, sites_of}
 use Rattle.a64_emit.specs.Bounds.{veneer_range, ranges_in, charge_of}
 use Rattle.a64_emit.proofs.Keeping.{keep_sites}
 use Rattle.a64_emit.proofs.Targets.{IsCodeTarget, IsCodeSite, inst_targets}

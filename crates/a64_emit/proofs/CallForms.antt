@@ -16,17 +16,17 @@ use Rattle.a64_inst.specs.declared.frame.FrameLayout.{FrameLayout}
 use Rattle.a64_inst.specs.declared.mode.PairAMode.TheVariants.{SPPostIndexed}
 use Rattle.a64_inst.specs.MemoryOperands.{is_addend}
 use Rattle.a64_rows.specs.Forms.{Form, IsFormOf}
-use Rattle.a64_emit.specs.declared.call.Callee.{Callee}
-use Rattle.a64_emit.specs.declared.call.Callee.TheVariants.{Symbol, Address}
-use Rattle.a64_emit.specs.Cells.{adjust_forms, call_form, frame_forms, key_forms, leave_forms, return_form}
-use Rattle.a64_emit.specs.ControlForms.{auti_form}
-use Rattle.a64_emit.specs.IntegerForms.{alu_rrr_extend_form}
-use Rattle.a64_emit.specs.MemoryForms.{addend, addend_form, offset_register, pair_form, step_forms, sum_op}
-use Rattle.a64_emit.proofs.Accesses.{addend_good}
-use Rattle.a64_emit.proofs.AccessForms.{shape_forms, pair_word_is_form}
-use Rattle.a64_emit.proofs.BranchForms.{auti_is_form, branch_link_is_form, branch_link_register_is_form, indirect_br_is_form, jump_is_form}
-use Rattle.a64_emit.proofs.ImmediateForms.{alu_rr_imm12_is_form}
-use Rattle.a64_emit.proofs.RegisterForms.{alu_rrr_extend_is_form}
+use Rattle.a64_cells.specs.declared.callee.Callee.{Callee}
+use Rattle.a64_cells.specs.declared.callee.Callee.TheVariants.{Symbol, Address}
+use Rattle.a64_cells.specs.Cells.{adjust_forms, call_form, frame_forms, key_forms, leave_forms, return_form}
+use Rattle.a64_cells.specs.ControlForms.{auti_form}
+use Rattle.a64_cells.specs.IntegerForms.{alu_rrr_extend_form}
+use Rattle.a64_cells.specs.MemoryForms.{addend, addend_form, offset_register, pair_form, step_forms, sum_op}
+use Rattle.a64_cells.proofs.Accesses.{addend_good}
+use Rattle.a64_cells.proofs.AccessForms.{shape_forms, pair_word_is_form}
+use Rattle.a64_cells.proofs.BranchForms.{auti_is_form, branch_link_is_form, branch_link_register_is_form, indirect_br_is_form, jump_is_form}
+use Rattle.a64_cells.proofs.ImmediateForms.{alu_rr_imm12_is_form}
+use Rattle.a64_cells.proofs.RegisterForms.{alu_rrr_extend_is_form}
 use Rattle.a64_emit.proofs.SequenceForms.{one_form, plan_shape}
 
 abbrev stack : Reg

@@ -27,9 +27,9 @@ use Rattle.a64_inst.specs.Accesses.{access_of, access_type, inst_with, load_op, 
 use Rattle.a64_inst.specs.FinalModes.{final_steps}
 use Rattle.a64_inst.specs.Groups.{group_of}
 use Rattle.a64_inst.specs.Modes.{BaseOffset, base_offset_of, is_far, steps_to}
-use Rattle.a64_emit.specs.Shapes.{Cell, FormOf, last_cell, plain}
-use Rattle.a64_emit.specs.Cells.{access_shape, inst_cells, load_at, mode_site, other_shape, result_cells, result_load, shape_cells}
-use Rattle.a64_emit.specs.MemoryForms.{access_form, offset_register, step_form, step_forms}
+use Rattle.a64_cells.specs.Shapes.{Cell, FormOf, last_cell, plain}
+use Rattle.a64_cells.specs.Cells.{access_shape, inst_cells, load_at, mode_site, other_shape, result_cells, result_load, shape_cells}
+use Rattle.a64_cells.specs.MemoryForms.{access_form, offset_register, step_form, step_forms}
 use Rattle.a64_enc_int.proofs.Immediates.{residue_below}
 
 -- an instruction that is made of an access is a load or a store, and has that access

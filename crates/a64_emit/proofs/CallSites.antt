@@ -17,14 +17,14 @@ use Rattle.a64_inst.specs.declared.inst.Inst.TheVariants as insts
 use Rattle.a64_inst.specs.Accesses.{type_has_load_form}
 use Rattle.a64_inst.specs.Groups.{group_of}
 use Rattle.a64_rows.specs.Forms.{Form}
-use Rattle.a64_emit.specs.declared.call.Callee.{Callee}
-use Rattle.a64_emit.specs.declared.call.Callee.TheVariants.{Symbol, Address}
-use Rattle.a64_emit.specs.declared.site.Site.{Site}
-use Rattle.a64_emit.specs.Shapes.{Cell, FormOf, plain}
-use Rattle.a64_emit.specs.Cells.{call_cells, inst_cells, leave_forms, lone_cell, other_shape, patchable_cells, pop_forms, restored_cell, result_cells, return_cell, return_cells, shape_cells, sites_of}
-use Rattle.a64_emit.specs.MemoryForms.{access_form, access_steps}
+use Rattle.a64_cells.specs.declared.callee.Callee.{Callee}
+use Rattle.a64_cells.specs.declared.callee.Callee.TheVariants.{Symbol, Address}
+use Rattle.a64_cells.specs.declared.site.Site.{Site}
+use Rattle.a64_cells.specs.Shapes.{Cell, FormOf, plain}
+use Rattle.a64_cells.specs.Cells.{call_cells, inst_cells, leave_forms, lone_cell, other_shape, patchable_cells, pop_forms, restored_cell, result_cells, return_cell, return_cells, shape_cells, sites_of}
+use Rattle.a64_cells.specs.MemoryForms.{access_form, access_steps}
 use Rattle.a64_emit.proofs.CallLoads.{loading, loaded_cells, no_load, no_load_at}
-use Rattle.a64_emit.proofs.Several.{plain_sites, several_sites}
+use Rattle.a64_cells.proofs.Several.{plain_sites, several_sites}
 use Rattle.a64_emit.proofs.TableUses.{behind_none}
 
 -- ---- results

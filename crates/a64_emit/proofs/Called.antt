@@ -7,16 +7,16 @@ use Rattle.a64_base.specs.declared.entity.UserStackMap.{UserStackMap}
 use Rattle.a64_buffer.specs.Buffer.{Buffer, end_of}
 use Rattle.a64_buffer.specs.Classes.{Fits}
 use Rattle.a64_rows.specs.Forms.{form_word}
-use Rattle.a64_emit.specs.declared.call.Callee.{Callee}
-use Rattle.a64_emit.specs.declared.call.Callee.TheVariants.{Symbol, Address}
+use Rattle.a64_cells.specs.declared.callee.Callee.{Callee}
+use Rattle.a64_cells.specs.declared.callee.Callee.TheVariants.{Symbol, Address}
 use Rattle.a64_label_use.specs.declared.label_use.LabelUse.{LabelUse}
 use Rattle.a64_label_use.specs.LabelUses.{label_kinds}
-use Rattle.a64_emit.specs.Shapes.{Data, Cell, plain}
-use Rattle.a64_emit.specs.Cells.{call_marks, cell_word, pop_forms, call_form, call_cell, patchable_cells, return_form, return_cell, keep}
+use Rattle.a64_cells.specs.Shapes.{Data, Cell, plain}
+use Rattle.a64_cells.specs.Cells.{call_marks, cell_word, pop_forms, call_form, call_cell, patchable_cells, return_form, return_cell, keep}
 use Rattle.a64_emit.specs.Layout.{placed, relocs_in, calls_in, patchable_in, maps_in, traps_in}
 use Rattle.a64_emit.specs.Emission.{uses_from, appended, linked, mapped, Parts, IsAppendedInPart, CanPut}
-use Rattle.a64_emit.specs.Words.{as_put, put_cell, put_kept}
-use Rattle.a64_emit.proofs.AsPut.{plain_put}
+use Rattle.a64_cells.specs.Words.{as_put, put_cell, put_kept}
+use Rattle.a64_cells.proofs.PutWords.{plain_put}
 use Rattle.a64_emit.proofs.Fitting.{before_word}
 use Rattle.a64_emit.proofs.Holding.{holding, same_holding, same_records, related_part}
 use Rattle.a64_emit.proofs.Lasts.{silent, silent_take, silent_patchable}

@@ -2,8 +2,8 @@
 use Rattle.std.proofs.Common.{ℕ, ◌≡◌, ◌<◌, ◌^◌, Bool, true, false, List, [], ◌∷◌, ◌++◌, map, Option, sym, ap, subst, append_assoc, ◌∙◌}
 use Rattle.std.proofs.lemmas.List.{map-append}
 use Rattle.a64_base.specs.declared.key.APIKey.{APIKey}
-use Rattle.a64_emit.specs.declared.call.Callee.{Callee}
-use Rattle.a64_emit.specs.Words.{as_put}
+use Rattle.a64_cells.specs.declared.callee.Callee.{Callee}
+use Rattle.a64_cells.specs.Words.{as_put}
 use Rattle.std.specs.Prelude.{nat_lt, if◌then◌else◌}
 use Rattle.std.proofs.lemmas.Bool.{and_parts, ltb-true}
 use Rattle.a64_base.specs.declared.entity.ExternalName.{ExternalName}
@@ -21,9 +21,9 @@ use Rattle.a64_operand.specs.declared.virtuals.VirtualRegisters.TheVariants.{Ref
 use Rattle.a64_inst.specs.CallOperands.{are_call_uses, are_call_defs, are_call_operands, has_return_frame, are_return_operands}
 use Rattle.a64_inst.specs.Faults.{is_restorable, has_operands}
 use Rattle.a64_operand.specs.Operands.{is_register_or_zero}
-use Rattle.a64_emit.specs.declared.call.Callee.TheVariants.{Symbol, Address}
-use Rattle.a64_emit.specs.Shapes.{plain}
-use Rattle.a64_emit.specs.Cells.{keep, kept_cells, call_cells, patchable_cells, leave_forms, restored_cell, return_cell, return_cells}
+use Rattle.a64_cells.specs.declared.callee.Callee.TheVariants.{Symbol, Address}
+use Rattle.a64_cells.specs.Shapes.{plain}
+use Rattle.a64_cells.specs.Cells.{keep, kept_cells, call_cells, patchable_cells, leave_forms, restored_cell, return_cell, return_cells}
 
 -- ---- operands
 

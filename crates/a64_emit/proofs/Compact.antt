@@ -24,19 +24,19 @@ use Rattle.a64_inst.specs.Accesses.{access_of, access_type}
 use Rattle.a64_inst.specs.FinalModes.{final_mode, final_steps}
 use Rattle.a64_buffer.specs.Classes.{wants, level_of, range_of}
 use Rattle.a64_label_use.specs.declared.label_use.LabelUse.TheVariants as uses
-use Rattle.a64_emit.specs.declared.site.Site.{Site}
+use Rattle.a64_cells.specs.declared.site.Site.{Site}
 use Rattle.a64_label_use.specs.LabelUses.{label_kinds}
-use Rattle.a64_emit.specs.ControlForms as control
-use Rattle.a64_emit.specs.LoopForms.{awaited_forms, new_register, operator_forms, stored_register}
-use Rattle.a64_emit.specs.MemoryForms.{step_forms, offset_register, access_form}
-use Rattle.a64_emit.specs.Shapes.{Cell, FormOf, branch, branches, entry_site, table_labels, table_jump, several, rmw_loop_cells, cas_loop_cells}
-use Rattle.a64_emit.specs.Cells.{mode_site, shape_cells, access_shape, other_shape, inst_cells, keep, sites_of}
+use Rattle.a64_cells.specs.ControlForms as control
+use Rattle.a64_cells.specs.LoopForms.{awaited_forms, new_register, operator_forms, stored_register}
+use Rattle.a64_cells.specs.MemoryForms.{step_forms, offset_register, access_form}
+use Rattle.a64_cells.specs.Shapes.{Cell, FormOf, branch, branches, entry_site, table_labels, table_jump, several, rmw_loop_cells, cas_loop_cells}
+use Rattle.a64_cells.specs.Cells.{mode_site, shape_cells, access_shape, other_shape, inst_cells, keep, sites_of}
 use Rattle.a64_emit.specs.Bounds.{ranges_in, size_of}
 use Rattle.a64_emit.specs.Contents.{site_class}
 use Rattle.a64_emit.specs.Rooms.{AreCompact}
 use Rattle.a64_emit.proofs.CallSites.{calls_sites}
-use Rattle.a64_emit.proofs.Loops.{loop_sites}
-use Rattle.a64_emit.proofs.Several.{several_sites, plain_sites, address_sites}
+use Rattle.a64_cells.proofs.Loops.{loop_sites}
+use Rattle.a64_cells.proofs.Several.{several_sites, plain_sites, address_sites}
 use Rattle.a64_emit.proofs.TableUses.{table_jump_sites}
 use Rattle.a64_rows.specs.Forms.{Form}
 

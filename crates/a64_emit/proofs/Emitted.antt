@@ -21,13 +21,13 @@ use Rattle.a64_operand.specs.Operands.{is_same_register}
 use Rattle.a64_rows.specs.Forms.{Form}
 use Rattle.a64_buffer.specs.Buffer.{Buffer}
 use Rattle.a64_label_use.specs.declared.label_use.LabelUse.{LabelUse}
-use Rattle.a64_emit.specs.IntegerForms.{mov_form}
-use Rattle.a64_emit.specs.MemoryForms.{step_forms, addend_form, addend_register, sum_form, offset_register}
+use Rattle.a64_cells.specs.IntegerForms.{mov_form}
+use Rattle.a64_cells.specs.MemoryForms.{step_forms, addend_form, addend_register, sum_form, offset_register}
 use Rattle.a64_emit.specs.Bounds.{asked_of}
-use Rattle.a64_emit.specs.Shapes.{Cell, Shape, Words, quiet, sum_shape, address_shape}
-use Rattle.a64_emit.specs.Cells.{shape_of, only_word, inst_cells, kept_by, kept_cells}
+use Rattle.a64_cells.specs.Shapes.{Cell, Shape, Words, quiet, sum_shape, address_shape}
+use Rattle.a64_cells.specs.Cells.{shape_of, only_word, inst_cells, kept_by, kept_cells}
 use Rattle.a64_emit.specs.Emission.{appended, CanPut, PutsCells, IsAppendedInPart, IsReady, Puts}
-use Rattle.a64_emit.specs.Words.{as_put, put_cell, put_for}
+use Rattle.a64_cells.specs.Words.{as_put, put_cell, put_for}
 use Rattle.a64_emit.proofs.AsPut.{word_put, other_put, put_appended, put_part, can_as_put}
 use Rattle.a64_emit.proofs.Asked.{plain_asked}
 use Rattle.a64_emit.proofs.Keeping.{keep_can}

@@ -7,7 +7,7 @@ use Rattle.a64_buffer.proofs.Rooms.{part_room}
 use Rattle.a64_label_use.specs.declared.label_use.LabelUse.{LabelUse}
 use Rattle.a64_label_use.specs.LabelUses.{label_kinds}
 use Rattle.a64_label_use.specs.LabelLaws.{label_kinds_lawful}
-use Rattle.a64_emit.specs.Shapes.{Cell}
+use Rattle.a64_cells.specs.Shapes.{Cell}
 use Rattle.a64_emit.specs.Emission.{uses_from, IsAppendedInPart, CellsFit, PutsCells}
 
 -- there is room for the word alone

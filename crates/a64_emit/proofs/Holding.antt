@@ -9,8 +9,8 @@ use Rattle.a64_base.specs.declared.entity.UserStackMap.{UserStackMap}
 use Rattle.a64_buffer.specs.declared.site.Use.{Use}
 use Rattle.a64_buffer.specs.Buffer.{Records, Buffer, end_of, no_records}
 use Rattle.a64_label_use.specs.declared.label_use.LabelUse.{LabelUse}
-use Rattle.a64_emit.specs.Shapes.{Cell}
-use Rattle.a64_emit.specs.Cells.{cell_word}
+use Rattle.a64_cells.specs.Shapes.{Cell}
+use Rattle.a64_cells.specs.Cells.{cell_word}
 use Rattle.a64_emit.specs.Layout.{placed, traps_in, records_in, more_records}
 use Rattle.a64_emit.specs.Emission.{uses_from, appended, Parts, IsAppendedInPart}
 

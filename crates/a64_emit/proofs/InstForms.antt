@@ -41,37 +41,37 @@ use Rattle.a64_inst.specs.declared.item.Item.{Item}
 use Rattle.a64_inst.specs.declared.item.Item.TheVariants.{Bind, Emit}
 use Rattle.a64_inst.proofs.Good.{operands_good}
 use Rattle.a64_rows.specs.Forms.{Form, IsFormOf}
-use Rattle.a64_emit.specs.declared.call.Callee.{Callee}
-use Rattle.a64_emit.specs.declared.call.Callee.TheVariants.{Symbol, Address}
+use Rattle.a64_cells.specs.declared.callee.Callee.{Callee}
+use Rattle.a64_cells.specs.declared.callee.Callee.TheVariants.{Symbol, Address}
 use Rattle.a64_label_use.specs.declared.label_use.LabelUse.{LabelUse}
 use Rattle.a64_label_use.specs.declared.label_use.LabelUse.TheVariants as uses
-use Rattle.a64_emit.specs.Shapes.{Cell, Shape, OneWord, Several, Words, plain, last_cell, branch, branches, quiet, sum_shape, address_shape}
-use Rattle.a64_emit.specs.PlainShapes.{plain_shape}
-use Rattle.a64_emit.specs.Cells.{access_shape, other_shape, shape_of, shape_cells, inst_cells, cells_of, pop_forms, call_cell, call_cells, patchable_cells, result_cells, lone_cell, restored_cell, leave_forms, return_cell, return_cells, keep, kept_by}
-use Rattle.a64_emit.specs.FormCells.{IsFormBody, IsFormCell, HasHalfword, RestoresHalfwords, HoldsHalfword}
+use Rattle.a64_cells.specs.Shapes.{Cell, Shape, OneWord, Several, Words, plain, last_cell, branch, branches, quiet, sum_shape, address_shape}
+use Rattle.a64_cells.specs.PlainShapes.{plain_shape}
+use Rattle.a64_cells.specs.Cells.{access_shape, other_shape, shape_of, shape_cells, inst_cells, cells_of, pop_forms, call_cell, call_cells, patchable_cells, result_cells, lone_cell, restored_cell, leave_forms, return_cell, return_cells, keep, kept_by}
+use Rattle.a64_cells.specs.FormCells.{IsFormBody, IsFormCell, HasHalfword, RestoresHalfwords, HoldsHalfword}
 use Rattle.a64_emit.specs.Faults.{item_fault}
-use Rattle.a64_emit.specs.ControlForms.{jump_form, ret_form, brk_form}
-use Rattle.a64_emit.specs.IntegerForms.{mov_form, mov_to_nzcv_form, mov_from_nzcv_form}
-use Rattle.a64_emit.specs.MemoryForms.{step_forms, addend_register, offset_register, addend, addend_form, sum_form, sum_op}
-use Rattle.a64_emit.proofs.Accesses.{mode_good, byte_size, addend_good}
-use Rattle.a64_emit.proofs.AccessForms.{HoldsOffset, final_holds, plan_forms, final_steps_forms, parts_are_form, access_is_form, access_steps_forms, pair_is_form, float_pair_is_form}
-use Rattle.a64_emit.proofs.AtomicForms as atomic
-use Rattle.a64_emit.proofs.BranchForms as control
-use Rattle.a64_emit.proofs.BranchForms.{branch_forms}
+use Rattle.a64_cells.specs.ControlForms.{jump_form, ret_form, brk_form}
+use Rattle.a64_cells.specs.IntegerForms.{mov_form, mov_to_nzcv_form, mov_from_nzcv_form}
+use Rattle.a64_cells.specs.MemoryForms.{step_forms, addend_register, offset_register, addend, addend_form, sum_form, sum_op}
+use Rattle.a64_cells.proofs.Accesses.{mode_good, byte_size, addend_good}
+use Rattle.a64_cells.proofs.AccessForms.{HoldsOffset, final_holds, plan_forms, final_steps_forms, parts_are_form, access_is_form, access_steps_forms, pair_is_form, float_pair_is_form}
+use Rattle.a64_cells.proofs.AtomicForms as atomic
+use Rattle.a64_cells.proofs.BranchForms as control
+use Rattle.a64_cells.proofs.BranchForms.{branch_forms}
 use Rattle.a64_emit.proofs.CallForms.{adjust_are_forms, call_is_form, leave_are_forms, return_is_form}
 use Rattle.a64_emit.proofs.CallLoads.{loading, loaded_cells}
-use Rattle.a64_emit.proofs.CallOperands.{call_results, return_restorable}
-use Rattle.a64_emit.proofs.FloatForms as float
-use Rattle.a64_emit.proofs.ImmediateForms as immediate
-use Rattle.a64_emit.proofs.ImmediateForms.{immediate_forms}
-use Rattle.a64_emit.proofs.LogicForms.{alu_rr_imm_logic_within}
-use Rattle.a64_emit.proofs.OneWord.{field_widths}
-use Rattle.a64_emit.proofs.Operands.{parts}
-use Rattle.a64_emit.proofs.PlainOperands.{rest_of}
-use Rattle.a64_emit.proofs.RegisterForms as register
-use Rattle.a64_emit.proofs.RegisterForms.{register_forms}
+use Rattle.a64_cells.proofs.CallOperands.{call_results, return_restorable}
+use Rattle.a64_cells.proofs.FloatForms as float
+use Rattle.a64_cells.proofs.ImmediateForms as immediate
+use Rattle.a64_cells.proofs.ImmediateForms.{immediate_forms}
+use Rattle.a64_cells.proofs.LogicForms.{alu_rr_imm_logic_within}
+use Rattle.a64_cells.proofs.OneWord.{field_widths}
+use Rattle.a64_cells.proofs.Operands.{parts}
+use Rattle.a64_cells.proofs.PlainOperands.{rest_of}
+use Rattle.a64_cells.proofs.RegisterForms as register
+use Rattle.a64_cells.proofs.RegisterForms.{register_forms}
 use Rattle.a64_emit.proofs.SequenceForms.{plain_forms, sequences, one_cell}
-use Rattle.a64_emit.proofs.VectorForms as vector
+use Rattle.a64_cells.proofs.VectorForms as vector
 
 -- ---- shapes
 

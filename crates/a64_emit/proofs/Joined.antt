@@ -14,8 +14,8 @@ use Rattle.a64_buffer.proofs.Rooms.{part_room}
 use Rattle.a64_label_use.specs.declared.label_use.LabelUse.{LabelUse}
 use Rattle.a64_label_use.specs.LabelUses.{label_kinds}
 use Rattle.a64_label_use.specs.LabelLaws.{label_kinds_lawful}
-use Rattle.a64_emit.specs.Shapes.{Cell}
-use Rattle.a64_emit.specs.Cells.{cell_word}
+use Rattle.a64_cells.specs.Shapes.{Cell}
+use Rattle.a64_cells.specs.Cells.{cell_word}
 use Rattle.a64_emit.specs.Layout.{placed, reloc_at, relocs_in, call_at, calls_in, patchable_at, patchable_in, map_at, maps_in, trap_at, traps_in, records_in, more_records}
 use Rattle.a64_emit.specs.Emission.{use_at, uses_from, appended, Parts, part_records, IsAppendedInPart, HasRoom, CellsFit, CanPut, PutsCells}
 use Rattle.a64_emit.proofs.Holding.{same_holding, same_records, more_twice}

@@ -8,11 +8,11 @@ use Rattle.a64_buffer.specs.Classes as classes
 use Rattle.a64_label_use.specs.declared.label_use.LabelUse.{LabelUse}
 use Rattle.a64_label_use.specs.LabelUses.{label_kinds}
 use Rattle.a64_emit.specs.Bounds.{ranges_in, size_of, charge_of}
-use Rattle.a64_emit.specs.Shapes.{Cell}
-use Rattle.a64_emit.specs.Cells.{cell_word, sites_of, uses_of, keep}
+use Rattle.a64_cells.specs.Shapes.{Cell}
+use Rattle.a64_cells.specs.Cells.{cell_word, sites_of, uses_of, keep}
 use Rattle.a64_emit.specs.Layout.{placed, relocs_in, calls_in, patchable_in, traps_in}
 use Rattle.a64_emit.specs.Emission.{uses_from, HasRoom, CellsFit, CanPut}
-use Rattle.a64_emit.specs.Words.{as_put}
+use Rattle.a64_cells.specs.Words.{as_put}
 
 -- ---- how many words there are
 

@@ -7,7 +7,7 @@ use Rattle.a64_inst.specs.declared.group.Group.TheVariants.{Call}
 use Rattle.a64_inst.specs.declared.inst.Inst.{Inst}
 use Rattle.a64_inst.specs.declared.inst.Inst.TheVariants as insts
 use Rattle.a64_inst.specs.Groups.{group_of}
-use Rattle.a64_emit.specs.Cells.{inst_cells, kept_cells}
+use Rattle.a64_cells.specs.Cells.{inst_cells, kept_cells}
 
 -- an instruction that is no call keeps none
 pub other_kept : (frame : FrameLayout) (flags : EmitFlags) (inst : Inst) (kept : Option UserStackMap) → group_of inst ≢ Call → kept_cells frame flags inst kept ≡ inst_cells frame flags inst

@@ -11,13 +11,13 @@ use Rattle.a64_buffer.specs.Buffer.{Buffer, end_of, made_use, no_records}
 use Rattle.a64_buffer.specs.Classes as classes
 use Rattle.a64_buffer.specs.Classes.{Fits}
 use Rattle.a64_label_use.specs.declared.label_use.LabelUse.{LabelUse}
-use Rattle.a64_emit.specs.declared.site.Site.{Site}
+use Rattle.a64_cells.specs.declared.site.Site.{Site}
 use Rattle.a64_label_use.specs.LabelUses.{label_kinds}
-use Rattle.a64_emit.specs.Shapes.{Data, Cell, reloc_cell}
-use Rattle.a64_emit.specs.Cells.{cell_word}
+use Rattle.a64_cells.specs.Shapes.{Data, Cell, reloc_cell}
+use Rattle.a64_cells.specs.Cells.{cell_word}
 use Rattle.a64_emit.specs.Layout.{placed, relocs_in, calls_in, patchable_in, maps_in, traps_in, records_in, more_records}
 use Rattle.a64_emit.specs.Emission.{uses_from, appended, trapped, PutsInPart, IsAppendedInPart, HasRoom, CellsFit}
-use Rattle.a64_emit.specs.Words.{put_cell}
+use Rattle.a64_cells.specs.Words.{put_cell}
 use Rattle.a64_emit.proofs.Holding.{none_put, same_holding, same_records, no_more, whole_part, marked_part, unused_part, related_part}
 
 -- ---- words without uses

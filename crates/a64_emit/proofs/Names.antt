@@ -9,11 +9,11 @@ use Rattle.a64_base.specs.declared.target.BranchTarget.TheVariants.{ResolvedOffs
 use Rattle.a64_ops.specs.declared.access.AccessOp.TheVariants.{ULoad64}
 use Rattle.a64_ops.specs.declared.operator.ALUOp.TheVariants.{Add}
 use Rattle.a64_rows.specs.Forms.{form_word}
-use Rattle.a64_emit.specs.Shapes.{Data, Cell, data_cell, reloc_cell, got_cells, near_cells, far_cells}
-use Rattle.a64_emit.specs.ControlForms.{jump_form}
-use Rattle.a64_emit.specs.IntegerForms.{adrp_form, alu_rr_imm12_form}
-use Rattle.a64_emit.specs.MemoryForms.{unsigned_form, literal_form}
-use Rattle.a64_emit.specs.Words.{as_put}
+use Rattle.a64_cells.specs.Shapes.{Data, Cell, data_cell, reloc_cell, got_cells, near_cells, far_cells}
+use Rattle.a64_cells.specs.ControlForms.{jump_form}
+use Rattle.a64_cells.specs.IntegerForms.{adrp_form, alu_rr_imm12_form}
+use Rattle.a64_cells.specs.MemoryForms.{unsigned_form, literal_form}
+use Rattle.a64_cells.specs.Words.{as_put}
 use Rattle.a64_emit.proofs.Lasts.{silent}
 
 -- two words, at each of which a relocation for one symbol is recorded

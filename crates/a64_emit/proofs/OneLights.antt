@@ -12,10 +12,10 @@ use Rattle.a64_inst.specs.Groups.{group_of}
 use Rattle.a64_rows.specs.Forms.{Form}
 use Rattle.a64_emit.specs.declared.extent.Light.{Light}
 use Rattle.a64_emit.specs.Bounds.{asked_of, charge_of, growth_of, ranges_in, size_of}
-use Rattle.a64_emit.specs.Shapes.{Cell, plain}
-use Rattle.a64_emit.specs.Cells.{cells_of, inst_cells}
+use Rattle.a64_cells.specs.Shapes.{Cell, plain}
+use Rattle.a64_cells.specs.Cells.{cells_of, inst_cells}
 use Rattle.a64_emit.specs.Lights.{IsLight}
-use Rattle.a64_emit.specs.PlainForms.{plain_form}
+use Rattle.a64_cells.specs.PlainForms.{plain_form}
 use Rattle.a64_emit.proofs.Asked.{kept_light}
 
 abbrev pub one_word : Light

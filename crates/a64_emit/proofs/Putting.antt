@@ -13,9 +13,9 @@ use Rattle.a64_buffer.proofs.Rooms.{open_wants, less_room, end_room}
 use Rattle.a64_label_use.specs.declared.label_use.LabelUse.{LabelUse}
 use Rattle.a64_label_use.specs.LabelUses.{label_kinds}
 use Rattle.a64_label_use.specs.LabelLaws.{label_kinds_lawful}
-use Rattle.a64_emit.specs.declared.site.Site.{Site}
-use Rattle.a64_emit.specs.Shapes.{Cell, Data, no_marks}
-use Rattle.a64_emit.specs.Cells.{sites_of}
+use Rattle.a64_cells.specs.declared.site.Site.{Site}
+use Rattle.a64_cells.specs.Shapes.{Cell, Data, no_marks}
+use Rattle.a64_cells.specs.Cells.{sites_of}
 use Rattle.a64_emit.specs.Bounds.{ranges_in, size_of}
 use Rattle.a64_emit.specs.Contents.{site_class}
 use Rattle.a64_emit.specs.Emission.{use_at, uses_from, site_of, CellsFit}

@@ -6,10 +6,10 @@ use Rattle.a64_buffer.specs.Buffer.{Buffer, end_of}
 use Rattle.a64_buffer.specs.Classes.{Fits}
 use Rattle.a64_label_use.specs.declared.label_use.LabelUse.{LabelUse}
 use Rattle.a64_label_use.specs.LabelUses.{label_kinds}
-use Rattle.a64_emit.specs.Shapes.{plain}
+use Rattle.a64_cells.specs.Shapes.{plain}
 use Rattle.a64_emit.specs.Emission.{CanPut, PutsCells, PutsInPart}
-use Rattle.a64_emit.specs.Words.{as_put}
-use Rattle.a64_emit.proofs.AsPut.{plain_put}
+use Rattle.a64_cells.specs.Words.{as_put}
+use Rattle.a64_cells.proofs.PutWords.{plain_put}
 use Rattle.a64_emit.proofs.Lasts.{silent, silent_appended, silent_part, silent_room, silent_fits}
 
 module _ (b : Buffer LabelUse) (words : List ℕ) (forms : List Form) (words_are : words ≡ map form_word forms) where

@@ -16,8 +16,8 @@ use Rattle.a64_label_use.specs.declared.label_use.LabelUse.{LabelUse}
 use Rattle.a64_label_use.specs.LabelUses.{label_kinds}
 use Rattle.a64_label_use.specs.LabelLaws.{label_kinds_lawful}
 use Rattle.a64_emit.specs.Bounds.{asked_of, charge_of, ranges_in, size_of}
-use Rattle.a64_emit.specs.Shapes.{Cell}
-use Rattle.a64_emit.specs.Cells.{inst_cells}
+use Rattle.a64_cells.specs.Shapes.{Cell}
+use Rattle.a64_cells.specs.Cells.{inst_cells}
 use Rattle.a64_emit.specs.Emission.{CellsFit, HasIslandRoom, IsReady}
 use Rattle.a64_emit.specs.Rooms.{AreCompact, HasRoomFor, most_added}
 use Rattle.a64_emit.proofs.Asked.{asked_words}

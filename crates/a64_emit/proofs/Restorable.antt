@@ -13,7 +13,7 @@ use Rattle.a64_base.specs.declared.ir_type.IrType.TheVariants.{I8}
 use Rattle.a64_base.specs.declared.key.APIKey.{APIKey}
 use Rattle.a64_base.specs.declared.key.APIKey.TheVariants.{AZ, ASP, BZ, BSP}
 use Rattle.a64_base.specs.declared.reg.Reg.{Reg}
-use Rattle.a64_base.specs.declared.reg.Reg.TheVariants.{Real, Virtual}
+use Rattle.a64_base.specs.declared.reg.RegKind.TheVariants.{Real, Virtual}
 use Rattle.a64_base.specs.declared.size.OperandSize.TheVariants.{Size64}
 use Rattle.a64_base.specs.declared.target.BranchTarget.TheVariants as branch_targets
 use Rattle.a64_ops.specs.declared.operator.ALUOp.TheVariants.{Add}
@@ -42,16 +42,16 @@ use Rattle.a64_inst.specs.declared.fault.OwnFault.TheVariants as own
 use Rattle.a64_inst.specs.Faults.{can_restore, constant_size, first_of, has_constant, has_operands, has_other_operands, has_plain_operands, has_mode, has_scratch, inst_fault, is_within_constant}
 use Rattle.a64_inst.proofs.Good.{operands_good}
 use Rattle.a64_rows.specs.Forms.{Form}
-use Rattle.a64_emit.specs.declared.call.Callee.{Callee}
-use Rattle.a64_emit.specs.declared.call.Callee.TheVariants.{Symbol, Address}
-use Rattle.a64_emit.specs.declared.site.Site.{Site}
-use Rattle.a64_emit.specs.Shapes.{Body, FormOf, Cell, Shape, Words, quiet, several, sum_shape, address_shape, plain, loop_cells, table_jump}
-use Rattle.a64_emit.specs.Cells.{mode_site, access_shape, other_shape, shape_cells, inst_cells, call_cell, call_cells, leave_forms, patchable_cells, pop_forms, restored_cell, result_cells, return_cell, is_lone_cells}
-use Rattle.a64_emit.specs.IntegerForms.{mov_form, alu_rrr_extend_form}
-use Rattle.a64_emit.specs.LoopForms.{awaited_forms, new_register, operator_forms, stored_register}
-use Rattle.a64_emit.specs.MemoryForms.{step_forms, offset_register, addend_register, addend_form, sum_form, access_steps, access_form}
-use Rattle.a64_emit.proofs.Accesses.{are_address_parts, address_good, mode_good, scratch_good}
-use Rattle.a64_emit.proofs.Loops.{loop_length}
+use Rattle.a64_cells.specs.declared.callee.Callee.{Callee}
+use Rattle.a64_cells.specs.declared.callee.Callee.TheVariants.{Symbol, Address}
+use Rattle.a64_cells.specs.declared.site.Site.{Site}
+use Rattle.a64_cells.specs.Shapes.{Body, FormOf, Cell, Shape, Words, quiet, several, sum_shape, address_shape, plain, loop_cells, table_jump}
+use Rattle.a64_cells.specs.Cells.{mode_site, access_shape, other_shape, shape_cells, inst_cells, call_cell, call_cells, leave_forms, patchable_cells, pop_forms, restored_cell, result_cells, return_cell, is_lone_cells}
+use Rattle.a64_cells.specs.IntegerForms.{mov_form, alu_rrr_extend_form}
+use Rattle.a64_cells.specs.LoopForms.{awaited_forms, new_register, operator_forms, stored_register}
+use Rattle.a64_cells.specs.MemoryForms.{step_forms, offset_register, addend_register, addend_form, sum_form, access_steps, access_form}
+use Rattle.a64_cells.proofs.Accesses.{are_address_parts, address_good, mode_good, scratch_good}
+use Rattle.a64_cells.proofs.Loops.{loop_length}
 use Rattle.a64_emit.proofs.Restored.{restored}
 use Rattle.a64_emit.proofs.SequenceForms.{plan_shape}
 use Rattle.a64_emit.proofs.TableUses.{table_forms_length, table_jump_length}

@@ -14,7 +14,7 @@ use Rattle.a64_base.specs.declared.ir_type.IrType.TheVariants.{I8}
 use Rattle.a64_base.specs.declared.key.APIKey.{APIKey}
 use Rattle.a64_base.specs.declared.key.APIKey.TheVariants.{AZ, ASP, BZ, BSP}
 use Rattle.a64_base.specs.declared.reg.Reg.{Reg}
-use Rattle.a64_base.specs.declared.reg.Reg.TheVariants.{Real, Virtual}
+use Rattle.a64_base.specs.declared.reg.RegKind.TheVariants.{Real, Virtual}
 use Rattle.a64_base.specs.declared.size.OperandSize.TheVariants.{Size64}
 use Rattle.a64_base.specs.declared.target.BranchTarget.TheVariants as branch_targets
 use Rattle.a64_inst.specs.declared.access.Access.{Access}
@@ -39,16 +39,16 @@ use Rattle.a64_ops.specs.declared.operator.ALUOp.TheVariants.{Add}
 use Rattle.a64_plan.specs.Plans.{plan_of}
 use Rattle.a64_plan.specs.declared.step.ConstStep.{ConstStep}
 use Rattle.a64_rows.specs.Forms.{Form}
-use Rattle.a64_emit.specs.declared.site.Site.{Site}
+use Rattle.a64_cells.specs.declared.site.Site.{Site}
 use Rattle.a64_emit.specs.Bounds.{asked_of}
-use Rattle.a64_emit.specs.Shapes.{Body, FormOf, Shape, Words, plain, quiet, several, sum_shape, address_shape}
-use Rattle.a64_emit.specs.PlainShapes.{plain_shape}
-use Rattle.a64_emit.specs.Cells.{mode_site, access_shape, other_shape, shape_cells, inst_cells, lone_cell, restored_cell}
-use Rattle.a64_emit.specs.ControlForms.{authenticated_ret_forms}
-use Rattle.a64_emit.specs.IntegerForms.{mov_form, alu_rrr_extend_form}
-use Rattle.a64_emit.specs.MemoryForms.{step_forms, offset_register, addend_register, addend_form, sum_form, access_steps, access_form}
-use Rattle.a64_emit.specs.Words.{IsThere}
-use Rattle.a64_emit.proofs.Accesses.{are_address_parts, address_good}
+use Rattle.a64_cells.specs.Shapes.{Body, FormOf, Shape, Words, plain, quiet, several, sum_shape, address_shape}
+use Rattle.a64_cells.specs.PlainShapes.{plain_shape}
+use Rattle.a64_cells.specs.Cells.{mode_site, access_shape, other_shape, shape_cells, inst_cells, lone_cell, restored_cell}
+use Rattle.a64_cells.specs.ControlForms.{authenticated_ret_forms}
+use Rattle.a64_cells.specs.IntegerForms.{mov_form, alu_rrr_extend_form}
+use Rattle.a64_cells.specs.MemoryForms.{step_forms, offset_register, addend_register, addend_form, sum_form, access_steps, access_form}
+use Rattle.a64_cells.specs.Words.{IsThere}
+use Rattle.a64_cells.proofs.Accesses.{are_address_parts, address_good}
 use Rattle.a64_emit.proofs.Asked.{worded_asked}
 
 -- a shape of one word, which is no use

@@ -31,9 +31,9 @@ use Rattle.a64_inst.specs.Groups.{group_of}
 use Rattle.a64_inst.specs.MemoryOperands.{is_signed_64, is_data_register, are_mode_operands, are_access_operands, has_access_mode}
 use Rattle.a64_inst.specs.Modes.{constant_in}
 use Rattle.a64_emit.specs.Bounds.{asked_of}
-use Rattle.a64_emit.specs.Shapes.{Cell}
-use Rattle.a64_emit.specs.Cells.{shape_cells, access_shape, other_shape, inst_cells, load_at, result_load, result_cells}
-use Rattle.a64_emit.specs.Words.{IsThere, as_put}
+use Rattle.a64_cells.specs.Shapes.{Cell}
+use Rattle.a64_cells.specs.Cells.{shape_cells, access_shape, other_shape, inst_cells, load_at, result_load, result_cells}
+use Rattle.a64_cells.specs.Words.{IsThere, as_put}
 use Rattle.a64_emit.proofs.Lights.{access_unasked}
 
 -- ---- an instruction of an operator is its access

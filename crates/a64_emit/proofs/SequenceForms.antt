@@ -42,19 +42,19 @@ use Rattle.a64_operand.specs.IntegerOperands.{is_extended}
 use Rattle.a64_operand.specs.Operands.{is_imm12, is_register, is_register_or_zero}
 use Rattle.a64_inst.specs.SequenceOperands.{are_probe_operands}
 use Rattle.a64_rows.specs.Forms.{Form, IsFormOf}
-use Rattle.a64_emit.specs.Shapes.{Data, plain, last_cell, entry_site, table_labels, table_cells, barrier_forms, table_forms, table_jump, got_cells, near_cells, far_cells, probe_forms, vector_select_forms, FormOf, Cell, loop_cells, rmw_loop_cells, cas_loop_cells}
-use Rattle.a64_emit.specs.ControlForms.{csdb_form, indirect_br_form, auti_form, authenticated_ret_forms, cond_br_form, ret_auth_form, ret_form}
+use Rattle.a64_cells.specs.Shapes.{Data, plain, last_cell, entry_site, table_labels, table_cells, barrier_forms, table_forms, table_jump, got_cells, near_cells, far_cells, probe_forms, vector_select_forms, FormOf, Cell, loop_cells, rmw_loop_cells, cas_loop_cells}
+use Rattle.a64_cells.specs.ControlForms.{csdb_form, indirect_br_form, auti_form, authenticated_ret_forms, cond_br_form, ret_auth_form, ret_form}
 use Rattle.a64_enc_int.proofs.Registers.{field_below}
-use Rattle.a64_emit.specs.FormCells.{IsFormCell}
-use Rattle.a64_emit.specs.IntegerForms.{csel_form, adr_form, alu_rrr_form, extend_form}
-use Rattle.a64_emit.specs.LoopForms.{address_register, awaited_forms, back_form, choice_forms, compared_form, complement_form, failed_register, load_exclusive_form, loop_size, new_register, old_register, operand_register, operation_form, operator_forms, sign_extend_of, sign_forms, store_exclusive_form, stored_register, zero_extend_of}
-use Rattle.a64_emit.specs.MemoryForms.{step_forms, indexed_form}
-use Rattle.a64_emit.proofs.AccessForms.{shape_forms, indexed_is_form, unsigned_is_form, literal_is_form}
-use Rattle.a64_emit.proofs.BranchForms.{branch_forms, auti_is_form, cond_br_is_form, ret_auth_is_form, ret_is_form}
-use Rattle.a64_emit.proofs.FloatForms.{move_vector_is_form}
-use Rattle.a64_emit.proofs.AtomicForms.{size_below}
-use Rattle.a64_emit.proofs.ImmediateForms.{immediate_forms}
-use Rattle.a64_emit.proofs.RegisterForms.{alu_rrr_extend_is_form, alu_rrr_is_form, csel_is_form, extend_is_form, register_forms}
+use Rattle.a64_cells.specs.FormCells.{IsFormCell}
+use Rattle.a64_cells.specs.IntegerForms.{csel_form, adr_form, alu_rrr_form, extend_form}
+use Rattle.a64_cells.specs.LoopForms.{address_register, awaited_forms, back_form, choice_forms, compared_form, complement_form, failed_register, load_exclusive_form, loop_size, new_register, old_register, operand_register, operation_form, operator_forms, sign_extend_of, sign_forms, store_exclusive_form, stored_register, zero_extend_of}
+use Rattle.a64_cells.specs.MemoryForms.{step_forms, indexed_form}
+use Rattle.a64_cells.proofs.AccessForms.{shape_forms, indexed_is_form, unsigned_is_form, literal_is_form}
+use Rattle.a64_cells.proofs.BranchForms.{branch_forms, auti_is_form, cond_br_is_form, ret_auth_is_form, ret_is_form}
+use Rattle.a64_cells.proofs.FloatForms.{move_vector_is_form}
+use Rattle.a64_cells.proofs.AtomicForms.{size_below}
+use Rattle.a64_cells.proofs.ImmediateForms.{immediate_forms}
+use Rattle.a64_cells.proofs.RegisterForms.{alu_rrr_extend_is_form, alu_rrr_is_form, csel_is_form, extend_is_form, register_forms}
 
 -- ---- lists of forms
 

@@ -11,11 +11,11 @@ use Rattle.a64_ops.specs.declared.operator.ALUOp.TheVariants.{Add}
 use Rattle.a64_plan.specs.Plans.{plan_of}
 use Rattle.a64_inst.specs.declared.emission.EmitFlags.{EmitFlags}
 use Rattle.a64_rows.specs.Forms.{Form}
-use Rattle.a64_emit.specs.Shapes.{Cell, plain, table_labels, entry_site, table_cells, barrier_forms, table_forms, table_jump}
-use Rattle.a64_emit.specs.Cells.{use_of, uses_of, sites_of, table_uses}
-use Rattle.a64_emit.specs.ControlForms.{csdb_form, indirect_br_form}
-use Rattle.a64_emit.specs.IntegerForms.{adr_form, alu_rrr_form, csel_form}
-use Rattle.a64_emit.specs.MemoryForms.{step_forms, step_form, indexed_form}
+use Rattle.a64_cells.specs.Shapes.{Cell, plain, table_labels, entry_site, table_cells, barrier_forms, table_forms, table_jump}
+use Rattle.a64_cells.specs.Cells.{use_of, uses_of, sites_of, table_uses}
+use Rattle.a64_cells.specs.ControlForms.{csdb_form, indirect_br_form}
+use Rattle.a64_cells.specs.IntegerForms.{adr_form, alu_rrr_form, csel_form}
+use Rattle.a64_cells.specs.MemoryForms.{step_forms, step_form, indexed_form}
 use Rattle.a64_emit.proofs.Tables.{table_length}
 
 -- ---- how many words there are

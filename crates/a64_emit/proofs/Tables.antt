@@ -7,9 +7,9 @@ use Rattle.a64_inst.specs.declared.emission.EmitFlags.{EmitFlags}
 use Rattle.a64_buffer.specs.Buffer.{Buffer}
 use Rattle.a64_rows.specs.Forms.{form_word}
 use Rattle.a64_label_use.specs.declared.label_use.LabelUse.{LabelUse}
-use Rattle.a64_emit.specs.Shapes.{Cell, entry_site, table_labels, table_cells, table_forms, table_jump}
+use Rattle.a64_cells.specs.Shapes.{Cell, entry_site, table_labels, table_cells, table_forms, table_jump}
 use Rattle.a64_emit.specs.Emission.{appended, IsAppendedInPart, CanPut}
-use Rattle.a64_emit.specs.Words.{put_cell, as_put}
+use Rattle.a64_cells.specs.Words.{put_cell, as_put}
 use Rattle.a64_emit.proofs.Behind.{words_put}
 use Rattle.a64_emit.proofs.Joined.{joined, part_first, part_second, can_first, can_second}
 use Rattle.a64_emit.proofs.Lasts.{silent}

@@ -24,15 +24,15 @@ use Rattle.a64_buffer.specs.declared.site.Target.{Target}
 use Rattle.a64_buffer.specs.declared.site.Target.TheVariants.{Label, Constant, Trap, IslandEnd}
 use Rattle.a64_label_use.specs.declared.label_use.LabelUse.{LabelUse}
 use Rattle.a64_label_use.specs.declared.label_use.LabelUse.TheVariants as uses
-use Rattle.a64_emit.specs.declared.site.Site.{Site}
-use Rattle.a64_emit.specs.MemoryForms.{step_forms, offset_register, access_steps, access_form}
-use Rattle.a64_emit.specs.Shapes.{FormOf, table_labels, entry_site, table_jump, branch_site, trap_site}
-use Rattle.a64_emit.specs.Cells.{mode_site, shape_cells, access_shape, other_shape, inst_cells, sites_of}
-use Rattle.a64_emit.specs.ControlForms.{authenticated_ret_forms}
-use Rattle.a64_emit.specs.LoopForms.{operator_forms, stored_register, awaited_forms, new_register}
+use Rattle.a64_cells.specs.declared.site.Site.{Site}
+use Rattle.a64_cells.specs.MemoryForms.{step_forms, offset_register, access_steps, access_form}
+use Rattle.a64_cells.specs.Shapes.{FormOf, table_labels, entry_site, table_jump, branch_site, trap_site}
+use Rattle.a64_cells.specs.Cells.{mode_site, shape_cells, access_shape, other_shape, inst_cells, sites_of}
+use Rattle.a64_cells.specs.ControlForms.{authenticated_ret_forms}
+use Rattle.a64_cells.specs.LoopForms.{operator_forms, stored_register, awaited_forms, new_register}
 use Rattle.a64_emit.proofs.CallSites.{calls_sites}
-use Rattle.a64_emit.proofs.Loops.{loop_sites}
-use Rattle.a64_emit.proofs.Several.{several_sites, plain_sites, address_sites}
+use Rattle.a64_cells.proofs.Loops.{loop_sites}
+use Rattle.a64_cells.proofs.Several.{several_sites, plain_sites, address_sites}
 use Rattle.a64_emit.proofs.TableUses.{table_jump_sites}
 
 -- a use of a label of any kind, the load of a constant, or a deferred trap

@@ -8,12 +8,12 @@ use Rattle.std.proofs.lemmas.List.{append-nil, map-append}
 use Rattle.std.proofs.lemmas.List.Elements.{filter_map-append}
 use Rattle.std.proofs.lemmas.List.Folds.{find-append, list_any-append}
 use Rattle.a64_base.specs.declared.entity.MachLabel.{MachLabel}
-use Rattle.a64_emit.specs.declared.site.Site.{Site}
-use Rattle.a64_emit.specs.declared.site.CellUse.{CellUse}
-use Rattle.a64_emit.specs.declared.site.Table.{Table}
-use Rattle.a64_emit.specs.declared.site.Uses.{Uses}
-use Rattle.a64_emit.specs.Shapes.{Cell, entry_site, table_labels}
-use Rattle.a64_emit.specs.Cells.{use_of, uses_of, two_uses, sites_of, table_uses, listed_uses}
+use Rattle.a64_cells.specs.declared.site.Site.{Site}
+use Rattle.a64_cells.specs.declared.site.CellUse.{CellUse}
+use Rattle.a64_cells.specs.declared.site.Table.{Table}
+use Rattle.a64_cells.specs.declared.site.Uses.{Uses}
+use Rattle.a64_cells.specs.Shapes.{Cell, entry_site, table_labels}
+use Rattle.a64_cells.specs.Cells.{use_of, uses_of, two_uses, sites_of, table_uses, listed_uses}
 use Rattle.a64_emit.specs.Bounds.{veneer_range, ranges_in, lesser, least}
 use Rattle.a64_emit.specs.Faults.{used_label, first_missing}
 use Rattle.a64_emit.specs.Reach.{is_near, first_some}

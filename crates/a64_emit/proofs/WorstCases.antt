@@ -41,19 +41,19 @@ use Rattle.a64_buffer.specs.Buffer.{Buffer, end_of}
 use Rattle.a64_label_use.specs.declared.label_use.LabelUse.{LabelUse}
 use Rattle.a64_label_use.specs.declared.label_use.LabelUse.TheVariants as uses
 use Rattle.a64_rows.specs.Forms.{Form}
-use Rattle.a64_emit.specs.declared.site.Site.{Site}
+use Rattle.a64_cells.specs.declared.site.Site.{Site}
 use Rattle.a64_emit.specs.Bounds.{asked_of, charge_of, size_of, veneer_range}
-use Rattle.a64_emit.specs.Shapes.{Body, Cell, FormOf, Shape, Words, address_shape, branch, branch_site, branches, cas_loop_cells, last_cell, plain, quiet, rmw_loop_cells, several, sum_shape}
-use Rattle.a64_emit.specs.Cells.{access_shape, cell_word, inst_cells, keep, kept_by, kept_cells, mode_site, other_shape, shape_cells, sites_of}
-use Rattle.a64_emit.specs.ControlForms.{authenticated_ret_forms}
+use Rattle.a64_cells.specs.Shapes.{Body, Cell, FormOf, Shape, Words, address_shape, branch, branch_site, branches, cas_loop_cells, last_cell, plain, quiet, rmw_loop_cells, several, sum_shape}
+use Rattle.a64_cells.specs.Cells.{access_shape, cell_word, inst_cells, keep, kept_by, kept_cells, mode_site, other_shape, shape_cells, sites_of}
+use Rattle.a64_cells.specs.ControlForms.{authenticated_ret_forms}
 use Rattle.a64_emit.specs.Emission.{Emits, Puts, appended}
-use Rattle.a64_emit.specs.IntegerForms.{alu_rrr_extend_form, mov_form}
-use Rattle.a64_emit.specs.LoopForms.{awaited_forms, new_register, operator_forms, stored_register}
-use Rattle.a64_emit.specs.MemoryForms.{access_form, access_steps, addend_form, addend_register, offset_register, step_form, step_forms, sum_form}
+use Rattle.a64_cells.specs.IntegerForms.{alu_rrr_extend_form, mov_form}
+use Rattle.a64_cells.specs.LoopForms.{awaited_forms, new_register, operator_forms, stored_register}
+use Rattle.a64_cells.specs.MemoryForms.{access_form, access_steps, addend_form, addend_register, offset_register, step_form, step_forms, sum_form}
 use Rattle.a64_emit.specs.WorstCases.{is_bounded}
 use Rattle.a64_emit.proofs.CallLoads.{final_few}
-use Rattle.a64_emit.proofs.Loops.{loop_length, loop_sites}
-use Rattle.a64_emit.proofs.Several.{address_sites, plain_sites, several_sites}
+use Rattle.a64_cells.proofs.Loops.{loop_length, loop_sites}
+use Rattle.a64_cells.proofs.Several.{address_sites, plain_sites, several_sites}
 
 -- cells that take few bytes, and because of which islands add few
 record AreFew (cells : List Cell) : Type 0 where

@@ -12,8 +12,8 @@ use Rattle.a64_rows.specs.declared.row_table.Row.TheVariants.{Brk}
 use Rattle.a64_rows.specs.Control.{branch_reg}
 use Rattle.a64_rows.specs.Forms.{form}
 use Rattle.a64_emit.specs.declared.code.Code.{Code}
-use Rattle.a64_emit.specs.Shapes.{plain}
-use Rattle.a64_emit.specs.FormCells.{IsFormCell}
+use Rattle.a64_cells.specs.Shapes.{plain}
+use Rattle.a64_cells.specs.FormCells.{IsFormCell}
 use Rattle.a64_emit.specs.Layout.{Laid}
 use Rattle.a64_emit.specs.Reach.{loose, reach}
 

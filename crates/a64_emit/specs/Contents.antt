@@ -13,9 +13,9 @@ use Rattle.a64_buffer.specs.Pieces.{padding, content_of, copy_words, stop_for}
 use Rattle.a64_words.specs.Word.{outside, word_at, StandAt}
 use Rattle.a64_emit.specs.declared.code.Code.{Code}
 use Rattle.a64_label_use.specs.declared.label_use.LabelUse.TheVariants as uses
-use Rattle.a64_emit.specs.declared.site.Site.{Site}
+use Rattle.a64_cells.specs.declared.site.Site.{Site}
 use Rattle.a64_label_use.specs.LabelUses.{label_kinds, mask_for, distance_in}
-use Rattle.a64_emit.specs.Shapes.{Cell}
+use Rattle.a64_cells.specs.Shapes.{Cell}
 
 -- what a use waits for
 abbrev pub site_class : Site → Class

@@ -17,13 +17,13 @@ use Rattle.a64_buffer.specs.Buffer.{Records, Buffer, end_of, made_use, closed_at
 use Rattle.a64_buffer.specs.Classes as classes
 use Rattle.a64_buffer.specs.Islands.{HasIsland}
 use Rattle.a64_buffer.specs.declared.force.ForceVeneers.TheVariants.{No}
-use Rattle.a64_emit.specs.declared.call.Callee.{Callee}
-use Rattle.a64_emit.specs.declared.call.Callee.TheVariants.{Symbol, Address}
+use Rattle.a64_cells.specs.declared.callee.Callee.{Callee}
+use Rattle.a64_cells.specs.declared.callee.Callee.TheVariants.{Symbol, Address}
 use Rattle.a64_label_use.specs.declared.label_use.LabelUse.{LabelUse}
-use Rattle.a64_emit.specs.declared.site.Site.{Site}
+use Rattle.a64_cells.specs.declared.site.Site.{Site}
 use Rattle.a64_label_use.specs.LabelUses.{label_kinds}
-use Rattle.a64_emit.specs.Shapes.{Cell}
-use Rattle.a64_emit.specs.Cells.{cell_word, inst_cells, kept_cells}
+use Rattle.a64_cells.specs.Shapes.{Cell}
+use Rattle.a64_cells.specs.Cells.{cell_word, inst_cells, kept_cells}
 use Rattle.a64_emit.specs.Bounds.{asked_of}
 use Rattle.a64_emit.specs.Layout.{placed, relocs_in, calls_in, patchable_in, maps_in, traps_in, records_in, more_records}
 

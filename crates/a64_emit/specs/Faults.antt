@@ -17,8 +17,8 @@ use Rattle.a64_inst.specs.declared.item.Item.{Item}
 use Rattle.a64_inst.specs.declared.item.Item.TheVariants.{Bind, Emit}
 use Rattle.a64_emit.specs.declared.error.EmitError.{EmitError}
 use Rattle.a64_emit.specs.declared.error.EmitError.TheVariants.{BadOperand, BadMode, ScratchConflict, UnknownConstant, LabelBoundTwice, UnboundLabel, TooLarge}
-use Rattle.a64_emit.specs.declared.site.Site.{Site}
-use Rattle.a64_emit.specs.Cells.{sites_of, all_cells, inst_cells, is_lone_cells}
+use Rattle.a64_cells.specs.declared.site.Site.{Site}
+use Rattle.a64_cells.specs.Cells.{sites_of, all_cells, inst_cells, is_lone_cells}
 use Rattle.a64_emit.specs.Bounds.{whole}
 use Rattle.a64_emit.specs.Reach.{out_of_reach}
 

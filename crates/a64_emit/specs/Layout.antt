@@ -15,9 +15,9 @@ use Rattle.a64_inst.specs.declared.item.Item.{Item}
 use Rattle.a64_inst.specs.declared.item.Item.TheVariants.{Bind}
 use Rattle.a64_emit.specs.declared.code.Code.{Code}
 use Rattle.a64_label_use.specs.LabelUses.{mask_for}
-use Rattle.a64_emit.specs.declared.site.Site.{Site}
-use Rattle.a64_emit.specs.Shapes.{Relocation, Cell}
-use Rattle.a64_emit.specs.Cells.{cell_word, cells_of}
+use Rattle.a64_cells.specs.declared.site.Site.{Site}
+use Rattle.a64_cells.specs.Shapes.{Relocation, Cell}
+use Rattle.a64_cells.specs.Cells.{cell_word, cells_of}
 use Rattle.a64_emit.specs.Falls.{falls_at}
 use Rattle.a64_emit.specs.Leads.{JumpsTo}
 use Rattle.a64_emit.specs.Bounds.{asked}

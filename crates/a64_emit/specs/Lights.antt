@@ -6,8 +6,8 @@ use Rattle.a64_inst.specs.declared.frame.FrameLayout.{FrameLayout}
 use Rattle.a64_inst.specs.declared.mode.AMode.{AMode}
 use Rattle.a64_inst.specs.Modes.{base_offset_of}
 use Rattle.a64_emit.specs.declared.extent.Light.{Light}
-use Rattle.a64_emit.specs.Shapes.{Body, Cell, last_cell}
-use Rattle.a64_emit.specs.Cells.{mode_site, sites_of, two_uses, uses_of}
+use Rattle.a64_cells.specs.Shapes.{Body, Cell, last_cell}
+use Rattle.a64_cells.specs.Cells.{mode_site, sites_of, two_uses, uses_of}
 use Rattle.a64_emit.specs.Bounds.{charge_of, least, ranges_in, size_of}
 use Rattle.a64_emit.specs.Reach.{is_near}
 

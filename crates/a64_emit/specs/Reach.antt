@@ -15,9 +15,9 @@ use Rattle.a64_emit.specs.declared.error.EmitError.{EmitError}
 use Rattle.a64_emit.specs.declared.error.EmitError.TheVariants.{OutOfReach}
 use Rattle.a64_label_use.specs.declared.label_use.LabelUse.{LabelUse}
 use Rattle.a64_label_use.specs.declared.label_use.LabelUse.TheVariants as uses
-use Rattle.a64_emit.specs.declared.site.Site.{Site}
+use Rattle.a64_cells.specs.declared.site.Site.{Site}
 use Rattle.a64_label_use.specs.LabelUses.{has_veneer}
-use Rattle.a64_emit.specs.Cells.{cells_of, all_cells, sites_of}
+use Rattle.a64_cells.specs.Cells.{cells_of, all_cells, sites_of}
 use Rattle.a64_emit.specs.Bounds.{item_size, item_charge, whole, shortest}
 
 -- an item binds the label

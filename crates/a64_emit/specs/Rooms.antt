@@ -8,8 +8,8 @@ use Rattle.a64_buffer.specs.Classes.{Fits, level_of, owed, range_of, wants}
 use Rattle.a64_label_use.specs.declared.label_use.LabelUse.{LabelUse}
 use Rattle.a64_label_use.specs.LabelUses.{label_kinds}
 use Rattle.a64_emit.specs.Bounds.{asked_of, charge_of, ranges_in, size_of}
-use Rattle.a64_emit.specs.Shapes.{Cell}
-use Rattle.a64_emit.specs.Cells.{inst_cells, sites_of}
+use Rattle.a64_cells.specs.Shapes.{Cell}
+use Rattle.a64_cells.specs.Cells.{inst_cells, sites_of}
 use Rattle.a64_emit.specs.Contents.{site_class}
 
 -- each use of cells that may want something of an island reaches over all of them, and over what their

@@ -10,30 +10,22 @@ ghost use Rattle.a64_inst.specs.CallOperands.{are_call_defs, has_return_frame};
 ghost use Rattle.a64_inst.specs.Faults.{has_operands, is_restorable, can_restore};
 ghost use Rattle.a64_inst.specs.Groups.{group_of};
 ghost use Rattle.a64_inst.specs.MemoryOperands.{is_signed_64};
-ghost use Rattle.a64_emit.specs.Shapes.{plain};
-ghost use Rattle.a64_emit.specs.Cells.{keep, kept_cells, result_cells, pop_forms, call_cells, patchable_cells, restored_cell, result_load, leave_forms, return_cell, return_cells};
-ghost use Rattle.a64_emit.specs.Words.{IsCalled, as_put, put_kept};
+ghost use Rattle.a64_cells.specs.Shapes.{plain};
+ghost use Rattle.a64_cells.specs.Cells.{keep, kept_cells, result_cells, pop_forms, call_cells, patchable_cells, restored_cell, result_load, leave_forms, return_cell, return_cells};
+ghost use Rattle.a64_cells.specs.Words.{IsCalled, as_put, put_kept};
 ghost use Rattle.a64_emit.specs.Emission.{linked, mapped, CanPut, PutsCells};
 
 use crate::emit::{emit_plain_inst, put_words};
 use crate::one_word::is_one_word;
-use crate::word::call::{call_word, leave_words, pop_words, return_word};
-use a64_base::{ExternalName, MemFlagsData, Reg, Reloc, UserStackMap};
+use a64_base::{MemFlagsData, Reloc, UserStackMap};
 use a64_buffer::MachBuffer;
+use a64_cells::Callee;
+use a64_cells::word::call::{call_word, leave_words, pop_words, return_word};
 use a64_inst::{
     AMode, CallInfo, CallRetPair, EmitInfo, FrameLayout, Inst, RetLocation, ReturnCallInfo,
 };
 use a64_label_use::LabelUse;
 use std::alloc::AllocError;
-
-/// Where a call goes.
-#[derive(Clone, Copy, Debug)]
-pub enum Callee {
-    /// To a symbol, which a linker resolves.
-    Symbol(ExternalName),
-    /// To the address in a register.
-    Address(Reg),
-}
 
 /// Records the symbol to which a call goes, where it goes to one.
 fn record_callee(sink: &mut MachBuffer<'_, LabelUse>, callee: &Callee) -> Result<(), AllocError>

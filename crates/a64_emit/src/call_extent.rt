@@ -5,17 +5,17 @@ ghost use Rattle.std.specs.Int.RustNames.{unsigned_abs};
 ghost use Rattle.std.specs.List.{flat_map};
 ghost use Rattle.a64_inst.specs.declared.group.Group.TheVariants as groups;
 ghost use Rattle.a64_inst.specs.Groups.{group_of};
-ghost use Rattle.a64_emit.specs.declared.call.Callee.{Callee};
-ghost use Rattle.a64_emit.specs.Cells.{adjust_forms, call_cells, frame_forms, inst_cells, key_forms, leave_forms, result_cells, return_cells};
+ghost use Rattle.a64_cells.specs.declared.callee.Callee.{Callee};
+ghost use Rattle.a64_cells.specs.Cells.{adjust_forms, call_cells, frame_forms, inst_cells, key_forms, leave_forms, result_cells, return_cells};
 
 use crate::call::load_of_result;
-use crate::word::memory::address::addend;
-use crate::word::memory::memory_count;
 use a64_base::APIKey;
+use a64_cells::word::memory::address::addend;
+use a64_cells::word::memory::memory_count;
 use a64_inst::{CallInfo, CallRetPair, EmitInfo, FrameLayout, Inst, ReturnCallInfo, const_plan};
 
 /// How many words move the stack pointer by an amount.
-#[tactic(auto, using(crate::proofs::Adjustments::none_count, crate::proofs::Adjustments::near_count, crate::proofs::Adjustments::far_count))]
+#[tactic(auto, using(a64_cells::proofs::Adjustments::none_count, a64_cells::proofs::Adjustments::near_count, a64_cells::proofs::Adjustments::far_count))]
 fn adjust_count(amount: u32) -> u64
     ensures count { (by : ℤ) → unsigned_abs by ≡ amount
         → result ≡ length (adjust_forms by) }

@@ -13,11 +13,11 @@ ghost use Rattle.a64_buffer.specs.Buffer.{Buffer, end_of};
 ghost use Rattle.a64_buffer.specs.Classes.{Fits};
 ghost use Rattle.a64_label_use.specs.declared.label_use.LabelUse.{LabelUse};
 ghost use Rattle.a64_emit.specs.Bounds.{asked_of, charge_of, size_of};
-ghost use Rattle.a64_emit.specs.Shapes as shapes;
-ghost use Rattle.a64_emit.specs.Shapes.{Cell, Data, data_cell, plain, reloc_cell};
-ghost use Rattle.a64_emit.specs.Cells.{inst_cells, kept_cells};
-ghost use Rattle.a64_emit.specs.ControlForms.{authenticated_ret_forms};
-ghost use Rattle.a64_emit.specs.Words.{MayBePut, IsThere, as_put, put_branches, put_cell, put_cells, put_cond_br, put_for, put_jump, put_label_address, put_test_bit, put_trap_if};
+ghost use Rattle.a64_cells.specs.Shapes as shapes;
+ghost use Rattle.a64_cells.specs.Shapes.{Cell, Data, data_cell, plain, reloc_cell};
+ghost use Rattle.a64_cells.specs.Cells.{inst_cells, kept_cells};
+ghost use Rattle.a64_cells.specs.ControlForms.{authenticated_ret_forms};
+ghost use Rattle.a64_cells.specs.Words.{MayBePut, IsThere, as_put, put_branches, put_cell, put_cells, put_cond_br, put_for, put_jump, put_label_address, put_test_bit, put_trap_if};
 ghost use Rattle.a64_label_use.specs.LabelUses.{label_kinds};
 ghost use Rattle.a64_emit.specs.WorstCases as worst_cases;
 ghost use Rattle.a64_emit.specs.Emission.{trapped, CanPut, PutsCells, PutsInPart, IslandsIfNeeded, Puts, Emits, EmitsInPart, IsAppendedInPart, HasIslandRoom, IsReady};
@@ -25,19 +25,19 @@ ghost use Rattle.a64_emit.specs.Emission.{trapped, CanPut, PutsCells, PutsInPart
 use crate::call::emit_calling;
 use crate::extent::asked_space;
 use crate::sequence::emit_sequence;
-use crate::site::Site;
 use crate::uses::{branch_site, trap_site};
-use crate::word::control::{
-    UDF_WORD, authenticated_ret_words, cond_br_word, jump_word, label_address_word,
-    only_control_word, test_bit_and_branch_word, trap_if_word,
-};
-use crate::word::memory::{SeveralWords, held_memory_word, memory_words};
-use crate::word::plain::plain_word;
 use a64_base::{
     APIKey, BranchTarget, CondBrKind, ExternalName, MachLabel, Reg, Reloc, TestBitAndBranchKind,
     TrapCode, UserStackMap, Writable,
 };
 use a64_buffer::{ForceVeneers, MachBuffer, Target};
+use a64_cells::Site;
+use a64_cells::word::control::{
+    UDF_WORD, authenticated_ret_words, cond_br_word, jump_word, label_address_word,
+    only_control_word, test_bit_and_branch_word, trap_if_word,
+};
+use a64_cells::word::memory::{SeveralWords, held_memory_word, memory_words};
+use a64_cells::word::plain::plain_word;
 use a64_inst::{EmitInfo, EmitState, FrameLayout, Group, Inst};
 use a64_label_use::LabelUse;
 use std::alloc::AllocError;

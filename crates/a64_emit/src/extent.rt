@@ -10,21 +10,21 @@ ghost use Rattle.a64_emit.specs.Bounds as bounds;
 ghost use Rattle.a64_emit.specs.Bounds.{asked, IsExtent, AreExtent, ranges_in, least, saturated, charge_of, growth_of, size_of, asked_of};
 ghost use Rattle.a64_rows.specs.Forms.{Form};
 ghost use Rattle.a64_label_use.specs.declared.label_use.LabelUse.TheVariants as uses;
-ghost use Rattle.a64_emit.specs.Shapes.{branch, branches};
-ghost use Rattle.a64_emit.specs.Cells.{cells_of, inst_cells, inst_uses, listed_uses, two_uses, uses_of};
+ghost use Rattle.a64_cells.specs.Shapes.{branch, branches};
+ghost use Rattle.a64_cells.specs.Cells.{cells_of, inst_cells, inst_uses, listed_uses, two_uses, uses_of};
 ghost use Rattle.a64_label_use.specs.LabelUses.{has_veneer};
 ghost use Rattle.a64_emit.specs.Lights.{IsLight, IsModeLight};
 ghost use Rattle.a64_emit.specs.Rooms as rooms;
 
 use crate::call_extent::call_count;
-use crate::site::{Site, Uses};
 use crate::uses::{call_uses, control_uses, memory_uses, only_use, sequence_uses, table_start};
 use crate::where_quiet;
-use crate::word::control::authenticated_ret_count;
-use crate::word::exclusive::operator_count;
-use crate::word::memory::memory_count;
 use a64_base::BranchTarget;
 use a64_buffer::{MachInstLabelUse, Target};
+use a64_cells::word::control::authenticated_ret_count;
+use a64_cells::word::exclusive::operator_count;
+use a64_cells::word::memory::memory_count;
+use a64_cells::{Site, Uses};
 use a64_inst::{AMode, EmitInfo, FrameLayout, Group, Inst, Item};
 use a64_label_use::LabelUse;
 
@@ -163,7 +163,7 @@ fn control_count(inst: &Inst, _frame: &FrameLayout, _info: &EmitInfo) -> u64
 }
 
 /// How many words a sequence has.
-#[tactic(auto, using(crate::proofs::Loops::loop_length))]
+#[tactic(auto, using(a64_cells::proofs::Loops::loop_length))]
 fn sequence_count(inst: &Inst, _frame: &FrameLayout, info: &EmitInfo) -> u64
     requires { group_of inst.now ≡ Sequence }
     ensures { result ≡ length (inst_cells _frame.now info.now inst.now) }

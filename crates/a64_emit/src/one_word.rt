@@ -3,7 +3,7 @@
 ghost use Rattle.std.specs.Prelude.{◌≡◌, [], ◌∷◌, true};
 ghost use Rattle.a64_operand.specs.declared.virtuals.VirtualRegisters.TheVariants.{Refused};
 ghost use Rattle.a64_inst.specs.Faults.{can_restore};
-ghost use Rattle.a64_emit.specs.Cells.{inst_cells, restored_cell};
+ghost use Rattle.a64_cells.specs.Cells.{inst_cells, restored_cell};
 
 use a64_inst::{EmitInfo, FrameLayout, Inst};
 

@@ -10,19 +10,19 @@ ghost use Rattle.a64_inst.specs.Groups.{group_of};
 ghost use Rattle.a64_operand.specs.Operands.{is_register};
 ghost use Rattle.a64_inst.specs.SequenceOperands.{are_table_operands, are_probe_operands};
 ghost use Rattle.a64_operand.specs.VectorOperands.{are_select_operands};
-ghost use Rattle.a64_emit.specs.Shapes.{Data, plain, data_cell, reloc_cell, entry_site, table_labels, table_cells, table_jump, got_cells, near_cells, far_cells, probe_forms, vector_select_forms, cas_loop_cells, rmw_loop_cells};
-ghost use Rattle.a64_emit.specs.Words.{put_cell, as_put, put_for, put_loop, put_rest};
+ghost use Rattle.a64_cells.specs.Shapes.{Data, plain, data_cell, reloc_cell, entry_site, table_labels, table_cells, table_jump, got_cells, near_cells, far_cells, probe_forms, vector_select_forms, cas_loop_cells, rmw_loop_cells};
+ghost use Rattle.a64_cells.specs.Words.{put_cell, as_put, put_for, put_loop, put_rest};
 ghost use Rattle.a64_emit.specs.Emission.{CanPut, PutsCells};
 
 use crate::emit::{emit_last, emit_several, put_reloc, put_using, put_words};
-use crate::site::Site;
-use crate::word::exclusive::{LoopWords, cas_loop_words, rmw_loop_words};
-use crate::word::sequence::{
+use a64_base::{Cond, ExternalName, IrType, MachLabel, Reg, Reloc, TrapCode, Writable};
+use a64_buffer::{MachBuffer, Target};
+use a64_cells::Site;
+use a64_cells::word::exclusive::{LoopWords, cas_loop_words, rmw_loop_words};
+use a64_cells::word::sequence::{
     far_words, offset_entry_word, page_word, place_word, probe_words, table_words,
     vector_select_words,
 };
-use a64_base::{Cond, ExternalName, IrType, MachLabel, Reg, Reloc, TrapCode, Writable};
-use a64_buffer::{MachBuffer, Target};
 use a64_imms::Imm12;
 use a64_inst::{AtomicRMWLoopOp, EmitInfo, FrameLayout, Inst};
 use a64_label_use::LabelUse;
@@ -255,7 +255,7 @@ fn emit_cas_loop(
 
 /// A sequence around a table, a symbol or the stack, a loop of atomic accesses, a select of vectors, or
 /// nothing for what has no word.
-#[tactic(auto, using(crate::proofs::SequenceOperands::loop_type, crate::proofs::SequenceOperands::cas_loop_type))]
+#[tactic(auto, using(a64_cells::proofs::SequenceOperands::loop_type, a64_cells::proofs::SequenceOperands::cas_loop_type))]
 #[inline(never)]
 pub fn emit_sequence(
     inst: &Inst,

@@ -1,21 +1,21 @@
 //! The uses of the words of instructions.
 
-ghost use Rattle.std.specs.Prelude.{◌≡◌, ◌≤◌, None, length, option_map};
+ghost use Rattle.std.specs.Prelude.{◌≡◌, ◌≤◌, None, length};
 ghost use Rattle.a64_base.specs.declared.reg.Reg.{Reg};
 ghost use Rattle.a64_inst.specs.declared.group.Group.TheVariants.{Call, Control, Memory, Sequence};
 ghost use Rattle.a64_inst.specs.Groups.{group_of};
 ghost use Rattle.a64_rows.specs.Forms.{Form};
-ghost use Rattle.a64_emit.specs.Cells as cells;
-ghost use Rattle.a64_emit.specs.Shapes as shapes;
-ghost use Rattle.a64_emit.specs.Shapes.{branches, table_forms};
-ghost use Rattle.a64_emit.specs.Cells.{uses_of, listed_uses, inst_uses};
+ghost use Rattle.a64_cells.specs.Cells as cells;
+ghost use Rattle.a64_cells.specs.Shapes as shapes;
+ghost use Rattle.a64_cells.specs.Shapes.{branches, table_forms};
+ghost use Rattle.a64_cells.specs.Cells.{uses_of, listed_uses, inst_uses};
 
 use crate::access_sites;
-use crate::site::{Site, Table, Uses};
-use crate::word::sequence::has_barrier;
 use a64_base::{BranchTarget, TrapCode};
 use a64_buffer::Target;
-use a64_inst::{AMode, EmitInfo, FrameLayout, Group, Inst, MemLabel, const_plan};
+use a64_cells::word::sequence::has_barrier;
+use a64_cells::{Site, Table, Uses, mode_site};
+use a64_inst::{EmitInfo, FrameLayout, Group, Inst, const_plan};
 use a64_label_use::LabelUse;
 
 /// The use that a branch is: none where it has its offset already.
@@ -69,7 +69,7 @@ fn branches_uses<'a>(kind: LabelUse, taken: BranchTarget, not_taken: BranchTarge
 }
 
 /// The uses of the words of a branch, an address or data.
-#[tactic(auto, using(crate::proofs::Loops::return_uses))]
+#[tactic(auto, using(a64_cells::proofs::Loops::return_uses))]
 #[inline(always)]
 pub fn control_uses<'a>(inst: &'a Inst, _frame: &FrameLayout, _info: &EmitInfo) -> Uses<'a>
     requires { group_of inst.now ≡ Control }
@@ -93,51 +93,6 @@ pub fn control_uses<'a>(inst: &'a Inst, _frame: &FrameLayout, _info: &EmitInfo) 
             BranchTarget::Label(*label),
         )),
         _ => only_use(None),
-    }
-}
-
-/// The use that a load of a literal is, where a label says its place, or the literal is a constant.
-#[inline(always)]
-fn literal_site(label: MemLabel) -> Option<Site>
-    ensures { result ≡ cells.literal_site label }
-{
-    let target = match label {
-        MemLabel::PCRel(_) => return None,
-        MemLabel::Mach(label) => Target::Label(label),
-        MemLabel::Pool(addr) => Target::Constant(addr),
-    };
-    Some(Site {
-        kind: LabelUse::Ldr19,
-        target,
-    })
-}
-
-/// What an access in a mode leads to, where it is a use.
-#[inline(always)]
-pub fn mode_target(mem: &AMode) -> Option<Target>
-    ensures { option_map cells.literal_use result ≡ cells.mode_site mem.now }
-{
-    match *mem {
-        AMode::Label {
-            label: MemLabel::Mach(label),
-        } => Some(Target::Label(label)),
-        AMode::Label {
-            label: MemLabel::Pool(constant),
-        }
-        | AMode::Const { addr: constant } => Some(Target::Constant(constant)),
-        _ => None,
-    }
-}
-
-/// The use that an access in a mode is, where it is one.
-#[inline(always)]
-pub fn mode_site(mem: &AMode) -> Option<Site>
-    ensures { result ≡ cells.mode_site mem.now }
-{
-    match *mem {
-        AMode::Label { label } => literal_site(label),
-        AMode::Const { addr } => literal_site(MemLabel::Pool(addr)),
-        _ => None,
     }
 }
 
@@ -169,7 +124,7 @@ pub fn table_start(targets: usize, info: &EmitInfo) -> usize
 }
 
 /// The uses of the words of a sequence: the entries of the table behind a jump through one.
-#[tactic(auto, using(crate::proofs::Loops::loop_uses))]
+#[tactic(auto, using(a64_cells::proofs::Loops::loop_uses))]
 pub fn sequence_uses<'a>(inst: &'a Inst, _frame: &FrameLayout, info: &EmitInfo) -> Uses<'a>
     requires { group_of inst.now ≡ Sequence }
     ensures { inst_uses _frame.now info.now inst.now ≡ listed_uses result }

@@ -2,7 +2,7 @@
 use Rattle.std.proofs.Common.{◌<◌, lit<}
 use Rattle.std.proofs.lemmas.Nat.{mod_below}
 use Rattle.a64_base.specs.declared.reg.Reg.{Reg}
-use Rattle.a64_base.specs.declared.reg.Reg.TheVariants.{Real, Virtual}
+use Rattle.a64_base.specs.declared.reg.RegKind.TheVariants.{Real, Virtual}
 use Rattle.a64_enc_int.specs.Registers.{register_field}
 
 pub field_below : (reg : Reg) → register_field reg < 32

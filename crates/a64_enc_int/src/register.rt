@@ -4,7 +4,7 @@ ghost use Rattle.std.specs.Prelude.{◌≡◌, ◌<◌};
 ghost use Rattle.a64_enc_int.specs.Registers as registers;
 ghost use Rattle.a64_enc_int.specs.Registers.{IsReal};
 
-use a64_base::Reg;
+use a64_base::{Reg, RegKind};
 
 /// The number by which a word names a register of the machine: 31 for the zero register and for the stack pointer.
 #[inline(always)]
@@ -13,9 +13,9 @@ pub fn register_field(reg: Reg) -> u32
     ensures value { result ≡ registers.register_field reg }
     ensures below { result < 32 }
 {
-    match reg {
-        Reg::Real(p) => u32::from(p.hw_enc() % 32),
-        Reg::Virtual { .. } => unreachable!(),
+    match reg.kind() {
+        RegKind::Real(p) => u32::from(p.hw_enc() % 32),
+        RegKind::Virtual { .. } => unreachable!(),
     }
 }
 

@@ -7,8 +7,8 @@ use Rattle.a64_formtext.specs.Texts.{form_text}
 use Rattle.a64_formtext.specs.Tokens.{FitFields, field_tokens, space_tokens}
 use Rattle.a64_formtext.proofs.Readings.{ReadsFields}
 use Rattle.a64_formtext.proofs.Names.{form_joined, form_tokens}
-use Rattle.a64_read.specs.Reads.{Reads}
-use Rattle.a64_read.proofs.Splits.{heads}
+use Rattle.a64_tokens.specs.Reads.{Reads}
+use Rattle.a64_tokens.proofs.Splits.{heads}
 use Rattle.a64_rows.specs.declared.row_table.Row.{Row}
 use Rattle.a64_rows.specs.Forms.{Form, form, IsFormOf}
 use Rattle.a64_rows.specs.RowLimits.{limits_of}

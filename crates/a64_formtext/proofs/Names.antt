@@ -6,10 +6,10 @@ use Rattle.std.proofs.lemmas.Bool.{ltb-true, and_parts, not-true}
 use Rattle.a64_formtext.specs.Texts.{fields_text, form_text}
 use Rattle.a64_formtext.specs.Tokens.{FitFields, field_token, field_tokens, space_tokens}
 use Rattle.a64_formtext.proofs.Readings.{few_bits}
-use Rattle.a64_read.specs.Fields.{HasNo}
-use Rattle.a64_read.specs.DigitLaws.{decimal_apart}
-use Rattle.a64_read.specs.Reads.{IsU32}
-use Rattle.a64_read.specs.SplitLaws.{neither, split-join}
+use Rattle.a64_tokens.specs.Fields.{HasNo}
+use Rattle.a64_tokens.specs.DigitLaws.{decimal_apart}
+use Rattle.a64_tokens.specs.Reads.{IsU32}
+use Rattle.a64_tokens.specs.SplitLaws.{neither, split-join}
 use Rattle.a64_rows.specs.declared.row_table.Row.{Row}
 use Rattle.a64_rows.specs.declared.row_table.Row.TheVariants.{AddSubReg}
 use Rattle.a64_rows.specs.Fields.{text_of}

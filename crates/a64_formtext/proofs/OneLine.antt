@@ -12,9 +12,9 @@ use Rattle.a64_formtext.specs.Tokens.{FitFields, field_token, field_tokens, spac
 use Rattle.a64_formtext.proofs.Names.{fields_test, form_tokens, lacks_byte}
 use Rattle.a64_formtext.proofs.Readings.{few_bits}
 use Rattle.a64_formtext.proofs.ShownLines.{no_data, row_name}
-use Rattle.a64_read.specs.Hex.{hex_digit, hex_word}
-use Rattle.a64_read.specs.Reads.{IsU32}
-use Rattle.a64_read.proofs.Splits.{heads}
+use Rattle.a64_tokens.specs.Hex.{hex_digit, hex_word}
+use Rattle.a64_tokens.specs.Reads.{IsU32}
+use Rattle.a64_tokens.proofs.Splits.{heads}
 use Rattle.a64_rows.specs.declared.row_table.Row.{Row}
 use Rattle.a64_rows.specs.declared.row_table.Row.TheVariants.{AddSubReg}
 use Rattle.a64_rows.specs.Fields.{text_of}

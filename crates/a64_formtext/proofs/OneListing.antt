@@ -5,7 +5,7 @@ use Rattle.std.specs.List.{AllZip, filter}
 use Rattle.a64_formtext.specs.Shown.{IsListing, IsOneLine, IsOneListing, meant_lines, says, with_feeds}
 use Rattle.a64_formtext.proofs.OneLine.{is_one}
 use Rattle.a64_lines.specs.Lines.{IsFile, LeadAll}
-use Rattle.a64_read.specs.Splitting.{is_blank, lines_of}
+use Rattle.a64_tokens.specs.Splitting.{is_blank, lines_of}
 
 abbrev pub meant : List (List ℕ) → List (List ℕ)
 meant lines = filter (λ line. not (is_blank line)) lines

@@ -9,9 +9,9 @@ use Rattle.std.proofs.Math.Seq.{drop-cons}
 use Rattle.std.proofs.lemmas.Nat.{pow_below}
 use Rattle.std.proofs.lemmas.Slice.Eq.{strip_prefix_is}
 use Rattle.a64_formtext.specs.Tokens.{FitFields, HasBits, field_token, field_tokens, space_tokens}
-use Rattle.a64_read.specs.Reads.{Reads, IsU32}
-use Rattle.a64_read.specs.Splitting.{of_text}
-use Rattle.a64_read.proofs.Splits.{IsFront}
+use Rattle.a64_tokens.specs.Reads.{Reads, IsU32}
+use Rattle.a64_tokens.specs.Splitting.{of_text}
+use Rattle.a64_tokens.proofs.Splits.{IsFront}
 use Rattle.a64_rows.specs.declared.slots.Slot.{Slot}
 use Rattle.a64_rows.specs.declared.slots.Slot.TheVariants.{Bits, Doubled}
 use Rattle.a64_rows.specs.declared.slots.FieldAt.{FieldAt}

@@ -12,12 +12,12 @@ use Rattle.a64_formtext.specs.Tokens.{field_token, field_tokens, space_tokens}
 use Rattle.a64_formtext.proofs.Names.{fields_test, names_test, none_append, lacks_byte, tokens_plain, field_step, form_tokens}
 use Rattle.a64_formtext.proofs.Words.{word_no_feed}
 use Rattle.a64_lines.specs.Lines.{LeadAll}
-use Rattle.a64_read.specs.Fields.{HasNo}
-use Rattle.a64_read.specs.Hex.{hex_word}
-use Rattle.a64_read.specs.Reads.{Reads, IsU32}
-use Rattle.a64_read.specs.SplitLaws.{split_at}
-use Rattle.a64_read.specs.Splitting.{is_blank, lines_of}
-use Rattle.a64_read.proofs.Splits.{heads}
+use Rattle.a64_tokens.specs.Fields.{HasNo}
+use Rattle.a64_tokens.specs.Hex.{hex_word}
+use Rattle.a64_tokens.specs.Reads.{Reads, IsU32}
+use Rattle.a64_tokens.specs.SplitLaws.{split_at}
+use Rattle.a64_tokens.specs.Splitting.{is_blank, lines_of}
+use Rattle.a64_tokens.proofs.Splits.{heads}
 use Rattle.a64_rows.specs.declared.row_table.Row.{Row}
 use Rattle.a64_rows.specs.declared.row_table.Row.TheVariants.{AddSubReg}
 use Rattle.a64_rows.specs.Fields.{text_of}

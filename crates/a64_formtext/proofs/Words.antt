@@ -2,8 +2,8 @@
 use Rattle.std.proofs.Common.{◌≡◌, ℕ, ◌+◌, ◌/◌, ◌%◌, ◌^◌, Bool, true, false, eqb, nat_lt, List, ◌++◌, refl, append_assoc, arith}
 use Rattle.std.specs.Prelude.{if◌then◌else◌}
 use Rattle.std.proofs.lemmas.Bool.{ne_eqb}
-use Rattle.a64_read.specs.Fields.{HasNo}
-use Rattle.a64_read.specs.Hex.{hex_digit, hex_word}
+use Rattle.a64_tokens.specs.Fields.{HasNo}
+use Rattle.a64_tokens.specs.Hex.{hex_digit, hex_word}
 
 -- four texts, appended one after another
 pub four : (text a b c d : List ℕ) → (((text ++ a) ++ b) ++ c) ++ d ≡ text ++ (a ++ (b ++ (c ++ d)))

@@ -4,9 +4,9 @@ use Rattle.std.specs.List.{AllByRecursion, AllZip, filter}
 use Rattle.a64_formtext.specs.declared.file.ShownFile.{ShownFile}
 use Rattle.a64_formtext.specs.Texts.{form_text}
 use Rattle.a64_lines.specs.Lines as Lines
-use Rattle.a64_read.specs.Hex.{hex_word}
-use Rattle.a64_read.specs.Reads.{IsU32}
-use Rattle.a64_read.specs.Splitting.{is_blank, lines_of}
+use Rattle.a64_tokens.specs.Hex.{hex_word}
+use Rattle.a64_tokens.specs.Reads.{IsU32}
+use Rattle.a64_tokens.specs.Splitting.{is_blank, lines_of}
 use Rattle.a64_rows.specs.declared.row_table.Row.{Row}
 use Rattle.a64_rows.specs.Forms.{Form, IsWordOf, Matches}
 

@@ -4,14 +4,14 @@ ghost use Rattle.std.specs.Prelude.{◌≡◌, ◌++◌, ◌<◌, ◌∷◌, opt
 ghost use Rattle.std.specs.String.{string_bytes};
 ghost use Rattle.a64_formtext.specs.Texts.{form_text, values_of};
 ghost use Rattle.a64_formtext.specs.Tokens.{FitFields, HasBits, field_token, field_tokens, space_tokens};
-ghost use Rattle.a64_read.specs.Reads.{Reads};
-ghost use Rattle.a64_read.specs.Splitting.{of_text};
+ghost use Rattle.a64_tokens.specs.Reads.{Reads};
+ghost use Rattle.a64_tokens.specs.Splitting.{of_text};
 ghost use Rattle.a64_rows.specs.Forms.{IsForm, IsFormOf};
 ghost use Rattle.a64_rows.specs.Rows.{fields_of};
 
-use a64_read::decimal::read_u32;
-use a64_read::split::cut;
 use a64_rows::{Form, Row, meets};
+use a64_tokens::decimal::read_u32;
+use a64_tokens::split::cut;
 use arrayvec::ArrayVec;
 use itoa::Buffer;
 use std::alloc::{AllocError, Global};

@@ -4,14 +4,14 @@ ghost use Rattle.std.specs.Prelude.{◌≡◌, [], ℕ, List, Some, IfSome, IfOk
 ghost use Rattle.std.specs.List.{AllByRecursion};
 ghost use Rattle.a64_formtext.specs.Shown.{IsData, IsShown, IsListing, IsOneListing, meant_lines, says, words_of};
 ghost use Rattle.a64_lines.specs.Lines.{Answers, Gives, told_by};
-ghost use Rattle.a64_read.specs.Hex.{hex_word};
-ghost use Rattle.a64_read.specs.Reads.{IsU32, Reads};
+ghost use Rattle.a64_tokens.specs.Hex.{hex_word};
+ghost use Rattle.a64_tokens.specs.Reads.{IsU32, Reads};
 
 use crate::file::{ShownFile, ShownFileError};
 use crate::form::read_form;
 use a64_lines::read_lines;
-use a64_read::hex::read_word;
 use a64_rows::{decode_word, word_of};
+use a64_tokens::hex::read_word;
 use std::alloc::Global;
 
 /// The word that has these hexadecimal digits, where it matches no row.

@@ -3,7 +3,7 @@
 ghost use Rattle.std.specs.Prelude.{◌≡◌, ◌++◌, ◌/◌, ◌%◌, ◌<◌, [], ◌∷◌, List, ℕ, codes, IfOk, OnOk};
 ghost use Rattle.std.specs.String.{string_bytes};
 ghost use Rattle.a64_formtext.specs.Shown.{IsShown, IsListing};
-ghost use Rattle.a64_read.specs.Hex.{hex_digit, hex_pair, hex_word};
+ghost use Rattle.a64_tokens.specs.Hex.{hex_digit, hex_pair, hex_word};
 
 use crate::form::push_form;
 use a64_rows::decode_word;

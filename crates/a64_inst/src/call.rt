@@ -45,14 +45,14 @@ pub struct CallInfo<T> {
     pub uses: ListVec<CallArgPair>,
     /// What comes back.
     pub defs: ListVec<CallRetPair>,
+    /// How many bytes of arguments the function that is called takes off the stack, below 2^31.
+    pub callee_pop_size: u32,
     /// The registers that the call changes beside.
     pub clobbers: PRegSet,
     /// The convention of the function that calls.
     pub caller_conv: CallConv,
     /// The convention of the function that is called.
     pub callee_conv: CallConv,
-    /// How many bytes of arguments the function that is called takes off the stack, below 2^31.
-    pub callee_pop_size: u32,
     /// Whether the call may be changed into no operation later. Then its results are not loaded from the
     /// stack. It counts at calls of symbols alone.
     pub patchable: bool,
@@ -90,10 +90,10 @@ impl<T: Drop> CallInfo<T> {
             dest,
             uses: ListVec::new(alloc),
             defs: ListVec::new(alloc),
+            callee_pop_size: 0,
             clobbers: PRegSet::empty(),
             caller_conv: call_conv,
             callee_conv: call_conv,
-            callee_pop_size: 0,
             patchable: false,
         }
     }
@@ -114,10 +114,10 @@ impl<T: Copy> CallInfo<T> {
             dest: self.dest,
             uses,
             defs,
+            callee_pop_size: self.callee_pop_size,
             clobbers: self.clobbers,
             caller_conv: self.caller_conv,
             callee_conv: self.callee_conv,
-            callee_pop_size: self.callee_pop_size,
             patchable: self.patchable,
         })
     }

@@ -8,7 +8,7 @@ ghost use Rattle.a64_inst.specs.Addresses as addresses;
 
 use crate::frame::FrameLayout;
 use crate::mode::AMode;
-use a64_base::{IrType, Reg, RegClass, fp_reg, stack_reg};
+use a64_base::{IrType, Reg, RegClass, RegKind, fp_reg, stack_reg};
 
 /// A base, and an offset in bytes, which may be larger than any mode's.
 #[derive(Clone, Copy, Debug)]
@@ -117,12 +117,12 @@ pub fn needs_x16(frame: &FrameLayout, ty: IrType, mem: &AMode) -> bool
 pub fn is_numbered(number: u8, reg: &Reg) -> bool
     ensures { result ≡ addresses.is_numbered number reg.now }
 {
-    match *reg {
-        Reg::Real(p) => match p.class() {
+    match reg.kind() {
+        RegKind::Real(p) => match p.class() {
             RegClass::Int => p.hw_enc() == number,
             RegClass::Float => false,
         },
-        Reg::Virtual { .. } => false,
+        RegKind::Virtual { .. } => false,
     }
 }
 

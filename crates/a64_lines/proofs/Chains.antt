@@ -7,7 +7,7 @@ use Rattle.std.proofs.lemmas.List.Splits.{length-slice_split}
 use Rattle.std.proofs.lemmas.List.Sums.{count_by-le-length}
 use Rattle.a64_lines.specs.declared.error.LinesError.TheVariants.{BadLine}
 use Rattle.a64_lines.specs.Lines.{Leads, LeadAll, Takes, TakesAny, Answers}
-use Rattle.a64_read.specs.Splitting.{is_blank, first, first_line, lines_of, of_text}
+use Rattle.a64_tokens.specs.Splitting.{is_blank, first, first_line, lines_of, of_text}
 
 module _ {T : Type 0} (says : List ℕ → T → T → Type 0) where
   -- a line leads there, and nowhere else

@@ -2,7 +2,7 @@
 use Rattle.std.proofs.Common.{◌≡◌, inl, inr, ℕ, List, Some, None, true, false, refl, sym, ap, subst, ◌∙◌}
 use Rattle.a64_lines.specs.Entries.{BeginsWith, SaysBut, SaysEntry}
 use Rattle.a64_lines.specs.Lines.{Takes}
-use Rattle.a64_read.specs.Reads.{Reads}
+use Rattle.a64_tokens.specs.Reads.{Reads}
 
 module _ {E T : Type 0} (fits : E → Type 0) (line_of : E → List ℕ) (stands_behind : T → E → Type 0) (said : E → T → T) (passed : List (List ℕ))
     (never_both : (line : List ℕ) (e : E) → BeginsWith line passed → line ≡ line_of e → ⊥) (line : List ℕ) (old : T) where

@@ -2,7 +2,7 @@
 use Rattle.std.specs.Prelude.{ℕ, ◌≡◌, ◌+◌, ◌⊎◌, Bool, true, false, List, [], ◌∷◌, ◌++◌, length, Result, Ok, Err, IfOk, IfErr, ⊤}
 use Rattle.a64_lines.specs.declared.error.LinesError.{LinesError}
 use Rattle.a64_lines.specs.declared.error.LinesError.TheVariants.{BadLine, OutOfMemory}
-use Rattle.a64_read.specs.Splitting.{is_blank, lines_of}
+use Rattle.a64_tokens.specs.Splitting.{is_blank, lines_of}
 
 module _ {T : Type 0} (says : List ℕ → T → T → Type 0) where
   -- a line leads from what was said before it to what is said behind it: one that means nothing leaves it as it was

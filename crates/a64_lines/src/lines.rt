@@ -1,11 +1,11 @@
 //! Takes the lines of a file one after another.
 
 ghost use Rattle.std.specs.Prelude.{◌≡◌, List, ℕ, IfOk};
-ghost use Rattle.a64_read.specs.Splitting.{first_line};
+ghost use Rattle.a64_tokens.specs.Splitting.{first_line};
 ghost use Rattle.a64_lines.specs.Lines.{Takes, TakesAny, Answers, told_by};
 
 use crate::error::LinesError;
-use a64_read::split::{cut, is_blank};
+use a64_tokens::split::{cut, is_blank};
 use std::alloc::AllocError;
 
 /// What the lines of a file say, as far as they were taken.

@@ -13,7 +13,7 @@ use Rattle.a64_link_file.specs.declared.entry.Entry.TheVariants as entries
 use Rattle.a64_link_file.specs.declared.entry.Part.{Part}
 use Rattle.a64_link_file.specs.declared.entry.Part.TheVariants.{Define, Word, Space, Reloc}
 use Rattle.a64_link_file.specs.Entries.{MayStand, StandsBehind, State, UnitContents, closed, no_words, said, says, unit_contents, with_part, words_brought}
-use Rattle.a64_read.specs.Splitting.{lines_of}
+use Rattle.a64_tokens.specs.Splitting.{lines_of}
 
 abbrev unit_words : UnitContents → ℕ
 unit_words unit = length unit.words

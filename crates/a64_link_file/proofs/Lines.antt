@@ -12,8 +12,8 @@ use Rattle.a64_link_file.specs.declared.entry.Part.TheVariants.{Define, Word, Sp
 use Rattle.a64_base.specs.declared.entity.Reloc as kinds
 use Rattle.a64_base.specs.declared.entity.ExternalName.{ExternalName}
 use Rattle.a64_link_file.specs.Entries.{IsDefine, IsEntry, IsPart, IsSpace, IsWord, base_line, define_line, entry_line, name_text, part_line, passed_words, space_line, word_line}
-use Rattle.a64_read.specs.Fields.{HasNo}
-use Rattle.a64_read.specs.Reads.{Reads, IsU32, IsU64}
+use Rattle.a64_tokens.specs.Fields.{HasNo}
+use Rattle.a64_tokens.specs.Reads.{Reads, IsU32, IsU64}
 use Rattle.a64_reloc.specs.Relocs.{IsReloc, IsSymbol, reloc_line}
 use Rattle.a64_reloc.proofs.Plain.{decimal_plain}
 

@@ -13,8 +13,8 @@ use Rattle.a64_link_file.specs.declared.entry.Part.{Part}
 use Rattle.a64_link_file.specs.declared.entry.Part.TheVariants.{Define, Word, Space, Reloc}
 use Rattle.a64_link_file.specs.declared.file.LinkFile.{LinkFile}
 use Rattle.a64_lines.specs.declared.error.LinesError.{LinesError}
-use Rattle.a64_read.specs.Hex.{hex_word}
-use Rattle.a64_read.specs.Reads.{IsU32, IsU64}
+use Rattle.a64_tokens.specs.Hex.{hex_word}
+use Rattle.a64_tokens.specs.Reads.{IsU32, IsU64}
 use Rattle.a64_reloc.specs.Halves.{pair_text}
 use Rattle.a64_reloc.specs.Relocs.{IsReloc, reloc_line}
 

@@ -2,16 +2,16 @@
 
 ghost use Rattle.std.specs.Fmt.{decimal};
 ghost use Rattle.a64_link_file.specs.Entries.{IsDefine, IsEntry, IsPart, IsSpace, IsWord, base_line, define_line, entry_line, name_text, part_line, space_line, word_line};
-ghost use Rattle.a64_read.specs.Hex.{hex_word};
-ghost use Rattle.a64_read.specs.Reads.{Reads, IsU32, IsU64};
+ghost use Rattle.a64_tokens.specs.Hex.{hex_word};
+ghost use Rattle.a64_tokens.specs.Reads.{Reads, IsU32, IsU64};
 ghost use Rattle.a64_reloc.specs.Halves.{pair_text};
 
 use crate::entry::{Entry, Part};
 use a64_base::ExternalName;
-use a64_read::decimal::{read_u32, read_u64};
-use a64_read::hex::read_word;
 use a64_reloc::halves::halves;
 use a64_reloc::read_reloc;
+use a64_tokens::decimal::{read_u32, read_u64};
+use a64_tokens::hex::read_word;
 
 /// The most words that one line can make zero.
 const SPACE_MAX: u32 = 0x400_0000;

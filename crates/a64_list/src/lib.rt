@@ -9,18 +9,21 @@ use std::marker::Model;
 /// A vector that contracts see as the list of its items.
 ///
 /// A value that holds one, as an instruction with a list of labels, is then compared in
-/// contracts by its items, and not by its address and capacity.
+/// contracts by its items, and not by its address and capacity. It takes 16 bytes, and no memory
+/// while it is empty: length and capacity stand beside the address, in a box.
 #[derive(Drop)]
 pub struct ListVec<T> {
-    items: Vec<T>,
+    alloc: Global,
+    items: Option<Box<Vec<T>>>,
 }
 
 impl<T> Model for ListVec<T> {
     ghost use Rattle.std.specs.Prelude.{List};
+    ghost use Rattle.a64_list.specs.Items.{items_or_none};
 
     ghost Value = { List T };
 
-    ghost view = { λ l. l.items.items };
+    ghost view = { λ l. items_or_none (λ vector. vector.value.items) l.items };
 }
 
 impl<T: Drop> ListVec<T> {
@@ -28,37 +31,46 @@ impl<T: Drop> ListVec<T> {
     pub fn new(alloc: Global) -> Self
         ensures { result ≡ [] }
     {
-        ListVec {
-            items: Vec::new(alloc),
-        }
+        ListVec { alloc, items: None }
     }
 
     /// The items of a vector.
-    pub fn from_vec(items: Vec<T>) -> Self
-        ensures { result ≡ items.items }
+    ///
+    /// # Errors
+    ///
+    /// Want of memory.
+    pub fn from_vec(alloc: Global, items: Vec<T>) -> Result<Self, AllocError>
+        ensures { IfOk result (λ l. l ≡ items.items) }
     {
-        ListVec { items }
+        let items = Box::new(alloc, items)?;
+        Ok(ListVec {
+            alloc,
+            items: Some(items),
+        })
     }
 
     /// The items.
     pub fn as_slice(&self) -> &[T]
         ensures { result.now ≡ self.now }
     {
-        self.items.as_slice()
+        match &self.items {
+            Some(items) => items.as_slice(),
+            None => &[],
+        }
     }
 
     /// The number of items.
     pub fn len(&self) -> usize
         ensures { result ≡ length self.now }
     {
-        self.items.len()
+        self.as_slice().len()
     }
 
     /// Whether there are no items.
     pub fn is_empty(&self) -> bool
         ensures { result ≡ (length self.now == 0) }
     {
-        self.items.is_empty()
+        self.as_slice().is_empty()
     }
 
     /// Adds an item at the end.
@@ -70,7 +82,14 @@ impl<T: Drop> ListVec<T> {
         ensures ok { OnOk result (self.new ≡ self.old ++ item ∷ []) }
         ensures err { OnErr result (self.new ≡ self.old) }
     {
-        self.items.push(item)?;
+        match &mut self.items {
+            Some(items) => items.push(item)?,
+            None => {
+                let mut items = Vec::new(self.alloc);
+                items.push(item)?;
+                self.items = Some(Box::new(self.alloc, items)?);
+            }
+        }
         Ok(())
     }
 }
@@ -84,8 +103,12 @@ impl<T: Copy> ListVec<T> {
     pub fn try_clone(&self, alloc: Global) -> Result<Self, AllocError>
         ensures { IfOk result (λ l. l ≡ self.now) }
     {
-        let mut items = Vec::new(alloc);
-        items.extend_from_slice(self.items.as_slice())?;
-        Ok(ListVec { items })
+        let mut list = ListVec::new(alloc);
+        if let Some(items) = &self.items {
+            let mut copies = Vec::new(alloc);
+            copies.extend_from_slice(items.as_slice())?;
+            list.items = Some(Box::new(alloc, copies)?);
+        }
+        Ok(list)
     }
 }

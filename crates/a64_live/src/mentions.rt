@@ -1,7 +1,7 @@
 //! Which items read and write each register, by the roles of their operands.
 
 use crate::register::Register;
-use a64_base::{PRegSet, Reg};
+use a64_base::{PRegSet, Reg, RegKind};
 use a64_inst::Item;
 use a64_roles::{MachInst, Role, RoleList};
 use std::alloc::{AllocError, Global};
@@ -54,15 +54,15 @@ pub struct Registers {
 
 /// Whether a register is one of a set.
 fn is_in(set: &PRegSet, reg: Reg) -> bool {
-    match reg {
-        Reg::Real(real) => set.contains(real),
-        Reg::Virtual { .. } => false,
+    match reg.kind() {
+        RegKind::Real(real) => set.contains(real),
+        RegKind::Virtual { .. } => false,
     }
 }
 
 /// Puts a register into a set, where it is one of the machine.
 fn add_real(set: &mut PRegSet, reg: Reg) {
-    if let Reg::Real(real) = reg {
+    if let RegKind::Real(real) = reg.kind() {
         set.add(real);
     }
 }

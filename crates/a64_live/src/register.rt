@@ -1,6 +1,6 @@
 //! Registers that can be ordered, and their names in files.
 
-use a64_base::{Reg, RegClass};
+use a64_base::{Reg, RegClass, RegKind};
 use std::fmt;
 
 /// The number of the zero register, which holds no value.
@@ -25,13 +25,13 @@ pub enum Register {
 impl Register {
     /// The register that an operand names, unless it is the zero register.
     pub fn of(reg: Reg) -> Option<Register> {
-        match reg {
-            Reg::Real(real) => match (real.class(), real.hw_enc()) {
+        match reg.kind() {
+            RegKind::Real(real) => match (real.class(), real.hw_enc()) {
                 (RegClass::Int, ZERO) => None,
                 (RegClass::Int, number) => Some(Register::Integer(number)),
                 (RegClass::Float, number) => Some(Register::Vector(number)),
             },
-            Reg::Virtual { index, class } => match class {
+            RegKind::Virtual { index, class } => match class {
                 RegClass::Int => Some(Register::VirtualInteger(index)),
                 RegClass::Float => Some(Register::VirtualFloat(index)),
             },

@@ -1,7 +1,7 @@
 -- What must hold of the operands of integer instructions (Arm Architecture Reference Manual, C6.2).
 use Rattle.std.specs.Prelude.{ℕ, Bool, true, false, not, ◌&&◌, ◌||◌, nat_le, nat_eq, if◌then◌else◌}
 use Rattle.a64_base.specs.declared.reg.Reg.{Reg}
-use Rattle.a64_base.specs.declared.reg.Reg.TheVariants.{Real}
+use Rattle.a64_base.specs.declared.reg.RegKind.TheVariants.{Real}
 use Rattle.a64_base.specs.RegisterNumbers.{RealRegister}
 use Rattle.a64_base.specs.ShiftParts.{Shift}
 use Rattle.a64_base.specs.declared.shift.ShiftOp.{ShiftOp}

@@ -2,7 +2,7 @@
 -- Manual, C7.2).
 use Rattle.std.specs.Prelude.{ℕ, ◌+◌, ◌%◌, Bool, true, false, not, ◌&&◌, ◌||◌, if◌then◌else◌, nat_lt, nat_le, nat_eq}
 use Rattle.a64_base.specs.declared.reg.Reg.{Reg}
-use Rattle.a64_base.specs.declared.reg.Reg.TheVariants.{Real}
+use Rattle.a64_base.specs.declared.reg.RegKind.TheVariants.{Real}
 use Rattle.a64_base.specs.declared.size.OperandSize.{OperandSize}
 use Rattle.a64_base.specs.declared.size.OperandSize.TheVariants as operands
 use Rattle.a64_base.specs.declared.size.ScalarSize.{ScalarSize}

@@ -8,7 +8,7 @@ use crate::operand::{
     is_fixed_register, is_register, is_register_or_stack, is_register_or_zero, is_same_register,
 };
 use crate::virtuals::VirtualRegisters;
-use a64_base::{IrType, Reg, RegClass};
+use a64_base::{IrType, Reg, RegClass, RegKind};
 use a64_ops::AtomicRMWLoopOp;
 
 /// Whether an atomic access has values of a type.
@@ -52,12 +52,12 @@ pub fn are_cas_operands(
 fn is_pair_first(virtuals: VirtualRegisters, reg: Reg) -> bool
     ensures { result ≡ sets.is_pair_first virtuals reg }
 {
-    match reg {
-        Reg::Real(p) => match p.class() {
+    match reg.kind() {
+        RegKind::Real(p) => match p.class() {
             RegClass::Int => p.hw_enc() <= 28 && p.hw_enc() % 2 == 0,
             RegClass::Float => false,
         },
-        Reg::Virtual { class, .. } => virtuals.are_allowed() && matches!(class, RegClass::Int),
+        RegKind::Virtual { class, .. } => virtuals.are_allowed() && matches!(class, RegClass::Int),
     }
 }
 
@@ -65,12 +65,12 @@ fn is_pair_first(virtuals: VirtualRegisters, reg: Reg) -> bool
 fn is_next_register(a: &Reg, b: &Reg) -> bool
     ensures { result ≡ sets.is_next_register a.now b.now }
 {
-    match a {
-        Reg::Real(p) => match b {
-            Reg::Real(q) => p.class() == q.class() && q.hw_enc() == p.hw_enc() + 1,
-            Reg::Virtual { .. } => true,
+    match a.kind() {
+        RegKind::Real(p) => match b.kind() {
+            RegKind::Real(q) => p.class() == q.class() && q.hw_enc() == p.hw_enc() + 1,
+            RegKind::Virtual { .. } => true,
         },
-        Reg::Virtual { .. } => true,
+        RegKind::Virtual { .. } => true,
     }
 }
 

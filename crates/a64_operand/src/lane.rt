@@ -5,7 +5,7 @@ ghost use Rattle.a64_operand.specs.VectorOperands as sets;
 
 use crate::operand::{is_lane, is_same_register};
 use crate::vector::lane_count;
-use a64_base::{OperandSize, Reg, ScalarSize, VectorSize};
+use a64_base::{OperandSize, Reg, RegKind, ScalarSize, VectorSize};
 use a64_imms::{ASIMDFPModImm, ASIMDMovModImm};
 
 /// Whether a lane has at most 64 bits, and a number is that of one of them in a whole register.
@@ -103,12 +103,12 @@ pub fn is_mov_imm_in(size: VectorSize, imm: ASIMDMovModImm, invert: bool) -> boo
 pub fn is_next_vector(rn: &Reg, rn2: &Reg) -> bool
     ensures { result ≡ sets.is_next_vector rn.now rn2.now }
 {
-    match rn {
-        Reg::Real(p) => match rn2 {
-            Reg::Real(q) => p.class() == q.class() && q.hw_enc() == (p.hw_enc() + 1) % 32,
-            Reg::Virtual { .. } => true,
+    match rn.kind() {
+        RegKind::Real(p) => match rn2.kind() {
+            RegKind::Real(q) => p.class() == q.class() && q.hw_enc() == (p.hw_enc() + 1) % 32,
+            RegKind::Virtual { .. } => true,
         },
-        Reg::Virtual { .. } => true,
+        RegKind::Virtual { .. } => true,
     }
 }
 

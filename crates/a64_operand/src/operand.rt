@@ -4,19 +4,19 @@ ghost use Rattle.std.specs.Prelude.{◌≡◌};
 ghost use Rattle.a64_operand.specs.Operands as operands;
 
 use crate::virtuals::VirtualRegisters;
-use a64_base::{OperandSize, Reg, RegClass, ScalarSize, VectorSize};
+use a64_base::{OperandSize, Reg, RegClass, RegKind, ScalarSize, VectorSize};
 use a64_imms::{Imm12, ImmLogic, MoveWideConst};
 
 /// Whether a register is x0 to x30, or the zero register.
 pub fn is_register_or_zero(virtuals: VirtualRegisters, reg: Reg) -> bool
     ensures { result ≡ operands.is_register_or_zero virtuals reg }
 {
-    match reg {
-        Reg::Real(p) => match p.class() {
+    match reg.kind() {
+        RegKind::Real(p) => match p.class() {
             RegClass::Int => p.hw_enc() < 32,
             RegClass::Float => false,
         },
-        Reg::Virtual { class, .. } => virtuals.are_allowed() && matches!(class, RegClass::Int),
+        RegKind::Virtual { class, .. } => virtuals.are_allowed() && matches!(class, RegClass::Int),
     }
 }
 
@@ -24,12 +24,12 @@ pub fn is_register_or_zero(virtuals: VirtualRegisters, reg: Reg) -> bool
 pub fn is_register_or_stack(virtuals: VirtualRegisters, reg: Reg) -> bool
     ensures { result ≡ operands.is_register_or_stack virtuals reg }
 {
-    match reg {
-        Reg::Real(p) => match p.class() {
+    match reg.kind() {
+        RegKind::Real(p) => match p.class() {
             RegClass::Int => p.hw_enc() < 31 || p.hw_enc() == 63,
             RegClass::Float => false,
         },
-        Reg::Virtual { class, .. } => virtuals.are_allowed() && matches!(class, RegClass::Int),
+        RegKind::Virtual { class, .. } => virtuals.are_allowed() && matches!(class, RegClass::Int),
     }
 }
 
@@ -37,12 +37,12 @@ pub fn is_register_or_stack(virtuals: VirtualRegisters, reg: Reg) -> bool
 pub fn is_register(virtuals: VirtualRegisters, reg: &Reg) -> bool
     ensures { result ≡ operands.is_register virtuals reg.now }
 {
-    match *reg {
-        Reg::Real(p) => match p.class() {
+    match reg.kind() {
+        RegKind::Real(p) => match p.class() {
             RegClass::Int => p.hw_enc() < 31,
             RegClass::Float => false,
         },
-        Reg::Virtual { class, .. } => virtuals.are_allowed() && matches!(class, RegClass::Int),
+        RegKind::Virtual { class, .. } => virtuals.are_allowed() && matches!(class, RegClass::Int),
     }
 }
 
@@ -50,12 +50,13 @@ pub fn is_register(virtuals: VirtualRegisters, reg: &Reg) -> bool
 pub fn is_vector_register(virtuals: VirtualRegisters, reg: Reg) -> bool
     ensures { result ≡ operands.is_vector_register virtuals reg }
 {
-    match reg {
-        Reg::Real(p) => match p.class() {
+    match reg.kind() {
+        RegKind::Real(p) => match p.class() {
             RegClass::Int => false,
             RegClass::Float => p.hw_enc() < 32,
         },
-        Reg::Virtual { class, .. } => virtuals.are_allowed() && matches!(class, RegClass::Float),
+        RegKind::Virtual { class, .. } => virtuals.are_allowed()
+            && matches!(class, RegClass::Float),
     }
 }
 
@@ -63,12 +64,12 @@ pub fn is_vector_register(virtuals: VirtualRegisters, reg: Reg) -> bool
 pub fn is_fixed_register(virtuals: VirtualRegisters, number: u8, reg: &Reg) -> bool
     ensures { result ≡ operands.is_fixed_register virtuals number reg.now }
 {
-    match *reg {
-        Reg::Real(p) => match p.class() {
+    match reg.kind() {
+        RegKind::Real(p) => match p.class() {
             RegClass::Int => p.hw_enc() == number,
             RegClass::Float => false,
         },
-        Reg::Virtual { class, .. } => virtuals.are_allowed() && matches!(class, RegClass::Int),
+        RegKind::Virtual { class, .. } => virtuals.are_allowed() && matches!(class, RegClass::Int),
     }
 }
 
@@ -83,9 +84,9 @@ pub fn is_stack_pointer(virtuals: VirtualRegisters, reg: &Reg) -> bool
 pub fn is_any_register(virtuals: VirtualRegisters, reg: Reg) -> bool
     ensures { result ≡ operands.is_any_register virtuals reg }
 {
-    match reg {
-        Reg::Real(_) => true,
-        Reg::Virtual { .. } => virtuals.are_allowed(),
+    match reg.kind() {
+        RegKind::Real(_) => true,
+        RegKind::Virtual { .. } => virtuals.are_allowed(),
     }
 }
 
@@ -93,12 +94,12 @@ pub fn is_any_register(virtuals: VirtualRegisters, reg: Reg) -> bool
 pub fn is_same_register(a: &Reg, b: &Reg) -> bool
     ensures { result ≡ operands.is_same_register a.now b.now }
 {
-    match a {
-        Reg::Real(p) => match b {
-            Reg::Real(q) => p.class() == q.class() && p.hw_enc() == q.hw_enc(),
-            Reg::Virtual { .. } => true,
+    match a.kind() {
+        RegKind::Real(p) => match b.kind() {
+            RegKind::Real(q) => p.class() == q.class() && p.hw_enc() == q.hw_enc(),
+            RegKind::Virtual { .. } => true,
         },
-        Reg::Virtual { .. } => true,
+        RegKind::Virtual { .. } => true,
     }
 }
 
@@ -106,12 +107,12 @@ pub fn is_same_register(a: &Reg, b: &Reg) -> bool
 pub fn is_other_register(a: &Reg, b: &Reg) -> bool
     ensures { result ≡ operands.is_other_register a.now b.now }
 {
-    match a {
-        Reg::Real(p) => match b {
-            Reg::Real(q) => !(p.class() == q.class() && p.hw_enc() == q.hw_enc()),
-            Reg::Virtual { .. } => true,
+    match a.kind() {
+        RegKind::Real(p) => match b.kind() {
+            RegKind::Real(q) => !(p.class() == q.class() && p.hw_enc() == q.hw_enc()),
+            RegKind::Virtual { .. } => true,
         },
-        Reg::Virtual { .. } => true,
+        RegKind::Virtual { .. } => true,
     }
 }
 

@@ -8,12 +8,12 @@ use Rattle.a64_base.specs.declared.shift.ExtendOp.{ExtendOp}
 use Rattle.a64_base.specs.declared.shift.ExtendOp.TheVariants.{UXTB}
 use Rattle.a64_base.specs.declared.size.OperandSize.{OperandSize}
 use Rattle.a64_base.specs.declared.size.OperandSize.TheVariants.{Size32, Size64}
-use Rattle.a64_read.specs.declared.mode_name.MemLabelName.{MemLabelName}
-use Rattle.a64_read.specs.declared.mode_name.MemLabelName.TheVariants as label_names
-use Rattle.a64_read.specs.declared.value.Value.{Value}
-use Rattle.a64_read.specs.declared.value.Value.TheVariants as values
-use Rattle.a64_read.specs.Fields.{HasNo, size_text}
-use Rattle.a64_read.specs.Operators.{bool_text, cond_text, extend_text, mem_label_name_text}
+use Rattle.a64_tokens.specs.declared.label_name.MemLabelName.{MemLabelName}
+use Rattle.a64_tokens.specs.declared.label_name.MemLabelName.TheVariants as label_names
+use Rattle.a64_tokens.specs.declared.value.Value.{Value}
+use Rattle.a64_tokens.specs.declared.value.Value.TheVariants as values
+use Rattle.a64_tokens.specs.Fields.{HasNo, size_text}
+use Rattle.a64_tokens.specs.Operators.{bool_text, cond_text, extend_text, mem_label_name_text}
 use Rattle.a64_read.specs.PartLaws.{part_is}
 use Rattle.a64_read.specs.Parts.{part_text, part_texts, IsPart}
 use Rattle.a64_read.specs.RegisterLaws.{append_apart, at_each, digits, reg_apart, signed_apart, type_apart, IsBetween}

@@ -3,17 +3,17 @@ use Rattle.std.proofs.Common.{◌≡◌, ℕ, ◌<◌, List, [], ◌∷◌, leng
 use Rattle.std.specs.Prelude.{IfSome}
 use Rattle.std.specs.List.{AllByRecursion, join_with_byte}
 use Rattle.std.proofs.lemmas.List.Splits.{join_with_byte-slice_split}
-use Rattle.a64_read.specs.declared.value.Value.{Value}
-use Rattle.a64_read.specs.Fields.{HasNo, IsCall, call_text}
+use Rattle.a64_tokens.specs.declared.value.Value.{Value}
+use Rattle.a64_tokens.specs.Fields.{HasNo, IsCall, call_text}
 use Rattle.a64_read.specs.Parts.{part_text, part_texts, IsPart}
-use Rattle.a64_read.specs.Reads.{Reads}
+use Rattle.a64_tokens.specs.Reads.{Reads}
 use Rattle.a64_read.specs.RegisterLaws.{comma}
 use Rattle.a64_read.specs.Rows.{texts}
-use Rattle.a64_read.specs.Splitting.{comma_tokens}
+use Rattle.a64_tokens.specs.Splitting.{comma_tokens}
 use Rattle.a64_read.proofs.Between.{parts_apart, same_texts}
 use Rattle.a64_read.proofs.Calls.{made_no_call}
 use Rattle.a64_read.proofs.Schemas.{Names}
-use Rattle.a64_read.specs.SplitLaws.{split-join}
+use Rattle.a64_tokens.specs.SplitLaws.{split-join}
 
 -- fields, of which there is one at least, are split where they were joined
 fields_split : (vs : List Value) → 0 < length vs → AllByRecursion IsPart vs → comma_tokens (join_with_byte 44 (part_texts vs)) ≡ texts vs

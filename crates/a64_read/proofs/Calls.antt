@@ -3,10 +3,10 @@ use Rattle.std.proofs.Common.{Bor, ◌≡◌, ℕ, ◌<◌, List, [], ◌∷◌,
 use Rattle.std.specs.Prelude.{IfSome}
 use Rattle.std.specs.List.{join_with_byte}
 use Rattle.std.proofs.lemmas.List.Splits.{join_with_byte-slice_split}
-use Rattle.a64_read.specs.Fields.{IsCall, call_text}
-use Rattle.a64_read.specs.Reads.{Reads}
-use Rattle.a64_read.specs.SplitLaws.{split_at}
-use Rattle.a64_read.proofs.Splits.{heads, split, parts_left, first_plain, IsFront}
+use Rattle.a64_tokens.specs.Fields.{IsCall, call_text}
+use Rattle.a64_tokens.specs.Reads.{Reads}
+use Rattle.a64_tokens.specs.SplitLaws.{split_at}
+use Rattle.a64_tokens.proofs.Splits.{heads, split, parts_left, first_plain, IsFront}
 
 abbrev join : List (List ℕ) → List ℕ
 join tokens = join_with_byte 40 tokens

@@ -2,8 +2,8 @@
 use Rattle.std.proofs.Common.{Bor, ◌≡◌, ℕ, ◌+◌, List, [], ◌∷◌, ◌++◌, length, take, Option, Some, None, refl, sym, ap, ◌∙◌, append_assoc, append-nil, length-append, arith}
 use Rattle.std.specs.List.{join_with_byte}
 use Rattle.std.proofs.Math.Seq.{take-append_seam}
-use Rattle.a64_read.specs.SplitLaws.{comma_joined}
-use Rattle.a64_read.specs.Splitting.{by_twos, comma_pairs, comma_tokens, of_text}
+use Rattle.a64_tokens.specs.SplitLaws.{comma_joined}
+use Rattle.a64_tokens.specs.Splitting.{by_twos, comma_pairs, comma_tokens, of_text}
 
 -- one that is left over
 pub last_alone : (text front : List ℕ) (more : Option (Bor (List ℕ))) → more ≡ None → comma_tokens text ≡ front ∷ of_text comma_tokens more → comma_pairs text ≡ text ∷ []

@@ -8,8 +8,8 @@ use Rattle.a64_operand.specs.declared.fpu_op.FPUOpRI.TheVariants as fpu_op_ris
 use Rattle.a64_operand.specs.declared.fpu_op.FPUOpRIMod.{FPUOpRIMod}
 use Rattle.a64_operand.specs.declared.fpu_op.FPUOpRIMod.TheVariants as fpu_op_ri_mods
 use Rattle.a64_read.specs.FloatShifts.{fpu_op_ri_mod_parts, fpu_op_ri_parts, left_amount_text, right_amount_text, IsFpuOpRI, IsFpuOpRIMod, IsLeftAt, IsRightAt}
-use Rattle.a64_read.specs.Fields.{IsCall}
-use Rattle.a64_read.specs.Reads.{Reads}
+use Rattle.a64_tokens.specs.Fields.{IsCall}
+use Rattle.a64_tokens.specs.Reads.{Reads}
 
 -- whether the last byte but one of a name is a 3
 abbrev is_32 : List ℕ → Bool

@@ -1,14 +1,13 @@
 -- Fields that are joined by a byte.
-use Rattle.std.proofs.Common.{◌≡◌, ℕ, List, [], ◌∷◌, eqb, Option, Some, sym, ap, ◌∙◌}
+use Rattle.std.proofs.Common.{◌≡◌, ℕ, List, [], ◌∷◌, eqb, Option, Some, ap, ◌∙◌}
 use Rattle.std.specs.List.{AllByRecursion, slice_split, join_with_byte}
-use Rattle.std.proofs.lemmas.List.Splits.{join_with_byte-slice_split}
-use Rattle.a64_read.specs.declared.value.Kind.{Kind}
-use Rattle.a64_read.specs.declared.value.Value.{Value}
-use Rattle.a64_read.specs.Fields.{HasNo}
-use Rattle.a64_read.specs.Reads.{Reads}
+use Rattle.a64_tokens.specs.declared.value.Kind.{Kind}
+use Rattle.a64_tokens.specs.declared.value.Value.{Value}
+use Rattle.a64_tokens.specs.Fields.{HasNo}
+use Rattle.a64_tokens.specs.Reads.{Reads}
 use Rattle.a64_read.specs.Rows.{AreFields, texts}
 use Rattle.a64_read.specs.Values.{value_text}
-use Rattle.a64_read.specs.SplitLaws.{split-join}
+use Rattle.a64_tokens.specs.SplitLaws.{split-join}
 
 -- no text of such a field has the byte
 module _ (c : ℕ) (fits : Value → Type 0) (plain : (v : Value) → fits v → HasNo c (value_text v)) where
@@ -19,6 +18,3 @@ module _ (c : ℕ) (fits : Value → Type 0) (plain : (v : Value) → fits v →
   -- what is read of their texts, joined, is them
   pub joined_only : (kinds : List Kind) (token : List ℕ) (r : Option (List Value)) → Reads (AreFields fits kinds) texts (slice_split (λ b. eqb b c) token) r → (v : Value) (vs : List Value) → AreFields fits kinds (v ∷ vs) → token ≡ join_with_byte c (texts (v ∷ vs)) → r ≡ Some (v ∷ vs)
   joined_only kinds token r h v vs are e = h.only (v ∷ vs) are (ap (λ (t : List ℕ). slice_split (λ b. eqb b c) t) e ∙ split-join c (value_text v) (texts vs) (all_plain (v ∷ vs) are.1))
-
-pub joined_some : (c : ℕ) (token : List ℕ) (tokens : List (List ℕ)) → slice_split (λ b. eqb b c) token ≡ tokens → token ≡ join_with_byte c tokens
-joined_some c token tokens e = sym (join_with_byte-slice_split c token) ∙ ap (λ (t : List (List ℕ)). join_with_byte c t) e

@@ -1,13 +1,13 @@
 -- What is read for a kind is what a field of the kind says.
 use Rattle.std.proofs.Common.{◌≡◌, ℕ, List, Option, Some, sym, subst}
 use Rattle.std.specs.Prelude.{IfSome}
-use Rattle.a64_read.specs.declared.value.Kind.{Kind}
-use Rattle.a64_read.specs.declared.value.Kind.TheVariants as kinds
-use Rattle.a64_read.specs.declared.vec_op.VecOp.TheVariants as vec_ops
-use Rattle.a64_read.specs.declared.vec_op.VecOpKind.TheVariants as vec_kinds
-use Rattle.a64_read.specs.declared.value.Value.{Value}
-use Rattle.a64_read.specs.declared.value.Value.TheVariants as values
-use Rattle.a64_read.specs.Reads.{Reads}
+use Rattle.a64_tokens.specs.declared.value.Kind.{Kind}
+use Rattle.a64_tokens.specs.declared.value.Kind.TheVariants as kinds
+use Rattle.a64_tokens.specs.declared.vec_op.VecOp.TheVariants as vec_ops
+use Rattle.a64_tokens.specs.declared.vec_op.VecOpKind.TheVariants as vec_kinds
+use Rattle.a64_tokens.specs.declared.value.Value.{Value}
+use Rattle.a64_tokens.specs.declared.value.Value.TheVariants as values
+use Rattle.a64_tokens.specs.Reads.{Reads}
 use Rattle.a64_read.specs.Values.{kind_of, value_text, IsValue, IsOf, ReadsKind}
 
 some_of : (kind : Kind) (token : List ℕ) (r : Option Value) → ReadsKind kind token r → IfSome r (λ v. IsOf kind v × (token ≡ value_text v))

@@ -1,33 +1,10 @@
 -- Lists, as far as they were read.
-use Rattle.std.proofs.Common.{Bor, ◌≡◌, ℕ, ◌<◌, eqb, List, [], ◌∷◌, ◌++◌, length, map, Option, Some, None, refl, sym, ap, subst, ◌∙◌, append_assoc, append-nil, get_or, length-append, arith}
-use Rattle.std.specs.Prelude.{codes, MatchOption}
-use Rattle.std.specs.List.{AllByRecursion, join_with_byte, slice_split}
-use Rattle.a64_read.specs.Fields.{HasNo}
-use Rattle.a64_read.specs.Lists.{list_text, same_text}
-use Rattle.a64_read.specs.Reads.{Reads}
-use Rattle.a64_read.proofs.Joined.{joined_some}
-use Rattle.a64_read.specs.SplitLaws.{split_none}
-use Rattle.a64_read.proofs.Splits.{first_plain, heads, parts_left}
-
--- ---- a list as it is written has no space
-
-pub no_space : (token front : List ℕ) → slice_split (λ b. eqb b 32) token ≡ front ∷ [] → Reads (HasNo 32) same_text token (Some token)
-no_space token front e = record {
-  some = (subst (λ (t : List ℕ). HasNo 32 t) (sym (joined_some 32 token (front ∷ []) e)) (first_plain 32 token front [] e), refl);
-  only = λ x fits same. ap (λ (t : List ℕ). Some t) same;
-}
-
-a_space : (token front rest : List ℕ) → slice_split (λ b. eqb b 32) token ≡ front ∷ slice_split (λ b. eqb b 32) rest → Reads (HasNo 32) same_text token None
-a_space token front rest e = record {
-  some = tt;
-  only = λ x fits same.
-      let one : x ∷ [] ≡ front ∷ slice_split (λ b. eqb b 32) rest = sym (split_none 32 x fits) ∙ ap (λ (t : List ℕ). slice_split (λ b. eqb b 32) t) (sym same) ∙ e in
-      absurd (omega (arith, parts_left 32 rest, ap (λ (t : List (List ℕ)). length t) one));
-}
-
-pub has_space : (token front : List ℕ) (more : Option (Bor (List ℕ))) (rest : Bor (List ℕ)) → more ≡ Some rest → MatchOption more (slice_split (λ b. eqb b 32) token ≡ front ∷ []) (λ rest. (slice_split (λ b. eqb b 32) token ≡ front ∷ slice_split (λ b. eqb b 32) rest.now) × (length rest.now < length token)) → Reads (HasNo 32) same_text token None
-has_space token front None rest is cut = absurd cc
-has_space token front (Some other) rest is cut = a_space token front other.now cut.0
+use Rattle.std.proofs.Common.{◌≡◌, ℕ, ◌<◌, List, [], ◌∷◌, ◌++◌, length, map, Some, None, refl, sym, ap, ◌∙◌, append_assoc, append-nil, get_or, length-append, arith}
+use Rattle.std.specs.Prelude.{codes}
+use Rattle.std.specs.List.{AllByRecursion, join_with_byte}
+use Rattle.a64_tokens.specs.Lists.{list_text}
+use Rattle.a64_tokens.specs.Reads.{Reads}
+use Rattle.a64_tokens.proofs.Splits.{heads}
 
 -- ---- what was read is the front of the list, and it is told by what is left of the tokens
 

@@ -1,19 +1,20 @@
 -- An immediate of a vector move is two numbers and a truth value with commas between.
 use Rattle.std.proofs.Common.{◌≡◌, ℕ, List, [], ◌∷◌, eqb, Option, Some, None, option_map, refl, sym, ap, subst, ◌∙◌}
 use Rattle.std.specs.List.{slice_split, join_with_byte, AllByRecursion}
-use Rattle.a64_read.specs.declared.mov_imm.WrittenMovImm.{WrittenMovImm}
-use Rattle.a64_read.specs.declared.value.Kind.{Kind}
-use Rattle.a64_read.specs.declared.value.Kind.TheVariants as kinds
-use Rattle.a64_read.specs.declared.value.Value.{Value}
-use Rattle.a64_read.specs.declared.value.Value.TheVariants as values
+use Rattle.a64_tokens.specs.declared.value.WrittenMovImm.{WrittenMovImm}
+use Rattle.a64_tokens.specs.declared.value.Kind.{Kind}
+use Rattle.a64_tokens.specs.declared.value.Kind.TheVariants as kinds
+use Rattle.a64_tokens.specs.declared.value.Value.{Value}
+use Rattle.a64_tokens.specs.declared.value.Value.TheVariants as values
 use Rattle.a64_read.specs.At.{truth_at, u8_at}
 use Rattle.a64_read.specs.MovImms.{mov_imm_fields, mov_imm_text, IsWrittenMovImm}
 use Rattle.a64_read.specs.Parts.{IsPart}
-use Rattle.a64_read.specs.Reads.{Reads}
+use Rattle.a64_tokens.specs.Reads.{Reads}
 use Rattle.a64_read.specs.RegisterLaws.{comma}
 use Rattle.a64_read.specs.Rows.{AreFields, texts}
 use Rattle.a64_read.specs.Same.{at_their_places}
-use Rattle.a64_read.proofs.Joined.{joined_only, joined_some}
+use Rattle.a64_read.proofs.Joined.{joined_only}
+use Rattle.a64_tokens.proofs.Splits.{joined_some}
 use Rattle.a64_read.proofs.Between.{part_value_apart}
 
 abbrev pub three : List Kind

@@ -4,8 +4,8 @@ use Rattle.std.proofs.Common.{arith}
 use Rattle.std.specs.Fmt.{signed_decimal}
 use Rattle.std.proofs.lemmas.Int.{ints}
 use Rattle.a64_imms.specs.declared.offset.SImm9.{SImm9}
-use Rattle.a64_read.specs.Fields.{IsSImm9}
-use Rattle.a64_read.specs.Reads.{Reads, IsI64}
+use Rattle.a64_tokens.specs.Fields.{IsSImm9}
+use Rattle.a64_tokens.specs.Reads.{Reads, IsI64}
 
 pub offset9_fits : (imm : SImm9) → IsSImm9 imm → IsI64 imm.value
 offset9_fits imm fits = omega (arith, ints, fits.low, fits.high)

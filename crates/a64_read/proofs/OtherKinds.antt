@@ -3,8 +3,8 @@ use Rattle.std.specs.Prelude.{◌≡◌, Some, None, false, refl}
 use Rattle.std.proofs.Common.{ap}
 use Rattle.a64_imms.specs.Flags as flags
 use Rattle.a64_imms.specs.declared.flags.NZCV.{NZCV}
-use Rattle.a64_read.specs.declared.value.Value.{Value}
-use Rattle.a64_read.specs.declared.value.Value.TheVariants as values
+use Rattle.a64_tokens.specs.declared.value.Value.{Value}
+use Rattle.a64_tokens.specs.declared.value.Value.TheVariants as values
 use Rattle.a64_read.specs.At.{alu_op3_of, alu_op_of, api_key_of, atomic_rmw_loop_op_of, atomic_rmw_op_of, bfm_op_of, bit_op_of, branch_target_type_of, cond_br_kind_of, cond_of, convention_of, emit_flag_of, extend_of, flags_of, fpu_op1_of, fpu_op2_of, fpu_op3_of, fpu_op_ri_mod_of, fpu_op_ri_of, fpu_round_mode_of, fpu_to_int_op_of, frame_field_of, i32_of, i64_of, imm12_of, imm_shift_of, int_to_fpu_op_of, key_of, label_of, map_of, mem_label_name_of, mode_of, mov_imm_of, move_wide_op_of, nzcv_of, offset9_of, pair_mode_of, preg_of, reg_of, scalar_size_of, shift_of, size_of, target_of, test_bit_kind_of, truth_of, type_of, u32_of, u64_of, u8_of, uimm5_of, uimm6_of, vec_op_of, vector_size_of, wide_of}
 
 pub alu_op_else : (v : Value) → ((x : _) → v ≡ values.AluOp x → ⊥) → alu_op_of None ≡ alu_op_of (Some v)

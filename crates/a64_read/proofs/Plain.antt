@@ -62,34 +62,34 @@ use Rattle.a64_operand.specs.declared.fpu_op.FPUOpRI.{FPUOpRI}
 use Rattle.a64_operand.specs.declared.fpu_op.FPUOpRI.TheVariants as fpu_op_ris
 use Rattle.a64_operand.specs.declared.fpu_op.FPUOpRIMod.{FPUOpRIMod}
 use Rattle.a64_operand.specs.declared.fpu_op.FPUOpRIMod.TheVariants as fpu_op_ri_mods
-use Rattle.a64_read.specs.declared.emit_flag.EmitFlag.{EmitFlag}
-use Rattle.a64_read.specs.declared.emit_flag.EmitFlag.TheVariants.{EnableProbestack}
-use Rattle.a64_read.specs.declared.frame_field.FrameField.{FrameField}
-use Rattle.a64_read.specs.declared.frame_field.FrameField.TheVariants.{SetupAreaSize}
+use Rattle.a64_tokens.specs.declared.emit_flag.EmitFlag.{EmitFlag}
+use Rattle.a64_tokens.specs.declared.emit_flag.EmitFlag.TheVariants.{EnableProbestack}
+use Rattle.a64_tokens.specs.declared.frame_field.FrameField.{FrameField}
+use Rattle.a64_tokens.specs.declared.frame_field.FrameField.TheVariants.{SetupAreaSize}
 use Rattle.a64_read.specs.declared.branch_name.CondBrName.{CondBrName}
 use Rattle.a64_read.specs.declared.branch_name.CondBrName.TheVariants as cond_br_names
 use Rattle.a64_read.specs.declared.mode_name.ModeName.{ModeName}
 use Rattle.a64_read.specs.declared.mode_name.ModeName.TheVariants as mode_names
 use Rattle.a64_read.specs.declared.mode_name.PairModeName.{PairModeName}
 use Rattle.a64_read.specs.declared.mode_name.PairModeName.TheVariants as pair_names
-use Rattle.a64_read.specs.declared.value.Value.{Value}
-use Rattle.a64_read.specs.declared.value.Value.TheVariants as values
+use Rattle.a64_tokens.specs.declared.value.Value.{Value}
+use Rattle.a64_tokens.specs.declared.value.Value.TheVariants as values
 use Rattle.a64_read.specs.Values.{value_text, IsValue}
-use Rattle.a64_read.specs.Reads.{IsU8, IsU32, IsU64, IsI32}
-use Rattle.a64_read.specs.Operators.{alu_op_text, alu_op3_text, atomic_rmw_loop_op_text, atomic_rmw_op_text, bit_op_text, bfm_op_text, move_wide_op_text, shift_op_text, branch_target_type_text, emit_flag_text, frame_field_text, test_bit_text}
+use Rattle.a64_tokens.specs.Reads.{IsU8, IsU32, IsU64, IsI32}
+use Rattle.a64_tokens.specs.Operators.{alu_op_text, alu_op3_text, atomic_rmw_loop_op_text, atomic_rmw_op_text, bit_op_text, bfm_op_text, move_wide_op_text, shift_op_text, branch_target_type_text, emit_flag_text, frame_field_text, test_bit_text}
 use Rattle.a64_read.specs.Branches.{cond_br_name_text, cond_br_name_of, cond_br_fields}
-use Rattle.a64_read.specs.Conventions.{api_key_text, convention_text, key_text}
-use Rattle.a64_read.specs.FloatOperators.{fpu_op1_text, fpu_op2_text, fpu_op3_text, fpu_round_mode_text, fpu_to_int_op_text, int_to_fpu_op_text}
+use Rattle.a64_tokens.specs.Conventions.{api_key_text, convention_text, key_text}
+use Rattle.a64_tokens.specs.FloatOperators.{fpu_op1_text, fpu_op2_text, fpu_op3_text, fpu_round_mode_text, fpu_to_int_op_text, int_to_fpu_op_text}
 use Rattle.a64_read.specs.FloatShifts.{fpu_op_ri_mod_text, fpu_op_ri_text, IsFpuOpRI, IsFpuOpRIMod}
-use Rattle.a64_read.specs.declared.mov_imm.WrittenMovImm.{WrittenMovImm}
+use Rattle.a64_tokens.specs.declared.value.WrittenMovImm.{WrittenMovImm}
 use Rattle.a64_read.specs.MovImms.{mov_imm_fields, mov_imm_text, IsWrittenMovImm}
 use Rattle.a64_read.proofs.VecPlain.{vec_op_plain}
 use Rattle.a64_read.specs.Modes.{mode_name_text, mode_name_of, mode_fields, pair_name_text, pair_name_of, pair_fields}
 use Rattle.a64_read.specs.Parts.{part_texts, IsPart}
 use Rattle.a64_read.proofs.Between.{join_plain, parts_apart, part_apart}
 use Rattle.a64_read.specs.RegisterLaws.{append_apart, real_apart, space}
-use Rattle.a64_read.specs.DigitLaws.{decimal_apart}
-use Rattle.a64_read.specs.Fields.{HasNo, call_text, flags_text, IsFlags, map_text, IsMapNumber, label_text, IsLabel, target_text, IsTarget, imm12_text, IsImm12, IsPReg, preg_text, wide_text, IsWide, scalar_size_text, shift_text, IsShift, nzcv_text, uimm5_text, vector_size_text}
+use Rattle.a64_tokens.specs.DigitLaws.{decimal_apart}
+use Rattle.a64_tokens.specs.Fields.{HasNo, call_text, flags_text, IsFlags, map_text, IsMapNumber, label_text, IsLabel, target_text, IsTarget, imm12_text, IsImm12, IsPReg, preg_text, wide_text, IsWide, scalar_size_text, shift_text, IsShift, nzcv_text, uimm5_text, vector_size_text}
 
 pub decimal_plain : (n : ℕ) → IsU64 n → HasNo 32 (decimal n)
 decimal_plain n fits = decimal_apart 32 n (inl (lit< tt)) fits

@@ -1,10 +1,10 @@
 -- What was read and, where it is a field, stored was put.
 use Rattle.std.proofs.Common.{◌≡◌, ℕ, List, Bool, true, false, Option, Some, None}
 use Rattle.std.specs.Prelude.{MatchOption}
-use Rattle.a64_read.specs.declared.value.Kind.{Kind}
-use Rattle.a64_read.specs.declared.value.Value.{Value}
+use Rattle.a64_tokens.specs.declared.value.Kind.{Kind}
+use Rattle.a64_tokens.specs.declared.value.Value.{Value}
 use Rattle.a64_read.specs.Parts.{IsPart}
-use Rattle.a64_read.specs.Reads.{Reads}
+use Rattle.a64_tokens.specs.Reads.{Reads}
 use Rattle.a64_read.specs.ReadsParts.{ReadsPart}
 use Rattle.a64_read.specs.Rows.{IsPut}
 use Rattle.a64_read.specs.Values.{kind_of, value_text, IsOf, ReadsKind}

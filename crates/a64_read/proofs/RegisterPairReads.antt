@@ -7,12 +7,11 @@ use Rattle.a64_inst.specs.declared.call.CallRetPair.{CallRetPair}
 use Rattle.a64_inst.specs.declared.call.RetLocation.{RetLocation}
 use Rattle.a64_inst.specs.declared.pair.ArgPair.{ArgPair}
 use Rattle.a64_inst.specs.declared.pair.RetPair.{RetPair}
-use Rattle.a64_read.specs.Fields.{HasNo, reg_text, IsReg}
-use Rattle.a64_read.specs.Reads.{Reads}
+use Rattle.a64_tokens.specs.Fields.{HasNo, reg_text, IsReg}
+use Rattle.a64_tokens.specs.Reads.{Reads}
 use Rattle.a64_read.specs.RegisterLaws.{equals, reg_apart}
-use Rattle.a64_read.specs.SplitLaws.{split-join, split_none}
-use Rattle.a64_read.proofs.Joined.{joined_some}
-use Rattle.a64_read.proofs.Splits.{heads, split, IsFront}
+use Rattle.a64_tokens.specs.SplitLaws.{split-join, split_none}
+use Rattle.a64_tokens.proofs.Splits.{heads, joined_some, split, IsFront}
 
 -- `text` and `fits` are those of what stands behind the equals sign
 module _ {B : Type 0} (text : B → List ℕ) (fits : B → Type 0) (apart : (b : B) → fits b → HasNo 61 (text b)) (token front : List ℕ) where

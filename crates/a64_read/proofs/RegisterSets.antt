@@ -13,9 +13,9 @@ use Rattle.a64_base.specs.declared.reg.RegClass.{RegClass}
 use Rattle.a64_base.specs.declared.reg.RegClass.TheVariants.{Int, Float}
 use Rattle.a64_base.specs.declared.set.PRegSet.{PRegSet}
 use Rattle.a64_read.specs.Clobbers.{clobbers_text, members, members_from, nth_register, IsPRegSet}
-use Rattle.a64_read.specs.Fields.{preg_text, IsPReg}
-use Rattle.a64_read.specs.Lists.{list_text}
-use Rattle.a64_read.specs.Reads.{Reads}
+use Rattle.a64_tokens.specs.Fields.{preg_text, IsPReg}
+use Rattle.a64_tokens.specs.Lists.{list_text}
+use Rattle.a64_tokens.specs.Reads.{Reads}
 
 -- ---- numbers with the same bits are equal
 

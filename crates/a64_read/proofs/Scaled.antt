@@ -13,8 +13,8 @@ use Rattle.a64_imms.specs.Offsets.{IsScaledOffset}
 use Rattle.a64_imms.specs.ScaledOffsets.{uimm12_value, uimm12_scale}
 use Rattle.a64_imms.specs.Scales.{type_bytes}
 use Rattle.a64_read.specs.Modes.{IsScaled, scaled_parts}
-use Rattle.a64_read.specs.Reads.{Reads}
-use Rattle.a64_read.specs.Types.{is_scale}
+use Rattle.a64_tokens.specs.Reads.{Reads}
+use Rattle.a64_tokens.specs.Types.{is_scale}
 
 -- the types that scale have 16 bytes at most
 pub scale_bytes : (ty : IrType) → is_scale ty ≡ true → type_bytes ty ≤ 16

@@ -2,9 +2,9 @@
 use Rattle.std.proofs.Common.{ℕ, List, Some, None, ap}
 use Rattle.std.specs.Fmt.{decimal}
 use Rattle.a64_base.specs.ShiftParts.{Shift}
-use Rattle.a64_read.specs.Fields.{IsCall, call_text, IsShift, shift_text}
-use Rattle.a64_read.specs.Operators.{shift_op_text}
-use Rattle.a64_read.specs.Reads.{Reads, Always}
+use Rattle.a64_tokens.specs.Fields.{IsCall, call_text, IsShift, shift_text}
+use Rattle.a64_tokens.specs.Operators.{shift_op_text}
+use Rattle.a64_tokens.specs.Reads.{Reads, Always}
 use Rattle.a64_read.proofs.Calls.{made_call, made_no_call}
 use Rattle.a64_read.proofs.Plain.{shift_op_apart}
 

@@ -26,9 +26,9 @@ use Rattle.a64_ops.specs.declared.vector.VecShiftImmOp.{VecShiftImmOp}
 use Rattle.a64_ops.specs.declared.vector.VecShiftImmOp.TheVariants as vec_shift_imm_ops
 use Rattle.a64_ops.specs.declared.vector.VecShiftImmModOp.{VecShiftImmModOp}
 use Rattle.a64_ops.specs.declared.vector.VecShiftImmModOp.TheVariants as vec_shift_imm_mod_ops
-use Rattle.a64_read.specs.declared.vec_op.VecOp.{VecOp}
-use Rattle.a64_read.specs.declared.vec_op.VecOp.TheVariants as vec_ops
-use Rattle.a64_read.specs.Fields.{HasNo}
+use Rattle.a64_tokens.specs.declared.vec_op.VecOp.{VecOp}
+use Rattle.a64_tokens.specs.declared.vec_op.VecOp.TheVariants as vec_ops
+use Rattle.a64_tokens.specs.Fields.{HasNo}
 use Rattle.a64_read.specs.VecOps.{vec_op_text}
 
 pub vec_op_plain : (x : VecOp) → HasNo 32 (vec_op_text x)

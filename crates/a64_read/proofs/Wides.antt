@@ -2,18 +2,19 @@
 use Rattle.std.proofs.Common.{◌≡◌, ℕ, ◌*◌, List, [], ◌∷◌, eqb, Option, Some, None, refl, sym, ap, ◌∙◌, arith}
 use Rattle.std.specs.List.{slice_split, join_with_byte}
 use Rattle.a64_imms.specs.declared.move_wide.MoveWideConst.{MoveWideConst}
-use Rattle.a64_read.specs.declared.value.Kind.{Kind}
-use Rattle.a64_read.specs.declared.value.Kind.TheVariants as kinds
-use Rattle.a64_read.specs.declared.value.Value.{Value}
-use Rattle.a64_read.specs.declared.value.Value.TheVariants as values
+use Rattle.a64_tokens.specs.declared.value.Kind.{Kind}
+use Rattle.a64_tokens.specs.declared.value.Kind.TheVariants as kinds
+use Rattle.a64_tokens.specs.declared.value.Value.{Value}
+use Rattle.a64_tokens.specs.declared.value.Value.TheVariants as values
 use Rattle.a64_read.specs.At.{u32_at}
-use Rattle.a64_read.specs.Fields.{IsWide, wide_text}
+use Rattle.a64_tokens.specs.Fields.{IsWide, wide_text}
 use Rattle.a64_read.specs.Parts.{IsPart}
-use Rattle.a64_read.specs.Reads.{Reads}
+use Rattle.a64_tokens.specs.Reads.{Reads}
 use Rattle.a64_read.specs.RegisterLaws.{comma}
 use Rattle.a64_read.specs.Rows.{AreFields, texts}
 use Rattle.a64_read.specs.Same.{at_their_places}
-use Rattle.a64_read.proofs.Joined.{joined_only, joined_some}
+use Rattle.a64_read.proofs.Joined.{joined_only}
+use Rattle.a64_tokens.proofs.Splits.{joined_some}
 use Rattle.a64_read.proofs.Between.{part_value_apart}
 
 abbrev two : List Kind

@@ -34,7 +34,7 @@ use Rattle.a64_base.specs.declared.cond.CondBrKind.{CondBrKind}
 use Rattle.a64_base.specs.declared.cond.CondBrKind.TheVariants as cond_brs
 use Rattle.a64_base.specs.declared.cond.TestBitAndBranchKind.{TestBitAndBranchKind}
 use Rattle.a64_base.specs.declared.cond.TestBitAndBranchKind.TheVariants as bit_tests
-use Rattle.a64_base.specs.declared.reg.Reg.TheVariants.{Virtual}
+use Rattle.a64_base.specs.declared.reg.RegKind.TheVariants.{Virtual}
 use Rattle.a64_base.specs.declared.reg.RegClass.TheVariants.{Int}
 use Rattle.a64_base.specs.declared.shift.ExtendOp.TheVariants as extends
 use Rattle.a64_base.specs.declared.shift.ShiftOp.TheVariants.{LSL}
@@ -54,11 +54,11 @@ use Rattle.a64_operand.specs.declared.fpu_op.FPUOpRIMod.{FPUOpRIMod}
 use Rattle.a64_operand.specs.declared.fpu_op.FPUOpRIMod.TheVariants as fpu_op_ri_mods
 use Rattle.a64_inst.specs.declared.mode.AMode.{AMode}
 use Rattle.a64_inst.specs.declared.mode.AMode.TheVariants as modes
-use Rattle.a64_read.specs.declared.mov_imm.WrittenMovImm.{WrittenMovImm}
-use Rattle.a64_read.specs.declared.pair_mode.WrittenPairMode.{WrittenPairMode}
-use Rattle.a64_read.specs.declared.pair_mode.WrittenPairMode.TheVariants as pair_modes
-use Rattle.a64_read.specs.declared.vec_op.VecOp.{VecOp}
-use Rattle.a64_read.specs.declared.vec_op.VecOp.TheVariants as vec_ops
+use Rattle.a64_tokens.specs.declared.value.WrittenMovImm.{WrittenMovImm}
+use Rattle.a64_tokens.specs.declared.pair_mode.WrittenPairMode.{WrittenPairMode}
+use Rattle.a64_tokens.specs.declared.pair_mode.WrittenPairMode.TheVariants as pair_modes
+use Rattle.a64_tokens.specs.declared.vec_op.VecOp.{VecOp}
+use Rattle.a64_tokens.specs.declared.vec_op.VecOp.TheVariants as vec_ops
 use Rattle.a64_ops.specs.declared.vector.VecPairOp.TheVariants as vec_pair_ops
 use Rattle.a64_ops.specs.declared.float.FPUOp1.{FPUOp1}
 use Rattle.a64_ops.specs.declared.float.FPUOp1.TheVariants as fpu_op1s
@@ -79,14 +79,14 @@ use Rattle.a64_base.specs.declared.size.VectorSize.TheVariants as vector_sizes
 use Rattle.a64_ops.specs.declared.system.BranchTargetType.{BranchTargetType}
 use Rattle.a64_ops.specs.declared.system.BranchTargetType.TheVariants as branch_target_types
 use Rattle.a64_base.specs.declared.key.APIKey.TheVariants as api_keys
-use Rattle.a64_read.specs.declared.mode_name.MemLabelName.{MemLabelName}
-use Rattle.a64_read.specs.declared.mode_name.MemLabelName.TheVariants as label_names
-use Rattle.a64_read.specs.declared.emit_flag.EmitFlag.{EmitFlag}
-use Rattle.a64_read.specs.declared.emit_flag.EmitFlag.TheVariants as emit_flags
-use Rattle.a64_read.specs.declared.frame_field.FrameField.{FrameField}
-use Rattle.a64_read.specs.declared.frame_field.FrameField.TheVariants as frame_fields
-use Rattle.a64_read.specs.declared.value.Value.{Value}
-use Rattle.a64_read.specs.declared.value.Value.TheVariants as values
+use Rattle.a64_tokens.specs.declared.label_name.MemLabelName.{MemLabelName}
+use Rattle.a64_tokens.specs.declared.label_name.MemLabelName.TheVariants as label_names
+use Rattle.a64_tokens.specs.declared.emit_flag.EmitFlag.{EmitFlag}
+use Rattle.a64_tokens.specs.declared.emit_flag.EmitFlag.TheVariants as emit_flags
+use Rattle.a64_tokens.specs.declared.frame_field.FrameField.{FrameField}
+use Rattle.a64_tokens.specs.declared.frame_field.FrameField.TheVariants as frame_fields
+use Rattle.a64_tokens.specs.declared.value.Value.{Value}
+use Rattle.a64_tokens.specs.declared.value.Value.TheVariants as values
 
 abbrev pub alu_op_of : Option Value → ALUOp
 alu_op_of (Some (values.AluOp x)) = x

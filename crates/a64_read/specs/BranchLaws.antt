@@ -7,11 +7,11 @@ use Rattle.a64_base.specs.declared.cond.CondBrKind.TheVariants as cond_brs
 use Rattle.a64_read.specs.declared.branch_name.TheConstants.{COND_BR_HOMES, COND_BRS}
 use Rattle.a64_read.specs.declared.branch_name.CondBrName.{CondBrName}
 use Rattle.a64_read.specs.declared.branch_name.CondBrName.TheVariants as cond_br_names
-use Rattle.a64_read.specs.declared.value.Value.{Value}
+use Rattle.a64_tokens.specs.declared.value.Value.{Value}
 use Rattle.a64_read.specs.BranchMakes.{cond_br_of, MakesCondBr}
 use Rattle.a64_read.specs.Branches.{cond_br_name_text, cond_br_kinds, cond_br_name_of, cond_br_fields, IsOwnCondBr}
-use Rattle.a64_read.specs.Fields.{HasNo}
-use Rattle.a64_read.specs.Hash.{look_up}
+use Rattle.a64_tokens.specs.Fields.{HasNo}
+use Rattle.a64_tokens.specs.Hash.{look_up}
 use Rattle.a64_read.specs.Same.{at_their_places}
 use Rattle.a64_read.specs.Values.{kind_of, IsValue}
 

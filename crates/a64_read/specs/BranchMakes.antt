@@ -4,7 +4,7 @@ use Rattle.a64_base.specs.declared.cond.CondBrKind.{CondBrKind}
 use Rattle.a64_base.specs.declared.cond.CondBrKind.TheVariants as cond_brs
 use Rattle.a64_read.specs.declared.branch_name.CondBrName.{CondBrName}
 use Rattle.a64_read.specs.declared.branch_name.CondBrName.TheVariants as cond_br_names
-use Rattle.a64_read.specs.declared.value.Value.{Value}
+use Rattle.a64_tokens.specs.declared.value.Value.{Value}
 use Rattle.a64_read.specs.At.{cond_at, reg_at, size_at}
 
 -- the test of this name with these fields

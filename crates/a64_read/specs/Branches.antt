@@ -5,11 +5,11 @@ use Rattle.a64_base.specs.declared.cond.CondBrKind.{CondBrKind}
 use Rattle.a64_base.specs.declared.cond.CondBrKind.TheVariants as cond_brs
 use Rattle.a64_read.specs.declared.branch_name.CondBrName.{CondBrName}
 use Rattle.a64_read.specs.declared.branch_name.CondBrName.TheVariants as cond_br_names
-use Rattle.a64_read.specs.declared.value.Kind.{Kind}
-use Rattle.a64_read.specs.declared.value.Kind.TheVariants as kinds
-use Rattle.a64_read.specs.declared.value.Value.{Value}
-use Rattle.a64_read.specs.declared.value.Value.TheVariants as values
-use Rattle.a64_read.specs.Fields.{call_text}
+use Rattle.a64_tokens.specs.declared.value.Kind.{Kind}
+use Rattle.a64_tokens.specs.declared.value.Kind.TheVariants as kinds
+use Rattle.a64_tokens.specs.declared.value.Value.{Value}
+use Rattle.a64_tokens.specs.declared.value.Value.TheVariants as values
+use Rattle.a64_tokens.specs.Fields.{call_text}
 use Rattle.a64_read.specs.Heading.{Heading}
 use Rattle.a64_read.specs.Parts.{part_texts, IsPart}
 

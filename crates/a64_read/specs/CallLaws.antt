@@ -11,13 +11,13 @@ use Rattle.a64_inst.specs.declared.call.CallRetPair.{CallRetPair}
 use Rattle.a64_inst.specs.declared.call.RetLocation.{RetLocation}
 use Rattle.a64_inst.specs.declared.call.RetLocation.TheVariants as locations
 use Rattle.a64_read.specs.Calls.{call_arg_text, IsCallArg, call_ret_text, IsCallRet}
-use Rattle.a64_read.specs.Fields.{HasNo, preg_text, real_text, reg_text, IsPReg}
+use Rattle.a64_tokens.specs.Fields.{HasNo, preg_text, real_text, reg_text, IsPReg}
 use Rattle.a64_read.specs.Locations.{location_text, IsLocation}
 use Rattle.a64_read.specs.PairLaws.{no_dash, pair_apart}
 use Rattle.a64_read.specs.RegisterLaws.{append_apart, at_each, comma, equals, real_apart, reg_apart, signed_apart, type_apart, IsBetween}
-use Rattle.a64_read.specs.SplitLaws.{comma_apart, pairs_apart}
-use Rattle.a64_read.specs.Splitting.{comma_pairs, comma_tokens}
-use Rattle.a64_read.specs.Types.{type_text}
+use Rattle.a64_tokens.specs.SplitLaws.{comma_apart, pairs_apart}
+use Rattle.a64_tokens.specs.Splitting.{comma_pairs, comma_tokens}
+use Rattle.a64_tokens.specs.Types.{type_text}
 
 pub call_arg_apart : (arg : CallArgPair) (args : List CallArgPair) → AllByRecursion IsCallArg (arg ∷ args) → comma_tokens (join_with_byte 44 (map call_arg_text (arg ∷ args))) ≡ map call_arg_text (arg ∷ args)
 call_arg_apart = comma_apart call_arg_text IsCallArg (λ arg fits. pair_apart (arg.vreg, arg.preg) fits)

@@ -5,8 +5,8 @@ use Rattle.a64_base.specs.declared.set.PRegSet.{PRegSet}
 use Rattle.a64_inst.specs.declared.call.CallArgPair.{CallArgPair}
 use Rattle.a64_inst.specs.declared.call.CallRetPair.{CallRetPair}
 use Rattle.a64_read.specs.Clobbers.{clobbers_text, IsPRegSet}
-use Rattle.a64_read.specs.Fields.{reg_text, IsReg}
-use Rattle.a64_read.specs.Lists.{list_text}
+use Rattle.a64_tokens.specs.Fields.{reg_text, IsReg}
+use Rattle.a64_tokens.specs.Lists.{list_text}
 use Rattle.a64_read.specs.Locations.{location_text, IsLocation}
 use Rattle.a64_read.specs.RegisterPairs.{register_pair_text, IsRegisterPair}
 

@@ -4,9 +4,9 @@ use Rattle.a64_base.specs.RegisterNumbers.{RealRegister}
 use Rattle.a64_base.specs.Sets.{has}
 use Rattle.a64_base.specs.declared.reg.RegClass.TheVariants.{Int, Float}
 use Rattle.a64_base.specs.declared.set.PRegSet.{PRegSet}
-use Rattle.a64_read.specs.Fields.{preg_text}
-use Rattle.a64_read.specs.Lists.{list_text}
-use Rattle.a64_read.specs.Reads.{IsU32}
+use Rattle.a64_tokens.specs.Fields.{preg_text}
+use Rattle.a64_tokens.specs.Lists.{list_text}
+use Rattle.a64_tokens.specs.Reads.{IsU32}
 
 -- the registers of the machine in the order in which lists have them: the integer registers by number, of
 -- which the stack pointer has the highest, and behind them the float registers

@@ -9,7 +9,7 @@ use Rattle.a64_operand.specs.declared.fpu_op.FPUOpRI.{FPUOpRI}
 use Rattle.a64_operand.specs.declared.fpu_op.FPUOpRI.TheVariants as fpu_op_ris
 use Rattle.a64_operand.specs.declared.fpu_op.FPUOpRIMod.{FPUOpRIMod}
 use Rattle.a64_operand.specs.declared.fpu_op.FPUOpRIMod.TheVariants as fpu_op_ri_mods
-use Rattle.a64_read.specs.Fields.{call_text}
+use Rattle.a64_tokens.specs.Fields.{call_text}
 
 abbrev pub right_amount_text : FPURightShiftImm → List ℕ
 right_amount_text imm = decimal imm.amount

@@ -7,11 +7,11 @@ use Rattle.a64_inst.specs.declared.call.RetLocation.TheVariants as locations
 use Rattle.a64_read.specs.declared.location_name.TheConstants.{LOCATION_HOMES, LOCATIONS}
 use Rattle.a64_read.specs.declared.location_name.LocationName.{LocationName}
 use Rattle.a64_read.specs.declared.location_name.LocationName.TheVariants as location_names
-use Rattle.a64_read.specs.declared.value.Value.{Value}
+use Rattle.a64_tokens.specs.declared.value.Value.{Value}
 use Rattle.a64_read.specs.LocationMakes.{location_of, MakesLocation}
 use Rattle.a64_read.specs.Locations.{location_name_text, location_kinds, location_name_of, location_fields, IsOwnLocation}
-use Rattle.a64_read.specs.Fields.{HasNo}
-use Rattle.a64_read.specs.Hash.{look_up}
+use Rattle.a64_tokens.specs.Fields.{HasNo}
+use Rattle.a64_tokens.specs.Hash.{look_up}
 use Rattle.a64_read.specs.Same.{at_their_places}
 use Rattle.a64_read.specs.Values.{kind_of, IsValue}
 

@@ -4,7 +4,7 @@ use Rattle.a64_inst.specs.declared.call.RetLocation.{RetLocation}
 use Rattle.a64_inst.specs.declared.call.RetLocation.TheVariants as locations
 use Rattle.a64_read.specs.declared.location_name.LocationName.{LocationName}
 use Rattle.a64_read.specs.declared.location_name.LocationName.TheVariants as location_names
-use Rattle.a64_read.specs.declared.value.Value.{Value}
+use Rattle.a64_tokens.specs.declared.value.Value.{Value}
 use Rattle.a64_read.specs.At.{i64_at, reg_at, type_at}
 
 -- the place of this name with these fields

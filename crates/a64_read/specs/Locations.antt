@@ -5,11 +5,11 @@ use Rattle.a64_inst.specs.declared.call.RetLocation.{RetLocation}
 use Rattle.a64_inst.specs.declared.call.RetLocation.TheVariants as locations
 use Rattle.a64_read.specs.declared.location_name.LocationName.{LocationName}
 use Rattle.a64_read.specs.declared.location_name.LocationName.TheVariants as location_names
-use Rattle.a64_read.specs.declared.value.Kind.{Kind}
-use Rattle.a64_read.specs.declared.value.Kind.TheVariants as kinds
-use Rattle.a64_read.specs.declared.value.Value.{Value}
-use Rattle.a64_read.specs.declared.value.Value.TheVariants as values
-use Rattle.a64_read.specs.Fields.{call_text}
+use Rattle.a64_tokens.specs.declared.value.Kind.{Kind}
+use Rattle.a64_tokens.specs.declared.value.Kind.TheVariants as kinds
+use Rattle.a64_tokens.specs.declared.value.Value.{Value}
+use Rattle.a64_tokens.specs.declared.value.Value.TheVariants as values
+use Rattle.a64_tokens.specs.Fields.{call_text}
 use Rattle.a64_read.specs.Heading.{Heading}
 use Rattle.a64_read.specs.Parts.{part_texts, IsPart}
 

@@ -5,22 +5,22 @@ use Rattle.std.specs.List.{AllByRecursion}
 use Rattle.a64_base.specs.declared.ir_type.IrType.{IrType}
 use Rattle.a64_inst.specs.declared.mode.AMode.{AMode}
 use Rattle.a64_inst.specs.declared.mode.AMode.TheVariants as modes
-use Rattle.a64_read.specs.declared.pair_mode.WrittenPairMode.{WrittenPairMode}
-use Rattle.a64_read.specs.declared.pair_mode.WrittenPairMode.TheVariants as pair_modes
+use Rattle.a64_tokens.specs.declared.pair_mode.WrittenPairMode.{WrittenPairMode}
+use Rattle.a64_tokens.specs.declared.pair_mode.WrittenPairMode.TheVariants as pair_modes
 use Rattle.a64_read.specs.declared.mode_name.TheConstants.{MODE_HOMES, MODES, PAIR_MODE_HOMES, PAIR_MODES}
-use Rattle.a64_read.specs.declared.mode_name.MemLabelName.{MemLabelName}
+use Rattle.a64_tokens.specs.declared.label_name.MemLabelName.{MemLabelName}
 use Rattle.a64_read.specs.declared.mode_name.ModeName.{ModeName}
 use Rattle.a64_read.specs.declared.mode_name.ModeName.TheVariants as mode_names
 use Rattle.a64_read.specs.declared.mode_name.PairModeName.{PairModeName}
 use Rattle.a64_read.specs.declared.mode_name.PairModeName.TheVariants as pair_names
-use Rattle.a64_read.specs.declared.value.Value.{Value}
-use Rattle.a64_read.specs.declared.value.Value.TheVariants as values
+use Rattle.a64_tokens.specs.declared.value.Value.{Value}
+use Rattle.a64_tokens.specs.declared.value.Value.TheVariants as values
 use Rattle.a64_read.specs.At.{i64_at, mem_label_name_at, reg_at, type_at}
-use Rattle.a64_read.specs.Fields.{HasNo}
-use Rattle.a64_read.specs.Hash.{look_up}
+use Rattle.a64_tokens.specs.Fields.{HasNo}
+use Rattle.a64_tokens.specs.Hash.{look_up}
 use Rattle.a64_read.specs.ModeMakes.{mode_of, MakesMode, pair_of, MakesPair}
 use Rattle.a64_read.specs.Modes.{mode_name_text, mode_kinds, mode_name_of, mode_fields, IsOwnMode, scaled_parts, IsScaled, mem_label_parts, IsMemLabel, pair_name_text, pair_kinds, pair_name_of, pair_fields, IsOwnPair}
-use Rattle.a64_read.specs.Reads.{Reads}
+use Rattle.a64_tokens.specs.Reads.{Reads}
 use Rattle.a64_read.specs.Same.{at_their_places}
 use Rattle.a64_read.specs.Values.{kind_of, IsValue}
 

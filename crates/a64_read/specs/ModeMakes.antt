@@ -2,16 +2,16 @@
 use Rattle.std.specs.Prelude.{List, Option, Some, ◌≡◌, option_map}
 use Rattle.a64_inst.specs.declared.mode.AMode.{AMode}
 use Rattle.a64_inst.specs.declared.mode.AMode.TheVariants as modes
-use Rattle.a64_read.specs.declared.pair_mode.WrittenPairMode.{WrittenPairMode}
-use Rattle.a64_read.specs.declared.pair_mode.WrittenPairMode.TheVariants as pair_modes
+use Rattle.a64_tokens.specs.declared.pair_mode.WrittenPairMode.{WrittenPairMode}
+use Rattle.a64_tokens.specs.declared.pair_mode.WrittenPairMode.TheVariants as pair_modes
 use Rattle.a64_read.specs.declared.mode_name.ModeName.{ModeName}
 use Rattle.a64_read.specs.declared.mode_name.ModeName.TheVariants as mode_names
 use Rattle.a64_read.specs.declared.mode_name.PairModeName.{PairModeName}
 use Rattle.a64_read.specs.declared.mode_name.PairModeName.TheVariants as pair_names
-use Rattle.a64_read.specs.declared.value.Value.{Value}
+use Rattle.a64_tokens.specs.declared.value.Value.{Value}
 use Rattle.a64_read.specs.At.{extend_at, i64_at, mem_label_name_at, offset9_at, reg_at, type_at, u32_at}
 use Rattle.a64_read.specs.Modes.{IsScaled, scaled_parts, IsMemLabel, mem_label_parts}
-use Rattle.a64_read.specs.Reads.{Reads}
+use Rattle.a64_tokens.specs.Reads.{Reads}
 
 -- what is made of the X whose parts are these, where there is one
 abbrev pub MakesOf : {X T M : Type 0} → (X → Type 0) → (X → T) → T → (X → M) → Option M → Type 0

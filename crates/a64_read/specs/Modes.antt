@@ -8,23 +8,23 @@ use Rattle.a64_inst.specs.declared.mode.AMode.{AMode}
 use Rattle.a64_inst.specs.declared.mode.AMode.TheVariants as modes
 use Rattle.a64_inst.specs.declared.mode.MemLabel.{MemLabel}
 use Rattle.a64_inst.specs.declared.mode.MemLabel.TheVariants as mem_labels
-use Rattle.a64_read.specs.declared.pair_mode.WrittenPairMode.{WrittenPairMode}
-use Rattle.a64_read.specs.declared.pair_mode.WrittenPairMode.TheVariants as pair_modes
-use Rattle.a64_read.specs.declared.mode_name.MemLabelName.{MemLabelName}
-use Rattle.a64_read.specs.declared.mode_name.MemLabelName.TheVariants as label_names
+use Rattle.a64_tokens.specs.declared.pair_mode.WrittenPairMode.{WrittenPairMode}
+use Rattle.a64_tokens.specs.declared.pair_mode.WrittenPairMode.TheVariants as pair_modes
+use Rattle.a64_tokens.specs.declared.label_name.MemLabelName.{MemLabelName}
+use Rattle.a64_tokens.specs.declared.label_name.MemLabelName.TheVariants as label_names
 use Rattle.a64_read.specs.declared.mode_name.ModeName.{ModeName}
 use Rattle.a64_read.specs.declared.mode_name.ModeName.TheVariants as mode_names
 use Rattle.a64_read.specs.declared.mode_name.PairModeName.{PairModeName}
 use Rattle.a64_read.specs.declared.mode_name.PairModeName.TheVariants as pair_names
-use Rattle.a64_read.specs.declared.value.Kind.{Kind}
-use Rattle.a64_read.specs.declared.value.Kind.TheVariants as kinds
-use Rattle.a64_read.specs.declared.value.Value.{Value}
-use Rattle.a64_read.specs.declared.value.Value.TheVariants as values
-use Rattle.a64_read.specs.Fields.{call_text, IsLabel}
+use Rattle.a64_tokens.specs.declared.value.Kind.{Kind}
+use Rattle.a64_tokens.specs.declared.value.Kind.TheVariants as kinds
+use Rattle.a64_tokens.specs.declared.value.Value.{Value}
+use Rattle.a64_tokens.specs.declared.value.Value.TheVariants as values
+use Rattle.a64_tokens.specs.Fields.{call_text, IsLabel}
 use Rattle.a64_read.specs.Heading.{Heading}
 use Rattle.a64_read.specs.Parts.{part_texts, IsPart}
-use Rattle.a64_read.specs.Reads.{IsI32, IsU32}
-use Rattle.a64_read.specs.Types.{is_scale}
+use Rattle.a64_tokens.specs.Reads.{IsI32, IsU32}
+use Rattle.a64_tokens.specs.Types.{is_scale}
 
 -- ---- modes of one register
 

@@ -1,9 +1,9 @@
 -- The texts of immediates of vector moves: the bits, their shift, and whether ones are shifted in, with commas between.
 use Rattle.std.specs.Prelude.{ℕ, List, [], ◌∷◌}
 use Rattle.std.specs.List.{AllByRecursion, join_with_byte}
-use Rattle.a64_read.specs.declared.mov_imm.WrittenMovImm.{WrittenMovImm}
-use Rattle.a64_read.specs.declared.value.Value.{Value}
-use Rattle.a64_read.specs.declared.value.Value.TheVariants as values
+use Rattle.a64_tokens.specs.declared.value.WrittenMovImm.{WrittenMovImm}
+use Rattle.a64_tokens.specs.declared.value.Value.{Value}
+use Rattle.a64_tokens.specs.declared.value.Value.TheVariants as values
 use Rattle.a64_read.specs.Parts.{part_texts, IsPart}
 
 abbrev pub mov_imm_fields : WrittenMovImm → List Value

@@ -5,10 +5,10 @@ use Rattle.std.proofs.Common.{arith, ap, get_or, length, length-append}
 use Rattle.a64_base.specs.declared.reg.Reg.{Reg}
 use Rattle.a64_inst.specs.declared.pair.ArgPair.{ArgPair}
 use Rattle.a64_inst.specs.declared.pair.RetPair.{RetPair}
-use Rattle.a64_read.specs.Fields.{HasNo, reg_text}
+use Rattle.a64_tokens.specs.Fields.{HasNo, reg_text}
 use Rattle.a64_read.specs.RegisterLaws.{append_apart, comma, reg_apart}
-use Rattle.a64_read.specs.SplitLaws.{comma_apart}
-use Rattle.a64_read.specs.Splitting.{comma_tokens}
+use Rattle.a64_tokens.specs.SplitLaws.{comma_apart}
+use Rattle.a64_tokens.specs.Splitting.{comma_tokens}
 use Rattle.a64_read.specs.RegisterPairs.{register_pair_text, IsRegisterPair, arg_pair_text, IsArgPair, ret_pair_text, IsRetPair}
 
 pub pair_apart : (pair : Reg × Reg) → IsRegisterPair pair → HasNo 44 (register_pair_text pair)

@@ -1,8 +1,8 @@
 -- Fields that may stand with commas between are fields.
 use Rattle.std.specs.Prelude.{◌≡◌, true, refl}
 use Rattle.std.proofs.lemmas.Bool.{false≢true}
-use Rattle.a64_read.specs.declared.value.Value.{Value}
-use Rattle.a64_read.specs.declared.value.Value.TheVariants as values
+use Rattle.a64_tokens.specs.declared.value.Value.{Value}
+use Rattle.a64_tokens.specs.declared.value.Value.TheVariants as values
 use Rattle.a64_read.specs.Parts.{is_part, part_text, IsPart}
 use Rattle.a64_read.specs.Values.{kind_of, value_text, IsValue}
 

@@ -1,14 +1,14 @@
 -- Fields that may stand with commas between, in a field that is made of them.
 use Rattle.std.specs.Prelude.{ℕ, Bool, true, false, List, [], map}
 use Rattle.std.specs.Fmt.{decimal, signed_decimal}
-use Rattle.a64_read.specs.declared.value.Kind.{Kind}
-use Rattle.a64_read.specs.declared.value.Kind.TheVariants as kinds
-use Rattle.a64_read.specs.declared.value.Value.{Value}
-use Rattle.a64_read.specs.declared.value.Value.TheVariants as values
-use Rattle.a64_read.specs.Fields.{reg_text, IsReg, size_text, offset9_text, IsSImm9}
-use Rattle.a64_read.specs.Operators.{bool_text, cond_text, extend_text, mem_label_name_text}
-use Rattle.a64_read.specs.Reads.{Always, IsU8, IsU32, IsI64}
-use Rattle.a64_read.specs.Types.{type_text}
+use Rattle.a64_tokens.specs.declared.value.Kind.{Kind}
+use Rattle.a64_tokens.specs.declared.value.Kind.TheVariants as kinds
+use Rattle.a64_tokens.specs.declared.value.Value.{Value}
+use Rattle.a64_tokens.specs.declared.value.Value.TheVariants as values
+use Rattle.a64_tokens.specs.Fields.{reg_text, IsReg, size_text, offset9_text, IsSImm9}
+use Rattle.a64_tokens.specs.Operators.{bool_text, cond_text, extend_text, mem_label_name_text}
+use Rattle.a64_tokens.specs.Reads.{Always, IsU8, IsU32, IsI64}
+use Rattle.a64_tokens.specs.Types.{type_text}
 
 -- the kinds of such fields
 abbrev pub is_part : Kind → Bool

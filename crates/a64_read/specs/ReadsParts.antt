@@ -1,7 +1,7 @@
 -- What reading a field that may stand with commas between answers.
 use Rattle.std.specs.Prelude.{ℕ, List, ◌≡◌, Bool, true, false, Option, None}
-use Rattle.a64_read.specs.declared.value.Kind.{Kind}
-use Rattle.a64_read.specs.declared.value.Value.{Value}
+use Rattle.a64_tokens.specs.declared.value.Kind.{Kind}
+use Rattle.a64_tokens.specs.declared.value.Value.{Value}
 use Rattle.a64_read.specs.Parts.{is_part}
 use Rattle.a64_read.specs.Values.{ReadsKind}
 

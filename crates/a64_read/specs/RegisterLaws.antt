@@ -8,13 +8,13 @@ use Rattle.a64_base.specs.RegisterNumbers.{IsRegisterNumber}
 use Rattle.a64_base.specs.declared.ir_type.IrType.{IrType}
 use Rattle.a64_base.specs.declared.ir_type.IrType.TheVariants.{I8}
 use Rattle.a64_base.specs.declared.reg.Reg.{Reg}
-use Rattle.a64_base.specs.declared.reg.Reg.TheVariants.{Real, Virtual}
+use Rattle.a64_base.specs.declared.reg.RegKind.TheVariants.{Real, Virtual}
 use Rattle.a64_base.specs.declared.reg.RegClass.{RegClass}
 use Rattle.a64_base.specs.declared.reg.RegClass.TheVariants.{Int, Float}
-use Rattle.a64_read.specs.DigitLaws.{decimal_apart, IsNoDigit}
-use Rattle.a64_read.specs.Fields.{HasNo, integer_text, real_text, virtual_text, reg_text, IsReg}
-use Rattle.a64_read.specs.Reads.{IsU32, IsI64}
-use Rattle.a64_read.specs.Types.{type_text}
+use Rattle.a64_tokens.specs.DigitLaws.{decimal_apart, IsNoDigit}
+use Rattle.a64_tokens.specs.Fields.{HasNo, integer_text, real_text, virtual_text, reg_text, IsReg}
+use Rattle.a64_tokens.specs.Reads.{IsU32, IsI64}
+use Rattle.a64_tokens.specs.Types.{type_text}
 
 -- the bytes that stand between fields: a space, a comma and an equals sign
 abbrev pub IsBetween : ℕ → Type 0

@@ -4,7 +4,7 @@ use Rattle.std.specs.List.{join_with_byte}
 use Rattle.a64_base.specs.declared.reg.Reg.{Reg}
 use Rattle.a64_inst.specs.declared.pair.ArgPair.{ArgPair}
 use Rattle.a64_inst.specs.declared.pair.RetPair.{RetPair}
-use Rattle.a64_read.specs.Fields.{reg_text, IsReg}
+use Rattle.a64_tokens.specs.Fields.{reg_text, IsReg}
 
 -- two registers, with = between
 abbrev pub register_pair_text : Reg × Reg → List ℕ

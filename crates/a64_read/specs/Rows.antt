@@ -1,9 +1,9 @@
 -- Fields in a row, and what else texts are joined of.
 use Rattle.std.specs.Prelude.{ℕ, ◌≡◌, Bool, true, false, List, map, Some, None}
 use Rattle.std.specs.List.{AllByRecursion}
-use Rattle.a64_read.specs.declared.value.Kind.{Kind}
-use Rattle.a64_read.specs.declared.value.Value.{Value}
-use Rattle.a64_read.specs.Reads.{Reads}
+use Rattle.a64_tokens.specs.declared.value.Kind.{Kind}
+use Rattle.a64_tokens.specs.declared.value.Value.{Value}
+use Rattle.a64_tokens.specs.Reads.{Reads}
 use Rattle.a64_read.specs.Values.{kind_of, value_text}
 
 -- fields of these kinds

@@ -1,11 +1,11 @@
 -- The fields of an entry, put together again from their places.
 use Rattle.std.specs.Prelude.{◌≡◌, ℕ, suc, List, [], ◌∷◌, map, Option, Some, slice_get, refl}
 use Rattle.std.proofs.Common.{sym, ap, ◌∙◌}
-use Rattle.a64_read.specs.declared.value.Kind.{Kind}
-use Rattle.a64_read.specs.declared.value.Kind.TheVariants as kinds
-use Rattle.a64_read.specs.declared.value.Value.{Value}
-use Rattle.a64_read.specs.declared.value.Value.TheVariants as values
-use Rattle.a64_read.specs.declared.vec_op.VecOp.{VecOp}
+use Rattle.a64_tokens.specs.declared.value.Kind.{Kind}
+use Rattle.a64_tokens.specs.declared.value.Kind.TheVariants as kinds
+use Rattle.a64_tokens.specs.declared.value.Value.{Value}
+use Rattle.a64_tokens.specs.declared.value.Value.TheVariants as values
+use Rattle.a64_tokens.specs.declared.vec_op.VecOp.{VecOp}
 use Rattle.a64_read.specs.Values.{kind_of}
 use Rattle.a64_read.specs.At.{alu_op_of, alu_op3_of, atomic_rmw_loop_op_of, atomic_rmw_op_of, bit_op_of, bfm_op_of, move_wide_op_of, size_of, reg_of, preg_of, imm12_of, wide_of, imm_shift_of, mov_imm_of, uimm5_of, uimm6_of, shift_of, extend_of, cond_of, nzcv_of, truth_of, u8_of, u32_of, u64_of, i32_of, target_of, label_of, frame_field_of, emit_flag_of, i64_of, offset9_of, type_of, mem_label_name_of, mode_of, pair_mode_of, flags_of, cond_br_kind_of, test_bit_kind_of, list_of, convention_of, key_of, map_of, fpu_op1_of, fpu_op2_of, fpu_op3_of, fpu_op_ri_of, fpu_op_ri_mod_of, fpu_to_int_op_of, int_to_fpu_op_of, fpu_round_mode_of, scalar_size_of, vector_size_of, branch_target_type_of, api_key_of, vec_op_of}
 use Rattle.a64_read.specs.VecOps.{as_own_vec_op, as_vec_op}

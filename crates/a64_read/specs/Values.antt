@@ -46,8 +46,8 @@ use Rattle.a64_base.specs.declared.cond.TestBitAndBranchKind.{TestBitAndBranchKi
 use Rattle.a64_imms.specs.declared.flags.NZCV.{NZCV}
 use Rattle.a64_base.specs.declared.target.BranchTarget.{BranchTarget}
 use Rattle.a64_base.specs.declared.entity.MachLabel.{MachLabel}
-use Rattle.a64_read.specs.declared.emit_flag.EmitFlag.{EmitFlag}
-use Rattle.a64_read.specs.declared.frame_field.FrameField.{FrameField}
+use Rattle.a64_tokens.specs.declared.emit_flag.EmitFlag.{EmitFlag}
+use Rattle.a64_tokens.specs.declared.frame_field.FrameField.{FrameField}
 use Rattle.a64_base.specs.declared.convention.CallConv.{CallConv}
 use Rattle.a64_base.specs.declared.entity.TrapCode.{TrapCode}
 use Rattle.a64_base.specs.declared.entity.UserStackMap.{UserStackMap}
@@ -57,27 +57,27 @@ use Rattle.a64_imms.specs.declared.offset.SImm9.{SImm9}
 use Rattle.a64_operand.specs.declared.fpu_op.FPUOpRI.{FPUOpRI}
 use Rattle.a64_operand.specs.declared.fpu_op.FPUOpRIMod.{FPUOpRIMod}
 use Rattle.a64_inst.specs.declared.mode.AMode.{AMode}
-use Rattle.a64_read.specs.declared.mode_name.MemLabelName.{MemLabelName}
-use Rattle.a64_read.specs.declared.mov_imm.WrittenMovImm.{WrittenMovImm}
-use Rattle.a64_read.specs.declared.pair_mode.WrittenPairMode.{WrittenPairMode}
-use Rattle.a64_read.specs.declared.vec_op.VecOp.TheVariants as vec_ops
-use Rattle.a64_read.specs.declared.vec_op.VecOpKind.TheVariants as vec_kinds
-use Rattle.a64_read.specs.declared.value.Kind.{Kind}
-use Rattle.a64_read.specs.declared.value.Kind.TheVariants as kinds
-use Rattle.a64_read.specs.declared.value.Value.{Value}
-use Rattle.a64_read.specs.declared.value.Value.TheVariants as values
-use Rattle.a64_read.specs.Reads.{Always, IsU64, IsI32}
-use Rattle.a64_read.specs.Operators.{alu_op3_text, alu_op_text, atomic_rmw_loop_op_text, atomic_rmw_op_text, bfm_op_text, bit_op_text, branch_target_type_text, emit_flag_text, frame_field_text, move_wide_op_text, test_bit_text}
+use Rattle.a64_tokens.specs.declared.label_name.MemLabelName.{MemLabelName}
+use Rattle.a64_tokens.specs.declared.value.WrittenMovImm.{WrittenMovImm}
+use Rattle.a64_tokens.specs.declared.pair_mode.WrittenPairMode.{WrittenPairMode}
+use Rattle.a64_tokens.specs.declared.vec_op.VecOp.TheVariants as vec_ops
+use Rattle.a64_tokens.specs.declared.vec_op.VecOpKind.TheVariants as vec_kinds
+use Rattle.a64_tokens.specs.declared.value.Kind.{Kind}
+use Rattle.a64_tokens.specs.declared.value.Kind.TheVariants as kinds
+use Rattle.a64_tokens.specs.declared.value.Value.{Value}
+use Rattle.a64_tokens.specs.declared.value.Value.TheVariants as values
+use Rattle.a64_tokens.specs.Reads.{Always, IsU64, IsI32}
+use Rattle.a64_tokens.specs.Operators.{alu_op3_text, alu_op_text, atomic_rmw_loop_op_text, atomic_rmw_op_text, bfm_op_text, bit_op_text, branch_target_type_text, emit_flag_text, frame_field_text, move_wide_op_text, test_bit_text}
 use Rattle.a64_read.specs.Branches.{cond_br_text, IsCondBr}
-use Rattle.a64_read.specs.Conventions.{api_key_text, convention_text, key_text}
-use Rattle.a64_read.specs.FloatOperators.{fpu_op1_text, fpu_op2_text, fpu_op3_text, fpu_round_mode_text, fpu_to_int_op_text, int_to_fpu_op_text}
+use Rattle.a64_tokens.specs.Conventions.{api_key_text, convention_text, key_text}
+use Rattle.a64_tokens.specs.FloatOperators.{fpu_op1_text, fpu_op2_text, fpu_op3_text, fpu_round_mode_text, fpu_to_int_op_text, int_to_fpu_op_text}
 use Rattle.a64_read.specs.FloatShifts.{fpu_op_ri_mod_text, fpu_op_ri_text, IsFpuOpRI, IsFpuOpRIMod}
-use Rattle.a64_read.specs.Lists.{same_text}
+use Rattle.a64_tokens.specs.Lists.{same_text}
 use Rattle.a64_read.specs.Modes.{mode_text, IsMode, pair_text, IsPairMode}
 use Rattle.a64_read.specs.MovImms.{mov_imm_text, IsWrittenMovImm}
 use Rattle.a64_read.specs.Parts.{part_text, IsPart}
 use Rattle.a64_read.specs.VecOps.{vec_op_kind, vec_op_text}
-use Rattle.a64_read.specs.Fields.{flags_text, imm12_text, imm_shift_text, label_text, map_text, nzcv_text, preg_text, scalar_size_text, shift_text, target_text, uimm5_text, uimm6_text, vector_size_text, wide_text, HasNo, IsFlags, IsImm12, IsImmShift, IsLabel, IsMapNumber, IsPReg, IsShift, IsTarget, IsUImm6, IsWide}
+use Rattle.a64_tokens.specs.Fields.{flags_text, imm12_text, imm_shift_text, label_text, map_text, nzcv_text, preg_text, scalar_size_text, shift_text, target_text, uimm5_text, uimm6_text, vector_size_text, wide_text, HasNo, IsFlags, IsImm12, IsImmShift, IsLabel, IsMapNumber, IsPReg, IsShift, IsTarget, IsUImm6, IsWide}
 
 abbrev pub kind_of : Value → Kind
 kind_of (values.AluOp x) = kinds.AluOp

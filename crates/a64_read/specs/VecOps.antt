@@ -26,11 +26,11 @@ use Rattle.a64_ops.specs.declared.vector.VecShiftImmOp.{VecShiftImmOp}
 use Rattle.a64_ops.specs.declared.vector.VecShiftImmOp.TheVariants as vec_shift_imm_ops
 use Rattle.a64_ops.specs.declared.vector.VecShiftImmModOp.{VecShiftImmModOp}
 use Rattle.a64_ops.specs.declared.vector.VecShiftImmModOp.TheVariants as vec_shift_imm_mod_ops
-use Rattle.a64_read.specs.declared.vec_op.VecOp.{VecOp}
-use Rattle.a64_read.specs.declared.vec_op.VecOp.TheVariants as vec_ops
-use Rattle.a64_read.specs.declared.vec_op.VecOpKind.{VecOpKind}
-use Rattle.a64_read.specs.declared.vec_op.VecOpKind.TheVariants as vec_kinds
-use Rattle.a64_read.specs.VectorOperators.{vec_alu_mod_op_text, vec_alu_op_text, vec_extend_op_text, vec_lanes_op_text, vec_misc2_text, vec_pair_op_text, vec_rr_long_op_text, vec_rr_narrow_op_text, vec_rr_pair_long_op_text, vec_rrr_long_mod_op_text, vec_rrr_long_op_text, vec_shift_imm_mod_op_text, vec_shift_imm_op_text}
+use Rattle.a64_tokens.specs.declared.vec_op.VecOp.{VecOp}
+use Rattle.a64_tokens.specs.declared.vec_op.VecOp.TheVariants as vec_ops
+use Rattle.a64_tokens.specs.declared.vec_op.VecOpKind.{VecOpKind}
+use Rattle.a64_tokens.specs.declared.vec_op.VecOpKind.TheVariants as vec_kinds
+use Rattle.a64_tokens.specs.VectorOperators.{vec_alu_mod_op_text, vec_alu_op_text, vec_extend_op_text, vec_lanes_op_text, vec_misc2_text, vec_pair_op_text, vec_rr_long_op_text, vec_rr_narrow_op_text, vec_rr_pair_long_op_text, vec_rrr_long_mod_op_text, vec_rrr_long_op_text, vec_shift_imm_mod_op_text, vec_shift_imm_op_text}
 
 abbrev pub vec_op_kind : VecOp → VecOpKind
 vec_op_kind (vec_ops.Alu x) = vec_kinds.Alu

@@ -2,19 +2,13 @@
 //! answer is some value of the type: no caller looks there.
 
 ghost use Rattle.std.specs.Prelude.{◌≡◌, Option, Some, None, slice_get, refl};
-ghost use Rattle.a64_read.specs.declared.value.Value.{Value};
-ghost use Rattle.a64_read.specs.declared.value.Value.TheVariants as values;
+ghost use Rattle.a64_tokens.specs.declared.value.Value.{Value};
+ghost use Rattle.a64_tokens.specs.declared.value.Value.TheVariants as values;
 ghost use Rattle.a64_read.specs.At.{alu_op3_of, alu_op_of, atomic_rmw_loop_op_of, atomic_rmw_op_of, api_key_of, bfm_op_of, bit_op_of, branch_target_type_of, cond_br_kind_of, cond_of, convention_of, emit_flag_of, extend_of, flags_of, frame_field_of, i32_of, i64_of, imm12_of, imm_shift_of, key_of, label_of, map_of, mem_label_name_of, mode_of, mov_imm_of, move_wide_op_of, nzcv_of, offset9_of, pair_mode_of, preg_of, reg_of, shift_of, size_of, target_of, test_bit_kind_of, truth_of, type_of, u32_of, u64_of, u8_of, uimm5_of, uimm6_of, wide_of, list_at};
 
 mod float;
 mod vector;
 
-use crate::emit_flag::EmitFlag;
-use crate::frame_field::FrameField;
-use crate::mode_name::MemLabelName;
-use crate::mov_imm::WrittenMovImm;
-use crate::pair_mode::WrittenPairMode;
-use crate::value::Value;
 use a64_base::{
     APIKey, BranchTarget, CallConv, Cond, CondBrKind, ExtendOp, IrType, MachLabel, MemFlagsData,
     OperandSize, PReg, Reg, RegClass, ShiftOp, ShiftOpAndAmt, ShiftOpShiftImm,
@@ -25,6 +19,11 @@ use a64_inst::AMode;
 use a64_ops::{
     ALUOp, ALUOp3, AtomicRMWLoopOp, AtomicRMWOp, BfmOp, BitOp, BranchTargetType, MoveWideOp,
 };
+use a64_tokens::emit_flag::EmitFlag;
+use a64_tokens::frame_field::FrameField;
+use a64_tokens::label_name::MemLabelName;
+use a64_tokens::pair_mode::WrittenPairMode;
+use a64_tokens::value::{Value, WrittenMovImm};
 
 /// What a field can hold.
 pub trait Field: Copy {
@@ -170,10 +169,7 @@ impl Field for Reg {
     fn of(value: &Value) -> Reg {
         match value {
             Value::Reg(x) => *x,
-            _ => Reg::Virtual {
-                index: 0,
-                class: RegClass::Int,
-            },
+            _ => Reg::virtual_reg(0, RegClass::Int),
         }
     }
 

@@ -5,14 +5,14 @@ ghost use Rattle.a64_read.specs.declared.branch_name.TheConstants.{COND_BR_HOMES
 ghost use Rattle.a64_read.specs.Branches.{cond_br_name_text, cond_br_kinds, cond_br_name_of, cond_br_fields, IsOwnCondBr};
 ghost use Rattle.a64_read.specs.BranchMakes.{MakesCondBr};
 ghost use Rattle.a64_read.specs.BranchLaws.{cond_br_found, few_cond_br_kinds, cond_br_apart, some_cond_br_field, cond_br_made_some, cond_br_made_only, cond_br_fields_kinds};
-ghost use Rattle.a64_read.specs.Operators.{test_bit_text};
-ghost use Rattle.a64_read.specs.Reads.{Reads, Always};
+ghost use Rattle.a64_tokens.specs.Operators.{test_bit_text};
+ghost use Rattle.a64_tokens.specs.Reads.{Reads, Always};
 
 use crate::at;
 use crate::call::Call;
-use crate::named::{Named, Row};
-use crate::value::{Kind, Value};
 use a64_base::{CondBrKind, TestBitAndBranchKind};
+use a64_tokens::named::{Named, Row};
+use a64_tokens::value::{Kind, Value};
 
 /// The name of what a conditional branch tests.
 #[derive(Clone, Copy)]

@@ -2,17 +2,17 @@
 
 ghost use Rattle.std.specs.Prelude.{◌≡◌, ◌≤◌, ◌<◌, List, length, map, option_map, Option, Some, IfSome};
 ghost use Rattle.std.specs.List.{AllByRecursion, join_with_byte};
-ghost use Rattle.a64_read.specs.Fields.{HasNo, IsCall, call_text};
+ghost use Rattle.a64_tokens.specs.Fields.{HasNo, IsCall, call_text};
 ghost use Rattle.a64_read.specs.Parts.{IsPart, part_texts};
-ghost use Rattle.a64_read.specs.Reads.{Reads};
-ghost use Rattle.a64_read.specs.declared.value.Value.{Value};
+ghost use Rattle.a64_tokens.specs.Reads.{Reads};
+ghost use Rattle.a64_tokens.specs.declared.value.Value.{Value};
 ghost use Rattle.a64_read.specs.Values.{kind_of, IsValue};
 
-use crate::named::Named;
 use crate::parts::Parts;
 use crate::schema::read_schema;
-use crate::split::cut;
-use crate::value::Value;
+use a64_tokens::named::Named;
+use a64_tokens::split::cut;
+use a64_tokens::value::Value;
 use arrayvec::ArrayVec;
 
 /// What stands before the parentheses at the end, and what stands in them.

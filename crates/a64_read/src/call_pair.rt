@@ -3,20 +3,20 @@
 ghost use Rattle.std.specs.Prelude.{◌≡◌, ◌∷◌};
 ghost use Rattle.a64_read.specs.Calls.{call_arg_text, IsCallArg, call_ret_text, IsCallRet};
 ghost use Rattle.a64_read.specs.CallLaws.{call_arg_apart, call_arg_no_dash, call_ret_apart, call_ret_no_dash, preg_apart, preg_no_dash};
-ghost use Rattle.a64_read.specs.Fields.{preg_text, IsPReg};
-ghost use Rattle.a64_read.specs.Reads.{Reads};
-ghost use Rattle.a64_read.specs.SplitLaws.{comma_joined, pairs_joined, some_pair};
-ghost use Rattle.a64_read.specs.Splitting.{comma_tokens, comma_pairs, of_text};
-ghost use Rattle.a64_read.specs.TokenLaws.{some_token};
+ghost use Rattle.a64_tokens.specs.Fields.{preg_text, IsPReg};
+ghost use Rattle.a64_tokens.specs.Reads.{Reads};
+ghost use Rattle.a64_tokens.specs.SplitLaws.{comma_joined, pairs_joined, some_pair};
+ghost use Rattle.a64_tokens.specs.Splitting.{comma_tokens, comma_pairs, of_text};
+ghost use Rattle.a64_tokens.specs.TokenLaws.{some_token};
 
 use crate::call::read_made;
 use crate::list::{Listed, cut_comma};
 use crate::location_name::LocationName;
-use crate::register::{read_preg, read_reg};
 use crate::register_pair::read_register_pair;
-use crate::split::cut;
 use a64_base::{PReg, Writable};
 use a64_inst::{CallArgPair, CallRetPair};
+use a64_tokens::register::{read_preg, read_reg};
+use a64_tokens::split::cut;
 
 /// What is passed, as the token is: the register that the caller knows it by, `=`, and the one in which it
 /// goes.

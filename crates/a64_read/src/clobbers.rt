@@ -2,7 +2,7 @@
 
 ghost use Rattle.std.specs.Prelude.{◌≡◌, ◌<◌, IfOk};
 ghost use Rattle.a64_read.specs.Clobbers.{clobbers_text, members, nth_register, IsPRegSet};
-ghost use Rattle.a64_read.specs.Reads.{Reads};
+ghost use Rattle.a64_tokens.specs.Reads.{Reads};
 
 use crate::list::read_list;
 use a64_base::{PReg, PRegSet, RegClass};

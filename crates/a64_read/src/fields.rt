@@ -1,14 +1,14 @@
 //! Reads fields that stand in a row.
 
 ghost use Rattle.std.specs.Prelude.{◌≡◌, ◌≤◌, ◌<◌, ℕ, true, false, List, length, take, option_map, IfSome, MatchOption};
-ghost use Rattle.a64_read.specs.declared.value.Value.{Value};
-ghost use Rattle.a64_read.specs.Reads.{Reads};
+ghost use Rattle.a64_tokens.specs.declared.value.Value.{Value};
+ghost use Rattle.a64_tokens.specs.Reads.{Reads};
 ghost use Rattle.a64_read.specs.Values.{kind_of, IsValue};
-ghost use Rattle.a64_read.specs.Splitting.{lines_of, of_text, behind_text, IsCut};
+ghost use Rattle.a64_tokens.specs.Splitting.{lines_of, of_text, behind_text, IsCut};
 ghost use Rattle.a64_read.specs.Rows.{AreFields, texts, IsPut};
 
-use crate::split::CutToken;
-use crate::value::{Kind, Value};
+use a64_tokens::split::CutToken;
+use a64_tokens::value::{Kind, Value};
 use arrayvec::ArrayVec;
 
 /// A way in which fields stand in a row.

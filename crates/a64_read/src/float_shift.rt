@@ -2,12 +2,12 @@
 
 ghost use Rattle.a64_imms.specs.FpuShifts.{IsLane};
 ghost use Rattle.a64_read.specs.FloatShifts.{fpu_op_ri_mod_parts, fpu_op_ri_mod_text, fpu_op_ri_parts, fpu_op_ri_text, left_amount_text, right_amount_text, IsFpuOpRI, IsFpuOpRIMod, IsLeftAt, IsRightAt};
-ghost use Rattle.a64_read.specs.Reads.{Reads};
+ghost use Rattle.a64_tokens.specs.Reads.{Reads};
 
 use crate::call::read_call;
-use crate::decimal::read_u8;
 use a64_imms::{FPULeftShiftImm, FPURightShiftImm};
 use a64_inst::{FPUOpRI, FPUOpRIMod};
+use a64_tokens::decimal::read_u8;
 
 /// The amount of a shift to the right of a lane, of 32 or 64 bits.
 fn read_right_amount(token: &[u8], lane: u8) -> Option<FPURightShiftImm>

@@ -1,17 +1,17 @@
 //! Reads labels and branch targets.
 
 ghost use Rattle.std.specs.Prelude.{◌≡◌, ◌∷◌};
-ghost use Rattle.a64_read.specs.Reads.{Reads};
-ghost use Rattle.a64_read.specs.SplitLaws.{comma_joined};
-ghost use Rattle.a64_read.specs.Splitting.{comma_tokens, of_text};
-ghost use Rattle.a64_read.specs.TokenLaws.{some_token};
+ghost use Rattle.a64_tokens.specs.Reads.{Reads};
+ghost use Rattle.a64_tokens.specs.SplitLaws.{comma_joined};
+ghost use Rattle.a64_tokens.specs.Splitting.{comma_tokens, of_text};
+ghost use Rattle.a64_tokens.specs.TokenLaws.{some_token};
 ghost use Rattle.a64_read.specs.ListLaws.{label_apart, label_no_dash};
-ghost use Rattle.a64_read.specs.Fields.{label_text, IsLabel, target_text, IsTarget};
+ghost use Rattle.a64_tokens.specs.Fields.{label_text, IsLabel, target_text, IsTarget};
 
-use crate::decimal::read_u32;
 use crate::list::{Listed, cut_comma};
-use crate::offset::{after, read_i32};
 use a64_base::{BranchTarget, MachLabel};
+use a64_tokens::decimal::read_u32;
+use a64_tokens::offset::{after, read_i32};
 
 /// The label whose text the token is: `L` and its number.
 #[inline(always)]

@@ -1,4 +1,4 @@
-//! Reads what stands in lines: numbers, names, registers, and fields by their kinds.
+//! Reads what stands in lines: fields by their kinds, and names with the fields behind them.
 #![tactic(auto)]
 
 pub mod at;
@@ -6,41 +6,19 @@ mod branch_name;
 mod call;
 mod call_pair;
 pub mod clobbers;
-mod convention;
-pub mod decimal;
-pub mod emit_flag;
 mod fields;
-mod flags;
-mod float_operator;
 mod float_shift;
-pub mod frame_field;
-pub mod hex;
-mod immediate;
 mod label;
 pub mod line;
 pub mod list;
-mod list_text;
 mod location_name;
-mod map;
 mod mode;
 mod mode_name;
-mod modifier;
-pub mod mov_imm;
-pub mod named;
-pub mod offset;
-mod operator;
-pub mod pair_mode;
+mod mov_imm;
 mod parts;
 mod read_value;
 mod read_vec_op;
-mod register;
 mod register_pair;
 mod schema;
 mod shift;
-mod size;
-pub mod split;
-mod type_name;
-pub mod value;
-pub mod vec_op;
-mod vector_operator;
 mod wide;

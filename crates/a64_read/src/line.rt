@@ -1,19 +1,19 @@
 //! Reads lines.
 
 ghost use Rattle.std.specs.Prelude.{◌≡◌, ◌≤◌, ◌∷◌, List, length, option_map, IfSome};
-ghost use Rattle.a64_read.specs.declared.value.Value.{Value};
-ghost use Rattle.a64_read.specs.Reads.{Reads};
+ghost use Rattle.a64_tokens.specs.declared.value.Value.{Value};
+ghost use Rattle.a64_tokens.specs.Reads.{Reads};
 ghost use Rattle.a64_read.specs.Values.{IsOf, IsValue};
-ghost use Rattle.a64_read.specs.Splitting.{first_line, lines_of, line_tokens, lines_behind, of_text};
-ghost use Rattle.a64_read.specs.TokenLaws.{some_token};
+ghost use Rattle.a64_tokens.specs.Splitting.{first_line, lines_of, line_tokens, lines_behind, of_text};
+ghost use Rattle.a64_tokens.specs.TokenLaws.{some_token};
 ghost use Rattle.a64_read.specs.Rows.{AreFields, texts, IsPut};
 
 use crate::fields::{FieldRow, put_read};
-use crate::named::Named;
 use crate::read_value::{alu_op, label, read_value, reg, size, target};
 use crate::schema::read_schema;
-use crate::split::{CutToken, cut_token};
-use crate::value::{Kind, Value};
+use a64_tokens::named::Named;
+use a64_tokens::split::{CutToken, cut_token};
+use a64_tokens::value::{Kind, Value};
 use arrayvec::ArrayVec;
 
 /// The fields of a line, with spaces between.

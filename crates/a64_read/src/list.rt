@@ -2,12 +2,12 @@
 
 ghost use Rattle.std.specs.Prelude.{◌≡◌, ◌<◌, ◌∷◌, ℕ, List, length, map, codes, IfOk};
 ghost use Rattle.std.specs.List.{AllByRecursion, join_with_byte};
-ghost use Rattle.a64_read.specs.Lists.{list_text};
-ghost use Rattle.a64_read.specs.Reads.{Reads};
-ghost use Rattle.a64_read.specs.Splitting.{comma_tokens, of_text};
+ghost use Rattle.a64_tokens.specs.Lists.{list_text};
+ghost use Rattle.a64_tokens.specs.Reads.{Reads};
+ghost use Rattle.a64_tokens.specs.Splitting.{comma_tokens, of_text};
 
-use crate::split::cut;
 use a64_list::ListVec;
+use a64_tokens::split::cut;
 use std::alloc::{AllocError, Global};
 
 /// What stands in lists, with commas between.

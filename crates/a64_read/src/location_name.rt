@@ -8,9 +8,9 @@ ghost use Rattle.a64_read.specs.LocationLaws.{location_found, few_location_kinds
 
 use crate::at;
 use crate::call::Call;
-use crate::named::{Named, Row};
-use crate::value::{Kind, Value};
 use a64_inst::RetLocation;
+use a64_tokens::named::{Named, Row};
+use a64_tokens::value::{Kind, Value};
 
 /// The name of where a function leaves a result.
 #[derive(Clone, Copy)]

@@ -3,16 +3,17 @@
 ghost use Rattle.std.specs.Prelude.{◌≡◌, pos};
 ghost use Rattle.a64_read.specs.ModeMakes.{MakesMode, MakesPair};
 ghost use Rattle.a64_read.specs.Modes.{IsScaled, scaled_parts, IsMemLabel, mem_label_parts};
-ghost use Rattle.a64_read.specs.Reads.{Reads, IsU32};
-ghost use Rattle.a64_read.specs.Types as types;
+ghost use Rattle.a64_tokens.specs.Reads.{Reads, IsU32};
+ghost use Rattle.a64_tokens.specs.Types as types;
 
 use crate::at;
-use crate::mode_name::{MemLabelName, ModeName, PairModeName};
-use crate::pair_mode::WrittenPairMode;
-use crate::value::Value;
+use crate::mode_name::{ModeName, PairModeName};
 use a64_base::{IrType, MachLabel, VCodeConstant};
 use a64_imms::UImm12Scaled;
 use a64_inst::{AMode, MemLabel};
+use a64_tokens::label_name::MemLabelName;
+use a64_tokens::pair_mode::WrittenPairMode;
+use a64_tokens::value::Value;
 
 /// Whether the size of the type scales an unsigned offset.
 fn is_scale(ty: IrType) -> bool

@@ -1,19 +1,17 @@
 //! The names of addressing modes, each with the kinds of its fields.
 
 ghost use Rattle.std.specs.Prelude.{List, [], map};
-ghost use Rattle.a64_read.specs.declared.mode_name.TheConstants.{MODE_HOMES, MODES, PAIR_MODE_HOMES, PAIR_MODES, MEM_LABEL_HOMES, MEM_LABELS};
+ghost use Rattle.a64_read.specs.declared.mode_name.TheConstants.{MODE_HOMES, MODES, PAIR_MODE_HOMES, PAIR_MODES};
 ghost use Rattle.a64_read.specs.Modes.{mode_name_text, mode_kinds, mode_name_of, mode_fields, IsOwnMode, pair_name_text, pair_kinds, pair_name_of, pair_fields, IsOwnPair};
 ghost use Rattle.a64_read.specs.ModeMakes.{MakesMode, MakesPair};
 ghost use Rattle.a64_read.specs.ModeLaws.{mode_found, few_mode_kinds, mode_apart, some_mode_field, mode_made_some, mode_made_only, mode_fields_kinds, pair_found, few_pair_kinds, pair_apart, some_pair_field, pair_made_some, pair_made_only, pair_fields_kinds};
-ghost use Rattle.a64_read.specs.Operators.{mem_label_name_text};
-ghost use Rattle.a64_read.specs.Found.{mem_label_found};
 
 use crate::call::Call;
 use crate::mode::{make_mode, make_pair_mode};
-use crate::named::{Named, Row};
-use crate::pair_mode::WrittenPairMode;
-use crate::value::{Kind, Value};
 use a64_inst::AMode;
+use a64_tokens::named::{Named, Row};
+use a64_tokens::pair_mode::WrittenPairMode;
+use a64_tokens::value::{Kind, Value};
 
 /// The name of an addressing mode.
 #[derive(Clone, Copy)]
@@ -209,45 +207,4 @@ impl Call for PairModeName {
     ghost made_only = { pair_made_only };
 
     ghost fields_kinds = { pair_fields_kinds };
-}
-
-/// The name of an address in the code.
-#[derive(Clone, Copy)]
-pub enum MemLabelName {
-    /// `PCRel`.
-    PCRel,
-    /// `Mach`.
-    Mach,
-    /// `Pool`.
-    Pool,
-}
-
-/// For each remainder of a hash, the row of the name that has it.
-pub static MEM_LABEL_HOMES: [u8; 4] = [0, 2, 1, 0];
-
-/// The addresses in the code.
-pub static MEM_LABELS: [Row<MemLabelName>; 3] = [
-    (b"PCRel", &[], MemLabelName::PCRel),
-    (b"Mach", &[], MemLabelName::Mach),
-    (b"Pool", &[], MemLabelName::Pool),
-];
-
-impl Named for MemLabelName {
-    ghost text = { mem_label_name_text };
-
-    ghost kinds_of = { λ _. [] };
-
-    ghost homes = { MEM_LABEL_HOMES };
-
-    ghost rows = { λ _. map (λ row. row.2) MEM_LABELS };
-
-    fn home_table() -> &'static [u8] {
-        &MEM_LABEL_HOMES
-    }
-
-    fn row_table(_class: u8) -> &'static [Row<MemLabelName>] {
-        &MEM_LABELS
-    }
-
-    ghost found = { mem_label_found };
 }

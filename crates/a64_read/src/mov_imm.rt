@@ -1,24 +1,13 @@
 //! Reads immediates of vector moves.
 
 ghost use Rattle.a64_read.specs.MovImms.{mov_imm_text, IsWrittenMovImm};
-ghost use Rattle.a64_read.specs.Reads.{Reads};
+ghost use Rattle.a64_tokens.specs.Reads.{Reads};
 
 use crate::at;
 use crate::fields::read_fields;
 use crate::parts::Parts;
-use crate::value::{Kind, Value};
+use a64_tokens::value::{Kind, Value, WrittenMovImm};
 use arrayvec::ArrayVec;
-
-/// An immediate of a vector move as a line has it. What it stands for is known once its lanes are.
-#[derive(Clone, Copy)]
-pub struct WrittenMovImm {
-    /// The eight bits.
-    pub imm: u8,
-    /// By how many places the bits are shifted left.
-    pub shift: u8,
-    /// Whether ones are shifted in.
-    pub ones: bool,
-}
 
 /// The bits, their shift, and whether ones are shifted in, with commas between: as `255,8,true`.
 pub fn read_mov_imm(token: &[u8]) -> Option<WrittenMovImm>

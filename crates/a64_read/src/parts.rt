@@ -3,13 +3,13 @@
 ghost use Rattle.std.specs.Prelude.{[]};
 ghost use Rattle.a64_read.specs.Parts.{IsPart};
 ghost use Rattle.a64_read.specs.PartLaws.{part_field};
-ghost use Rattle.a64_read.specs.Splitting.{comma_tokens};
-ghost use Rattle.a64_read.specs.TokenLaws.{some_token};
+ghost use Rattle.a64_tokens.specs.Splitting.{comma_tokens};
+ghost use Rattle.a64_tokens.specs.TokenLaws.{some_token};
 
 use crate::fields::{FieldRow, put_read};
 use crate::read_value::read_part;
-use crate::split::{CutToken, cut};
-use crate::value::{Kind, Value};
+use a64_tokens::split::{CutToken, cut};
+use a64_tokens::value::{Kind, Value};
 
 /// Fields with commas between.
 pub struct Parts;

@@ -5,36 +5,37 @@ ghost use Rattle.a64_read.specs.Values.{ReadsKind};
 
 use crate::branch_name::{CondBrName, read_test_bit};
 use crate::call::read_made;
-use crate::convention::read_api_key;
-use crate::decimal::{read_u8, read_u32, read_u64};
-use crate::emit_flag::EmitFlag;
-use crate::flags::read_flags;
-use crate::float_operator::{
-    read_fpu_op1, read_fpu_op2, read_fpu_op3, read_fpu_round_mode, read_fpu_to_int_op,
-    read_int_to_fpu_op,
-};
 use crate::float_shift::{read_fpu_op_ri, read_fpu_op_ri_mod};
-use crate::frame_field::FrameField;
-use crate::immediate::{read_imm_shift, read_imm12, read_nzcv, read_uimm5, read_uimm6};
 use crate::label::{read_label, read_target};
-use crate::list_text::read_list_text;
-use crate::map::read_map;
-use crate::mode_name::{MemLabelName, ModeName, PairModeName};
-use crate::modifier::read_bool;
+use crate::mode_name::{ModeName, PairModeName};
 use crate::mov_imm::read_mov_imm;
-use crate::named::read_named;
-use crate::offset::{read_i32, read_i64, read_offset9};
-use crate::operator::{
-    read_atomic_rmw_op, read_bfm_op, read_branch_target_type, read_move_wide_op,
-};
 use crate::read_vec_op::read_vec_op;
-use crate::register::{read_preg, read_reg};
 use crate::shift::read_shift;
-use crate::size::{read_scalar_size, read_size, read_vector_size};
-use crate::value::{Kind, Value};
 use crate::wide::read_wide;
 use a64_base::{APIKey, CallConv, Cond, ExtendOp, IrType};
 use a64_ops::{ALUOp, ALUOp3, AtomicRMWLoopOp, BitOp};
+use a64_tokens::convention::read_api_key;
+use a64_tokens::decimal::{read_u8, read_u32, read_u64};
+use a64_tokens::emit_flag::EmitFlag;
+use a64_tokens::flags::read_flags;
+use a64_tokens::float_operator::{
+    read_fpu_op1, read_fpu_op2, read_fpu_op3, read_fpu_round_mode, read_fpu_to_int_op,
+    read_int_to_fpu_op,
+};
+use a64_tokens::frame_field::FrameField;
+use a64_tokens::immediate::{read_imm_shift, read_imm12, read_nzcv, read_uimm5, read_uimm6};
+use a64_tokens::label_name::MemLabelName;
+use a64_tokens::list_text::read_list_text;
+use a64_tokens::map::read_map;
+use a64_tokens::modifier::read_bool;
+use a64_tokens::named::read_named;
+use a64_tokens::offset::{read_i32, read_i64, read_offset9};
+use a64_tokens::operator::{
+    read_atomic_rmw_op, read_bfm_op, read_branch_target_type, read_move_wide_op,
+};
+use a64_tokens::register::{read_preg, read_reg};
+use a64_tokens::size::{read_scalar_size, read_size, read_vector_size};
+use a64_tokens::value::{Kind, Value};
 
 /// Reads an integer operator.
 #[tactic(auto, unfolding(crate::specs::Values::ReadsKind))]

@@ -2,15 +2,15 @@
 
 ghost use Rattle.a64_read.specs.Values.{ReadsKind};
 
-use crate::named::read_named;
-use crate::value::{Kind, Value};
-use crate::vec_op::{VecOp, VecOpKind};
-use crate::vector_operator::{
+use a64_ops::{VecALUOp, VecMisc2};
+use a64_tokens::named::read_named;
+use a64_tokens::value::{Kind, Value};
+use a64_tokens::vec_op::{VecOp, VecOpKind};
+use a64_tokens::vector_operator::{
     read_vec_alu_mod_op, read_vec_extend_op, read_vec_lanes_op, read_vec_pair_op,
     read_vec_rr_long_op, read_vec_rr_narrow_op, read_vec_rr_pair_long_op, read_vec_rrr_long_mod_op,
     read_vec_rrr_long_op, read_vec_shift_imm_mod_op, read_vec_shift_imm_op,
 };
-use a64_ops::{VecALUOp, VecMisc2};
 
 /// Reads an operator on two vectors.
 #[tactic(auto, unfolding(crate::specs::Values::ReadsKind))]

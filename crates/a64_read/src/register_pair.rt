@@ -1,18 +1,18 @@
 //! Reads registers in which values enter and leave functions.
 
 ghost use Rattle.std.specs.Prelude.{◌≡◌, ◌∷◌};
-ghost use Rattle.a64_read.specs.Reads.{Reads};
+ghost use Rattle.a64_tokens.specs.Reads.{Reads};
 ghost use Rattle.a64_read.specs.RegisterPairs.{register_pair_text, IsRegisterPair, arg_pair_text, IsArgPair, ret_pair_text, IsRetPair};
-ghost use Rattle.a64_read.specs.SplitLaws.{comma_joined};
-ghost use Rattle.a64_read.specs.Splitting.{comma_tokens, of_text};
-ghost use Rattle.a64_read.specs.TokenLaws.{some_token};
+ghost use Rattle.a64_tokens.specs.SplitLaws.{comma_joined};
+ghost use Rattle.a64_tokens.specs.Splitting.{comma_tokens, of_text};
+ghost use Rattle.a64_tokens.specs.TokenLaws.{some_token};
 ghost use Rattle.a64_read.specs.PairLaws.{arg_apart, arg_no_dash, ret_apart, ret_no_dash};
 
 use crate::list::{Listed, cut_comma};
-use crate::register::read_reg;
-use crate::split::cut;
 use a64_base::{Reg, Writable};
 use a64_inst::{ArgPair, RetPair};
+use a64_tokens::register::read_reg;
+use a64_tokens::split::cut;
 
 /// The two registers that the token is, with `=` between.
 pub fn read_register_pair(token: &[u8]) -> Option<(Reg, Reg)>

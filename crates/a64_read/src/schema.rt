@@ -1,14 +1,14 @@
 //! Reads what is a name and the fields behind it.
 
 ghost use Rattle.std.specs.Prelude.{◌≡◌, ◌≤◌, List, ◌∷◌, length, option_map, IfSome};
-ghost use Rattle.a64_read.specs.declared.value.Value.{Value};
-ghost use Rattle.a64_read.specs.Reads.{Reads};
-ghost use Rattle.a64_read.specs.Splitting.{lines_of, of_text, behind_text};
+ghost use Rattle.a64_tokens.specs.declared.value.Value.{Value};
+ghost use Rattle.a64_tokens.specs.Reads.{Reads};
+ghost use Rattle.a64_tokens.specs.Splitting.{lines_of, of_text, behind_text};
 ghost use Rattle.a64_read.specs.Rows.{AreFields, texts};
 
 use crate::fields::{FieldRow, read_fields};
-use crate::named::{Named, read_heading};
-use crate::value::Value;
+use a64_tokens::named::{Named, read_heading};
+use a64_tokens::value::Value;
 use arrayvec::ArrayVec;
 
 /// The name, and the lines behind the fields in the text behind it. The fields are left in `values`.

@@ -1,12 +1,12 @@
 //! Reads shifts.
 
-ghost use Rattle.a64_read.specs.Reads.{Reads};
-ghost use Rattle.a64_read.specs.Fields.{IsShift, shift_text};
+ghost use Rattle.a64_tokens.specs.Reads.{Reads};
+ghost use Rattle.a64_tokens.specs.Fields.{IsShift, shift_text};
 
 use crate::call::read_call;
-use crate::decimal::read_u64;
-use crate::named::read_named;
 use a64_base::{ShiftOp, ShiftOpAndAmt, ShiftOpShiftImm};
+use a64_tokens::decimal::read_u64;
+use a64_tokens::named::read_named;
 
 /// The shift and its amount that the token is: as `LSL(3)`.
 pub fn read_shift(token: &[u8]) -> Option<ShiftOpAndAmt>

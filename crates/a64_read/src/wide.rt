@@ -1,13 +1,13 @@
 //! Reads wide immediates.
 
-ghost use Rattle.a64_read.specs.Reads.{Reads};
-ghost use Rattle.a64_read.specs.Fields.{IsWide, wide_text};
+ghost use Rattle.a64_tokens.specs.Reads.{Reads};
+ghost use Rattle.a64_tokens.specs.Fields.{IsWide, wide_text};
 
 use crate::at;
 use crate::fields::read_fields;
 use crate::parts::Parts;
-use crate::value::{Kind, Value};
 use a64_imms::MoveWideConst;
+use a64_tokens::value::{Kind, Value};
 use arrayvec::ArrayVec;
 
 /// The halfword and its shift in bits that the token is.

@@ -3,11 +3,11 @@ use Rattle.std.proofs.Common.{◌≡◌, ℕ, ◌<◌, List, [], ◌∷◌, ◌+
 use Rattle.std.specs.List.{slice_split, join_with_byte}
 use Rattle.std.specs.Prelude.{◌==◌}
 use Rattle.std.proofs.lemmas.List.Splits.{join_with_byte-slice_split}
-use Rattle.a64_read.specs.Fields.{HasNo}
-use Rattle.a64_read.specs.Reads.{Reads}
-use Rattle.a64_read.specs.SplitLaws.{split_at}
-use Rattle.a64_read.specs.TokenLaws.{some_token}
-use Rattle.a64_read.proofs.Splits.{first_plain}
+use Rattle.a64_tokens.specs.Fields.{HasNo}
+use Rattle.a64_tokens.specs.Reads.{Reads}
+use Rattle.a64_tokens.specs.SplitLaws.{split_at}
+use Rattle.a64_tokens.specs.TokenLaws.{some_token}
+use Rattle.a64_tokens.proofs.Splits.{first_plain}
 use Rattle.a64_reloc.specs.Halves.{AreBoth, IsPlainFirst, halves_text, pair_text}
 
 abbrev pub cuts : List ℕ → List (List ℕ)

@@ -8,9 +8,9 @@ use Rattle.std.specs.List.{find}
 use Rattle.a64_base.specs.declared.entity.ExternalName.{ExternalName}
 use Rattle.a64_base.specs.declared.entity.Reloc.{Reloc}
 use Rattle.a64_base.specs.declared.entity.Reloc.TheVariants.{Arm64Call, Abs8, Aarch64AdrGotPage21, Aarch64Ld64GotLo12Nc, Aarch64AdrPrelPgHi21, Aarch64AddAbsLo12Nc}
-use Rattle.a64_read.specs.DigitLaws.{decimal_apart}
-use Rattle.a64_read.specs.Fields.{HasNo}
-use Rattle.a64_read.specs.Reads.{Reads, Always, IsI64, IsU32}
+use Rattle.a64_tokens.specs.DigitLaws.{decimal_apart}
+use Rattle.a64_tokens.specs.Fields.{HasNo}
+use Rattle.a64_tokens.specs.Reads.{Reads, Always, IsI64, IsU32}
 use Rattle.a64_reloc.specs.Halves.{AreBoth, pair_text}
 use Rattle.a64_reloc.specs.Relocs.{IsReloc, IsSymbol, reloc_line, reloc_text, symbol_text}
 

@@ -1,7 +1,7 @@
 -- Texts in two parts, with a space between.
 use Rattle.std.specs.Prelude.{ℕ, List, ◌++◌, codes}
 use Rattle.std.specs.Borrow.{Bor}
-use Rattle.a64_read.specs.Fields.{HasNo}
+use Rattle.a64_tokens.specs.Fields.{HasNo}
 
 -- the texts of two values, with a space between
 abbrev pub pair_text : {A B : Type 0} → (A → List ℕ) → (B → List ℕ) → A × B → List ℕ

@@ -2,7 +2,7 @@
 
 ghost use Rattle.std.specs.Prelude.{◌≡◌, ◌≤◌, nat_eq, length};
 ghost use Rattle.std.specs.Cmp.Lexicographic.{pointwise};
-ghost use Rattle.a64_read.specs.Reads.{Reads, Always};
+ghost use Rattle.a64_tokens.specs.Reads.{Reads, Always};
 ghost use Rattle.a64_reloc.specs.Relocs.{reloc_text};
 
 use a64_base::Reloc;

@@ -1,15 +1,15 @@
 //! Reads the line of a relocation.
 
 ghost use Rattle.std.specs.Fmt.{decimal, signed_decimal};
-ghost use Rattle.a64_read.specs.Reads.{Reads, Always, IsI64, IsU32};
+ghost use Rattle.a64_tokens.specs.Reads.{Reads, Always, IsI64, IsU32};
 ghost use Rattle.a64_reloc.specs.Halves.{AreBoth, pair_text};
 ghost use Rattle.a64_reloc.specs.Relocs.{IsSymbol, IsReloc, reloc_line, reloc_text, symbol_text};
 
 use crate::halves::halves;
 use crate::kind::read_kind;
 use a64_base::{ExternalName, Reloc};
-use a64_read::decimal::read_u32;
-use a64_read::offset::read_i64;
+use a64_tokens::decimal::read_u32;
+use a64_tokens::offset::read_i64;
 
 /// A symbol, and the number that is added to its place.
 type Goal = (ExternalName, i64);

@@ -6,7 +6,7 @@ use lib.Seq.{drop_at, take_at}
 use Rattle.itoa.proofs.Decimal.{decimal_pair}
 use Rattle.std.specs.Fmt.{decimal}
 use Rattle.a64_report.specs.Report.{item_line, word_line, words_in}
-use Rattle.a64_read.specs.Hex.{hex_word}
+use Rattle.a64_tokens.specs.Hex.{hex_word}
 use Rattle.a64_report.specs.Kept.{last_digits, Shares, KeepsItem, KeepsWord, placed_word}
 
 -- a list keeps its text, and has another end

@@ -1,7 +1,7 @@
 -- The parts of a summary, one behind the other.
 use Rattle.std.proofs.Common.{◌≡◌, ℕ, List, [], ◌++◌, codes, refl, append_assoc}
 use Rattle.std.specs.Fmt.{decimal}
-use Rattle.a64_read.specs.Hex.{hex_word}
+use Rattle.a64_tokens.specs.Hex.{hex_word}
 use Rattle.a64_report.specs.Summary.{summary_lines}
 
 in_order : (items bytes islands name space a b c digits end : List ℕ)

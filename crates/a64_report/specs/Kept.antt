@@ -4,7 +4,7 @@ use Rattle.std.specs.Fmt.{decimal}
 use Rattle.std.specs.List.{flat_map, enumerate_from}
 use Rattle.a64_report.specs.declared.hundred.Hundred.{Hundred}
 use Rattle.a64_report.specs.Report.{item_line, word_line, words_in}
-use Rattle.a64_read.specs.Hex.{hex_word}
+use Rattle.a64_tokens.specs.Hex.{hex_word}
 
 -- the two digits of a number below 100
 abbrev pub last_digits : ℕ → List ℕ

@@ -9,7 +9,7 @@ use Rattle.a64_base.specs.declared.entity.Reloc.{Reloc}
 use Rattle.a64_base.specs.declared.entity.TrapCode.{TrapCode}
 use Rattle.a64_base.specs.declared.entity.UserStackMap.{UserStackMap}
 use Rattle.a64_emit.specs.declared.code.Code.{Code}
-use Rattle.a64_read.specs.Hex.{hex_word}
+use Rattle.a64_tokens.specs.Hex.{hex_word}
 use Rattle.a64_reloc.specs.Relocs as Relocs
 
 -- the words of code, each with its least byte first

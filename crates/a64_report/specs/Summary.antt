@@ -1,7 +1,7 @@
 -- What is told of the code of a file that `gen` made.
 use Rattle.std.specs.Prelude.{ℕ, ◌%◌, ◌^◌, List, ◌++◌, length, sum, codes}
 use Rattle.a64_emit.specs.declared.code.Code.{Code}
-use Rattle.a64_read.specs.Hex.{hex_word}
+use Rattle.a64_tokens.specs.Hex.{hex_word}
 use Rattle.a64_report.specs.Report.{words_in, line_of_one}
 
 -- the sum of the words of code, as a word

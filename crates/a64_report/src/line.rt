@@ -6,7 +6,7 @@
 
 ghost use Rattle.std.specs.Prelude.{◌≡◌, ◌+◌, ◌≤◌, ◌++◌, drop, take, length};
 ghost use Rattle.std.specs.Fmt.{decimal, signed_decimal};
-ghost use Rattle.a64_read.specs.Hex.{hex_pair, hex_word};
+ghost use Rattle.a64_tokens.specs.Hex.{hex_pair, hex_word};
 
 use itoa::write_digits;
 

@@ -6,8 +6,8 @@ use Rattle.a64_base.specs.RegisterNumbers.{RealRegister}
 use Rattle.a64_base.specs.Sets.{has}
 use Rattle.a64_base.specs.declared.set.PRegSet.{PRegSet}
 use Rattle.a64_read.specs.Clobbers.{clobbers_text, members, members_from, nth_register}
-use Rattle.a64_read.specs.Fields.{preg_text}
-use Rattle.a64_read.specs.Lists.{list_text}
+use Rattle.a64_tokens.specs.Fields.{preg_text}
+use Rattle.a64_tokens.specs.Lists.{list_text}
 use Rattle.a64_role_lines.proofs.Joined.{joined}
 
 -- a register, and the comma before each but the first

@@ -7,8 +7,8 @@ use Rattle.a64_inst.specs.declared.inst.Inst.{Inst}
 use Rattle.a64_inst.specs.declared.item.Item.{Item}
 use Rattle.a64_inst.specs.declared.item.Item.TheVariants.{Bind, Emit}
 use Rattle.a64_read.specs.Clobbers.{clobbers_text}
-use Rattle.a64_read.specs.Fields.{preg_text, reg_text}
-use Rattle.a64_read.specs.Operators.{bool_text}
+use Rattle.a64_tokens.specs.Fields.{preg_text, reg_text}
+use Rattle.a64_tokens.specs.Operators.{bool_text}
 use Rattle.a64_role.specs.declared.query.CallType.{CallType}
 use Rattle.a64_role.specs.declared.query.CallType.TheVariants as calls
 use Rattle.a64_role.specs.declared.query.MachTerminator.{MachTerminator}

@@ -3,7 +3,7 @@
 ghost use Rattle.std.specs.Prelude.{◌≡◌, ◌++◌, codes, OnOk};
 ghost use Rattle.std.specs.List.{flat_map};
 ghost use Rattle.std.specs.String.{string_bytes};
-ghost use Rattle.a64_read.specs.Operators.{bool_text};
+ghost use Rattle.a64_tokens.specs.Operators.{bool_text};
 ghost use Rattle.a64_role_lines.specs.RoleLines as texts;
 ghost use Rattle.a64_role_lines.specs.RoleLines.{course_words, query_words, test_words};
 ghost use Rattle.a64_role_lines.specs.Words.{behind};

@@ -4,9 +4,9 @@ ghost use Rattle.std.specs.Prelude.{◌≡◌, ◌<◌, [], ◌++◌, if◌then�
 ghost use Rattle.std.specs.String.{string_bytes};
 ghost use Rattle.a64_read.specs.Clobbers as clobbers;
 ghost use Rattle.a64_read.specs.Clobbers.{clobbers_text};
-ghost use Rattle.a64_read.specs.Fields.{integer_text, preg_text, reg_text, virtual_text};
+ghost use Rattle.a64_tokens.specs.Fields.{integer_text, preg_text, reg_text, virtual_text};
 
-use a64_base::{PReg, PRegSet, Reg, RegClass, push_numbered};
+use a64_base::{PReg, PRegSet, Reg, RegClass, RegKind, push_numbered};
 use std::alloc::AllocError;
 
 /// How many registers of the machine there are.
@@ -56,9 +56,9 @@ pub fn push_preg(out: &mut String, preg: PReg) -> Result<(), AllocError>
 pub fn push_reg(out: &mut String, reg: Reg) -> Result<(), AllocError>
     ensures { OnOk result (string_bytes out.new ≡ string_bytes out.old ++ reg_text reg) }
 {
-    match reg {
-        Reg::Real(preg) => push_preg(out, preg),
-        Reg::Virtual { index, class } => push_virtual(out, index, class),
+    match reg.kind() {
+        RegKind::Real(preg) => push_preg(out, preg),
+        RegKind::Virtual { index, class } => push_virtual(out, index, class),
     }
 }
 

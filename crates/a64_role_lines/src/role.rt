@@ -5,7 +5,7 @@ ghost use Rattle.std.specs.Fmt.{decimal};
 ghost use Rattle.std.specs.List.{flat_map};
 ghost use Rattle.std.specs.String.{string_bytes};
 ghost use Rattle.a64_read.specs.Clobbers.{clobbers_text};
-ghost use Rattle.a64_read.specs.Fields.{preg_text, reg_text};
+ghost use Rattle.a64_tokens.specs.Fields.{preg_text, reg_text};
 ghost use Rattle.a64_role_lines.specs.RoleLines.{role_text};
 ghost use Rattle.a64_role_lines.specs.Words.{behind};
 

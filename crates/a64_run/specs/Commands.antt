@@ -6,7 +6,7 @@ use Rattle.a64_buffer.specs.declared.force.ForceVeneers.TheVariants.{No, Yes}
 use Rattle.a64_base.specs.Registers.{integer_register}
 use Rattle.a64_plan.specs.declared.step.ConstStep.{ConstStep}
 use Rattle.a64_emit.specs.declared.code.Code.{Code}
-use Rattle.a64_emit.specs.MemoryForms as emission
+use Rattle.a64_cells.specs.MemoryForms as emission
 use Rattle.a64_run.specs.declared.product.Product.{Product}
 use Rattle.a64_run.specs.declared.product.Product.TheVariants as products
 use Rattle.a64_link.specs.declared.error.LinkError.{LinkError}

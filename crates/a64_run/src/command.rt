@@ -3,7 +3,7 @@
 ghost use Rattle.std.specs.Prelude.{◌≡◌, ◌↔◌, ◌∷◌, Some, IsTrue, codes, map};
 ghost use Rattle.std.specs.Fmt.{decimal};
 ghost use Rattle.std.specs.String.{string_bytes};
-ghost use Rattle.a64_read.specs.Reads.{Reads, Always};
+ghost use Rattle.a64_tokens.specs.Reads.{Reads, Always};
 ghost use Rattle.a64_run.specs.Commands.{IsCount, alone_name, force_of, force_words, works_on};
 ghost use Rattle.a64_run.specs.Stages.{ReadsCommand};
 

@@ -8,10 +8,10 @@ use Rattle.a64_text.specs.declared.entry.Entry.{Entry}
 use Rattle.a64_text.specs.declared.entry.Entry.TheVariants as entries
 use Rattle.a64_text.specs.declared.name.Name.{Name}
 use Rattle.a64_text.specs.declared.state.ReaderState.{ReaderState}
-use Rattle.a64_read.specs.declared.value.Value.{Value}
+use Rattle.a64_tokens.specs.declared.value.Value.{Value}
 use Rattle.a64_text.specs.AddsLine.{Added, AddsName, AddsNothing, AddsEntry, AddsMade}
 use Rattle.a64_text.specs.Puts.{PutsEntry, Puts}
-use Rattle.a64_read.specs.Reads.{Reads}
+use Rattle.a64_tokens.specs.Reads.{Reads}
 use Rattle.a64_text.specs.States.{contents_of, once_name, said}
 use Rattle.a64_text.specs.Tokens.{line_of, IsEntry}
 use Rattle.a64_text.proofs.Givens.{added, not_added, no_entry}

@@ -2,8 +2,8 @@
 use Rattle.std.proofs.Common.{◌≡◌, ℕ, ◌*◌, ◌⊎◌, inl, inr, Bool, true, false, ◌||◌, nat_eq, List, [], ◌∷◌, length, Option, Some, None, refl, sym, ap, ◌∙◌, arith}
 use Rattle.std.proofs.lemmas.Bool.{eqb-true, false≢true}
 use Rattle.a64_buffer.specs.Constants.{IsConstant}
-use Rattle.a64_read.specs.Hex.{hex_text, AreBytes}
-use Rattle.a64_read.specs.Reads.{Reads}
+use Rattle.a64_tokens.specs.Hex.{hex_text, AreBytes}
+use Rattle.a64_tokens.specs.Reads.{Reads}
 use Rattle.a64_text.specs.Constants.{has_digits, HasHex}
 
 hex_length : (bytes : List ℕ) → length (hex_text bytes) ≡ 2 * length bytes

@@ -7,7 +7,7 @@ use Rattle.a64_text.specs.declared.entry.Entry.{Entry}
 use Rattle.a64_text.specs.declared.entry.Entry.TheVariants as entries
 use Rattle.a64_text.specs.declared.file.File.{File}
 use Rattle.a64_text.specs.FileText.{IsFile, meaningful}
-use Rattle.a64_read.specs.Splitting.{is_blank, lines_of}
+use Rattle.a64_tokens.specs.Splitting.{is_blank, lines_of}
 use Rattle.a64_text.specs.States.{Contents, State, start, said, state_after, Chain}
 use Rattle.a64_text.specs.Tokens.{line_of}
 

@@ -4,8 +4,8 @@ use Rattle.a64_base.specs.declared.size.ScalarSize.{ScalarSize}
 use Rattle.a64_base.specs.declared.size.VectorSize.{VectorSize}
 use Rattle.a64_base.specs.VectorSizes.{lane_of}
 use Rattle.a64_imms.specs.declared.asimd_fp.ASIMDFPModImm.{ASIMDFPModImm}
-use Rattle.a64_read.specs.declared.value.Value.{Value}
-use Rattle.a64_read.specs.Reads.{Reads}
+use Rattle.a64_tokens.specs.declared.value.Value.{Value}
+use Rattle.a64_tokens.specs.Reads.{Reads}
 use Rattle.a64_read.specs.At.{u8_at, vector_size_at}
 use Rattle.a64_text.specs.FloatImms.{IsFloatAt}
 use Rattle.a64_text.specs.Makes.{Makes}

@@ -6,8 +6,8 @@ use Rattle.a64_imms.specs.declared.asimd_fp.ASIMDFPModImm.{ASIMDFPModImm}
 use Rattle.a64_inst.specs.declared.inst.Inst.{Inst}
 use Rattle.a64_inst.specs.declared.inst.Inst.TheVariants as insts
 use Rattle.a64_text.specs.declared.entry.Entry.{Entry}
-use Rattle.a64_read.specs.declared.value.Value.{Value}
-use Rattle.a64_read.specs.Reads.{Reads}
+use Rattle.a64_tokens.specs.declared.value.Value.{Value}
+use Rattle.a64_tokens.specs.Reads.{Reads}
 use Rattle.a64_read.specs.At.{reg_at, scalar_size_at, u8_at}
 use Rattle.a64_read.specs.Same.{at_their_places}
 use Rattle.a64_text.specs.FloatImms.{IsFloatAt}

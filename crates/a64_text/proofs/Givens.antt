@@ -12,14 +12,14 @@ use Rattle.a64_text.specs.declared.entry.Entry.{Entry}
 use Rattle.a64_text.specs.declared.entry.OnceName.{OnceName}
 use Rattle.a64_text.specs.declared.entry.OnceName.TheVariants.{Constant, Frame, Flag}
 use Rattle.a64_text.specs.contracts.entry.OnceNameOrd.TheImpl.Laws.{total-law}
-use Rattle.a64_read.specs.declared.emit_flag.EmitFlag.{EmitFlag}
-use Rattle.a64_read.specs.declared.emit_flag.EmitFlag.TheVariants as emit_flags
-use Rattle.a64_read.specs.contracts.emit_flag.EmitFlagOrd.TheImpl as flag_order
-use Rattle.a64_read.specs.declared.frame_field.FrameField.{FrameField}
-use Rattle.a64_read.specs.declared.frame_field.FrameField.TheVariants as frame_fields
-use Rattle.a64_read.specs.contracts.frame_field.FrameFieldOrd.TheImpl as field_order
+use Rattle.a64_tokens.specs.declared.emit_flag.EmitFlag.{EmitFlag}
+use Rattle.a64_tokens.specs.declared.emit_flag.EmitFlag.TheVariants as emit_flags
+use Rattle.a64_tokens.specs.contracts.emit_flag.EmitFlagOrd.TheImpl as flag_order
+use Rattle.a64_tokens.specs.declared.frame_field.FrameField.{FrameField}
+use Rattle.a64_tokens.specs.declared.frame_field.FrameField.TheVariants as frame_fields
+use Rattle.a64_tokens.specs.contracts.frame_field.FrameFieldOrd.TheImpl as field_order
 use Rattle.a64_text.specs.declared.state.ReaderState.{ReaderState}
-use Rattle.a64_read.specs.Reads.{Reads}
+use Rattle.a64_tokens.specs.Reads.{Reads}
 use Rattle.a64_text.specs.Tokens.{line_of, IsEntry}
 use Rattle.a64_text.specs.States.{contents_of, once_name, said, MayStand}
 use Rattle.a64_text.specs.AddsLine.{once_cmp, HasNames, AddsName, AddsNothing, Added}

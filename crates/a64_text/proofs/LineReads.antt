@@ -4,18 +4,19 @@ use Rattle.std.specs.Prelude.{IfSome}
 use Rattle.std.specs.List.{AllByRecursion, slice_split}
 use Rattle.a64_text.specs.declared.entry.Entry.{Entry}
 use Rattle.a64_text.specs.declared.name.Name.{Name}
-use Rattle.a64_read.specs.declared.value.Value.{Value}
+use Rattle.a64_tokens.specs.declared.value.Value.{Value}
 use Rattle.a64_text.specs.Makers.{made_some, made_only, fields_kinds, name_plain}
 use Rattle.a64_text.specs.Makes.{Makes}
 use Rattle.a64_text.specs.Names.{name_text, kinds_of}
-use Rattle.a64_read.specs.Reads.{Reads}
+use Rattle.a64_tokens.specs.Reads.{Reads}
 use Rattle.a64_read.specs.Rows.{AreFields, texts}
 use Rattle.a64_text.specs.Tokens.{name_of, fields_of, IsOwn, IsPlain, tokens_of, plain_line}
 use Rattle.a64_read.specs.Values.{IsValue}
-use Rattle.a64_read.proofs.Joined.{all_plain, joined_some}
+use Rattle.a64_read.proofs.Joined.{all_plain}
+use Rattle.a64_tokens.proofs.Splits.{joined_some}
 use Rattle.a64_read.proofs.Plain.{value_plain}
 use Rattle.a64_read.proofs.Schemas.{Names, none_made, made_of}
-use Rattle.a64_read.specs.SplitLaws.{split-join}
+use Rattle.a64_tokens.specs.SplitLaws.{split-join}
 
 pub line_split : (line : List ℕ) (entry : Entry) → IsPlain entry → line ≡ plain_line entry → slice_split (λ b. eqb b 32) line ≡ tokens_of entry
 line_split line entry is e = ap (λ (t : List ℕ). slice_split (λ b. eqb b 32) t) e ∙ split-join 32 (name_text (name_of entry)) (texts (fields_of entry)) (name_plain (name_of entry), all_plain 32 IsValue value_plain (fields_of entry) is.fields)

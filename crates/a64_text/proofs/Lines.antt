@@ -9,14 +9,14 @@ use Rattle.std.proofs.lemmas.List.Elements.{filter-append}
 use Rattle.a64_text.specs.declared.entry.Entry.{Entry}
 use Rattle.a64_text.specs.declared.file.FileError.TheVariants.{BadLine}
 use Rattle.a64_text.specs.declared.state.ReaderState.{ReaderState}
-use Rattle.a64_read.specs.Reads.{Reads}
-use Rattle.a64_read.specs.Splitting.{is_blank, lines_of, others, first_line, lines_behind, of_text}
+use Rattle.a64_tokens.specs.Reads.{Reads}
+use Rattle.a64_tokens.specs.Splitting.{is_blank, lines_of, others, first_line, lines_behind, of_text}
 use Rattle.a64_text.specs.Tokens.{line_of, IsEntry}
 use Rattle.a64_text.specs.States.{State, start, MayStand, state_after, Chain}
 use Rattle.a64_text.specs.FileText.{meaningful, AreEntries, IsFirstBad}
 use Rattle.a64_text.specs.AddsLine.{Holds, Added, AddsNothing, AddsLine}
 use Rattle.a64_text.specs.Reading.{Answers}
-use Rattle.a64_read.proofs.Splits.{lines_whole}
+use Rattle.a64_tokens.proofs.Splits.{lines_whole}
 use Rattle.a64_text.proofs.Sequences.{map_parts, zip_parts, zip_push, each_parts, Fronts, fronts}
 
 -- the line is the entry, and no other

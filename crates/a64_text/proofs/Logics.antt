@@ -13,9 +13,9 @@ use Rattle.a64_inst.specs.declared.inst.Inst.{Inst}
 use Rattle.a64_inst.specs.declared.inst.Inst.TheVariants as insts
 use Rattle.a64_ops.specs.declared.operator.ALUOp.{ALUOp}
 use Rattle.a64_text.specs.declared.entry.Entry.{Entry}
-use Rattle.a64_read.specs.declared.value.Value.{Value}
-use Rattle.a64_read.specs.Reads.{Reads, IsU64}
-use Rattle.a64_read.specs.Fields.{IsLogicAt}
+use Rattle.a64_tokens.specs.declared.value.Value.{Value}
+use Rattle.a64_tokens.specs.Reads.{Reads, IsU64}
+use Rattle.a64_tokens.specs.Fields.{IsLogicAt}
 use Rattle.a64_read.specs.At.{alu_op_at, size_at, reg_at, u64_at}
 use Rattle.a64_text.specs.Makes.{emitted, Makes}
 use Rattle.a64_text.specs.Names.{kinds_of, logic_name}

@@ -6,9 +6,9 @@ use Rattle.a64_base.specs.declared.size.ScalarSize.{ScalarSize}
 use Rattle.a64_base.specs.declared.size.ScalarSize.TheVariants.{Size8, Size16, Size32, Size64, Size128}
 use Rattle.a64_imms.specs.declared.asimd_mov.ASIMDMovModImm.{ASIMDMovModImm}
 use Rattle.a64_imms.specs.MovImms.{forms_of, is_64, pattern, spread, with_ones, with_zeros, Form, HasForm, HoldsForm, IsFirst, IsMovImm}
-use Rattle.a64_read.specs.declared.mov_imm.WrittenMovImm.{WrittenMovImm}
+use Rattle.a64_tokens.specs.declared.value.WrittenMovImm.{WrittenMovImm}
 use Rattle.a64_text.specs.MovImms.{is_given, written_mov, IsGiven, IsMovAt}
-use Rattle.a64_read.specs.Reads.{Reads}
+use Rattle.a64_tokens.specs.Reads.{Reads}
 
 -- the immediate that is written so, of 64 bits or of fewer
 abbrev pub mov_of : Bool → WrittenMovImm → ASIMDMovModImm

@@ -4,9 +4,9 @@ use Rattle.std.specs.Prelude.{codes, is_some, unwrap_or}
 use Rattle.a64_text.specs.declared.entry.Entry.{Entry}
 use Rattle.a64_text.specs.declared.name.Name.{Name}
 use Rattle.a64_text.specs.declared.state.ReaderState.{ReaderState}
-use Rattle.a64_read.specs.declared.value.Value.{Value}
+use Rattle.a64_tokens.specs.declared.value.Value.{Value}
 use Rattle.a64_text.specs.AddsLine.{Added, AddsNamed, AddsNothing, IsBehindRestore}
-use Rattle.a64_read.specs.Splitting.{first_line, lines_behind}
+use Rattle.a64_tokens.specs.Splitting.{first_line, lines_behind}
 use Rattle.a64_text.proofs.Adds.{line_added, line_refused}
 use Rattle.a64_text.proofs.Givens.{no_entry}
 use Rattle.a64_text.proofs.LineReads.{line_none, ReadsLine}

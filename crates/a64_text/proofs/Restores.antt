@@ -11,20 +11,20 @@ use Rattle.a64_text.specs.declared.entry.Entry.{Entry}
 use Rattle.a64_text.specs.declared.entry.Entry.TheVariants as entries
 use Rattle.a64_text.specs.declared.name.Name.{Name}
 use Rattle.a64_text.specs.declared.state.ReaderState.{ReaderState}
-use Rattle.a64_read.specs.declared.value.Value.{Value}
+use Rattle.a64_tokens.specs.declared.value.Value.{Value}
 use Rattle.a64_text.specs.AddsLine.{Added, AddsEntry, AddsMade, AddsNamed, AddsNothing, AddsRestored, Holds, IsBehindRestore, PopsInst, RestoresLast}
 use Rattle.a64_text.specs.Makers.{fields_kinds, made_only, made_some, name_first, IsMade}
 use Rattle.a64_text.specs.Makes.{emitted, Makes}
 use Rattle.a64_text.specs.Names.{kinds_of, name_text, names_inst}
-use Rattle.a64_read.specs.Reads.{Reads}
-use Rattle.a64_read.specs.SplitLaws.{split_at}
-use Rattle.a64_read.specs.Splitting.{first, first_line, lines_behind, others}
+use Rattle.a64_tokens.specs.Reads.{Reads}
+use Rattle.a64_tokens.specs.SplitLaws.{split_at}
+use Rattle.a64_tokens.specs.Splitting.{first, first_line, lines_behind, others}
 use Rattle.a64_text.specs.States.{contents_of, once_name, said, Contents, State}
 use Rattle.a64_text.specs.Tokens.{fields_of, line_of, name_of, plain_line, IsEntry, IsPlain}
 use Rattle.a64_read.specs.Values.{kind_of}
 use Rattle.a64_text.proofs.Givens.{added, at_answer}
 use Rattle.a64_text.proofs.LineReads.{line_made, line_none, line_split, ReadsLine}
-use Rattle.a64_read.proofs.Splits.{front_split, lines_whole}
+use Rattle.a64_tokens.proofs.Splits.{front_split, lines_whole}
 
 -- ---- the word and the lines of a text
 

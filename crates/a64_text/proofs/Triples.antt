@@ -1,6 +1,6 @@
 -- Three lists that are read one after another.
 use Rattle.std.proofs.Common.{◌≡◌, Some, None, ap, ◌∙◌}
-use Rattle.a64_read.specs.Reads.{Reads}
+use Rattle.a64_tokens.specs.Reads.{Reads}
 
 module _ {A B C S T U : Type 0} (fits_a : A → Type 0) (fits_b : B → Type 0) (fits_c : C → Type 0) (text_a : A → S) (text_b : B → T) (text_c : C → U) (s : S) (t : T) (u : U) where
   abbrev fit : A × B × C → Type 0

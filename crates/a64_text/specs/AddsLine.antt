@@ -12,10 +12,10 @@ use Rattle.a64_text.specs.declared.entry.Entry.TheVariants as entries
 use Rattle.a64_text.specs.declared.entry.OnceName.{OnceName}
 use Rattle.a64_text.specs.declared.name.Name.{Name}
 use Rattle.a64_text.specs.declared.state.ReaderState.{ReaderState}
-use Rattle.a64_read.specs.declared.value.Value.{Value}
+use Rattle.a64_tokens.specs.declared.value.Value.{Value}
 use Rattle.a64_text.specs.contracts.entry.OnceNameOrd.TheImpl as order
-use Rattle.a64_read.specs.Reads.{Reads}
-use Rattle.a64_read.specs.Splitting.{lines_of, first_line, lines_behind, of_text}
+use Rattle.a64_tokens.specs.Reads.{Reads}
+use Rattle.a64_tokens.specs.Splitting.{lines_of, first_line, lines_behind, of_text}
 use Rattle.a64_text.specs.Tokens.{fields_of, line_of, name_of, IsEntry, IsPlain}
 use Rattle.a64_text.specs.Makes.{Makes}
 use Rattle.a64_text.specs.States.{contents_of, once_name, said, State, MayStand, state_after}

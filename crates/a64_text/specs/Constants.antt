@@ -1,7 +1,7 @@
 -- The texts of constants: their bytes in hexadecimal digits, in order.
 use Rattle.std.specs.Prelude.{ℕ, Bool, ◌||◌, nat_eq, List}
 use Rattle.a64_buffer.specs.Constants.{IsConstant}
-use Rattle.a64_read.specs.Hex.{AreBytes}
+use Rattle.a64_tokens.specs.Hex.{AreBytes}
 
 -- a constant is written in 8, 16 or 32 digits
 abbrev pub has_digits : ℕ → Bool

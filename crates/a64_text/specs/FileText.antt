@@ -4,7 +4,7 @@ use Rattle.std.specs.List.{AllByRecursion}
 use Rattle.a64_text.specs.declared.entry.Entry.{Entry}
 use Rattle.a64_text.specs.declared.file.File.{File}
 use Rattle.a64_text.specs.States.{contents_of, State, start, MayStand, Chain}
-use Rattle.a64_read.specs.Splitting.{is_blank, lines_of}
+use Rattle.a64_tokens.specs.Splitting.{is_blank, lines_of}
 use Rattle.a64_text.specs.Tokens.{line_of, IsEntry}
 
 abbrev pub meaningful : List (List ℕ) → List (List ℕ)

@@ -1,8 +1,8 @@
 -- The sizes of a frame.
 use Rattle.std.specs.Prelude.{ℕ}
 use Rattle.a64_inst.specs.declared.frame.FrameLayout.{FrameLayout}
-use Rattle.a64_read.specs.declared.frame_field.FrameField.{FrameField}
-use Rattle.a64_read.specs.declared.frame_field.FrameField.TheVariants as frame_fields
+use Rattle.a64_tokens.specs.declared.frame_field.FrameField.{FrameField}
+use Rattle.a64_tokens.specs.declared.frame_field.FrameField.TheVariants as frame_fields
 
 -- a frame with another size of one area
 abbrev pub frame_with : FrameField → ℕ → FrameLayout → FrameLayout

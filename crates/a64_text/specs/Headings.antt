@@ -2,7 +2,7 @@
 -- The names of instructions as texts, and their headings: each with the kinds of the fields behind it.
 use Rattle.std.specs.Prelude.{ℕ, List, [], ◌∷◌, codes}
 use Rattle.a64_read.specs.Heading.{Heading}
-use Rattle.a64_read.specs.declared.value.Kind.TheVariants as kinds
+use Rattle.a64_tokens.specs.declared.value.Kind.TheVariants as kinds
 use Rattle.a64_text.specs.declared.name.ImmediateName.{ImmediateName}
 use Rattle.a64_text.specs.declared.name.ImmediateName.TheVariants as immediate
 use Rattle.a64_text.specs.declared.name.RegisterName.{RegisterName}

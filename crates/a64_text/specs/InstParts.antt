@@ -3,9 +3,9 @@
 use Rattle.std.specs.Prelude.{[], ◌∷◌}
 use Rattle.a64_inst.specs.declared.inst.Inst.{Inst}
 use Rattle.a64_inst.specs.declared.inst.Inst.TheVariants as insts
-use Rattle.a64_read.specs.declared.value.Value.TheVariants as values
-use Rattle.a64_read.specs.Fields.{label_text}
-use Rattle.a64_read.specs.Lists.{list_text}
+use Rattle.a64_tokens.specs.declared.value.Value.TheVariants as values
+use Rattle.a64_tokens.specs.Fields.{label_text}
+use Rattle.a64_tokens.specs.Lists.{list_text}
 use Rattle.a64_read.specs.RegisterPairs.{arg_pair_text, ret_pair_text}
 use Rattle.a64_text.specs.declared.name.Name.TheVariants as names
 use Rattle.a64_text.specs.Parts.{Parts, access_parts, call_parts, pair_parts, return_call_parts}

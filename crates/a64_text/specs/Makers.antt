@@ -30,17 +30,17 @@ use Rattle.a64_ops.specs.declared.access.AccessOp.TheVariants as ops
 use Rattle.a64_text.specs.declared.name.Name.{Name}
 use Rattle.a64_text.specs.declared.name.Name.TheVariants as names
 use Rattle.a64_text.specs.declared.name_table.TheConstants.{NAME_HOMES}
-use Rattle.a64_read.specs.declared.mov_imm.WrittenMovImm.{WrittenMovImm}
-use Rattle.a64_read.specs.declared.pair_mode.WrittenPairMode.{WrittenPairMode}
-use Rattle.a64_read.specs.declared.value.Value.{Value}
-use Rattle.a64_read.specs.declared.value.Value.TheVariants as values
+use Rattle.a64_tokens.specs.declared.value.WrittenMovImm.{WrittenMovImm}
+use Rattle.a64_tokens.specs.declared.pair_mode.WrittenPairMode.{WrittenPairMode}
+use Rattle.a64_tokens.specs.declared.value.Value.{Value}
+use Rattle.a64_tokens.specs.declared.value.Value.TheVariants as values
 use Rattle.a64_read.specs.At.{convention_at, flags_at, key_at, label_at, list_at, map_at, mov_imm_at, pair_mode_at, reg_at, truth_at, u32_at, u8_at, vector_size_at}
 use Rattle.a64_read.specs.Calls.{call_arg_text, call_lists_text, AreCallLists, IsCallArg}
-use Rattle.a64_read.specs.Fields.{HasNo, label_text, IsLabel}
-use Rattle.a64_read.specs.Hash.{look_up}
-use Rattle.a64_read.specs.Hex.{hex_text}
+use Rattle.a64_tokens.specs.Fields.{HasNo, label_text, IsLabel}
+use Rattle.a64_tokens.specs.Hash.{look_up}
+use Rattle.a64_tokens.specs.Hex.{hex_text}
 use Rattle.a64_text.specs.Constants.{HasHex}
-use Rattle.a64_read.specs.Lists.{list_text}
+use Rattle.a64_tokens.specs.Lists.{list_text}
 use Rattle.a64_read.specs.ModeLaws.{made_of}
 use Rattle.a64_text.specs.Makes.{called, call_of, call_texts_at, emitted, constant_of, entry_of, jump_of, name_at, return_call_of, Makes}
 use Rattle.a64_text.specs.FloatImms.{IsFloatAt}
@@ -49,7 +49,7 @@ use Rattle.a64_text.specs.NameRows.{name_rows}
 use Rattle.a64_text.specs.Names.{dup_float_name, dup_name, name_text, kinds_of}
 use Rattle.a64_read.specs.RegisterPairs.{arg_pair_text, IsArgPair, ret_pair_text, IsRetPair}
 use Rattle.a64_read.specs.Same.{at_their_places}
-use Rattle.a64_read.specs.PairModes.{written_pair, IsPairAt}
+use Rattle.a64_tokens.specs.PairModes.{written_pair, IsPairAt}
 use Rattle.a64_text.specs.InstParts.{inst_parts}
 use Rattle.a64_text.specs.NameInsts.{pair_of}
 use Rattle.a64_text.specs.Pairs.{pair_scale}

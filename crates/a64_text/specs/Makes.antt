@@ -28,15 +28,15 @@ use Rattle.a64_text.specs.declared.name.VectorMoveName.TheVariants as vector_mov
 use Rattle.a64_text.specs.declared.name.SequenceName.TheVariants as sequence
 use Rattle.a64_text.specs.declared.name.Name.{Name}
 use Rattle.a64_text.specs.declared.name.Name.TheVariants as names
-use Rattle.a64_read.specs.declared.value.Value.{Value}
+use Rattle.a64_tokens.specs.declared.value.Value.{Value}
 use Rattle.a64_read.specs.At.{convention_at, emit_flag_at, flags_at, frame_field_at, key_at, label_at, list_at, map_at, mode_at, mov_imm_at, pair_mode_at, reg_at, truth_at, u32_at, u8_at, vector_size_at}
 use Rattle.a64_read.specs.Calls.{call_arg_text, call_lists_text, AreCallLists, CallLists, IsCallArg}
-use Rattle.a64_read.specs.Fields.{label_text, IsLabel}
-use Rattle.a64_read.specs.Hex.{hex_text}
+use Rattle.a64_tokens.specs.Fields.{label_text, IsLabel}
+use Rattle.a64_tokens.specs.Hex.{hex_text}
 use Rattle.a64_text.specs.Constants.{HasHex}
-use Rattle.a64_read.specs.Lists.{list_text}
+use Rattle.a64_tokens.specs.Lists.{list_text}
 use Rattle.a64_read.specs.ModeMakes.{MakesOf}
-use Rattle.a64_read.specs.PairModes.{written_pair, IsPairAt}
+use Rattle.a64_tokens.specs.PairModes.{written_pair, IsPairAt}
 use Rattle.a64_text.specs.Names.{float_imm_name, kinds_of, logic_name}
 use Rattle.a64_text.specs.FloatImms.{IsFloatAt}
 use Rattle.a64_text.specs.MovImms.{written_mov, IsMovAt}

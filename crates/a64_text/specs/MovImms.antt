@@ -3,7 +3,7 @@ use Rattle.std.specs.Prelude.{ℕ, ◌≡◌, ◌==◌, ◌||◌, ◌&&◌, not,
 use Rattle.a64_base.specs.declared.size.ScalarSize.{ScalarSize}
 use Rattle.a64_imms.specs.declared.asimd_mov.ASIMDMovModImm.{ASIMDMovModImm}
 use Rattle.a64_imms.specs.MovImms.{is_64, IsMovImm}
-use Rattle.a64_read.specs.declared.mov_imm.WrittenMovImm.{WrittenMovImm}
+use Rattle.a64_tokens.specs.declared.value.WrittenMovImm.{WrittenMovImm}
 
 -- the immediate as a line has it
 abbrev pub written_mov : ASIMDMovModImm → WrittenMovImm

@@ -27,7 +27,7 @@ use Rattle.a64_text.specs.declared.name.MemoryName.{MemoryName}
 use Rattle.a64_text.specs.declared.name.MemoryName.TheVariants as memory
 use Rattle.a64_text.specs.declared.name.PairName.{PairName}
 use Rattle.a64_text.specs.declared.name.PairName.TheVariants as pair
-use Rattle.a64_read.specs.declared.value.Value.{Value}
+use Rattle.a64_tokens.specs.declared.value.Value.{Value}
 use Rattle.a64_read.specs.At.{alu_op3_at, alu_op_at, api_key_at, atomic_rmw_loop_op_at, atomic_rmw_op_at, bfm_op_at, bit_op_at, branch_target_type_at, cond_at, cond_br_kind_at, extend_at, flags_at, fpu_op1_at, fpu_op2_at, fpu_op3_at, fpu_op_ri_at, fpu_op_ri_mod_at, fpu_round_mode_at, fpu_to_int_op_at, i32_at, i64_at, imm12_at, imm_shift_at, int_to_fpu_op_at, label_at, mode_at, move_wide_op_at, nzcv_at, preg_at, reg_at, scalar_size_at, shift_at, size_at, target_at, test_bit_kind_at, truth_at, type_at, u32_at, u64_at, u8_at, uimm5_at, uimm6_at, vector_size_at, wide_at}
 use Rattle.a64_read.specs.VecAt.{vec_alu_mod_op_at, vec_alu_op_at, vec_extend_op_at, vec_lanes_op_at, vec_misc2_at, vec_pair_op_at, vec_rr_long_op_at, vec_rr_narrow_op_at, vec_rr_pair_long_op_at, vec_rrr_long_mod_op_at, vec_rrr_long_op_at, vec_shift_imm_mod_op_at, vec_shift_imm_op_at}
 

@@ -7,8 +7,8 @@ use Rattle.a64_text.specs.declared.name.Name.{Name}
 use Rattle.a64_text.specs.declared.name.Name.TheVariants.{Immediate, Register, Float, Vector, VectorMove, System, Control, Sequence, Call, Pair, Memory, Access, Bind, Const, Frame, Flag}
 use Rattle.a64_text.specs.Headings.{access_heading, call_heading, control_heading, float_heading, immediate_heading, memory_heading, pair_heading, register_heading, sequence_heading, system_heading, vector_heading, vector_move_heading}
 use Rattle.a64_read.specs.Heading.{Heading}
-use Rattle.a64_read.specs.declared.value.Kind.{Kind}
-use Rattle.a64_read.specs.declared.value.Kind.TheVariants as kinds
+use Rattle.a64_tokens.specs.declared.value.Kind.{Kind}
+use Rattle.a64_tokens.specs.declared.value.Kind.TheVariants as kinds
 
 -- the operation with a bitmask immediate, and the moves of floats and to lanes, whose immediates their constructors give
 abbrev pub logic_name : Name

@@ -11,12 +11,12 @@ use Rattle.a64_text.specs.declared.name.CallName.{CallName}
 use Rattle.a64_text.specs.declared.name.PairName.{PairName}
 use Rattle.a64_text.specs.declared.name.Name.{Name}
 use Rattle.a64_text.specs.declared.name.Name.TheVariants as names
-use Rattle.a64_read.specs.declared.value.Value.{Value}
-use Rattle.a64_read.specs.declared.value.Value.TheVariants as values
+use Rattle.a64_tokens.specs.declared.value.Value.{Value}
+use Rattle.a64_tokens.specs.declared.value.Value.TheVariants as values
 use Rattle.a64_read.specs.Calls.{call_arg_text, call_ret_text}
 use Rattle.a64_read.specs.Clobbers.{clobbers_text}
-use Rattle.a64_read.specs.Lists.{list_text}
-use Rattle.a64_read.specs.PairModes.{written_pair}
+use Rattle.a64_tokens.specs.Lists.{list_text}
+use Rattle.a64_tokens.specs.PairModes.{written_pair}
 
 pub record Parts : Type 0 where
   pub name : Name

@@ -8,9 +8,9 @@ use Rattle.a64_inst.specs.Fields.{Operand, Field, Def, Use, Is}
 use Rattle.a64_inst.specs.Sheets.{sheet}
 use Rattle.a64_read.specs.Heading.{Heading}
 use Rattle.a64_read.specs.Values.{kind_of}
-use Rattle.a64_read.specs.declared.vec_op.VecOp.TheVariants as vec_ops
-use Rattle.a64_read.specs.declared.value.Value.{Value}
-use Rattle.a64_read.specs.declared.value.Value.TheVariants as values
+use Rattle.a64_tokens.specs.declared.vec_op.VecOp.TheVariants as vec_ops
+use Rattle.a64_tokens.specs.declared.value.Value.{Value}
+use Rattle.a64_tokens.specs.declared.value.Value.TheVariants as values
 use Rattle.a64_text.specs.MovImms.{written_mov}
 
 -- what stands in a file for an operand: for a bitmask immediate its value, for that of a float its eight bits, and for that of

@@ -4,7 +4,7 @@ use Rattle.a64_inst.specs.declared.item.Item.{Item}
 use Rattle.a64_text.specs.declared.entry.Entry.{Entry}
 use Rattle.a64_text.specs.declared.entry.Entry.TheVariants as entries
 use Rattle.a64_text.specs.declared.name.Name.{Name}
-use Rattle.a64_read.specs.declared.value.Value.{Value}
+use Rattle.a64_tokens.specs.declared.value.Value.{Value}
 use Rattle.a64_text.specs.Makes.{Makes}
 
 -- true: the entry's item stands behind the old ones. False: there is no entry, and the items are the old ones

@@ -6,7 +6,7 @@ use Rattle.a64_text.specs.declared.file.FileError.{FileError}
 use Rattle.a64_text.specs.declared.file.FileError.TheVariants.{BadLine, OutOfMemory}
 use Rattle.a64_text.specs.States.{contents_of, State, start, Chain}
 use Rattle.a64_text.specs.FileText.{AreEntries, IsFile, IsFirstBad}
-use Rattle.a64_read.specs.Splitting.{lines_of}
+use Rattle.a64_tokens.specs.Splitting.{lines_of}
 
 -- a fact about the line of a bad line
 abbrev pub IfBadLine : (ℕ → Type 0) → FileError → Type 0

@@ -1,8 +1,8 @@
 -- The settings that a file may name.
 use Rattle.std.specs.Prelude.{true}
 use Rattle.a64_inst.specs.declared.emission.EmitFlags.{EmitFlags}
-use Rattle.a64_read.specs.declared.emit_flag.EmitFlag.{EmitFlag}
-use Rattle.a64_read.specs.declared.emit_flag.EmitFlag.TheVariants as emit_flags
+use Rattle.a64_tokens.specs.declared.emit_flag.EmitFlag.{EmitFlag}
+use Rattle.a64_tokens.specs.declared.emit_flag.EmitFlag.TheVariants as emit_flags
 
 -- settings of which one more is true
 abbrev pub flags_with : EmitFlag → EmitFlags → EmitFlags

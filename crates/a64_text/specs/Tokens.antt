@@ -13,13 +13,13 @@ use Rattle.a64_text.specs.declared.entry.Entry.TheVariants as entries
 use Rattle.a64_text.specs.declared.name.PairName.TheVariants as pair
 use Rattle.a64_text.specs.declared.name.Name.{Name}
 use Rattle.a64_text.specs.declared.name.Name.TheVariants as names
-use Rattle.a64_read.specs.declared.value.Value.{Value}
-use Rattle.a64_read.specs.declared.value.Value.TheVariants as values
+use Rattle.a64_tokens.specs.declared.value.Value.{Value}
+use Rattle.a64_tokens.specs.declared.value.Value.TheVariants as values
 use Rattle.a64_read.specs.Calls.{IsCallArg, AreCallLists}
-use Rattle.a64_read.specs.Fields.{IsLabel}
-use Rattle.a64_read.specs.Hex.{hex_text}
+use Rattle.a64_tokens.specs.Fields.{IsLabel}
+use Rattle.a64_tokens.specs.Hex.{hex_text}
 use Rattle.a64_text.specs.Constants.{HasHex}
-use Rattle.a64_read.specs.PairModes.{IsPairAt}
+use Rattle.a64_tokens.specs.PairModes.{IsPairAt}
 use Rattle.a64_text.specs.FloatImms.{IsFloatAt}
 use Rattle.a64_text.specs.MovImms.{IsMovAt}
 use Rattle.a64_text.specs.InstParts.{inst_parts}

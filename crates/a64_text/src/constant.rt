@@ -1,12 +1,12 @@
 //! Reads the bytes of constants.
 
 ghost use Rattle.std.specs.Prelude.{◌≡◌, IfOk};
-ghost use Rattle.a64_read.specs.Hex.{hex_text};
-ghost use Rattle.a64_read.specs.Reads.{Reads};
+ghost use Rattle.a64_tokens.specs.Hex.{hex_text};
+ghost use Rattle.a64_tokens.specs.Reads.{Reads};
 ghost use Rattle.a64_text.specs.Constants.{has_digits, HasHex};
 
 use a64_list::ListVec;
-use a64_read::hex::read_bytes;
+use a64_tokens::hex::read_bytes;
 use std::alloc::{AllocError, Global};
 
 /// Whether a constant is written in so many digits.

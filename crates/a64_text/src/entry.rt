@@ -6,8 +6,8 @@ ghost use Rattle.a64_text.specs.States.{once_name};
 use a64_base::VCodeConstant;
 use a64_inst::{Inst, Item};
 use a64_list::ListVec;
-use a64_read::emit_flag::EmitFlag;
-use a64_read::frame_field::FrameField;
+use a64_tokens::emit_flag::EmitFlag;
+use a64_tokens::frame_field::FrameField;
 
 /// A name that a file gives at most once.
 #[derive(Clone, Copy, Debug, PartialEq, Eq, PartialOrd, Ord)]

@@ -10,7 +10,7 @@ use crate::name_table::{
     NAME_HOMES, access_rows, control_rows, float_rows, integer_rows, other_rows, sequence_rows,
     vector_move_rows, vector_rows,
 };
-use a64_read::named::{Named, Row};
+use a64_tokens::named::{Named, Row};
 
 impl Named for Name {
     ghost text = { name_text };

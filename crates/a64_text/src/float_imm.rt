@@ -1,6 +1,6 @@
 //! Makes immediates of floats of their bits.
 
-ghost use Rattle.a64_read.specs.Reads.{Reads};
+ghost use Rattle.a64_tokens.specs.Reads.{Reads};
 ghost use Rattle.a64_text.specs.FloatImms.{IsFloatAt};
 
 use a64_base::ScalarSize;

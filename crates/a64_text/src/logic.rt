@@ -1,8 +1,8 @@
 //! Makes bitmask immediates of their values.
 
 ghost use Rattle.a64_imms.specs.Logic.{logic_value};
-ghost use Rattle.a64_read.specs.Fields.{IsLogicAt};
-ghost use Rattle.a64_read.specs.Reads.{Reads};
+ghost use Rattle.a64_tokens.specs.Fields.{IsLogicAt};
+ghost use Rattle.a64_tokens.specs.Reads.{Reads};
 
 use a64_base::OperandSize;
 use a64_imms::ImmLogic;

@@ -20,7 +20,7 @@ use crate::entry::Entry;
 use a64_base::{UserStackMap, VCodeConstant};
 use a64_inst::{Inst, Item};
 use a64_read::at;
-use a64_read::value::Value;
+use a64_tokens::value::Value;
 use std::alloc::{AllocError, Global};
 
 /// Puts the instruction, without a map of the stack, behind the items. Always true.

@@ -2,12 +2,12 @@
 
 ghost use Rattle.std.specs.Prelude.{◌≡◌};
 ghost use Rattle.a64_imms.specs.MovImms as imms;
-ghost use Rattle.a64_read.specs.Reads.{Reads};
+ghost use Rattle.a64_tokens.specs.Reads.{Reads};
 ghost use Rattle.a64_text.specs.MovImms as movs;
 
 use a64_base::ScalarSize;
 use a64_imms::ASIMDMovModImm;
-use a64_read::mov_imm::WrittenMovImm;
+use a64_tokens::value::WrittenMovImm;
 
 /// Whether the constructor gives the immediate for some value of 64 bits, or for one of fewer.
 fn is_given(is_64bit: bool, written: WrittenMovImm) -> bool

@@ -5,8 +5,8 @@ ghost use Rattle.a64_text.specs.Frames.{frame_with};
 ghost use Rattle.a64_text.specs.Settings.{flags_with};
 
 use a64_inst::{EmitInfo, FrameLayout};
-use a64_read::emit_flag::EmitFlag;
-use a64_read::frame_field::FrameField;
+use a64_tokens::emit_flag::EmitFlag;
+use a64_tokens::frame_field::FrameField;
 
 /// Sets a size of the frame, in bytes.
 pub fn set_frame_field(frame: &mut FrameLayout, field: FrameField, bytes: u32)

@@ -4,11 +4,11 @@ ghost use Rattle.std.specs.Prelude.{refl};
 ghost use Rattle.a64_read.specs.At.{fpu_op1_of, fpu_op2_of, fpu_op3_of, fpu_op_ri_mod_of, fpu_op_ri_of, fpu_round_mode_of, fpu_to_int_op_of, int_to_fpu_op_of, scalar_size_of, vector_size_of};
 
 use crate::at::Field;
-use crate::value::Value;
 use a64_base::{ScalarSize, VectorSize};
 use a64_imms::{FPULeftShiftImm, FPURightShiftImm};
 use a64_inst::{FPUOpRI, FPUOpRIMod};
 use a64_ops::{FPUOp1, FPUOp2, FPUOp3, FpuRoundMode, FpuToIntOp, IntToFpuOp};
+use a64_tokens::value::Value;
 
 impl Field for FPUOp1 {
     ghost of = { fpu_op1_of };

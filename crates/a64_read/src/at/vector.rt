@@ -1,18 +1,18 @@
 //! Operators of vector instructions, at their places.
 
 ghost use Rattle.std.specs.Prelude.{◌≡◌, Option, Some, None, refl};
-ghost use Rattle.a64_read.specs.declared.value.Value.{Value};
-ghost use Rattle.a64_read.specs.declared.value.Value.TheVariants as values;
+ghost use Rattle.a64_tokens.specs.declared.value.Value.{Value};
+ghost use Rattle.a64_tokens.specs.declared.value.Value.TheVariants as values;
 ghost use Rattle.a64_read.specs.At.{vec_op_of};
 ghost use Rattle.a64_read.specs.VecOps.{vec_alu_mod_op_in, vec_alu_op_in, vec_extend_op_in, vec_lanes_op_in, vec_misc2_in, vec_pair_op_in, vec_rr_long_op_in, vec_rr_narrow_op_in, vec_rr_pair_long_op_in, vec_rrr_long_mod_op_in, vec_rrr_long_op_in, vec_shift_imm_mod_op_in, vec_shift_imm_op_in};
 
 use super::Field;
-use crate::value::Value;
-use crate::vec_op::VecOp;
 use a64_ops::{
     VecALUModOp, VecALUOp, VecExtendOp, VecLanesOp, VecMisc2, VecPairOp, VecRRLongOp,
     VecRRNarrowOp, VecRRPairLongOp, VecRRRLongModOp, VecRRRLongOp, VecShiftImmModOp, VecShiftImmOp,
 };
+use a64_tokens::value::Value;
+use a64_tokens::vec_op::VecOp;
 
 impl Field for VecOp {
     ghost of = { vec_op_of };

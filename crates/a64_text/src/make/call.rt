@@ -9,7 +9,7 @@ ghost use Rattle.a64_read.specs.At.{map_at};
 ghost use Rattle.a64_read.specs.Calls.{call_lists_text, AreCallLists};
 ghost use Rattle.a64_text.specs.Makes.{call_of, call_texts_at, called, emitted, return_call_of, Makes};
 ghost use Rattle.a64_text.specs.Puts.{Puts};
-ghost use Rattle.a64_read.specs.Reads.{Reads};
+ghost use Rattle.a64_tokens.specs.Reads.{Reads};
 
 use crate::make::{emit_called, emit_some};
 use crate::name::CallName;
@@ -19,7 +19,7 @@ use a64_list::ListVec;
 use a64_read::at;
 use a64_read::clobbers::read_clobbers;
 use a64_read::list::read_list;
-use a64_read::value::Value;
+use a64_tokens::value::Value;
 use std::alloc::{AllocError, Global};
 
 /// What is passed to a function, what comes back, and the registers that it changes beside.

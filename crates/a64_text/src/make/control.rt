@@ -14,7 +14,7 @@ use a64_base::{MachLabel, TrapCode, Writable};
 use a64_inst::{Inst, Item};
 use a64_read::at;
 use a64_read::list::read_list;
-use a64_read::value::Value;
+use a64_tokens::value::Value;
 use std::alloc::{AllocError, Global};
 
 /// The branch to what a register holds, with its targets.

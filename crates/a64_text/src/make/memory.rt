@@ -12,7 +12,7 @@ use crate::name::MemoryName;
 use a64_base::Writable;
 use a64_inst::{Access, AccessOp, AtomicCAS128Args, Inst, Item};
 use a64_read::at;
-use a64_read::value::Value;
+use a64_tokens::value::Value;
 
 /// Puts the load or store of one register with these fields behind the items.
 #[tactic(auto, unfolding(crate::specs::Makes::Makes))]

@@ -15,8 +15,8 @@ use crate::pair_insts;
 use a64_base::{IrType, MemFlagsData, Reg, Writable};
 use a64_inst::{Inst, Item, PairAMode};
 use a64_read::at;
-use a64_read::pair_mode::WrittenPairMode;
-use a64_read::value::Value;
+use a64_tokens::pair_mode::WrittenPairMode;
+use a64_tokens::value::Value;
 
 /// The type whose size scales the offset of a pair.
 fn scale_of(name: PairName) -> IrType

@@ -16,7 +16,7 @@ use crate::system_insts;
 use a64_base::{OperandSize, Writable};
 use a64_inst::{Inst, Item, immediate_list, register_list};
 use a64_read::at;
-use a64_read::value::Value;
+use a64_tokens::value::Value;
 
 /// The field at a place, by what a list says of it.
 macro_rules! field_at {

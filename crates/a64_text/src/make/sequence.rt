@@ -14,7 +14,7 @@ use a64_base::{ExternalName, MachLabel, Writable};
 use a64_inst::{ArgPair, Inst, Item, RetPair};
 use a64_read::at;
 use a64_read::list::read_list;
-use a64_read::value::Value;
+use a64_tokens::value::Value;
 use std::alloc::{AllocError, Global};
 
 /// The arguments with which a function is entered.

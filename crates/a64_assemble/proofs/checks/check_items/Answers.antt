@@ -1,11 +1,11 @@
 use Rattle.std.proofs.Common.{◌∙◌, ap, arith, sym, take}
 use Rattle.std.proofs.lemmas.Option.{IfSome_then}
 use Rattle.a64_emit.specs.Bounds.{saturated, whole}
-use Rattle.a64_emit.specs.Cells.{cells_of}
+use Rattle.a64_cells.specs.Cells.{cells_of}
 use Rattle.a64_emit.specs.Faults.{bindings}
 use Rattle.std.specs.Option.{option_or}
 use Rattle.std.proofs.Common.{◌+◌, drop}
-use Rattle.a64_emit.specs.FormCells.{HoldsHalfword}
+use Rattle.a64_cells.specs.FormCells.{HoldsHalfword}
 use Rattle.a64_assemble.specs.declared.checks.Totals.{Totals}
 use Rattle.a64_assemble.specs.Looks.{bare}
 use Rattle.a64_assemble.proofs.Bindings.{missing_more, missing_of, missing_same}

@@ -3,7 +3,7 @@ use Rattle.std.specs.Prelude.{IfSome}
 use Rattle.std.specs.Option.{option_or}
 use Rattle.a64_inst.specs.declared.item.Item.{Item}
 use Rattle.a64_emit.specs.Faults.{bindings, own_fault, own_fault_from}
-use Rattle.a64_emit.specs.FormCells.{HoldsHalfword}
+use Rattle.a64_cells.specs.FormCells.{HoldsHalfword}
 use Rattle.a64_assemble.proofs.Bindings.{missing_of}
 use Rattle.a64_assemble.proofs.Looked.{AreTotals}
 use Rattle.a64_assemble.proofs.checks.check_items.Given as goal

@@ -4,8 +4,8 @@ use Rattle.a64_inst.specs.State.{State}
 use Rattle.a64_buffer.specs.declared.force.ForceVeneers.TheVariants.{No}
 use Rattle.a64_emit.specs.Bounds.{asked_of}
 use Rattle.a64_emit.specs.Falls.{inst_falls}
-use Rattle.a64_emit.specs.Shapes.{Cell}
-use Rattle.a64_emit.specs.Cells.{kept_cells}
+use Rattle.a64_cells.specs.Shapes.{Cell}
+use Rattle.a64_cells.specs.Cells.{kept_cells}
 use Rattle.a64_assemble.specs.Asks.{AsksNext, MayMove, Moves}
 use Rattle.a64_assemble.specs.Elements.{Element, elements_of, next_room, whole_in}
 use Rattle.a64_assemble.proofs.Stepped.{both_ok, put_cells, island_short, words_put, words_element, emit_ready, emit_moves, needs_none}

@@ -1,7 +1,7 @@
 use Rattle.std.proofs.Common.{◌∙◌, refl, sym, ap}
 use Rattle.std.specs.Prelude.{option_and_then}
 use Rattle.std.specs.Option.{option_or}
-use Rattle.a64_emit.specs.Cells.{inst_cells}
+use Rattle.a64_cells.specs.Cells.{inst_cells}
 use Rattle.a64_emit.specs.Reach.{far_label}
 use Rattle.a64_emit.proofs.UseLists.{first_listed}
 use Rattle.a64_assemble.proofs.reach.far_in.Goals as goal

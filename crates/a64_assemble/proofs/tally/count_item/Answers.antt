@@ -1,7 +1,7 @@
 use Rattle.std.proofs.Common.{◌∙◌, ◌≡◌, ◌++◌, [], ◌∷◌, ap, sym, subst}
 use Rattle.a64_inst.specs.declared.item.Item.{Item}
 use Rattle.a64_inst.specs.declared.item.Item.TheVariants.{Bind, Emit}
-use Rattle.a64_emit.specs.Cells.{cells_of, uses_of, listed_uses}
+use Rattle.a64_cells.specs.Cells.{cells_of, uses_of, listed_uses}
 use Rattle.a64_assemble.specs.Tally.{every, alive, IsTally}
 use Rattle.a64_assemble.proofs.Tallied.{bind_total, bind_labels, emit_total, emit_labels}
 use Rattle.a64_assemble.proofs.tally.count_item.Goals as goal

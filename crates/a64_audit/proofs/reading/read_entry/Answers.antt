@@ -1,7 +1,7 @@
 use Rattle.std.proofs.Common.{sym, subst, Option}
 use Rattle.a64_audit.specs.declared.entry.Entry.{Entry}
 use Rattle.a64_audit.specs.Entries.{IsEntry, entry_line}
-use Rattle.a64_read.specs.Reads.{Reads}
+use Rattle.a64_tokens.specs.Reads.{Reads}
 use Rattle.a64_audit.proofs.EntryReads.{no_parts, by_parts}
 use Rattle.a64_audit.proofs.reading.read_entry.Goals as goal
 

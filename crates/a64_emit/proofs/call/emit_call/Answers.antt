@@ -2,9 +2,9 @@ use Rattle.std.proofs.Common.{◌≡◌, true, [], ◌∷◌, ◌++◌, map, ap,
 use Rattle.std.specs.List.{flat_map}
 use Rattle.a64_operand.specs.declared.virtuals.VirtualRegisters.TheVariants.{Refused}
 use Rattle.a64_inst.specs.CallOperands.{are_call_defs}
-use Rattle.a64_emit.specs.Shapes.{plain}
-use Rattle.a64_emit.specs.Cells.{keep, pop_forms, result_cells, call_cells}
-use Rattle.a64_emit.specs.Words.{as_put, put_kept}
+use Rattle.a64_cells.specs.Shapes.{plain}
+use Rattle.a64_cells.specs.Cells.{keep, pop_forms, result_cells, call_cells}
+use Rattle.a64_cells.specs.Words.{as_put, put_kept}
 use Rattle.a64_emit.proofs.Behind.{can_before, begun_before, can_behind, puts_behind}
 use Rattle.a64_emit.proofs.Called.{called_put}
 use Rattle.a64_emit.proofs.call.emit_call.Goals as goal

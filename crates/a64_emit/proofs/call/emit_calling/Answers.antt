@@ -1,6 +1,6 @@
 use Rattle.std.proofs.Common.{map, refl, sym, ap, subst}
 use Rattle.a64_emit.specs.Emission.{CanPut, PutsCells}
-use Rattle.a64_emit.specs.Words.{as_put}
+use Rattle.a64_cells.specs.Words.{as_put}
 use Rattle.a64_emit.proofs.Callings.{symbol_good, patchable_words, symbol_words, address_good, address_words, return_good, return_words, return_address_good, return_address_words}
 use Rattle.a64_emit.proofs.call.emit_calling.Goals as goal
 

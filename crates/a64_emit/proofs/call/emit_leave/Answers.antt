@@ -1,7 +1,7 @@
 use Rattle.std.proofs.Common.{[], ◌∷◌, ◌++◌, None, map, ap, ◌∙◌}
-use Rattle.a64_emit.specs.Shapes.{plain}
-use Rattle.a64_emit.specs.Cells.{leave_forms, return_cell}
-use Rattle.a64_emit.specs.Words.{as_put, put_kept}
+use Rattle.a64_cells.specs.Shapes.{plain}
+use Rattle.a64_cells.specs.Cells.{leave_forms, return_cell}
+use Rattle.a64_cells.specs.Words.{as_put, put_kept}
 use Rattle.a64_emit.proofs.Behind.{words_put, words_short, words_fit, words_begun, can_rest, puts_rest}
 use Rattle.a64_emit.proofs.Called.{returned_put}
 use Rattle.a64_emit.proofs.Lasts.{silent}

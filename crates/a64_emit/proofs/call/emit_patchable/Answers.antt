@@ -3,9 +3,9 @@ use Rattle.std.proofs.lemmas.Result.{on_ok_weaker, on_err_weaker}
 use Rattle.a64_buffer.specs.Buffer.{end_of}
 use Rattle.a64_buffer.specs.Classes.{Fits}
 use Rattle.a64_label_use.specs.LabelUses.{label_kinds}
-use Rattle.a64_emit.specs.Cells.{keep, patchable_cells}
+use Rattle.a64_cells.specs.Cells.{keep, patchable_cells}
 use Rattle.a64_emit.specs.Emission.{appended, PutsInPart, IsAppendedInPart, CanPut}
-use Rattle.a64_emit.specs.Words.{as_put, put_kept}
+use Rattle.a64_cells.specs.Words.{as_put, put_kept}
 use Rattle.a64_emit.proofs.Called.{can_called, patchable_is, patchable_done, patchable_begun}
 use Rattle.a64_emit.proofs.Fitting.{failed}
 use Rattle.a64_emit.proofs.Holding.{all_put}

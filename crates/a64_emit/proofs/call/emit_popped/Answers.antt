@@ -1,8 +1,8 @@
 use Rattle.std.proofs.Common.{◌++◌, map, ◌∙◌}
 use Rattle.std.specs.List.{flat_map}
-use Rattle.a64_emit.specs.Shapes.{plain}
-use Rattle.a64_emit.specs.Cells.{pop_forms, result_cells}
-use Rattle.a64_emit.specs.Words.{as_put}
+use Rattle.a64_cells.specs.Shapes.{plain}
+use Rattle.a64_cells.specs.Cells.{pop_forms, result_cells}
+use Rattle.a64_cells.specs.Words.{as_put}
 use Rattle.a64_emit.proofs.Behind.{words_put, words_short, words_fit, words_begun, can_rest, puts_rest}
 use Rattle.a64_emit.proofs.call.emit_popped.Goals as goal
 

@@ -2,9 +2,9 @@ use Rattle.std.proofs.Common.{◌≡◌, true, [], ◌∷◌, map, refl, sym, ap
 use Rattle.a64_inst.specs.declared.inst.Inst.{Inst}
 use Rattle.a64_operand.specs.declared.virtuals.VirtualRegisters.TheVariants.{Refused}
 use Rattle.a64_inst.specs.Faults.{can_restore}
-use Rattle.a64_emit.specs.Cells.{restored_cell}
+use Rattle.a64_cells.specs.Cells.{restored_cell}
 use Rattle.a64_emit.specs.Emission.{appended, IsAppendedInPart, CanPut}
-use Rattle.a64_emit.specs.Words.{as_put}
+use Rattle.a64_cells.specs.Words.{as_put}
 use Rattle.a64_emit.proofs.Fitting.{failed}
 use Rattle.a64_emit.proofs.Holding.{none_appended}
 use Rattle.a64_emit.proofs.Repeated.{can_one, one_put, one_begun}

@@ -1,7 +1,7 @@
 use Rattle.std.proofs.Common.{◌≡◌, take, map}
-use Rattle.a64_emit.specs.Cells.{restored_cell}
+use Rattle.a64_cells.specs.Cells.{restored_cell}
 use Rattle.a64_emit.specs.Emission.{appended}
-use Rattle.a64_emit.specs.Words.{as_put}
+use Rattle.a64_cells.specs.Words.{as_put}
 use Rattle.a64_emit.proofs.call.emit_restored.Given as goal
 
 -- the words so far stand at the end

@@ -1,6 +1,6 @@
 use Rattle.std.proofs.Common.{map, ap, sym, subst, ◌∙◌}
 use Rattle.a64_emit.specs.Emission.{appended, CanPut, PutsCells}
-use Rattle.a64_emit.specs.Words.{as_put}
+use Rattle.a64_cells.specs.Words.{as_put}
 use Rattle.a64_emit.proofs.Holding.{none_appended}
 use Rattle.a64_emit.proofs.Results.{result_known, result_words, result_there, no_result}
 use Rattle.a64_emit.proofs.call.emit_result.Goals as goal

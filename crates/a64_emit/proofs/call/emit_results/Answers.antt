@@ -3,9 +3,9 @@ use Rattle.std.specs.List.{flat_map}
 use Rattle.a64_inst.specs.declared.call.CallRetPair.{CallRetPair}
 use Rattle.a64_operand.specs.declared.virtuals.VirtualRegisters.TheVariants.{Refused}
 use Rattle.a64_inst.specs.CallOperands.{are_call_defs}
-use Rattle.a64_emit.specs.Cells.{result_cells}
+use Rattle.a64_cells.specs.Cells.{result_cells}
 use Rattle.a64_emit.specs.Emission.{appended, IsAppendedInPart, CanPut}
-use Rattle.a64_emit.specs.Words.{as_put}
+use Rattle.a64_cells.specs.Words.{as_put}
 use Rattle.a64_emit.proofs.Fitting.{failed}
 use Rattle.a64_emit.proofs.Holding.{none_appended}
 use Rattle.a64_emit.proofs.Repeated.{can_one, one_put, one_begun}

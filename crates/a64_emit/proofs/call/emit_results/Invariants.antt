@@ -1,8 +1,8 @@
 use Rattle.std.proofs.Common.{◌≡◌, take, map}
 use Rattle.std.specs.List.{flat_map}
-use Rattle.a64_emit.specs.Cells.{result_cells}
+use Rattle.a64_cells.specs.Cells.{result_cells}
 use Rattle.a64_emit.specs.Emission.{appended}
-use Rattle.a64_emit.specs.Words.{as_put}
+use Rattle.a64_cells.specs.Words.{as_put}
 use Rattle.a64_emit.proofs.call.emit_results.Given as goal
 
 -- the loads so far stand at the end

@@ -2,9 +2,9 @@ use Rattle.std.proofs.Common.{◌≡◌, true, [], ◌∷◌, ◌++◌, map, ap,
 use Rattle.std.specs.List.{list_all}
 use Rattle.a64_operand.specs.declared.virtuals.VirtualRegisters.TheVariants.{Refused}
 use Rattle.a64_inst.specs.Faults.{can_restore}
-use Rattle.a64_emit.specs.Shapes.{plain}
-use Rattle.a64_emit.specs.Cells.{restored_cell, leave_forms, return_cell, return_cells}
-use Rattle.a64_emit.specs.Words.{as_put}
+use Rattle.a64_cells.specs.Shapes.{plain}
+use Rattle.a64_cells.specs.Cells.{restored_cell, leave_forms, return_cell, return_cells}
+use Rattle.a64_cells.specs.Words.{as_put}
 use Rattle.a64_emit.proofs.Behind.{can_before, begun_before, can_behind, puts_behind}
 use Rattle.a64_emit.proofs.Callings.{return_split}
 use Rattle.a64_emit.proofs.call.emit_return.Goals as goal

@@ -1,6 +1,6 @@
 use Rattle.std.proofs.Common.{[], ◌∷◌}
 use Rattle.std.proofs.lemmas.Result.{on_ok_weaker, on_err_weaker}
-use Rattle.a64_emit.specs.Words.{put_kept}
+use Rattle.a64_cells.specs.Words.{put_kept}
 use Rattle.a64_emit.proofs.Called.{named_short, named_fits, call_named, call_worded, call_mapped, call_done}
 use Rattle.a64_emit.proofs.Fitting.{failed}
 use Rattle.a64_emit.proofs.Holding.{none_put}

@@ -1,8 +1,8 @@
 use Rattle.std.proofs.Common.{length, sym, ap, ◌∙◌}
 use Rattle.a64_inst.specs.declared.inst.Inst.{Inst}
-use Rattle.a64_emit.specs.declared.call.Callee.TheVariants.{Symbol, Address}
-use Rattle.a64_emit.specs.Cells.{inst_cells}
-use Rattle.a64_emit.proofs.Adjustments.{symbol_length}
+use Rattle.a64_cells.specs.declared.callee.Callee.TheVariants.{Symbol, Address}
+use Rattle.a64_cells.specs.Cells.{inst_cells}
+use Rattle.a64_cells.proofs.Adjustments.{symbol_length}
 use Rattle.a64_emit.proofs.call_extent.call_count.Goals as goal
 
 pub returns-else-call : goal.returns-else-call

@@ -1,7 +1,7 @@
 use Rattle.std.proofs.Common.{pos, ◌-ℤ◌, length, ap, arith}
 use Rattle.std.specs.List.{flat_map}
-use Rattle.a64_emit.specs.Cells.{result_cells}
-use Rattle.a64_emit.proofs.Adjustments.{call_length, lowered}
+use Rattle.a64_cells.specs.Cells.{result_cells}
+use Rattle.a64_cells.proofs.Adjustments.{call_length, lowered}
 use Rattle.a64_emit.proofs.call_extent.calling_count.Goals as goal
 
 pub returns : goal.returns

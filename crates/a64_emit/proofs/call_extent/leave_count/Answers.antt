@@ -1,5 +1,5 @@
 use Rattle.std.proofs.Common.{pos, ◌-ℤ◌, arith}
-use Rattle.a64_emit.proofs.Adjustments.{difference, leave_length}
+use Rattle.a64_cells.proofs.Adjustments.{difference, leave_length}
 use Rattle.a64_emit.proofs.call_extent.leave_count.Goals as goal
 
 pub returns-clause-count : goal.returns-clause-count

@@ -1,6 +1,6 @@
 use Rattle.std.proofs.Common.{◌≡◌, ◌≤◌, ◌*◌, length, take}
 use Rattle.std.specs.List.{flat_map}
-use Rattle.a64_emit.specs.Cells.{result_cells}
+use Rattle.a64_cells.specs.Cells.{result_cells}
 use Rattle.a64_emit.proofs.call_extent.result_counts.Given as goal
 
 -- the words of the results so far

@@ -1,6 +1,6 @@
 use Rattle.std.proofs.Common.{List, length, ap, arith}
 use Rattle.a64_inst.specs.declared.inst.Inst.{Inst}
-use Rattle.a64_emit.proofs.Adjustments.{return_length}
+use Rattle.a64_cells.proofs.Adjustments.{return_length}
 use Rattle.a64_emit.proofs.call_extent.return_count.Goals as goal
 
 pub returns : goal.returns

@@ -1,5 +1,5 @@
 use Rattle.std.proofs.Common.{◌∙◌}
-use Rattle.a64_emit.specs.ControlForms.{authenticated_ret_forms}
+use Rattle.a64_cells.specs.ControlForms.{authenticated_ret_forms}
 use Rattle.a64_emit.proofs.Quiet.{quiet_short, quiet_fits, quiet_puts}
 use Rattle.a64_emit.proofs.emit.emit_authenticated_ret.Goals as goal
 

@@ -1,8 +1,8 @@
 use Rattle.std.proofs.Common.{[], ◌∷◌, Option, None, sym, subst}
 use Rattle.std.specs.Prelude.{IfSome}
-use Rattle.a64_emit.specs.declared.site.Site.{Site}
+use Rattle.a64_cells.specs.declared.site.Site.{Site}
 use Rattle.a64_emit.specs.Emission.{CanPut, PutsCells}
-use Rattle.a64_emit.specs.Words.{MayBePut, put_cell}
+use Rattle.a64_cells.specs.Words.{MayBePut, put_cell}
 use Rattle.a64_emit.proofs.AsPut.{branch_puttable}
 use Rattle.a64_emit.proofs.emit.emit_branch.Goals as goal
 

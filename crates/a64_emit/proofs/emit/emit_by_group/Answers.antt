@@ -2,8 +2,8 @@ use Rattle.std.proofs.Common.{sym, ◌∙◌}
 use Rattle.std.proofs.lemmas.Result.{on_ok_weaker, on_err_weaker}
 use Rattle.a64_operand.specs.declared.virtuals.VirtualRegisters.TheVariants.{Refused}
 use Rattle.a64_inst.proofs.Good.{operands_good}
-use Rattle.a64_emit.specs.Cells.{kept_cells}
-use Rattle.a64_emit.proofs.Accesses.{mode_good, constant_there}
+use Rattle.a64_cells.specs.Cells.{kept_cells}
+use Rattle.a64_cells.proofs.Accesses.{mode_good, constant_there}
 use Rattle.a64_emit.proofs.AsPut.{put_part}
 use Rattle.a64_emit.proofs.Emitted.{can_own, can_kept, call_emitted, other_emitted, other_in_part}
 use Rattle.a64_emit.proofs.emit.emit_by_group.Goals as goal

@@ -1,4 +1,4 @@
-use Rattle.a64_emit.proofs.Operands.{cond_br_parts}
+use Rattle.a64_cells.proofs.Operands.{cond_br_parts}
 use Rattle.a64_emit.proofs.emit.emit_cond_br.Goals as goal
 
 pub cond_br_word-word-requires : goal.cond_br_word-word-requires

@@ -1,8 +1,8 @@
 use Rattle.std.proofs.Common.{[], ◌∷◌, None, sym, subst}
 use Rattle.a64_label_use.specs.declared.label_use.LabelUse.TheVariants.{Branch26}
-use Rattle.a64_emit.specs.Shapes.{branch_site}
+use Rattle.a64_cells.specs.Shapes.{branch_site}
 use Rattle.a64_emit.specs.Emission.{CanPut, PutsCells}
-use Rattle.a64_emit.specs.Words.{put_cell, put_branches, put_jump}
+use Rattle.a64_cells.specs.Words.{put_cell, put_branches, put_jump}
 use Rattle.a64_emit.proofs.Fitting.{failed}
 use Rattle.a64_emit.proofs.Joined.{part_first, can_first, can_second, puts_second}
 use Rattle.a64_emit.proofs.emit.emit_conditional.Goals as goal

@@ -1,8 +1,8 @@
 use Rattle.std.proofs.Common.{ℕ, [], ◌∷◌, map, Option, None, OnOk, sym, subst, ◌∙◌}
 use Rattle.std.proofs.lemmas.Result.{on_err_weaker}
-use Rattle.a64_emit.specs.Cells.{inst_cells}
+use Rattle.a64_cells.specs.Cells.{inst_cells}
 use Rattle.a64_emit.specs.Emission.{Puts}
-use Rattle.a64_emit.specs.Words.{as_put, put_cell, put_for}
+use Rattle.a64_cells.specs.Words.{as_put, put_cell, put_for}
 use Rattle.a64_emit.proofs.Emitted.{can_these, all_emitted, part_emitted, one_put, control_put}
 use Rattle.a64_emit.proofs.Holding.{none_put}
 use Rattle.a64_emit.proofs.emit.emit_control_inst.Goals as goal

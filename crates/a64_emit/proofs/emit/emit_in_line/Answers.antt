@@ -1,6 +1,6 @@
 use Rattle.std.proofs.Common.{[], ◌∷◌, None, sym, ◌∙◌}
-use Rattle.a64_emit.specs.Cells.{inst_cells}
-use Rattle.a64_emit.specs.Words.{put_cell, put_for}
+use Rattle.a64_cells.specs.Cells.{inst_cells}
+use Rattle.a64_cells.specs.Words.{put_cell, put_for}
 use Rattle.a64_emit.proofs.Emitted.{can_these, all_emitted, part_emitted, one_put, memory_put, sequence_put}
 use Rattle.a64_emit.proofs.emit.emit_in_line.Goals as goal
 

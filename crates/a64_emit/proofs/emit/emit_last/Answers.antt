@@ -1,8 +1,8 @@
 use Rattle.std.proofs.lemmas.Result.{on_ok_weaker, on_err_weaker}
 use Rattle.std.proofs.Common.{◌≡◌, [], ◌∷◌, Option, sym, subst}
-use Rattle.a64_emit.specs.declared.site.Site.{Site}
+use Rattle.a64_cells.specs.declared.site.Site.{Site}
 use Rattle.a64_emit.specs.Emission.{appended, CanPut, PutsCells}
-use Rattle.a64_emit.specs.Words.{MayBePut, put_cell}
+use Rattle.a64_cells.specs.Words.{MayBePut, put_cell}
 use Rattle.std.specs.Prelude.{IfSome}
 use Rattle.a64_emit.proofs.Fitting.{before_word}
 use Rattle.a64_emit.proofs.Lasts.{word_begun, word_done}

@@ -1,10 +1,10 @@
 use Rattle.std.proofs.Common.{[], Option, sym, subst}
-use Rattle.a64_emit.specs.declared.site.Site.{Site}
-use Rattle.a64_emit.specs.Cells.{shape_of}
-use Rattle.a64_emit.specs.Words.{AreSeveral}
+use Rattle.a64_cells.specs.declared.site.Site.{Site}
+use Rattle.a64_cells.specs.Cells.{shape_of}
+use Rattle.a64_cells.specs.Words.{AreSeveral}
 use Rattle.a64_emit.specs.Emission.{CanPut, PutsCells}
-use Rattle.a64_emit.proofs.AsPut.{several_put}
-use Rattle.a64_emit.proofs.Several.{several_puttable}
+use Rattle.a64_cells.proofs.PutWords.{several_put}
+use Rattle.a64_cells.proofs.Several.{several_puttable}
 use Rattle.a64_emit.proofs.emit.emit_memory.Goals as goal
 
 pub emit_last-requires : goal.emit_last-requires

@@ -1,8 +1,8 @@
 use Rattle.std.proofs.Common.{sym, subst}
-use Rattle.a64_emit.specs.Cells.{shape_of}
+use Rattle.a64_cells.specs.Cells.{shape_of}
 use Rattle.a64_emit.specs.Emission.{CanPut, PutsCells}
-use Rattle.a64_emit.proofs.AsPut.{several_put}
-use Rattle.a64_emit.proofs.Several.{several_puttable}
+use Rattle.a64_cells.proofs.PutWords.{several_put}
+use Rattle.a64_cells.proofs.Several.{several_puttable}
 use Rattle.a64_emit.proofs.emit.emit_memory_words.Goals as goal
 
 pub emit_several-requires : goal.emit_several-requires

@@ -1,6 +1,6 @@
 use Rattle.std.proofs.Common.{[], ◌∷◌, None}
 use Rattle.std.proofs.lemmas.Result.{on_ok_weaker, on_err_weaker}
-use Rattle.a64_emit.specs.Words.{put_cell}
+use Rattle.a64_cells.specs.Words.{put_cell}
 use Rattle.a64_emit.proofs.Fitting.{before_word}
 use Rattle.a64_emit.proofs.Holding.{none_put}
 use Rattle.a64_emit.proofs.Lasts.{silent_appended}

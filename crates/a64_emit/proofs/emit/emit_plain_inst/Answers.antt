@@ -1,8 +1,8 @@
 use Rattle.std.proofs.Common.{ℕ, map, Option, OnOk, subst}
 use Rattle.std.specs.Prelude.{IsSome}
-use Rattle.a64_emit.specs.Cells.{inst_cells}
+use Rattle.a64_cells.specs.Cells.{inst_cells}
 use Rattle.a64_emit.specs.Emission.{Puts}
-use Rattle.a64_emit.specs.Words.{as_put}
+use Rattle.a64_cells.specs.Words.{as_put}
 use Rattle.a64_emit.proofs.emit.emit_plain_inst.Goals as goal
 
 pub emit_in_line-requires-clause-island : goal.emit_in_line-requires-clause-island

@@ -3,7 +3,7 @@ use Rattle.a64_buffer.specs.Buffer.{Buffer, end_of}
 use Rattle.a64_buffer.specs.Classes.{Fits}
 use Rattle.a64_label_use.specs.LabelUses.{label_kinds}
 use Rattle.a64_emit.specs.Emission.{PutsInPart}
-use Rattle.a64_emit.specs.Words.{MayBePut, put_cell, put_cells}
+use Rattle.a64_cells.specs.Words.{MayBePut, put_cell, put_cells}
 use Rattle.std.specs.Prelude.{IfSome}
 use Rattle.a64_label_use.specs.declared.label_use.LabelUse.{LabelUse}
 use Rattle.a64_emit.proofs.Fitting.{failed}

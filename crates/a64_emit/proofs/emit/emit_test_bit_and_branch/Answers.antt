@@ -1,4 +1,4 @@
-use Rattle.a64_emit.proofs.Operands.{test_bit_parts}
+use Rattle.a64_cells.proofs.Operands.{test_bit_parts}
 use Rattle.a64_emit.proofs.emit.emit_test_bit_and_branch.Goals as goal
 
 pub test_bit_and_branch_word-word-requires : goal.test_bit_and_branch_word-word-requires

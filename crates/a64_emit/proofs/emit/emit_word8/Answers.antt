@@ -1,6 +1,6 @@
 use Rattle.std.proofs.Common.{◌/◌, ◌%◌, ◌^◌, [], ◌∷◌}
 use Rattle.std.proofs.lemmas.Result.{on_ok_weaker, on_err_weaker}
-use Rattle.a64_emit.specs.Shapes.{data_cell}
+use Rattle.a64_cells.specs.Shapes.{data_cell}
 use Rattle.a64_emit.proofs.Holding.{none_put}
 use Rattle.a64_emit.proofs.Lasts.{silent_appended, silent_fits}
 use Rattle.a64_emit.proofs.emit.emit_word8.Goals as goal

@@ -4,7 +4,7 @@ use Rattle.a64_buffer.specs.Buffer.{Buffer, end_of}
 use Rattle.a64_buffer.specs.Classes.{Fits}
 use Rattle.a64_label_use.specs.declared.label_use.LabelUse.{LabelUse}
 use Rattle.a64_label_use.specs.LabelUses.{label_kinds}
-use Rattle.a64_emit.specs.Shapes.{Data, reloc_cell}
+use Rattle.a64_cells.specs.Shapes.{Data, reloc_cell}
 use Rattle.a64_emit.proofs.Fitting.{before_word, failed}
 use Rattle.a64_emit.proofs.Holding.{none_put}
 use Rattle.a64_emit.proofs.Lasts.{reloc_begun, reloc_done}

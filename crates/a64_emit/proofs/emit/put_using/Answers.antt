@@ -6,7 +6,7 @@ use Rattle.a64_buffer.specs.declared.site.Target.{Target}
 use Rattle.a64_buffer.specs.declared.site.Target.TheVariants.{Label, Constant, Trap}
 use Rattle.a64_buffer.specs.Constants.{IsConstant}
 use Rattle.a64_buffer.proofs.Known.{known_of}
-use Rattle.a64_emit.specs.Words.{MayBePut, put_cell}
+use Rattle.a64_cells.specs.Words.{MayBePut, put_cell}
 use Rattle.a64_emit.proofs.Fitting.{before_word, failed}
 use Rattle.a64_emit.proofs.Lasts.{word_begun, word_put, word_used, use_fits, same_constants}
 use Rattle.a64_emit.proofs.emit.put_using.Goals as goal

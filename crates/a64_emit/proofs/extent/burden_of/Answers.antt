@@ -1,7 +1,7 @@
 use Rattle.std.proofs.Common.{◌≡◌, sym, subst, ◌∙◌}
 use Rattle.a64_inst.specs.declared.item.Item.{Item}
 use Rattle.a64_emit.specs.Bounds.{IsExtent}
-use Rattle.a64_emit.specs.Cells.{cells_of, inst_cells, kept_by, listed_uses, uses_of}
+use Rattle.a64_cells.specs.Cells.{cells_of, inst_cells, kept_by, listed_uses, uses_of}
 use Rattle.a64_emit.proofs.Keeping.{keep_uses}
 use Rattle.a64_emit.proofs.extent.burden_of.Goals as goal
 

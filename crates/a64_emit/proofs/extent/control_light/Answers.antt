@@ -3,8 +3,8 @@ use Rattle.std.specs.Prelude.{IfSome}
 use Rattle.std.proofs.lemmas.Option.{IfSome_then}
 use Rattle.a64_inst.specs.declared.inst.Inst.{Inst}
 use Rattle.a64_emit.specs.Bounds.{asked_of, charge_of, size_of}
-use Rattle.a64_emit.specs.Cells.{inst_cells}
-use Rattle.a64_emit.specs.ControlForms.{cond_br_form, jump_form, test_bit_and_branch_form}
+use Rattle.a64_cells.specs.Cells.{inst_cells}
+use Rattle.a64_cells.specs.ControlForms.{cond_br_form, jump_form, test_bit_and_branch_form}
 use Rattle.a64_emit.specs.Lights.{IsLight}
 use Rattle.a64_emit.proofs.extent.control_light.Goals as goal
 

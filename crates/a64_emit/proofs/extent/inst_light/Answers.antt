@@ -3,7 +3,7 @@ use Rattle.std.proofs.lemmas.Option.{IfSome_then}
 use Rattle.a64_inst.specs.declared.item.Item.TheVariants.{Emit}
 use Rattle.a64_emit.specs.declared.extent.Light.{Light}
 use Rattle.a64_emit.specs.Bounds.{growth_of}
-use Rattle.a64_emit.specs.Cells.{cells_of}
+use Rattle.a64_cells.specs.Cells.{cells_of}
 use Rattle.a64_emit.specs.Lights.{IsLight}
 use Rattle.a64_emit.proofs.Asked.{kept_light}
 use Rattle.a64_emit.proofs.OneLights.{one_light, one_unasked}

@@ -3,7 +3,7 @@ use Rattle.std.specs.Prelude.{IfSome}
 use Rattle.std.proofs.lemmas.Option.{IfSome_then}
 use Rattle.a64_inst.specs.declared.item.Item.{Item}
 use Rattle.a64_emit.specs.Bounds.{growth_of}
-use Rattle.a64_emit.specs.Cells.{cells_of}
+use Rattle.a64_cells.specs.Cells.{cells_of}
 use Rattle.a64_emit.specs.Lights.{IsLight}
 use Rattle.a64_emit.proofs.extent.light_of.Goals as goal
 

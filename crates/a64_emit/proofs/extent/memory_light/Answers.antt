@@ -3,10 +3,11 @@ use Rattle.std.proofs.lemmas.Option.{IfSome_then}
 use Rattle.a64_inst.specs.declared.access.Access.{Access}
 use Rattle.a64_inst.specs.Accesses.{access_of}
 use Rattle.a64_emit.specs.Bounds.{charge_of, size_of}
-use Rattle.a64_emit.specs.Shapes.{FormOf}
+use Rattle.a64_cells.specs.Shapes.{FormOf}
 use Rattle.a64_emit.specs.Lights.{IsLight}
-use Rattle.a64_emit.specs.MemoryForms.{access_form}
-use Rattle.a64_emit.proofs.Lights.{access_unasked, held_cells}
+use Rattle.a64_cells.specs.MemoryForms.{access_form}
+use Rattle.a64_cells.proofs.HeldModes.{held_cells}
+use Rattle.a64_emit.proofs.Lights.{access_unasked}
 use Rattle.a64_emit.proofs.extent.memory_light.Goals as goal
 
 pub returns-in-Some : goal.returns-in-Some

@@ -1,8 +1,8 @@
 use Rattle.std.proofs.Common.{◌+◌, List, length, sym, ap, ◌∙◌}
 use Rattle.a64_base.specs.declared.entity.MachLabel.{MachLabel}
 use Rattle.a64_inst.specs.declared.inst.Inst.{Inst}
-use Rattle.a64_emit.specs.Shapes.{table_forms}
-use Rattle.a64_emit.specs.Cells.{inst_cells}
+use Rattle.a64_cells.specs.Shapes.{table_forms}
+use Rattle.a64_cells.specs.Cells.{inst_cells}
 use Rattle.a64_emit.proofs.TableUses.{table_jump_length}
 use Rattle.a64_emit.proofs.extent.sequence_count.Goals as goal
 

@@ -1,7 +1,7 @@
 use Rattle.std.proofs.Common.{◌∙◌, sym, ap}
 use Rattle.std.specs.List.{filter_map}
 use Rattle.a64_emit.specs.Bounds.{veneer_range}
-use Rattle.a64_emit.specs.Cells.{inst_cells}
+use Rattle.a64_cells.specs.Cells.{inst_cells}
 use Rattle.a64_emit.proofs.CallSites.{call_inst_sites}
 use Rattle.a64_emit.proofs.OneLights.{one_count, one_quiet}
 use Rattle.a64_emit.proofs.extent.words_burden.Goals as goal

@@ -1,8 +1,8 @@
 use Rattle.std.proofs.Common.{◌≡◌, [], ◌∷◌, map, rules, w64, of_z, to_z, sym, subst, ◌∙◌}
 use Rattle.a64_base.specs.declared.entity.Reloc.TheVariants.{Abs8}
-use Rattle.a64_emit.specs.Shapes.{Data, data_cell, reloc_cell, far_cells}
+use Rattle.a64_cells.specs.Shapes.{Data, data_cell, reloc_cell, far_cells}
 use Rattle.a64_emit.specs.Emission.{CanPut, PutsCells}
-use Rattle.a64_emit.specs.Words.{as_put}
+use Rattle.a64_cells.specs.Words.{as_put}
 use Rattle.a64_emit.proofs.Behind.{words_short, words_fit, words_begun, can_rest, puts_rest}
 use Rattle.a64_emit.proofs.Names.{far_put}
 use Rattle.a64_emit.proofs.sequence.emit_far.Goals as goal

@@ -1,5 +1,5 @@
 use Rattle.std.proofs.Common.{[], ◌∷◌, None, refl}
-use Rattle.a64_emit.specs.Words.{put_cell, put_loop, put_rest}
+use Rattle.a64_cells.specs.Words.{put_cell, put_loop, put_rest}
 use Rattle.a64_emit.proofs.Behind.{begun_before, can_before, can_behind, puts_behind}
 use Rattle.a64_emit.proofs.sequence.emit_loop.Goals as goal
 

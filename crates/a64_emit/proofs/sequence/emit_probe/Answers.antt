@@ -1,5 +1,5 @@
 use Rattle.std.proofs.Common.{◌∙◌}
-use Rattle.a64_emit.specs.Shapes.{probe_forms}
+use Rattle.a64_cells.specs.Shapes.{probe_forms}
 use Rattle.a64_emit.proofs.Quiet.{quiet_short, quiet_fits, quiet_puts}
 use Rattle.a64_emit.proofs.sequence.emit_probe.Goals as goal
 

@@ -1,7 +1,7 @@
 use Rattle.std.proofs.Common.{◌≡◌, List, map, ap, sym, ◌∙◌, subst}
 use Rattle.a64_base.specs.declared.entity.MachLabel.{MachLabel}
-use Rattle.a64_emit.specs.Shapes.{table_jump}
-use Rattle.a64_emit.specs.Words.{as_put, put_for}
+use Rattle.a64_cells.specs.Shapes.{table_jump}
+use Rattle.a64_cells.specs.Words.{as_put, put_for}
 use Rattle.a64_emit.specs.Emission.{PutsCells}
 use Rattle.a64_emit.proofs.sequence.emit_sequence.Goals as goal
 

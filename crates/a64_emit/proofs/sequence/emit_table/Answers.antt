@@ -1,6 +1,6 @@
 use Rattle.std.proofs.Common.{map, ◌∙◌}
-use Rattle.a64_emit.specs.Shapes.{table_labels, table_cells, table_jump}
-use Rattle.a64_emit.specs.Words.{as_put}
+use Rattle.a64_cells.specs.Shapes.{table_labels, table_cells, table_jump}
+use Rattle.a64_cells.specs.Words.{as_put}
 use Rattle.a64_emit.proofs.Behind.{words_short, words_fit, words_begun, can_rest, puts_rest}
 use Rattle.a64_emit.proofs.Tables.{table_split}
 use Rattle.a64_emit.proofs.sequence.emit_table.Goals as goal

@@ -1,6 +1,6 @@
 use Rattle.std.proofs.Common.{◌≡◌, [], ◌∷◌, rules, w64, of_z, to_z, sym, subst}
 use Rattle.a64_base.specs.declared.entity.Reloc.TheVariants.{Abs8}
-use Rattle.a64_emit.specs.Shapes.{Data, data_cell, reloc_cell}
+use Rattle.a64_cells.specs.Shapes.{Data, data_cell, reloc_cell}
 use Rattle.a64_emit.specs.Emission.{appended, IsAppendedInPart, CanPut}
 use Rattle.a64_emit.proofs.Fitting.{failed}
 use Rattle.a64_emit.proofs.Joined.{part_first, can_first, can_second, puts_second}

@@ -1,9 +1,9 @@
 use Rattle.std.proofs.Common.{◌≡◌, List, [], ◌∷◌, ◌++◌, Option, None, sym, ap, subst}
 use Rattle.std.specs.Prelude.{IfSome}
-use Rattle.a64_emit.specs.Shapes.{Cell}
-use Rattle.a64_emit.specs.declared.site.Site.{Site}
-use Rattle.a64_emit.specs.declared.word.exclusive.LoopWords.{LoopWords}
-use Rattle.a64_emit.specs.Words.{MayBePut, put_cell, put_cells, put_rest}
+use Rattle.a64_cells.specs.Shapes.{Cell}
+use Rattle.a64_cells.specs.declared.site.Site.{Site}
+use Rattle.a64_cells.specs.declared.word.exclusive.LoopWords.{LoopWords}
+use Rattle.a64_cells.specs.Words.{MayBePut, put_cell, put_cells, put_rest}
 use Rattle.a64_emit.proofs.Behind.{begun_before, can_before, can_behind, puts_behind}
 use Rattle.a64_emit.proofs.sequence.put_rest.Goals as goal
 

@@ -1,6 +1,6 @@
 use Rattle.std.proofs.Common.{[], ◌∷◌, ◌*◌, length, arith}
 use Rattle.std.proofs.lemmas.List.{length-append}
-use Rattle.a64_emit.specs.Shapes.{table_labels, table_cells}
+use Rattle.a64_cells.specs.Shapes.{table_labels, table_cells}
 use Rattle.a64_emit.proofs.Behind.{can_before, begun_before, can_behind, puts_behind}
 use Rattle.a64_emit.proofs.Tables.{entry, table_length, with_default}
 use Rattle.a64_emit.proofs.sequence.put_table.Goals as goal

@@ -1,6 +1,6 @@
 use Rattle.std.proofs.Common.{◌≡◌, [], ◌∷◌, sym, subst, arith, slice_index_or}
 use Rattle.a64_base.specs.declared.entity.MachLabel.{MachLabel}
-use Rattle.a64_emit.specs.Shapes.{table_cells}
+use Rattle.a64_cells.specs.Shapes.{table_cells}
 use Rattle.a64_emit.specs.Emission.{appended, IsAppendedInPart, CanPut}
 use Rattle.a64_emit.proofs.Fitting.{failed}
 use Rattle.a64_emit.proofs.Tables.{entry, table_length, can_entry, entry_put, entry_begun}

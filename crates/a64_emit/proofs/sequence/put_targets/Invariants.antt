@@ -1,5 +1,5 @@
 use Rattle.std.proofs.Common.{◌≡◌, ◌*◌, take}
-use Rattle.a64_emit.specs.Shapes.{table_cells}
+use Rattle.a64_cells.specs.Shapes.{table_cells}
 use Rattle.a64_emit.specs.Emission.{appended}
 use Rattle.a64_emit.proofs.sequence.put_targets.Given as goal
 

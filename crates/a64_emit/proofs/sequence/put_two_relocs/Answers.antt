@@ -1,5 +1,5 @@
 use Rattle.std.proofs.Common.{◌≡◌, [], ◌∷◌, rules, w64, of_z, to_z, sym, subst}
-use Rattle.a64_emit.specs.Shapes.{Data, reloc_cell}
+use Rattle.a64_cells.specs.Shapes.{Data, reloc_cell}
 use Rattle.a64_emit.specs.Emission.{appended, IsAppendedInPart, CanPut, PutsCells}
 use Rattle.a64_emit.proofs.Fitting.{failed}
 use Rattle.a64_emit.proofs.Joined.{part_first, can_first, can_second, puts_second}

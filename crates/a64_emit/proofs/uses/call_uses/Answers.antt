@@ -1,8 +1,8 @@
 use Rattle.std.proofs.Common.{◌∙◌, sym, ap}
-use Rattle.a64_emit.specs.Cells.{inst_cells, listed_uses}
-use Rattle.a64_emit.specs.declared.site.Uses.{Uses}
+use Rattle.a64_cells.specs.Cells.{inst_cells, listed_uses}
+use Rattle.a64_cells.specs.declared.site.Uses.{Uses}
 use Rattle.a64_emit.proofs.CallSites.{call_inst_sites}
-use Rattle.a64_emit.proofs.Several.{no_uses}
+use Rattle.a64_cells.proofs.Several.{no_uses}
 use Rattle.a64_emit.proofs.uses.call_uses.Goals as goal
 
 pub returns : goal.returns

@@ -1,7 +1,7 @@
 use Rattle.std.proofs.Common.{◌∙◌, ap}
 use Rattle.a64_inst.specs.declared.inst.Inst.{Inst}
-use Rattle.a64_emit.specs.Cells.{inst_uses}
-use Rattle.a64_emit.specs.ControlForms.{cond_br_form, test_bit_and_branch_form}
+use Rattle.a64_cells.specs.Cells.{inst_uses}
+use Rattle.a64_cells.specs.ControlForms.{cond_br_form, test_bit_and_branch_form}
 use Rattle.a64_emit.proofs.uses.control_uses.Goals as goal
 
 pub returns-in-CondBr : goal.returns-in-CondBr

@@ -1,8 +1,8 @@
 use Rattle.std.proofs.Common.{◌∙◌, None, sym, ap}
 use Rattle.std.proofs.lemmas.List.{append-nil}
-use Rattle.a64_emit.specs.Cells.{use_of, listed_uses}
-use Rattle.a64_emit.specs.declared.site.Uses.{Uses}
-use Rattle.a64_emit.proofs.Several.{memory_uses}
+use Rattle.a64_cells.specs.Cells.{use_of, listed_uses}
+use Rattle.a64_cells.specs.declared.site.Uses.{Uses}
+use Rattle.a64_cells.proofs.Several.{memory_uses}
 use Rattle.a64_emit.proofs.UseLists.{listed_two}
 use Rattle.a64_emit.proofs.uses.memory_uses.Goals as goal
 

@@ -1,7 +1,7 @@
 use Rattle.std.proofs.Common.{◌∙◌, length, sym, ap}
 use Rattle.a64_inst.specs.declared.inst.Inst.{Inst}
-use Rattle.a64_emit.specs.Shapes.{table_forms, table_labels}
-use Rattle.a64_emit.specs.Cells.{inst_uses, table_uses}
+use Rattle.a64_cells.specs.Shapes.{table_forms, table_labels}
+use Rattle.a64_cells.specs.Cells.{inst_uses, table_uses}
 use Rattle.a64_emit.proofs.TableUses.{table_jump_uses}
 use Rattle.a64_emit.proofs.uses.sequence_uses.Goals as goal
 

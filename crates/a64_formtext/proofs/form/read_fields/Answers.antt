@@ -2,8 +2,8 @@ use Rattle.std.proofs.Common.{Bor, ◌≡◌, ◌<◌, [], ℕ, List, Option, So
 use Rattle.std.specs.Option.{is_some}
 use Rattle.a64_formtext.proofs.Readings.{ReadsField, cut_tokens, width_at, token_of, stops, lacks, goes_on, ends, goes_over}
 use Rattle.a64_formtext.specs.Tokens.{space_tokens}
-use Rattle.a64_read.specs.Splitting.{of_text}
-use Rattle.a64_read.specs.TokenLaws.{some_token}
+use Rattle.a64_tokens.specs.Splitting.{of_text}
+use Rattle.a64_tokens.specs.TokenLaws.{some_token}
 use Rattle.a64_rows.specs.Rows.{fields_of, no_field}
 use Rattle.a64_rows.proofs.Table.{field_in_word, fields_long}
 use Rattle.a64_formtext.proofs.form.read_fields.Goals as goal

@@ -3,7 +3,7 @@ use Rattle.std.specs.Prelude.{option_map}
 use Rattle.a64_formtext.proofs.Readings.{ReadsFields, cut_tokens, fit_long}
 use Rattle.a64_formtext.proofs.FormReads.{no_row, no_fields, limits_missed, is_form}
 use Rattle.a64_formtext.specs.Tokens.{space_tokens}
-use Rattle.a64_read.specs.Splitting.{of_text}
+use Rattle.a64_tokens.specs.Splitting.{of_text}
 use Rattle.a64_rows.specs.RowLimits.{limits_of}
 use Rattle.a64_rows.specs.Rows.{fields_of}
 use Rattle.a64_rows.proofs.Table.{fields_long}

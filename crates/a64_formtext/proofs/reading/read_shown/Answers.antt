@@ -7,7 +7,7 @@ use Rattle.a64_formtext.proofs.OneListing.{one_listing}
 use Rattle.a64_formtext.proofs.ShownLines.{listing_leads}
 use Rattle.a64_lines.specs.declared.error.LinesError.{LinesError}
 use Rattle.a64_lines.specs.Lines.{Gives, LeadAll, told_by}
-use Rattle.a64_read.specs.Splitting.{lines_of}
+use Rattle.a64_tokens.specs.Splitting.{lines_of}
 use Rattle.a64_formtext.proofs.reading.read_shown.Goals as goal
 
 -- an error that is handed on

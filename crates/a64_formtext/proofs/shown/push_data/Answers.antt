@@ -2,7 +2,7 @@ use Rattle.std.proofs.Common.{◌++◌, List, ℕ, ap, ◌∙◌, append_assoc}
 use Rattle.std.specs.Prelude.{codes}
 use Rattle.std.specs.String.{string_bytes}
 use Rattle.a64_formtext.proofs.Prints.{also}
-use Rattle.a64_read.specs.Hex.{hex_word}
+use Rattle.a64_tokens.specs.Hex.{hex_word}
 use Rattle.a64_formtext.proofs.shown.push_data.Goals as goal
 
 pub returns : goal.returns

@@ -2,8 +2,8 @@ use Rattle.std.proofs.Common.{◌++◌, ◌/◌, ◌%◌, List, ℕ, sym, ap, �
 use Rattle.std.specs.String.{string_bytes}
 use Rattle.a64_formtext.proofs.Prints.{also}
 use Rattle.a64_formtext.proofs.Words.{four}
-use Rattle.a64_read.specs.Hex.{hex_pair}
-use Rattle.a64_read.proofs.HexWords.{hex_word_pairs}
+use Rattle.a64_tokens.specs.Hex.{hex_pair}
+use Rattle.a64_tokens.proofs.HexWords.{hex_word_pairs}
 use Rattle.a64_formtext.proofs.shown.push_word.Goals as goal
 
 pub returns : goal.returns

@@ -1,8 +1,8 @@
 use Rattle.std.proofs.Common.{List, ℕ, ap, subst, ◌∙◌, arith}
 use Rattle.a64_lines.proofs.Chains.{Progress, goes_on, ends, stops, few_lines, cut_lines, at_line, is_first}
 use Rattle.a64_lines.proofs.lines.read_lines.Goals as goal
-use Rattle.a64_read.specs.Splitting.{lines_of, first_line, lines_behind, of_text}
-use Rattle.a64_read.proofs.Splits.{lines_whole}
+use Rattle.a64_tokens.specs.Splitting.{lines_of, first_line, lines_behind, of_text}
+use Rattle.a64_tokens.proofs.Splits.{lines_whole}
 
 pub overflow_add-number : goal.overflow_add-number
 overflow_add-number g c =

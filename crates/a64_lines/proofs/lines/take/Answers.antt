@@ -1,7 +1,7 @@
 use Rattle.std.proofs.Common.{sym, ap, ◌∙◌}
 use Rattle.a64_lines.proofs.Chains.{nothing_else}
 use Rattle.a64_lines.proofs.lines.take.Goals as goal
-use Rattle.a64_read.specs.Splitting.{is_blank}
+use Rattle.a64_tokens.specs.Splitting.{is_blank}
 
 pub returns-then-is_blank : goal.returns-then-is_blank
 returns-then-is_blank g c =

@@ -1,7 +1,7 @@
 use Rattle.std.specs.Fmt.{decimal}
 use Rattle.a64_link_file.specs.Entries.{name_text}
 use Rattle.a64_link_file.proofs.Lines.{name_plain, no_name, number_name}
-use Rattle.a64_read.specs.Reads.{IsU32}
+use Rattle.a64_tokens.specs.Reads.{IsU32}
 use Rattle.a64_reloc.specs.Relocs.{IsSymbol}
 use Rattle.a64_reloc.proofs.Cuts.{no_space, no_first, no_second, both}
 use Rattle.a64_link_file.proofs.entry_line.read_definition.Goals as goal

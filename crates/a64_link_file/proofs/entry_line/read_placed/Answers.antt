@@ -1,6 +1,6 @@
 use Rattle.std.specs.Fmt.{decimal}
-use Rattle.a64_read.specs.Hex.{hex_word}
-use Rattle.a64_read.specs.Reads.{IsU32}
+use Rattle.a64_tokens.specs.Hex.{hex_word}
+use Rattle.a64_tokens.specs.Reads.{IsU32}
 use Rattle.a64_reloc.proofs.Plain.{decimal_plain}
 use Rattle.a64_reloc.proofs.Cuts.{no_space, no_first, no_second, both}
 use Rattle.a64_link_file.proofs.entry_line.read_placed.Goals as goal

@@ -1,5 +1,5 @@
 use Rattle.a64_read.proofs.Calls.{no_call, no_end, other_end, is_call}
-use Rattle.a64_read.proofs.Splits.{behind}
+use Rattle.a64_tokens.proofs.Splits.{behind}
 use Rattle.a64_read.proofs.call.read_call.Goals as goal
 
 pub returns-in_err-rest : goal.returns-in_err-rest

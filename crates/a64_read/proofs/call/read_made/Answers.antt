@@ -1,8 +1,8 @@
 use Rattle.std.proofs.Common.{List, ◌∷◌, None, subst}
-use Rattle.a64_read.specs.declared.value.Value.{Value}
+use Rattle.a64_tokens.specs.declared.value.Value.{Value}
 use Rattle.a64_read.specs.PartLaws.{part_field}
 use Rattle.a64_read.specs.Parts.{IsPart}
-use Rattle.a64_read.specs.Splitting.{comma_tokens}
+use Rattle.a64_tokens.specs.Splitting.{comma_tokens}
 use Rattle.a64_read.proofs.CallReads.{no_call, made_read}
 use Rattle.a64_read.proofs.Schemas.{Names, none_made, made_of}
 use Rattle.a64_read.proofs.call.read_made.Goals as goal

@@ -2,7 +2,7 @@ use Rattle.std.proofs.Common.{refl}
 use Rattle.a64_read.specs.CallLaws.{location_equals}
 use Rattle.a64_read.specs.Locations.{location_text, IsLocation}
 use Rattle.a64_read.proofs.RegisterPairReads.{no_equals, no_front, no_back, both_read, both_fit, both_text, none_made, pair_made, call_ret_of, call_ret_parts}
-use Rattle.a64_read.proofs.Splits.{behind}
+use Rattle.a64_tokens.proofs.Splits.{behind}
 use Rattle.a64_read.proofs.call_pair.read_call_ret.Goals as goal
 
 pub returns-in_err-back : goal.returns-in_err-back

@@ -2,11 +2,11 @@ use Rattle.std.proofs.Common.{Bor, ◌≡◌, ℕ, zero, suc, ◌≤◌, ◌<◌
 use Rattle.std.proofs.lemmas.List.{length-set, take_more_set}
 use Rattle.arrayvec.specs.ArrayVec.{ArrayVec, with_items}
 use Rattle.arrayvec.proofs.ArrayVecLemmas.{items-with_items}
-use Rattle.a64_read.specs.declared.value.Kind.{Kind}
-use Rattle.a64_read.specs.declared.value.Kind.TheVariants.{AluOp}
-use Rattle.a64_read.specs.declared.value.Value.{Value}
+use Rattle.a64_tokens.specs.declared.value.Kind.{Kind}
+use Rattle.a64_tokens.specs.declared.value.Kind.TheVariants.{AluOp}
+use Rattle.a64_tokens.specs.declared.value.Value.{Value}
 use Rattle.a64_read.specs.Rows.{IsPut}
-use Rattle.a64_read.specs.Splitting.{of_text, behind_text}
+use Rattle.a64_tokens.specs.Splitting.{of_text, behind_text}
 use Rattle.a64_read.specs.Values.{kind_of}
 use Rattle.a64_read.proofs.Rest.{Rest, one_more, bad_token, all_read}
 use Rattle.a64_read.proofs.fields.read_fields.Goals as goal

@@ -1,5 +1,5 @@
 use Rattle.std.proofs.Common.{◌≡◌, ◌≤◌, take, drop, length}
-use Rattle.a64_read.specs.Splitting.{of_text, behind_text}
+use Rattle.a64_tokens.specs.Splitting.{of_text, behind_text}
 use Rattle.a64_read.proofs.Rest.{Rest}
 use Rattle.a64_read.proofs.fields.read_fields.Given as goal
 

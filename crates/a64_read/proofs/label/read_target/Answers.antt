@@ -1,4 +1,4 @@
-use Rattle.a64_read.proofs.Signed.{label_none, label_read}
+use Rattle.a64_tokens.proofs.Signed.{label_none, label_read}
 use Rattle.a64_read.proofs.label.read_target.Goals as goal
 
 pub returns-in_err-read_u32-in-Some : goal.returns-in_err-read_u32-in-Some

@@ -3,7 +3,7 @@ use Rattle.std.specs.Prelude.{codes}
 use Rattle.std.proofs.lemmas.Bool.{false≢true}
 use Rattle.std.proofs.lemmas.Bool.Decides.{Decides-eqb}
 use Rattle.std.proofs.lemmas.Slice.Eq.{slice_eq-Decides}
-use Rattle.a64_read.specs.Splitting.{of_text}
+use Rattle.a64_tokens.specs.Splitting.{of_text}
 use Rattle.a64_read.proofs.Lists.{Listing, begins, one_more, no_one, dash, no_list, all_listed}
 use Rattle.a64_read.proofs.list.read_list.Goals as goal
 

@@ -1,5 +1,5 @@
 use Rattle.std.proofs.Common.{length}
-use Rattle.a64_read.specs.Splitting.{of_text}
+use Rattle.a64_tokens.specs.Splitting.{of_text}
 use Rattle.a64_read.proofs.Lists.{Listing}
 use Rattle.a64_read.proofs.list.read_list.Given as goal
 

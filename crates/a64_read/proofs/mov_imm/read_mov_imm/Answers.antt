@@ -1,5 +1,5 @@
 use Rattle.std.proofs.Common.{ap, ◌∙◌, List, refl}
-use Rattle.a64_read.specs.declared.value.Value.{Value}
+use Rattle.a64_tokens.specs.declared.value.Value.{Value}
 use Rattle.a64_read.proofs.MovImmReads.{no_mov_imm, mov_imm_read}
 use Rattle.a64_read.proofs.mov_imm.read_mov_imm.Goals as goal
 

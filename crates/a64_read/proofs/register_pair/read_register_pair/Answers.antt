@@ -1,7 +1,7 @@
-use Rattle.a64_read.specs.Fields.{reg_text, IsReg}
+use Rattle.a64_tokens.specs.Fields.{reg_text, IsReg}
 use Rattle.a64_read.specs.RegisterLaws.{equals, reg_apart}
 use Rattle.a64_read.proofs.RegisterPairReads.{no_equals, no_front, no_back, both_read}
-use Rattle.a64_read.proofs.Splits.{behind}
+use Rattle.a64_tokens.proofs.Splits.{behind}
 use Rattle.a64_read.proofs.register_pair.read_register_pair.Goals as goal
 
 pub returns-in_err-back : goal.returns-in_err-back

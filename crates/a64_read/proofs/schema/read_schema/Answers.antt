@@ -1,9 +1,9 @@
 use Rattle.std.proofs.Common.{◌≡◌, ℕ, List, Option, Some, subst}
-use Rattle.a64_read.specs.declared.value.Kind.{Kind}
-use Rattle.a64_read.specs.declared.value.Value.{Value}
-use Rattle.a64_read.specs.Reads.{Reads}
+use Rattle.a64_tokens.specs.declared.value.Kind.{Kind}
+use Rattle.a64_tokens.specs.declared.value.Value.{Value}
+use Rattle.a64_tokens.specs.Reads.{Reads}
 use Rattle.a64_read.specs.Rows.{AreFields, texts}
-use Rattle.a64_read.specs.Splitting.{of_text}
+use Rattle.a64_tokens.specs.Splitting.{of_text}
 use Rattle.a64_read.proofs.Schemas.{headed}
 use Rattle.a64_read.proofs.schema.read_schema.Goals as goal
 

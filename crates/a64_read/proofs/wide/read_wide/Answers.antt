@@ -1,5 +1,5 @@
 use Rattle.std.proofs.Common.{arith, refl, ap, ◌∙◌, List}
-use Rattle.a64_read.specs.declared.value.Value.{Value}
+use Rattle.a64_tokens.specs.declared.value.Value.{Value}
 use Rattle.a64_read.specs.At.{u32_at}
 use Rattle.a64_read.proofs.Wides.{no_pair, no_wide, is_wide}
 use Rattle.a64_read.proofs.wide.read_wide.Goals as goal

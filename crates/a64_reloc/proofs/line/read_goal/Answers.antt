@@ -1,7 +1,7 @@
 use Rattle.std.proofs.lemmas.Int.{to_z-of_z}
 use Rattle.std.proofs.Common.{w64}
 use Rattle.std.specs.Fmt.{signed_decimal}
-use Rattle.a64_read.specs.Reads.{IsI64}
+use Rattle.a64_tokens.specs.Reads.{IsI64}
 use Rattle.a64_reloc.specs.Relocs.{IsSymbol, symbol_text}
 use Rattle.a64_reloc.proofs.Cuts.{no_space, no_first, no_second, both}
 use Rattle.a64_reloc.proofs.Plain.{symbol_plain}

@@ -1,5 +1,5 @@
 use Rattle.std.specs.Fmt.{signed_decimal}
-use Rattle.a64_read.specs.Reads.{Always, IsI64}
+use Rattle.a64_tokens.specs.Reads.{Always, IsI64}
 use Rattle.a64_reloc.specs.Halves.{AreBoth, pair_text}
 use Rattle.a64_reloc.specs.Relocs.{IsSymbol, reloc_text, symbol_text}
 use Rattle.a64_reloc.proofs.Cuts.{no_space, no_first, no_second, both}

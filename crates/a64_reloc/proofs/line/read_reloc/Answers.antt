@@ -4,7 +4,7 @@ use Rattle.std.specs.Prelude.{codes}
 use Rattle.std.proofs.lemmas.Bool.Decides.{Decides-eqb}
 use Rattle.std.proofs.lemmas.Slice.Eq.{strip_prefix_is}
 use Rattle.std.proofs.lemmas.Int.{to_z-of_z}
-use Rattle.a64_read.specs.Reads.{Always, IsI64, IsU32}
+use Rattle.a64_tokens.specs.Reads.{Always, IsI64, IsU32}
 use Rattle.a64_reloc.specs.Halves.{AreBoth, pair_text}
 use Rattle.a64_reloc.specs.Relocs.{IsSymbol, reloc_text, symbol_text}
 use Rattle.a64_reloc.proofs.Cuts.{no_space, no_first, no_second, both}

@@ -1,6 +1,6 @@
 use Rattle.std.proofs.Common.{◌≤◌, ◌++◌, length-drop, ap, ◌∙◌, codes, arith}
 use Rattle.std.specs.Fmt.{decimal}
-use Rattle.a64_read.specs.Hex.{hex_word}
+use Rattle.a64_tokens.specs.Hex.{hex_word}
 use Rattle.a64_report.proofs.KeptLines.{made_word}
 use Rattle.a64_report.proofs.kept.compose_word.Goals as goal
 

@@ -1,5 +1,5 @@
 use Rattle.std.proofs.Common.{◌++◌, drop, ap, sym}
-use Rattle.a64_read.proofs.HexWords.{hex_word_pairs}
+use Rattle.a64_tokens.proofs.HexWords.{hex_word_pairs}
 use Rattle.a64_report.proofs.line.put_hex.Goals as goal
 
 pub returns-clause-written : goal.returns-clause-written

@@ -1,6 +1,6 @@
 use Rattle.std.proofs.Common.{sym, ◌∙◌}
-use Rattle.a64_read.specs.Hex.{hex_text, AreBytes}
-use Rattle.a64_read.specs.Reads.{Reads}
+use Rattle.a64_tokens.specs.Hex.{hex_text, AreBytes}
+use Rattle.a64_tokens.specs.Reads.{Reads}
 use Rattle.a64_text.specs.Constants.{HasHex}
 use Rattle.a64_text.proofs.Adds.{all_ok}
 use Rattle.a64_text.proofs.Constants.{constant_read, no_constant}

@@ -1,5 +1,5 @@
 use Rattle.std.proofs.Common.{arith, None, sym, ◌∙◌}
-use Rattle.a64_read.specs.Splitting.{lines_of, first_line, lines_behind}
+use Rattle.a64_tokens.specs.Splitting.{lines_of, first_line, lines_behind}
 use Rattle.a64_text.proofs.Counts.{items_few}
 use Rattle.a64_text.proofs.Lines.{begins, at_line, few_lines, fewer, cut_lines, passes_blank, takes_entry, stops_at, finishes}
 use Rattle.a64_text.proofs.read.read_file.Goals as goal

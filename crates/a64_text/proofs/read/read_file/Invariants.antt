@@ -1,5 +1,5 @@
 use Rattle.std.proofs.Common.{length}
-use Rattle.a64_read.specs.Splitting.{lines_of, of_text}
+use Rattle.a64_tokens.specs.Splitting.{lines_of, of_text}
 use Rattle.a64_text.proofs.Lines.{Progress}
 use Rattle.a64_text.proofs.read.read_file.Given as goal
 

@@ -14,7 +14,7 @@ use crate::name::FloatName;
 use a64_base::{ScalarSize, Writable};
 use a64_inst::{Inst, Item, float_list};
 use a64_read::at;
-use a64_read::value::Value;
+use a64_tokens::value::Value;
 
 /// The move of the float that the eight bits are at the size.
 #[tactic(auto, unfolding(crate::specs::Makes::Makes))]

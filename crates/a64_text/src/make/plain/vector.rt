@@ -16,7 +16,7 @@ use crate::name::{VectorMoveName, VectorName};
 use a64_base::{VectorSize, Writable};
 use a64_inst::{Inst, Item, vector_list, vector_move_list};
 use a64_read::at;
-use a64_read::value::Value;
+use a64_tokens::value::Value;
 
 /// The operation on vectors of this name.
 #[inline(always)]

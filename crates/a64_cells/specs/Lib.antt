@@ -1,0 +1,13 @@
+pub mod IntegerForms
+pub mod FloatForms
+pub mod VectorForms
+pub mod PlainForms
+pub mod ControlForms
+pub mod MemoryForms
+pub mod AtomicForms
+pub mod LoopForms
+pub mod Shapes
+pub mod PlainShapes
+pub mod Cells
+pub mod FormCells
+pub mod Words

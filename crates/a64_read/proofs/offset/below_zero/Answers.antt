@@ -1,6 +1,0 @@
-use Rattle.std.proofs.Common.{◌-◌, arith}
-use Rattle.std.proofs.lemmas.Int.{ints}
-use Rattle.a64_read.proofs.offset.below_zero.Goals as goal
-
-pub returns : goal.returns
-returns c = (c.args.size - 1, omega arith, omega arith, omega (arith, ints))

@@ -1,0 +1,15 @@
+pub mod Headings
+pub mod HexWords
+pub mod Decimals
+pub mod TwoDigits
+pub mod Dashes
+pub mod Signed
+pub mod Registers
+pub mod Immediates
+pub mod Splits
+pub mod Fronts
+pub mod SameBytes
+pub mod Bytes
+pub mod Words
+pub mod PairReads
+pub mod ListTexts
