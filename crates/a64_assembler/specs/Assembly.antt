@@ -3,7 +3,6 @@ use Rattle.std.specs.Prelude.{ℕ, ◌≡◌, ◌⊎◌, ◌+◌, ◌^◌, ◌�
 use Rattle.std.specs.FinMap.{FinMap, empty, get}
 use Rattle.std.specs.Ordering.{nat_cmp}
 use Rattle.a64_base.specs.declared.convention.CallConv.TheVariants.{SystemV}
-use Rattle.a64_base.specs.declared.entity.ExternalName.{ExternalName}
 use Rattle.a64_base.specs.declared.entity.MachLabel.{MachLabel}
 use Rattle.a64_base.specs.declared.reg.PReg.{PReg}
 use Rattle.a64_base.specs.declared.cond.CondBrKind.{CondBrKind}
@@ -15,11 +14,15 @@ use Rattle.a64_inst.specs.declared.call.CallInfo.{CallInfo}
 use Rattle.a64_inst.specs.declared.emission.EmitFlags.{EmitFlags}
 use Rattle.a64_inst.specs.declared.frame.FrameLayout.{FrameLayout}
 use Rattle.a64_inst.specs.declared.inst.Inst.{Inst}
-use Rattle.a64_inst.specs.declared.inst.Inst.TheVariants.{Call, CondBr}
+use Rattle.a64_inst.specs.declared.inst.Inst.TheVariants.{CondBr}
 use Rattle.a64_inst.specs.declared.item.Item.{Item}
 use Rattle.a64_inst.specs.declared.item.Item.TheVariants.{Bind, Emit}
 use Rattle.a64_assembler.specs.declared.error.AddError.{AddError}
 use Rattle.a64_assembler.specs.declared.error.AddError.TheVariants.{TooMany, BadLength, OutOfMemory}
+
+-- no constant has this number or a greater one
+abbrev pub IsFresh : FinMap nat_cmp (List ℕ) → ℕ → Type 0
+IsFresh constants number = (k : ℕ) → number ≤ k → get constants k ≡ None
 
 -- what was added: items in their order and constants by their numbers; what their assembly is told beside these; and
 -- how many labels and constants were given out
@@ -99,9 +102,9 @@ pub record AddsBranch {T : Type 0} (kind : CondBrKind) (taken : MachLabel) (resu
   pub err : OnErr result (a' ≡ a)
   pub cause : IfErr result (IsBranchCause a)
 
--- a call of a symbol that passes nothing and gets nothing back, by the standard convention
-pub record IsPlainCall (name : ExternalName) (info : CallInfo ExternalName) : Type 0 where
-  pub dest : info.dest ≡ name
+-- a call that passes nothing and gets nothing back, by the standard convention
+pub record IsPlainCall {T : Type 0} (to : T) (info : CallInfo T) : Type 0 where
+  pub dest : info.dest ≡ to
   pub uses : info.uses ≡ []
   pub defs : info.defs ≡ []
   pub clobbers : (reg : PReg) → has info.clobbers reg ≡ false
@@ -110,10 +113,10 @@ pub record IsPlainCall (name : ExternalName) (info : CallInfo ExternalName) : Ty
   pub pop : info.callee_pop_size ≡ 0
   pub patchable : info.patchable ≡ false
 
--- what adding such a call leaves
-abbrev pub AddsCall : {T : Type 0} → ExternalName → Result T AddError → Assembly → Assembly → Type 0
-AddsCall name result a a' = (info : CallInfo ExternalName) × IsPlainCall name info × Adds (emitted (Call info) ∷ []) result a a'
+-- an instruction is such a call: of a symbol by `Call`, of an address in a register by `CallInd`
+abbrev pub IsPlain : {T : Type 0} → (CallInfo T → Inst) → T → Inst → Type 0
+IsPlain {T} call to inst = (info : CallInfo T) × IsPlainCall to info × (inst ≡ call info)
 
--- no constant has this number or a greater one
-abbrev pub IsFresh : FinMap nat_cmp (List ℕ) → ℕ → Type 0
-IsFresh constants number = (k : ℕ) → number ≤ k → get constants k ≡ None
+-- what adding such a call leaves
+abbrev pub AddsCall : {T S : Type 0} → (CallInfo S → Inst) → S → Result T AddError → Assembly → Assembly → Type 0
+AddsCall call to result a a' = (inst : Inst) × IsPlain call to inst × Adds (emitted inst ∷ []) result a a'

@@ -10,22 +10,27 @@ ghost use Rattle.a64_operand.specs.Operands.{is_register};
 ghost use Rattle.a64_plan.specs.Plans.{plan_of};
 ghost use Rattle.a64_inst.specs.Accesses.{inst_with};
 ghost use Rattle.a64_inst.specs.Constants.{step_into};
-ghost use Rattle.a64_inst.specs.declared.inst.Inst.TheVariants.{Jump};
+ghost use Rattle.a64_inst.specs.declared.inst.Inst.TheVariants as insts;
 ghost use Rattle.a64_inst.specs.declared.item.Item.TheVariants.{Bind};
 ghost use Rattle.a64_assemble.specs.Assembled.{IsAssembled, IsRefusal};
 ghost use Rattle.a64_assembler.specs.declared.error.AddError.TheVariants.{TooMany, BadLength};
 ghost use Rattle.a64_buffer.specs.Constants.{IsConstant};
+ghost use Rattle.a64_assembler.specs.Forms.{pushed_pair, popped_pair, saved_frame, frame_set, restored_frame};
+ghost use Rattle.a64_base.specs.Registers.{integer_register};
+ghost use Rattle.a64_ops.specs.declared.operator.ALUOp.TheVariants as ops;
 ghost use Rattle.a64_assembler.specs.Assembly.{nothing, with_items, emitted, label_at, Adds, AddsBranch, AddsCall, IsCause, IsFull};
 
 use crate::error::AddError;
+use crate::insts;
 use a64_assemble::assemble;
 use a64_base::{
-    BranchTarget, CallConv, Cond, CondBrKind, ExternalName, MachLabel, MemFlagsData, OperandSize,
-    Reg, VCodeConstant, Writable,
+    Cond, CondBrKind, ExternalName, MachLabel, OperandSize, Reg, VCodeConstant, Writable,
 };
 use a64_buffer::{Constants, ForceVeneers};
 use a64_emit::{Code, EmitError};
-use a64_inst::{AMode, Access, AccessOp, CallInfo, EmitFlags, EmitInfo, FrameLayout, Inst, Item};
+use a64_imms::Imm12;
+use a64_inst::{AMode, AccessOp, EmitFlags, EmitInfo, FrameLayout, Inst, Item};
+use a64_list::ListVec;
 use smallvec::SmallVec;
 use std::alloc::Global;
 use std::marker::Model;
@@ -182,11 +187,9 @@ impl Assembler {
     ///
     /// As of [`Assembler::push`].
     pub fn jump(&mut self, label: MachLabel) -> Result<(), AddError>
-        ensures { Adds (emitted (Jump (Label label)) ∷ []) result self.old self.new }
+        ensures { Adds (emitted (insts.Jump (Label label)) ∷ []) result self.old self.new }
     {
-        self.emit(Inst::Jump {
-            dest: BranchTarget::Label(label),
-        })
+        self.emit(insts::jump(label))
     }
 
     /// Adds a branch to a label where a test succeeds. Else execution goes on behind it.
@@ -203,12 +206,8 @@ impl Assembler {
         }
         self.items.reserve(2)?;
         let next = MachLabel(self.labels);
-        let inst = Inst::CondBr {
-            taken: BranchTarget::Label(label),
-            not_taken: BranchTarget::Label(next),
-            kind,
-        };
-        self.items.push_reserved(Item::from(inst));
+        self.items
+            .push_reserved(Item::from(insts::branch(kind, label, next)));
         self.items.push_reserved(Item::Bind(next));
         self.labels += 1;
         Ok(())
@@ -249,13 +248,7 @@ impl Assembler {
     pub fn access(&mut self, op: AccessOp, reg: Reg, mem: AMode) -> Result<(), AddError>
         ensures { Adds (emitted (inst_with op reg mem None) ∷ []) result self.old self.new }
     {
-        let flags = MemFlagsData::trusted();
-        self.emit(Inst::from_access(Access {
-            op,
-            reg,
-            mem,
-            flags,
-        }))
+        self.emit(insts::access(op, reg, mem))
     }
 
     /// Adds the moves that put a value into a register from x0 to x30: the shortest ones, of which there are at most
@@ -314,10 +307,220 @@ impl Assembler {
     ///
     /// As of [`Assembler::push`].
     pub fn call(&mut self, name: ExternalName) -> Result<(), AddError>
-        ensures { AddsCall name result self.old self.new }
+        ensures { AddsCall insts.Call name result self.old self.new }
     {
-        let info = CallInfo::new(self.alloc, name, CallConv::SystemV);
-        self.emit(Inst::Call { info })
+        self.emit(insts::call(self.alloc, name))
+    }
+
+    /// Adds a call of the address in a register that passes nothing and gets nothing back, by the standard convention.
+    ///
+    /// # Errors
+    ///
+    /// As of [`Assembler::push`].
+    pub fn call_reg(&mut self, rn: Reg) -> Result<(), AddError>
+        ensures { AddsCall insts.CallInd rn result self.old self.new }
+    {
+        self.emit(insts::call_reg(self.alloc, rn))
+    }
+
+    /// Adds a `mov` of a register, which is not the stack pointer.
+    ///
+    /// # Errors
+    ///
+    /// As of [`Assembler::push`].
+    pub fn mov(&mut self, size: OperandSize, rd: Writable<Reg>, rm: Reg) -> Result<(), AddError>
+        ensures { Adds (emitted (insts.Mov size rd rm) ∷ []) result self.old self.new }
+    {
+        self.emit(insts::mov(size, rd, rm))
+    }
+
+    /// Adds an addition of two registers.
+    ///
+    /// # Errors
+    ///
+    /// As of [`Assembler::push`].
+    pub fn add(
+        &mut self,
+        size: OperandSize,
+        rd: Writable<Reg>,
+        rn: Reg,
+        rm: Reg,
+    ) -> Result<(), AddError>
+        ensures { Adds (emitted (insts.AluRRR ops.Add size rd rn rm) ∷ [])
+            result self.old self.new }
+    {
+        self.emit(insts::add(size, rd, rn, rm))
+    }
+
+    /// Adds a subtraction of two registers.
+    ///
+    /// # Errors
+    ///
+    /// As of [`Assembler::push`].
+    pub fn sub(
+        &mut self,
+        size: OperandSize,
+        rd: Writable<Reg>,
+        rn: Reg,
+        rm: Reg,
+    ) -> Result<(), AddError>
+        ensures { Adds (emitted (insts.AluRRR ops.Sub size rd rn rm) ∷ [])
+            result self.old self.new }
+    {
+        self.emit(insts::sub(size, rd, rn, rm))
+    }
+
+    /// Adds a comparison of two registers, which sets the flags.
+    ///
+    /// # Errors
+    ///
+    /// As of [`Assembler::push`].
+    pub fn cmp(&mut self, size: OperandSize, rn: Reg, rm: Reg) -> Result<(), AddError>
+        ensures { Adds (emitted (insts.AluRRR ops.SubS size (integer_register 31) rn rm) ∷ [])
+            result self.old self.new }
+    {
+        self.emit(insts::cmp(size, rn, rm))
+    }
+
+    /// Adds an addition of an immediate to a register, or to the stack pointer.
+    ///
+    /// # Errors
+    ///
+    /// As of [`Assembler::push`].
+    pub fn add_imm(
+        &mut self,
+        size: OperandSize,
+        rd: Writable<Reg>,
+        rn: Reg,
+        imm12: Imm12,
+    ) -> Result<(), AddError>
+        ensures { Adds (emitted (insts.AluRRImm12 ops.Add size rd rn imm12) ∷ [])
+            result self.old self.new }
+    {
+        self.emit(insts::add_imm(size, rd, rn, imm12))
+    }
+
+    /// Adds a subtraction of an immediate from a register, or from the stack pointer.
+    ///
+    /// # Errors
+    ///
+    /// As of [`Assembler::push`].
+    pub fn sub_imm(
+        &mut self,
+        size: OperandSize,
+        rd: Writable<Reg>,
+        rn: Reg,
+        imm12: Imm12,
+    ) -> Result<(), AddError>
+        ensures { Adds (emitted (insts.AluRRImm12 ops.Sub size rd rn imm12) ∷ [])
+            result self.old self.new }
+    {
+        self.emit(insts::sub_imm(size, rd, rn, imm12))
+    }
+
+    /// Adds a comparison of a register, or of the stack pointer, with an immediate.
+    ///
+    /// # Errors
+    ///
+    /// As of [`Assembler::push`].
+    pub fn cmp_imm(&mut self, size: OperandSize, rn: Reg, imm12: Imm12) -> Result<(), AddError>
+        ensures { Adds
+            (emitted (insts.AluRRImm12 ops.SubS size (integer_register 31) rn imm12) ∷ [])
+            result self.old self.new }
+    {
+        self.emit(insts::cmp_imm(size, rn, imm12))
+    }
+
+    /// Adds a store of two registers to the stack, which grows by 16 bytes.
+    ///
+    /// # Errors
+    ///
+    /// As of [`Assembler::push`].
+    pub fn push_pair(&mut self, rt: Reg, rt2: Reg) -> Result<(), AddError>
+        ensures { Adds (emitted (pushed_pair rt rt2) ∷ []) result self.old self.new }
+    {
+        self.emit(insts::push_pair(rt, rt2))
+    }
+
+    /// Adds a load of two registers from the stack, which shrinks by 16 bytes.
+    ///
+    /// # Errors
+    ///
+    /// As of [`Assembler::push`].
+    pub fn pop_pair(&mut self, rt: Writable<Reg>, rt2: Writable<Reg>) -> Result<(), AddError>
+        ensures { Adds (emitted (popped_pair rt rt2) ∷ []) result self.old self.new }
+    {
+        self.emit(insts::pop_pair(rt, rt2))
+    }
+
+    /// Adds a return to the address in x30.
+    ///
+    /// # Errors
+    ///
+    /// As of [`Assembler::push`].
+    pub fn ret(&mut self) -> Result<(), AddError>
+        ensures { Adds (emitted (insts.Ret) ∷ []) result self.old self.new }
+    {
+        self.emit(insts::ret())
+    }
+
+    /// Adds a jump to the target that the low 32 bits of `ridx` count, or to the default where there are not so many.
+    /// It changes the other two registers.
+    ///
+    /// # Errors
+    ///
+    /// As of [`Assembler::push`].
+    pub fn jump_table(
+        &mut self,
+        default: MachLabel,
+        targets: ListVec<MachLabel>,
+        ridx: Reg,
+        rtmp1: Writable<Reg>,
+        rtmp2: Writable<Reg>,
+    ) -> Result<(), AddError>
+        ensures { Adds (emitted (insts.JTSequence default targets ridx rtmp1 rtmp2) ∷ [])
+            result self.old self.new }
+    {
+        self.emit(insts::jump_table(default, targets, ridx, rtmp1, rtmp2))
+    }
+
+    /// Adds the start of a function that has a frame: x29 and x30 are saved, and x29 points to them.
+    ///
+    /// # Errors
+    ///
+    /// [`AddError::TooMany`], where not two more items have room, or want of memory. Then nothing has changed.
+    pub fn prologue(&mut self) -> Result<(), AddError>
+        ensures { Adds (emitted saved_frame ∷ emitted frame_set ∷ []) result self.old self.new }
+    {
+        self.emit_two(insts::save_frame(), insts::set_frame())
+    }
+
+    /// Adds the end of such a function: x29 and x30 are restored, and it returns.
+    ///
+    /// # Errors
+    ///
+    /// As of [`Assembler::prologue`].
+    pub fn epilogue(&mut self) -> Result<(), AddError>
+        ensures { Adds (emitted restored_frame ∷ emitted insts.Ret ∷ []) result self.old self.new }
+    {
+        self.emit_two(insts::restore_frame(), insts::ret())
+    }
+
+    /// Adds two instructions, or none.
+    ///
+    /// # Errors
+    ///
+    /// [`AddError::TooMany`], or want of memory. Then nothing has changed.
+    fn emit_two(&mut self, first: Inst, second: Inst) -> Result<(), AddError>
+        ensures { Adds (emitted first ∷ emitted second ∷ []) result self.old self.new }
+    {
+        if self.items.len() + 1 >= MOST as usize {
+            return Err(AddError::TooMany);
+        }
+        self.items.reserve(2)?;
+        self.items.push_reserved(Item::from(first));
+        self.items.push_reserved(Item::from(second));
+        Ok(())
     }
 
     /// How many items there are.

@@ -4,6 +4,7 @@
 
 mod assembler;
 mod error;
+pub mod insts;
 
 pub use a64_base::APIKey;
 pub use a64_base::BranchTarget;

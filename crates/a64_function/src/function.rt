@@ -2,8 +2,8 @@
 
 use crate::fault::Fault;
 use a64_assembler::{
-    ALUOp, AMode, AccessOp, Assembler, Code, ExternalName, Inst, MachLabel, OperandSize, vreg,
-    writable_xreg, xreg,
+    AMode, AccessOp, Assembler, Code, ExternalName, MachLabel, OperandSize, vreg, writable_xreg,
+    xreg,
 };
 use std::alloc::Global;
 
@@ -17,20 +17,9 @@ fn add_turn(asm: &mut Assembler) -> Result<(), Fault> {
         off: BEHIND,
     };
     asm.access(AccessOp::ULoad64, xreg(2), word)?;
-    asm.emit(Inst::AluRRR {
-        alu_op: ALUOp::Add,
-        size: OperandSize::Size64,
-        rd: writable_xreg(0),
-        rn: xreg(0),
-        rm: xreg(2),
-    })?;
-    Ok(asm.emit(Inst::AluRRR {
-        alu_op: ALUOp::Sub,
-        size: OperandSize::Size64,
-        rd: writable_xreg(1),
-        rn: xreg(1),
-        rm: xreg(4),
-    })?)
+    let size = OperandSize::Size64;
+    asm.add(size, writable_xreg(0), xreg(0), xreg(2))?;
+    Ok(asm.sub(size, writable_xreg(1), xreg(1), xreg(4))?)
 }
 
 /// Adds the loop, which goes on until x1 is zero.
@@ -53,6 +42,6 @@ pub fn function(alloc: Global) -> Result<Code, Fault> {
     asm.bind(done)?;
     asm.call(ExternalName(7))?;
     asm.access(AccessOp::FpuLoad64, vreg(0), AMode::Const { addr: pool })?;
-    asm.emit(Inst::Ret)?;
+    asm.ret()?;
     Ok(asm.finish()?)
 }
