@@ -1,1 +1,3 @@
 pub mod Fresh
+pub mod Marks
+pub mod MadeRooms

@@ -20,6 +20,11 @@ use Rattle.a64_inst.specs.declared.item.Item.TheVariants.{Bind, Emit}
 use Rattle.a64_assembler.specs.declared.error.AddError.{AddError}
 use Rattle.a64_assembler.specs.declared.error.AddError.TheVariants.{TooMany, BadLength, OutOfMemory}
 
+-- constants by their numbers, and how many numbers were given out
+pub record Pool : Type 0 where
+  pub constants : FinMap nat_cmp (List ℕ)
+  pub numbers : ℕ
+
 -- no constant has this number or a greater one
 abbrev pub IsFresh : FinMap nat_cmp (List ℕ) → ℕ → Type 0
 IsFresh constants number = (k : ℕ) → number ≤ k → get constants k ≡ None

@@ -20,13 +20,14 @@ ghost use Rattle.a64_base.specs.Registers.{integer_register};
 ghost use Rattle.a64_ops.specs.declared.operator.ALUOp.TheVariants as ops;
 ghost use Rattle.a64_assembler.specs.Assembly.{nothing, with_items, emitted, label_at, Adds, AddsBranch, AddsCall, IsCause, IsFull};
 
+use crate::constants::VCodeConstants;
 use crate::error::AddError;
 use crate::insts;
 use a64_assemble::assemble;
 use a64_base::{
     Cond, CondBrKind, ExternalName, MachLabel, OperandSize, Reg, VCodeConstant, Writable,
 };
-use a64_buffer::{Constants, ForceVeneers};
+use a64_buffer::ForceVeneers;
 use a64_emit::{Code, EmitError};
 use a64_imms::Imm12;
 use a64_inst::{AMode, AccessOp, EmitFlags, EmitInfo, FrameLayout, Inst, Item};
@@ -35,7 +36,7 @@ use smallvec::SmallVec;
 use std::alloc::Global;
 use std::marker::Model;
 
-/// The most items, labels or constants that there may be.
+/// The most items or labels that there may be.
 const MOST: u32 = u32::MAX;
 
 /// Items that are added one after another, and what their assembly is told beside them: constants, a frame,
@@ -44,12 +45,11 @@ const MOST: u32 = u32::MAX;
 pub struct Assembler {
     alloc: Global,
     items: Vec<Item>,
-    constants: Constants,
+    constants: VCodeConstants,
     info: EmitInfo,
     frame: FrameLayout,
     force: ForceVeneers,
     labels: u32,
-    numbers: u32,
 }
 
 impl Model for Assembler {
@@ -57,7 +57,7 @@ impl Model for Assembler {
     ghost use Rattle.std.specs.Ordering.{nat_cmp};
     ghost use Rattle.std.specs.FinMap.{code};
     ghost use Rattle.std.specs.Coded.{codes, coded_ℕ, coded_list};
-    ghost use Rattle.a64_assembler.specs.Assembly.{Assembly, IsFresh};
+    ghost use Rattle.a64_assembler.specs.Assembly.{Assembly};
 
     ghost Value = { Assembly };
 
@@ -65,15 +65,15 @@ impl Model for Assembler {
 
     ghost view = { λ a. record {
       items = a.items.items;
-      constants = a.constants;
+      constants = a.constants.constants;
       frame = a.frame;
       flags = a.info;
       force = a.force;
       labels = a.labels;
-      numbers = a.numbers;
+      numbers = a.constants.numbers;
     } };
 
-    ghost invariant = { λ a. (length a.items.items < 2 ^ 32) × IsFresh a.constants a.numbers };
+    ghost invariant = { λ a. length a.items.items < 2 ^ 32 };
 }
 
 /// Puts instructions behind the items, which have room for them.
@@ -95,12 +95,11 @@ impl Assembler {
         Assembler {
             alloc,
             items: Vec::new(alloc),
-            constants: Constants::new(alloc),
+            constants: VCodeConstants::new(alloc),
             info: EmitInfo::new(EmitFlags::none()),
             frame: FrameLayout::none(alloc),
             force: ForceVeneers::No,
             labels: 0,
-            numbers: 0,
         }
     }
 
@@ -278,7 +277,6 @@ impl Assembler {
     /// # Errors
     ///
     /// [`AddError::BadLength`], [`AddError::TooMany`], or want of memory. Then nothing has changed.
-    #[tactic(auto, using(crate::proofs::Fresh::still_fresh, crate::proofs::Fresh::inserted_is))]
     pub fn constant(&mut self, bytes: &[u8]) -> Result<VCodeConstant, AddError>
         ensures ok { IfOk result (λ constant. constant.0 ≡ self.old.numbers) }
         ensures added { OnOk result (IsConstant bytes.now × (self.new ≡ record self.old {
@@ -289,16 +287,7 @@ impl Assembler {
         ensures length { result ≡ Err BadLength → IsConstant bytes.now → ⊥ }
         ensures many { result ≡ Err TooMany → IsFull self.old.numbers 1 }
     {
-        if !matches!(bytes.len(), 4 | 8 | 16) {
-            return Err(AddError::BadLength);
-        }
-        if self.numbers == MOST {
-            return Err(AddError::TooMany);
-        }
-        let constant = VCodeConstant(self.numbers);
-        self.constants.insert(constant, bytes)?;
-        self.numbers += 1;
-        Ok(constant)
+        self.constants.insert(bytes)
     }
 
     /// Adds a call of a symbol that passes nothing and gets nothing back, by the standard convention.
@@ -544,7 +533,7 @@ impl Assembler {
         assemble(
             self.alloc,
             &self.items,
-            &self.constants,
+            self.constants.constants(),
             &self.info,
             &self.frame,
             self.force,

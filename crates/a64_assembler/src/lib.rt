@@ -3,6 +3,8 @@
 #![tactic(auto)]
 
 mod assembler;
+mod constants;
+mod emitter;
 mod error;
 pub mod insts;
 
@@ -130,4 +132,7 @@ pub use a64_inst::VecShiftImmOp;
 pub use a64_inst::VirtualRegisters;
 pub use a64_list::ListVec;
 pub use assembler::Assembler;
+pub use constants::VCodeConstants;
+pub use emitter::Emitter;
 pub use error::AddError;
+pub use error::EmitterError;

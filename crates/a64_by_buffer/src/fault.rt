@@ -1,16 +1,15 @@
 //! Why the program ends without its lines.
 
-use a64_assembler::{EmitError, OwnFault};
-use std::alloc::AllocError;
+use a64_assembler::{AddError, EmitterError};
 use std::{fmt, io};
 
 /// Why the program ends without its lines.
 #[derive(Debug, Drop)]
 pub enum Fault {
-    /// An instruction is wrong by itself.
-    Wrong(OwnFault),
+    /// No constant was added.
+    Add(AddError),
     /// The code is refused.
-    Refused(EmitError),
+    Refused(EmitterError),
     /// A line could not be written.
     Write,
 }
@@ -19,8 +18,8 @@ impl Fault {
     /// The status with which the program ends.
     pub fn status(&self) -> u8 {
         match self {
-            Fault::Refused(EmitError::OutOfMemory) => 5,
-            Fault::Wrong(_) | Fault::Refused(_) => 1,
+            Fault::Add(AddError::OutOfMemory) | Fault::Refused(EmitterError::OutOfMemory) => 5,
+            Fault::Add(_) | Fault::Refused(_) => 1,
             Fault::Write => 4,
         }
     }
@@ -29,28 +28,22 @@ impl Fault {
 impl fmt::Display for Fault {
     fn fmt<W: fmt::Write>(&self, f: &mut fmt::Formatter<W>) -> fmt::Result {
         match self {
-            Fault::Wrong(fault) => write!(f, "an instruction is wrong: {fault:?}"),
+            Fault::Add(error) => write!(f, "no constant was added: {error}"),
             Fault::Refused(error) => write!(f, "the code is refused: {error}"),
             Fault::Write => write!(f, "write fault"),
         }
     }
 }
 
-impl From<OwnFault> for Fault {
-    fn from(fault: OwnFault) -> Fault {
-        Fault::Wrong(fault)
+impl From<AddError> for Fault {
+    fn from(error: AddError) -> Fault {
+        Fault::Add(error)
     }
 }
 
-impl From<EmitError> for Fault {
-    fn from(error: EmitError) -> Fault {
+impl From<EmitterError> for Fault {
+    fn from(error: EmitterError) -> Fault {
         Fault::Refused(error)
-    }
-}
-
-impl From<AllocError> for Fault {
-    fn from(_error: AllocError) -> Fault {
-        Fault::Refused(EmitError::OutOfMemory)
     }
 }
 

@@ -1,33 +1,18 @@
 //! The function.
 
-ghost use Rattle.std.specs.Prelude.{◌≡◌, OnOk, true};
-ghost use Rattle.std.specs.FinMap.{empty};
+ghost use Rattle.std.specs.Prelude.{◌≡◌, true};
 ghost use Rattle.a64_operand.specs.declared.virtuals.VirtualRegisters.TheVariants.{Refused};
 ghost use Rattle.a64_operand.specs.Operands.{is_register};
 
-use crate::emitter::Emitter;
 use crate::fault::Fault;
 use a64_assembler::{
-    ALUOp, AMode, Access, AccessOp, BranchTarget, CallConv, CallInfo, CondBrKind, Constants,
-    ExternalName, Finished, Inst, MachLabel, MemFlagsData, OperandSize, Reg, VCodeConstant,
-    Writable, vreg, writable_xreg, xreg,
+    AMode, AccessOp, CondBrKind, Emitter, EmitterError, ExternalName, Finished, Inst, MachLabel,
+    OperandSize, Reg, VCodeConstants, Writable, insts, vreg, writable_xreg, xreg,
 };
 use std::alloc::Global;
 
 /// How far behind the pointer the words stand, in bytes.
 const BEHIND: i64 = 65_536;
-
-/// The loop.
-const AGAIN: MachLabel = MachLabel(0);
-
-/// What stands behind the branch out of the loop.
-const TURN: MachLabel = MachLabel(1);
-
-/// What stands behind the loop.
-const DONE: MachLabel = MachLabel(2);
-
-/// The constant that is loaded.
-const PI: VCodeConstant = VCodeConstant(0);
 
 /// Emits the moves that put a value into a register.
 fn emit_constant(
@@ -35,86 +20,52 @@ fn emit_constant(
     emitter: &mut Emitter<'_>,
     rd: Writable<Reg>,
     value: u64,
-) -> Result<(), Fault>
+) -> Result<(), EmitterError>
     requires { is_register Refused rd ≡ true }
-    ensures { OnOk result (emitter.new.buffer.labels ≡ emitter.old.buffer.labels) }
 {
-    let insts = Inst::load_constant(alloc, rd, value)?;
-    for inst in insts.as_slice() {
+    let moves = Inst::load_constant(alloc, rd, value)?;
+    for inst in moves.as_slice() {
         emitter.emit(inst)?;
     }
     Ok(())
 }
 
 /// Emits what the loop does in a turn: it loads a word, adds it, and goes to the next one.
-fn emit_turn(emitter: &mut Emitter<'_>) -> Result<(), Fault>
-    ensures { OnOk result (emitter.new.buffer.labels ≡ emitter.old.buffer.labels) }
-{
-    emitter.emit(&Inst::from_access(Access {
-        op: AccessOp::ULoad64,
-        reg: xreg(2),
-        mem: AMode::RegOffset {
-            rn: xreg(3),
-            off: BEHIND,
-        },
-        flags: MemFlagsData::trusted(),
-    }))?;
-    emitter.emit(&Inst::AluRRR {
-        alu_op: ALUOp::Add,
-        size: OperandSize::Size64,
-        rd: writable_xreg(0),
-        rn: xreg(0),
-        rm: xreg(2),
-    })?;
-    emitter.emit(&Inst::AluRRR {
-        alu_op: ALUOp::Sub,
-        size: OperandSize::Size64,
-        rd: writable_xreg(1),
-        rn: xreg(1),
-        rm: xreg(4),
-    })
+fn emit_turn(emitter: &mut Emitter<'_>) -> Result<(), EmitterError> {
+    let size = OperandSize::Size64;
+    let word = AMode::RegOffset {
+        rn: xreg(3),
+        off: BEHIND,
+    };
+    emitter.emit(&insts::access(AccessOp::ULoad64, xreg(2), word))?;
+    emitter.emit(&insts::add(size, writable_xreg(0), xreg(0), xreg(2)))?;
+    emitter.emit(&insts::sub(size, writable_xreg(1), xreg(1), xreg(4)))
 }
 
 /// Emits the loop, which goes on until x1 is zero.
-fn emit_loop(emitter: &mut Emitter<'_>) -> Result<(), Fault>
-    requires { emitter.old.buffer.labels ≡ empty }
-{
-    emitter.bind(AGAIN)?;
-    emitter.emit(&Inst::CondBr {
-        taken: BranchTarget::Label(DONE),
-        not_taken: BranchTarget::Label(TURN),
-        kind: CondBrKind::Zero(xreg(1), OperandSize::Size64),
-    })?;
-    emitter.bind(TURN)?;
+fn emit_loop(emitter: &mut Emitter<'_>, done: MachLabel) -> Result<(), EmitterError> {
+    let (again, turn) = (emitter.new_label()?, emitter.new_label()?);
+    let is_zero = CondBrKind::Zero(xreg(1), OperandSize::Size64);
+    emitter.bind(again)?;
+    emitter.emit(&insts::branch(is_zero, done, turn))?;
+    emitter.bind(turn)?;
     emit_turn(emitter)?;
-    emitter.emit(&Inst::Jump {
-        dest: BranchTarget::Label(AGAIN),
-    })?;
-    emitter.bind(DONE)
-}
-
-/// Emits what stands behind the loop: a call, the load of a constant, and the return.
-fn emit_end(alloc: Global, emitter: &mut Emitter<'_>) -> Result<(), Fault> {
-    emitter.emit(&Inst::Call {
-        info: CallInfo::new(alloc, ExternalName(7), CallConv::SystemV),
-    })?;
-    emitter.emit(&Inst::from_access(Access {
-        op: AccessOp::FpuLoad64,
-        reg: vreg(0),
-        mem: AMode::Const { addr: PI },
-        flags: MemFlagsData::trusted(),
-    }))?;
-    emitter.emit(&Inst::Ret)
+    emitter.emit(&insts::jump(again))
 }
 
 /// The function.
 pub fn function(alloc: Global) -> Result<Finished, Fault> {
-    let mut constants = Constants::new(alloc);
-    constants.insert(PI, &[0x18, 0x2d, 0x44, 0x54, 0xfb, 0x21, 0x09, 0x40])?;
+    let mut constants = VCodeConstants::new(alloc);
+    let pool = constants.insert(&[0x18, 0x2d, 0x44, 0x54, 0xfb, 0x21, 0x09, 0x40])?;
     let mut emitter = Emitter::new(alloc, &constants);
+    let done = emitter.new_label()?;
     emit_constant(alloc, &mut emitter, writable_xreg(0), 0x1234_5678_9abc_def0)?;
     emit_constant(alloc, &mut emitter, writable_xreg(4), 1)?;
-    emit_loop(&mut emitter)?;
-    emit_end(alloc, &mut emitter)?;
-    emitter.finish()
+    emit_loop(&mut emitter, done)?;
+    emitter.bind(done)?;
+    emitter.emit(&insts::call(alloc, ExternalName(7)))?;
+    let float = AMode::Const { addr: pool };
+    emitter.emit(&insts::access(AccessOp::FpuLoad64, vreg(0), float))?;
+    emitter.emit(&insts::ret())?;
+    Ok(emitter.finish()?)
 }

@@ -6,7 +6,6 @@
 //! and no frame.
 #![tactic(auto)]
 
-mod emitter;
 mod fault;
 mod function;
 

@@ -1,0 +1,105 @@
+-- Code to which instructions are emitted one after another, and what their emission is told beside them.
+use Rattle.std.specs.Prelude.{ℕ, ◌≡◌, ◌⊎◌, ◌+◌, ◌^◌, ◌≤◌, Bool, true, false, All, List, None, Some, Result, OnOk, IfErr, IsSome, is_some, slice_index_or, ⊤}
+use Rattle.std.specs.Ordering.{nat_cmp}
+use Rattle.std.specs.FinMap.{FinMap, get}
+use Rattle.a64_base.specs.declared.entity.MachLabel.{MachLabel}
+use Rattle.a64_buffer.specs.declared.force.ForceVeneers.{ForceVeneers}
+use Rattle.a64_buffer.specs.declared.force.ForceVeneers.TheVariants.{No, Yes}
+use Rattle.a64_buffer.specs.Buffer.{Buffer, end_of, new_buffer, IsBound, IsFirstUnbound, IsFirstUnreached}
+use Rattle.a64_buffer.specs.Classes.{owed}
+use Rattle.a64_buffer.specs.Islands.{HasIsland}
+use Rattle.a64_inst.specs.declared.emission.EmitFlags.{EmitFlags}
+use Rattle.a64_inst.specs.declared.inst.Inst.{Inst}
+use Rattle.a64_inst.specs.Faults.{inst_fault}
+use Rattle.a64_inst.specs.State.{State}
+use Rattle.a64_operand.specs.declared.virtuals.VirtualRegisters.TheVariants.{Refused}
+use Rattle.a64_label_use.specs.declared.label_use.LabelUse.{LabelUse}
+use Rattle.a64_label_use.specs.LabelUses.{label_kinds}
+use Rattle.a64_emit.specs.Emission.{Emits}
+use Rattle.a64_emit.specs.Rooms.{most_added}
+use Rattle.a64_assembler.specs.Assembly.{nothing, IsFull}
+use Rattle.a64_assembler.specs.declared.error.EmitterError.{EmitterError}
+use Rattle.a64_assembler.specs.declared.error.EmitterError.TheVariants.{BadInstruction, LabelBoundTwice, UnknownLabel, UnboundLabel, OutOfReach, TooLarge, TooMany, OutOfMemory}
+
+-- the code so far, the settings, what emission keeps between instructions, and how many labels were given out
+pub record Emission : Type 0 where
+  pub code : Buffer LabelUse
+  pub flags : EmitFlags
+  pub state : State
+  pub labels : ℕ
+
+-- the labels that are marked are bound, and no others
+abbrev pub AreBound : List Bool → FinMap nat_cmp ℕ → Type 0
+AreBound marks labels = (k : ℕ) → slice_index_or marks k false ≡ is_some (get labels k)
+
+-- no code, over these constants: no frame, and no setting is on
+abbrev pub begun : FinMap nat_cmp (List ℕ) → Emission
+begun constants = record {
+  code = new_buffer constants;
+  flags = nothing.flags;
+  state = record { frame = nothing.frame; map = None };
+  labels = 0;
+}
+
+-- an island was written at the end, with a jump over it: behind it what is open still reaches over the worst case of an
+-- instruction
+abbrev pub WritesIsland : ForceVeneers → Buffer LabelUse → Buffer LabelUse → Type 0
+WritesIsland force b b' = HasIsland label_kinds 172 force true b b'
+
+-- why no island was written: with it the code could reach 2^31 bytes, or memory was missing
+abbrev pub IsIslandCause : Buffer LabelUse → EmitterError → Type 0
+IsIslandCause b TooLarge = 2 ^ 31 ≤ end_of b + owed label_kinds b + 4
+IsIslandCause b OutOfMemory = ⊤
+IsIslandCause b _ = ⊥
+
+-- room was made: no island was written, or one, or two, of which the second gives veneers to all uses that wait
+abbrev pub MakesRoom : Buffer LabelUse → Buffer LabelUse → Type 0
+MakesRoom b b' =
+    (b' ≡ b)
+    ⊎ WritesIsland No b b'
+    ⊎ ((between : Buffer LabelUse) × WritesIsland No b between × WritesIsland Yes between b')
+
+-- with so many bytes, with what the open uses may add, and with two islands' jumps the code could reach 2^31 bytes
+abbrev pub IsTooLargeFor : Buffer LabelUse → ℕ → Type 0
+IsTooLargeFor b more = 2 ^ 31 ≤ end_of b + owed label_kinds b + more + 8
+
+-- why no room was made for so many bytes
+abbrev pub IsRoomCause : Buffer LabelUse → ℕ → EmitterError → Type 0
+IsRoomCause b more TooLarge = IsTooLargeFor b more
+IsRoomCause b more OutOfMemory = ⊤
+IsRoomCause b more _ = ⊥
+
+-- why an instruction was not emitted: it is wrong by itself, and nothing has changed; or the code could become too large, and
+-- all that has changed is that room was made; or memory was missing
+abbrev pub IsEmitCause : Inst → Emission → Emission → EmitterError → Type 0
+IsEmitCause inst e e' (BadInstruction fault) = (inst_fault e.state.frame e.flags e.code.constants Refused inst ≡ Some fault) × (e' ≡ e)
+IsEmitCause inst e e' TooLarge = IsTooLargeFor e.code (most_added e.state.frame e.flags inst) × MakesRoom e.code e'.code × (e' ≡ record e { code = e'.code })
+IsEmitCause inst e e' OutOfMemory = ⊤
+IsEmitCause inst e e' _ = ⊥
+
+-- what emitting an instruction leaves: room was made, and behind that its words stand
+pub record EmitsOne {T : Type 0} (inst : Inst) (result : Result T EmitterError) (e e' : Emission) : Type 0 where
+  pub ok : OnOk result ((between : Buffer LabelUse) × MakesRoom e.code between × Emits e.flags e.state inst between e'.code)
+  pub rest : OnOk result (e' ≡ record e { code = e'.code; state = record e.state { map = None } })
+  pub cause : IfErr result (IsEmitCause inst e e')
+
+-- why a label was not bound
+abbrev pub IsBindCause : MachLabel → Emission → EmitterError → Type 0
+IsBindCause label e (LabelBoundTwice bound) = (bound ≡ label) × IsSome (get e.code.labels label.0)
+IsBindCause label e (UnknownLabel unknown) = (unknown ≡ label) × (e.labels ≤ label.0)
+IsBindCause label e OutOfMemory = ⊤
+IsBindCause label e _ = ⊥
+
+-- why no label was given out
+abbrev pub IsLabelCause : Emission → EmitterError → Type 0
+IsLabelCause e TooMany = IsFull e.labels 1
+IsLabelCause e OutOfMemory = ⊤
+IsLabelCause e _ = ⊥
+
+-- why code was not finished: the first of these that applies
+abbrev pub IsFinishCause : Buffer LabelUse → EmitterError → Type 0
+IsFinishCause b (UnboundLabel label) = IsFirstUnbound b (Some label)
+IsFinishCause b (OutOfReach label) = All (IsBound b.labels) b.uses × IsFirstUnreached label_kinds b (Some label)
+IsFinishCause b TooLarge = 2 ^ 31 ≤ end_of b + owed label_kinds b
+IsFinishCause b OutOfMemory = ⊤
+IsFinishCause b _ = ⊥
