@@ -7,7 +7,7 @@ ghost use Rattle.a64_operand.specs.Operands.{is_register};
 use crate::fault::Fault;
 use a64_assembler::{
     AMode, AccessOp, CondBrKind, Emitter, EmitterError, ExternalName, Finished, Inst, MachLabel,
-    OperandSize, Reg, VCodeConstants, Writable, insts, vreg, writable_xreg, xreg,
+    OperandSize, Reg, VCodeConstant, VCodeConstants, Writable, insts, vreg, writable_xreg, xreg,
 };
 use std::alloc::Global;
 
@@ -53,19 +53,37 @@ fn emit_loop(emitter: &mut Emitter<'_>, done: MachLabel) -> Result<(), EmitterEr
     emitter.emit(&insts::jump(again))
 }
 
+/// Emits what stands behind the loop: a call, the load of a constant, and a return.
+fn emit_end(
+    alloc: Global,
+    emitter: &mut Emitter<'_>,
+    float: VCodeConstant,
+) -> Result<(), EmitterError> {
+    emitter.emit(&insts::call(alloc, ExternalName(7)))?;
+    let float = AMode::Const { addr: float };
+    emitter.emit(&insts::access(AccessOp::FpuLoad64, vreg(0), float))?;
+    emitter.emit(&insts::ret())
+}
+
+/// Emits the function, which loads this constant.
+fn emit_function(
+    alloc: Global,
+    emitter: &mut Emitter<'_>,
+    float: VCodeConstant,
+) -> Result<(), EmitterError> {
+    let done = emitter.new_label()?;
+    emit_constant(alloc, emitter, writable_xreg(0), 0x1234_5678_9abc_def0)?;
+    emit_constant(alloc, emitter, writable_xreg(4), 1)?;
+    emit_loop(emitter, done)?;
+    emitter.bind(done)?;
+    emit_end(alloc, emitter, float)
+}
+
 /// The function.
 pub fn function(alloc: Global) -> Result<Finished, Fault> {
     let mut constants = VCodeConstants::new(alloc);
-    let pool = constants.insert(&[0x18, 0x2d, 0x44, 0x54, 0xfb, 0x21, 0x09, 0x40])?;
+    let float = constants.insert(&[0x18, 0x2d, 0x44, 0x54, 0xfb, 0x21, 0x09, 0x40])?;
     let mut emitter = Emitter::new(alloc, &constants);
-    let done = emitter.new_label()?;
-    emit_constant(alloc, &mut emitter, writable_xreg(0), 0x1234_5678_9abc_def0)?;
-    emit_constant(alloc, &mut emitter, writable_xreg(4), 1)?;
-    emit_loop(&mut emitter, done)?;
-    emitter.bind(done)?;
-    emitter.emit(&insts::call(alloc, ExternalName(7)))?;
-    let float = AMode::Const { addr: pool };
-    emitter.emit(&insts::access(AccessOp::FpuLoad64, vreg(0), float))?;
-    emitter.emit(&insts::ret())?;
+    emit_function(alloc, &mut emitter, float)?;
     Ok(emitter.finish()?)
 }
