@@ -1,11 +1,11 @@
 -- Code to which instructions are emitted one after another, and what their emission is told beside them.
-use Rattle.std.specs.Prelude.{ℕ, ◌≡◌, ◌⊎◌, ◌+◌, ◌^◌, ◌≤◌, Bool, true, false, All, List, None, Some, Result, OnOk, IfErr, IsSome, is_some, slice_index_or, ⊤}
+use Rattle.std.specs.Prelude.{ℕ, ◌≡◌, ◌⊎◌, ◌+◌, ◌^◌, ◌≤◌, ◌<◌, Bool, true, false, All, List, None, Some, Result, OnOk, IfErr, IsSome, is_some, slice_index_or, ⊤}
 use Rattle.std.specs.Ordering.{nat_cmp}
 use Rattle.std.specs.FinMap.{FinMap, get}
 use Rattle.a64_base.specs.declared.entity.MachLabel.{MachLabel}
 use Rattle.a64_buffer.specs.declared.force.ForceVeneers.{ForceVeneers}
 use Rattle.a64_buffer.specs.declared.force.ForceVeneers.TheVariants.{No, Yes}
-use Rattle.a64_buffer.specs.Buffer.{Buffer, end_of, new_buffer, IsBound, IsFirstUnbound, IsFirstUnreached}
+use Rattle.a64_buffer.specs.Buffer.{Buffer, end_of, new_buffer, IsBound, IsDirect, IsFirstUnbound, IsFirstUnreached}
 use Rattle.a64_buffer.specs.Classes.{owed}
 use Rattle.a64_buffer.specs.Islands.{HasIsland}
 use Rattle.a64_inst.specs.declared.emission.EmitFlags.{EmitFlags}
@@ -96,10 +96,19 @@ IsLabelCause e TooMany = IsFull e.labels 1
 IsLabelCause e OutOfMemory = ⊤
 IsLabelCause e _ = ⊥
 
--- why code was not finished: the first of these that applies
+-- each label that is used is bound, and is within reach of the uses that can have no veneer
+abbrev pub HasItsLabels : Buffer LabelUse → Type 0
+HasItsLabels b = All (IsBound b.labels) b.uses × All (IsDirect label_kinds b.labels) b.uses
+
+-- how far the code could reach, in bytes
+abbrev pub most_bytes : Buffer LabelUse → ℕ
+most_bytes b = end_of b + owed label_kinds b
+
+-- why code was not finished: the first of these that applies, and memory was missing where none of the others does
 abbrev pub IsFinishCause : Buffer LabelUse → EmitterError → Type 0
 IsFinishCause b (UnboundLabel label) = IsFirstUnbound b (Some label)
-IsFinishCause b (OutOfReach label) = All (IsBound b.labels) b.uses × IsFirstUnreached label_kinds b (Some label)
-IsFinishCause b TooLarge = 2 ^ 31 ≤ end_of b + owed label_kinds b
-IsFinishCause b OutOfMemory = ⊤
+IsFinishCause b (OutOfReach label) =
+    All (IsBound b.labels) b.uses × IsFirstUnreached label_kinds b (Some label)
+IsFinishCause b TooLarge = HasItsLabels b × (2 ^ 31 ≤ most_bytes b)
+IsFinishCause b OutOfMemory = HasItsLabels b × (most_bytes b < 2 ^ 31)
 IsFinishCause b _ = ⊥

@@ -30,11 +30,10 @@ pub fn mov(size: OperandSize, rd: Writable<Reg>, rm: Reg) -> Inst
     Inst::Mov { size, rd, rm }
 }
 
-/// `add` of two registers.
-pub fn add(size: OperandSize, rd: Writable<Reg>, rn: Reg, rm: Reg) -> Inst
-    ensures { result ≡ variants.AluRRR ops.Add size rd rn rm }
+/// An operation on two registers.
+fn alu_rrr(alu_op: ALUOp, size: OperandSize, rd: Writable<Reg>, rn: Reg, rm: Reg) -> Inst
+    ensures { result ≡ variants.AluRRR alu_op size rd rn rm }
 {
-    let alu_op = ALUOp::Add;
     Inst::AluRRR {
         alu_op,
         size,
@@ -42,78 +41,61 @@ pub fn add(size: OperandSize, rd: Writable<Reg>, rn: Reg, rm: Reg) -> Inst
         rn,
         rm,
     }
+}
+
+/// An operation on a register and an immediate.
+fn alu_rr_imm12(alu_op: ALUOp, size: OperandSize, rd: Writable<Reg>, rn: Reg, imm12: Imm12) -> Inst
+    ensures { result ≡ variants.AluRRImm12 alu_op size rd rn imm12 }
+{
+    Inst::AluRRImm12 {
+        alu_op,
+        size,
+        rd,
+        rn,
+        imm12,
+    }
+}
+
+/// `add` of two registers.
+pub fn add(size: OperandSize, rd: Writable<Reg>, rn: Reg, rm: Reg) -> Inst
+    ensures { result ≡ variants.AluRRR ops.Add size rd rn rm }
+{
+    alu_rrr(ALUOp::Add, size, rd, rn, rm)
 }
 
 /// `sub` of two registers.
 pub fn sub(size: OperandSize, rd: Writable<Reg>, rn: Reg, rm: Reg) -> Inst
     ensures { result ≡ variants.AluRRR ops.Sub size rd rn rm }
 {
-    let alu_op = ALUOp::Sub;
-    Inst::AluRRR {
-        alu_op,
-        size,
-        rd,
-        rn,
-        rm,
-    }
+    alu_rrr(ALUOp::Sub, size, rd, rn, rm)
 }
 
 /// `cmp` of two registers: the flags of their difference.
 pub fn cmp(size: OperandSize, rn: Reg, rm: Reg) -> Inst
     ensures { result ≡ variants.AluRRR ops.SubS size (integer_register 31) rn rm }
 {
-    let alu_op = ALUOp::SubS;
-    let rd = writable_zero_reg();
-    Inst::AluRRR {
-        alu_op,
-        size,
-        rd,
-        rn,
-        rm,
-    }
+    alu_rrr(ALUOp::SubS, size, writable_zero_reg(), rn, rm)
 }
 
 /// `add` of a register, or of the stack pointer, and an immediate.
 pub fn add_imm(size: OperandSize, rd: Writable<Reg>, rn: Reg, imm12: Imm12) -> Inst
     ensures { result ≡ variants.AluRRImm12 ops.Add size rd rn imm12 }
 {
-    let alu_op = ALUOp::Add;
-    Inst::AluRRImm12 {
-        alu_op,
-        size,
-        rd,
-        rn,
-        imm12,
-    }
+    alu_rr_imm12(ALUOp::Add, size, rd, rn, imm12)
 }
 
 /// `sub` of an immediate from a register, or from the stack pointer.
 pub fn sub_imm(size: OperandSize, rd: Writable<Reg>, rn: Reg, imm12: Imm12) -> Inst
     ensures { result ≡ variants.AluRRImm12 ops.Sub size rd rn imm12 }
 {
-    let alu_op = ALUOp::Sub;
-    Inst::AluRRImm12 {
-        alu_op,
-        size,
-        rd,
-        rn,
-        imm12,
-    }
+    alu_rr_imm12(ALUOp::Sub, size, rd, rn, imm12)
 }
 
 /// `cmp` of a register, or of the stack pointer, and an immediate: the flags of their difference.
 pub fn cmp_imm(size: OperandSize, rn: Reg, imm12: Imm12) -> Inst
     ensures { result ≡ variants.AluRRImm12 ops.SubS size (integer_register 31) rn imm12 }
 {
-    let alu_op = ALUOp::SubS;
-    let rd = writable_zero_reg();
-    Inst::AluRRImm12 {
-        alu_op,
-        size,
-        rd,
-        rn,
-        imm12,
-    }
+    alu_rr_imm12(ALUOp::SubS, size, writable_zero_reg(), rn, imm12)
 }
 
 /// A load or a store of one register, which does not trap.
