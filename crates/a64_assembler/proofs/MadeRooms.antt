@@ -16,27 +16,28 @@ use Rattle.a64_emit.specs.Emission.{Puts}
 use Rattle.a64_emit.specs.Rooms.{HasRoomFor, most_added}
 use Rattle.a64_assembler.specs.declared.error.EmitterError.{EmitterError}
 use Rattle.a64_assembler.specs.declared.error.EmitterError.TheVariants.{BadInstruction, LabelBoundTwice, UnknownLabel, UnboundLabel, OutOfReach, TooLarge, TooMany, OutOfMemory}
-use Rattle.a64_assembler.specs.Emitting.{Emission, WritesIsland, MakesRoom, IsTooLargeFor, IsRoomCause, IsEmitCause}
+use Rattle.a64_assembler.specs.Emitting.{Emission, WritesIsland, MakesRoom, IsTooLargeFor, IsRoomCause, IsFaultless, IsEmitCause}
 
--- the bound labels stay
-pub labels_stay : (b b' : Buffer LabelUse) → MakesRoom b b' → b'.labels ≡ b.labels
-labels_stay b b' h = elim h [
-  | inl same ↦ (cc)
-  | inr islands ↦ elim islands [
-    | inl one ↦ one.labels
-    | inr two ↦ two.2.labels ∙ two.1.labels
+module _ (frame : FrameLayout) (flags : EmitFlags) (inst : Inst) where
+  -- the bound labels stay
+  pub labels_stay : (b b' : Buffer LabelUse) → MakesRoom frame flags inst b b' → b'.labels ≡ b.labels
+  labels_stay b b' h = elim h [
+    | inl same ↦ (cc)
+    | inr islands ↦ elim islands [
+      | inl one ↦ one.2.labels
+      | inr two ↦ two.2.2.labels ∙ two.1.2.labels
+    ]
   ]
-]
 
--- the constants stay
-pub constants_stay : (b b' : Buffer LabelUse) → MakesRoom b b' → b'.constants ≡ b.constants
-constants_stay b b' h = elim h [
-  | inl same ↦ (cc)
-  | inr islands ↦ elim islands [
-    | inl one ↦ one.later.constants
-    | inr two ↦ two.2.later.constants ∙ two.1.later.constants
+  -- the constants stay
+  pub constants_stay : (b b' : Buffer LabelUse) → MakesRoom frame flags inst b b' → b'.constants ≡ b.constants
+  constants_stay b b' h = elim h [
+    | inl same ↦ (cc)
+    | inr islands ↦ elim islands [
+      | inl one ↦ one.2.later.constants
+      | inr two ↦ two.2.2.later.constants ∙ two.1.2.later.constants
+    ]
   ]
-]
 
 -- what puts cells at the end, or an island at a place for one, keeps both too
 pub put_labels : (asked : Option ℕ) (cells : List Cell) (b b' : Buffer LabelUse) → Puts asked cells b b' → b'.labels ≡ b.labels
@@ -67,13 +68,13 @@ too_large frame flags b between b' inst first second none = elim (cases_lt (end_
   | inr long ↦ omega (arith, long, first.owed, second.owed)
 ]
 
--- why no room was made for an instruction is why it was not emitted
-pub emit_cause : (inst : Inst) (e e' : Emission) (error : EmitterError) → IsRoomCause e.code (most_added e.state.frame e.flags inst) error → MakesRoom e.code e'.code → e' ≡ record e { code = e'.code } → IsEmitCause inst e e' error
-emit_cause inst e e' (BadInstruction fault) cause room rest = absurd cause
-emit_cause inst e e' (LabelBoundTwice label) cause room rest = cause
-emit_cause inst e e' (UnknownLabel label) cause room rest = cause
-emit_cause inst e e' (UnboundLabel label) cause room rest = cause
-emit_cause inst e e' (OutOfReach label) cause room rest = cause
-emit_cause inst e e' TooLarge cause room rest = (cause, room, rest)
-emit_cause inst e e' TooMany cause room rest = cause
-emit_cause inst e e' OutOfMemory cause room rest = cause
+-- why no room was made for an instruction without a fault is why it was not emitted
+pub emit_cause : (inst : Inst) (e e' : Emission) (error : EmitterError) → IsFaultless inst e → IsRoomCause e.code (most_added e.state.frame e.flags inst) error → MakesRoom e.state.frame e.flags inst e.code e'.code → e' ≡ record e { code = e'.code } → IsEmitCause inst e e' error
+emit_cause inst e e' (BadInstruction fault) good cause made rest = absurd cause
+emit_cause inst e e' (LabelBoundTwice label) good cause made rest = cause
+emit_cause inst e e' (UnknownLabel label) good cause made rest = cause
+emit_cause inst e e' (UnboundLabel label) good cause made rest = cause
+emit_cause inst e e' (OutOfReach label) good cause made rest = cause
+emit_cause inst e e' TooLarge good cause made rest = (good, cause, made, rest)
+emit_cause inst e e' TooMany good cause made rest = cause
+emit_cause inst e e' OutOfMemory good cause made rest = good

@@ -9,6 +9,7 @@ use Rattle.a64_buffer.specs.Buffer.{Buffer, end_of, new_buffer, IsBound, IsDirec
 use Rattle.a64_buffer.specs.Classes.{owed}
 use Rattle.a64_buffer.specs.Islands.{HasIsland}
 use Rattle.a64_inst.specs.declared.emission.EmitFlags.{EmitFlags}
+use Rattle.a64_inst.specs.declared.frame.FrameLayout.{FrameLayout}
 use Rattle.a64_inst.specs.declared.inst.Inst.{Inst}
 use Rattle.a64_inst.specs.Faults.{inst_fault}
 use Rattle.a64_inst.specs.State.{State}
@@ -16,7 +17,7 @@ use Rattle.a64_operand.specs.declared.virtuals.VirtualRegisters.TheVariants.{Ref
 use Rattle.a64_label_use.specs.declared.label_use.LabelUse.{LabelUse}
 use Rattle.a64_label_use.specs.LabelUses.{label_kinds}
 use Rattle.a64_emit.specs.Emission.{Emits}
-use Rattle.a64_emit.specs.Rooms.{most_added}
+use Rattle.a64_emit.specs.Rooms.{most_added, HasRoomFor}
 use Rattle.a64_assembler.specs.Assembly.{nothing, IsFull}
 use Rattle.a64_assembler.specs.declared.error.EmitterError.{EmitterError}
 use Rattle.a64_assembler.specs.declared.error.EmitterError.TheVariants.{BadInstruction, LabelBoundTwice, UnknownLabel, UnboundLabel, OutOfReach, TooLarge, TooMany, OutOfMemory}
@@ -52,12 +53,18 @@ IsIslandCause b TooLarge = 2 ^ 31 ≤ end_of b + owed label_kinds b + 4
 IsIslandCause b OutOfMemory = ⊤
 IsIslandCause b _ = ⊥
 
--- room was made: no island was written, or one, or two, of which the second gives veneers to all uses that wait
-abbrev pub MakesRoom : Buffer LabelUse → Buffer LabelUse → Type 0
-MakesRoom b b' =
-    (b' ≡ b)
-    ⊎ WritesIsland No b b'
-    ⊎ ((between : Buffer LabelUse) × WritesIsland No b between × WritesIsland Yes between b')
+module _ (frame : FrameLayout) (flags : EmitFlags) (inst : Inst) where
+  -- an island was written where there was no room for an instruction
+  abbrev pub WritesIslandFor : ForceVeneers → Buffer LabelUse → Buffer LabelUse → Type 0
+  WritesIslandFor force b b' = (HasRoomFor frame flags b inst → ⊥) × WritesIsland force b b'
+
+  -- room was made for an instruction: no island was written, or one, or two, each where there was no room for it; the
+  -- second gives veneers to all uses that wait
+  abbrev pub MakesRoom : Buffer LabelUse → Buffer LabelUse → Type 0
+  MakesRoom b b' =
+      (b' ≡ b)
+      ⊎ WritesIslandFor No b b'
+      ⊎ ((between : Buffer LabelUse) × WritesIslandFor No b between × WritesIslandFor Yes between b')
 
 -- with so many bytes, with what the open uses may add, and with two islands' jumps the code could reach 2^31 bytes
 abbrev pub IsTooLargeFor : Buffer LabelUse → ℕ → Type 0
@@ -69,17 +76,33 @@ IsRoomCause b more TooLarge = IsTooLargeFor b more
 IsRoomCause b more OutOfMemory = ⊤
 IsRoomCause b more _ = ⊥
 
--- why an instruction was not emitted: it is wrong by itself, and nothing has changed; or the code could become too large, and
--- all that has changed is that room was made; or memory was missing
+-- an instruction has no fault of its own under what emission is told beside it
+abbrev pub IsFaultless : Inst → Emission → Type 0
+IsFaultless inst e = inst_fault e.state.frame e.flags e.code.constants Refused inst ≡ None
+
+-- why an instruction was not emitted: it is wrong by itself, and nothing has changed; or else the code could become too
+-- large, and all that has changed is that room was made; or memory was missing
 abbrev pub IsEmitCause : Inst → Emission → Emission → EmitterError → Type 0
-IsEmitCause inst e e' (BadInstruction fault) = (inst_fault e.state.frame e.flags e.code.constants Refused inst ≡ Some fault) × (e' ≡ e)
-IsEmitCause inst e e' TooLarge = IsTooLargeFor e.code (most_added e.state.frame e.flags inst) × MakesRoom e.code e'.code × (e' ≡ record e { code = e'.code })
-IsEmitCause inst e e' OutOfMemory = ⊤
+IsEmitCause inst e e' (BadInstruction fault) =
+    (inst_fault e.state.frame e.flags e.code.constants Refused inst ≡ Some fault) × (e' ≡ e)
+IsEmitCause inst e e' TooLarge =
+    IsFaultless inst e
+    × IsTooLargeFor e.code (most_added e.state.frame e.flags inst)
+    × MakesRoom e.state.frame e.flags inst e.code e'.code
+    × (e' ≡ record e { code = e'.code })
+IsEmitCause inst e e' OutOfMemory = IsFaultless inst e
 IsEmitCause inst e e' _ = ⊥
 
--- what emitting an instruction leaves: room was made, and behind that its words stand
+-- an instruction's words stand behind the room that was made for it
+pub record IsEmitted (inst : Inst) (e : Emission) (b : Buffer LabelUse) : Type 0 where
+  pub between : Buffer LabelUse
+  pub made : MakesRoom e.state.frame e.flags inst e.code between
+  pub room : HasRoomFor e.state.frame e.flags between inst
+  pub emits : Emits e.flags e.state inst between b
+
+-- what emitting an instruction leaves
 pub record EmitsOne {T : Type 0} (inst : Inst) (result : Result T EmitterError) (e e' : Emission) : Type 0 where
-  pub ok : OnOk result ((between : Buffer LabelUse) × MakesRoom e.code between × Emits e.flags e.state inst between e'.code)
+  pub ok : OnOk result (IsEmitted inst e e'.code)
   pub rest : OnOk result (e' ≡ record e { code = e'.code; state = record e.state { map = None } })
   pub cause : IfErr result (IsEmitCause inst e e')
 

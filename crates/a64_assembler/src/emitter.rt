@@ -5,7 +5,7 @@ ghost use Rattle.a64_buffer.specs.Buffer.{end_of, IsBound, IsDirect};
 ghost use Rattle.a64_buffer.specs.Classes.{owed};
 ghost use Rattle.a64_buffer.specs.Finished.{IsFinished};
 ghost use Rattle.a64_emit.specs.Emission.{Binds, IsReady};
-ghost use Rattle.a64_emit.specs.Rooms.{most_added};
+ghost use Rattle.a64_emit.specs.Rooms.{most_added, HasRoomFor};
 ghost use Rattle.a64_inst.specs.Faults.{inst_fault};
 ghost use Rattle.a64_label_use.specs.LabelUses.{label_kinds};
 ghost use Rattle.a64_operand.specs.declared.virtuals.VirtualRegisters.TheVariants.{Refused};
@@ -73,7 +73,8 @@ fn make_room(
 ) -> Result<(), EmitterError>
     requires { inst_fault state.now.frame info.now buffer.old.constants Refused inst.now ≡ None }
     ensures ready { OnOk result (IsReady buffer.new state.now.frame info.now inst.now) }
-    ensures room { MakesRoom buffer.old buffer.new }
+    ensures room { OnOk result (HasRoomFor state.now.frame info.now buffer.new inst.now) }
+    ensures made { MakesRoom state.now.frame info.now inst.now buffer.old buffer.new }
     ensures cause { IfErr result (IsRoomCause buffer.old
         (most_added state.now.frame info.now inst.now)) }
 {
