@@ -5,7 +5,7 @@ import sys
 from dataclasses import dataclass
 from typing import Any, Callable
 
-from . import files, wrong_tables
+from . import files, widths, wrong_tables
 from .grammar import TableError
 
 
@@ -34,7 +34,7 @@ class Script:
         except TableError as error:
             print(error)
             return 1
-        written = self.written(table)
+        written = {path: widths.in_width(path, lines) for path, lines in self.written(table).items()}
         others = files.left_over(written, self.crates, files.mark_of(self.command, self.table))
         if words == ["--check"]:
             return 1 if files.check(written, others, self.command) else 0

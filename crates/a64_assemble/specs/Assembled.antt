@@ -21,18 +21,22 @@ use Rattle.a64_assemble.specs.Fillings.{IsFilledIsland, IsFilledPool}
 use Rattle.a64_assemble.specs.OwnStops.{StopAhead, HaveOwnVeneers}
 use Rattle.a64_assemble.specs.ReadBack.{IsReadBack}
 
-module _ (frame : FrameLayout) (flags : EmitFlags) (constants : FinMap nat_cmp (List ℕ)) (force : ForceVeneers) (items : List Item) where
+module _ (frame : FrameLayout) (flags : EmitFlags) (constants : FinMap nat_cmp (List ℕ))
+    (force : ForceVeneers) (items : List Item) where
   -- code of items that have no fault: they stand at their places, and each use leads to its target
   pub record IsAssembled (code : Code) : Type 0 where
     pub no_fault : fault_of frame flags constants force items ≡ None
     pub laid : Laid frame flags items code
     pub leads : Leads code constants (standing (map (cells_of frame flags) items) code.places.items)
-    pub own_traps : HaveOwnTraps code (standing (map (cells_of frame flags) items) code.places.items)
+    pub own_traps : HaveOwnTraps code
+        (standing (map (cells_of frame flags) items) code.places.items)
     pub records : HasRecords frame flags items code
-    -- each finished word is decoded to the form that was put, with only the field of its use changed, or is the data that was put and is
-    -- no use
-    pub read_back : All (IsReadBack code.bytes.items) (standing (map (cells_of frame flags) items) code.places.items)
-    -- an island stands only where one is needed, or where one is forced and something is open; and there one does stand
+    -- each finished word is decoded to the form that was put, with only the field of its use
+    -- changed, or is the data that was put and is no use
+    pub read_back : All (IsReadBack code.bytes.items)
+        (standing (map (cells_of frame flags) items) code.places.items)
+    -- an island stands only where one is needed, or where one is forced and something is open; and
+    -- there one does stand
     pub islands : All (IsIslandByNeed frame flags items code force) code.islands.items
     pub forced : force ≡ Yes → AreForced frame flags items code
     -- where nothing can want one there is none
@@ -40,12 +44,14 @@ module _ (frame : FrameLayout) (flags : EmitFlags) (constants : FinMap nat_cmp (
     -- islands and the pool hold what uses wait for there, and nothing else
     pub filled : All (IsFilledIsland frame flags items constants code) code.islands.items
     pub pool : IsFilledPool frame flags items constants code
-    -- each use leads ahead, or to its label; and each branch that passes veneers has a first one of its own
+    -- each use leads ahead, or to its label; and each branch that passes veneers has a first one of
+    -- its own
     pub ahead : StopAhead frame flags items code
     pub own_veneers : HaveOwnVeneers frame flags items code
     pub short : IsShort frame flags items code
 
-  -- a refusal: the first fault, or want of memory, which comes only where each item is right by itself
+  -- a refusal: the first fault, or want of memory, which comes only where each item is right by
+  -- itself
   abbrev pub IsRefusal : EmitError → Type 0
   IsRefusal error =
       (fault_of frame flags constants force items ≡ Some error)

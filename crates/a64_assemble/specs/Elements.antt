@@ -1,5 +1,6 @@
 -- What items are to the layout of code, and what they add to it.
-use Rattle.std.specs.Prelude.{ℕ, ◌≡◌, ◌+◌, ◌*◌, ◌<◌, ◌≤◌, Bool, true, false, nat_eq, List, [], ◌∷◌, length, map, drop, sum_by, slice_index_or, Option, None, Some}
+use Rattle.std.specs.Prelude.{ℕ, ◌≡◌, ◌+◌, ◌*◌, ◌<◌, ◌≤◌, Bool, true, false, nat_eq, List, [], ◌∷◌}
+use Rattle.std.specs.Prelude.{length, map, drop, sum_by, slice_index_or, Option, None, Some}
 use Rattle.std.specs.List.{list_any}
 use Rattle.std.specs.Option.{unwrap_or}
 use Rattle.a64_inst.specs.declared.emission.EmitFlags.{EmitFlags}
@@ -12,8 +13,8 @@ use Rattle.a64_emit.specs.Bounds.{ranges_in, size_of, charge_of, asked}
 use Rattle.a64_emit.specs.Falls.{inst_falls}
 use Rattle.a64_emit.specs.Rooms.{AreCompact}
 
--- an item binds the label of a number, or has words, behind which execution may go on or not, or is a place at which
--- an island may stand without words before it, and asks for so much space
+-- an item binds the label of a number, or has words, behind which execution may go on or not, or is
+-- a place at which an island may stand without words before it, and asks for so much space
 pub data Element : Type 0 where
   Binding : ℕ → Element
   Words : Bool → List Cell → Element
@@ -22,7 +23,11 @@ pub data Element : Type 0 where
 module _ (frame : FrameLayout) (flags : EmitFlags) where
   abbrev pub element_of : Item → Element
   element_of (Bind label) = Binding label.0
-  element_of (Emit inst kept) = elim (asked (Emit inst kept)) [ None ↦ Words (inst_falls inst) (kept_cells frame flags inst kept) | Some space ↦ Asking space ]
+  element_of (Emit inst kept) =
+      elim (asked (Emit inst kept)) [
+        | None ↦ Words (inst_falls inst) (kept_cells frame flags inst kept)
+        | Some space ↦ Asking space
+      ]
 
   abbrev pub elements_of : List Item → List Element
   elements_of items = map element_of items
@@ -107,7 +112,9 @@ is_bound_by xs number = list_any (binds_number number) xs
 
 -- no label is bound twice
 abbrev pub AreBoundOnce : List Element → Type 0
-AreBoundOnce xs = (i j label : ℕ) → i < length xs → j < length xs → element_at xs i ≡ Binding label → element_at xs j ≡ Binding label → i ≡ j
+AreBoundOnce xs =
+    (i j label : ℕ) → i < length xs → j < length xs → element_at xs i ≡ Binding label
+    → element_at xs j ≡ Binding label → i ≡ j
 
 -- ---- what islands make room for
 
@@ -121,8 +128,8 @@ abbrev pub words_room : List Cell → Option ℕ → Option ℕ
 words_room [] rest = rest
 words_room (c ∷ cs) rest = Some (size_of (c ∷ cs) + 28 * length (ranges_in (c ∷ cs)))
 
--- what the next words may move open uses ahead by: their size, 28 for each use of them that may want
--- something of an island, and four for each place before them at which an island is asked for
+-- what the next words may move open uses ahead by: their size, 28 for each use of them that may
+-- want something of an island, and four for each place before them at which an island is asked for
 abbrev pub next_room : List Element → Option ℕ
 next_room [] = None
 next_room (Binding label ∷ xs) = next_room xs
@@ -137,8 +144,8 @@ room_of xs = unwrap_or (next_room xs) 0
 abbrev pub BoundsRooms : ℕ → List Element → Type 0
 BoundsRooms widest xs = (k : ℕ) → room_of (drop k xs) ≤ widest
 
--- what an island behind an element, in front of the rest, makes room for: the space that it asks for, or
--- what the next words need
+-- what an island behind an element, in front of the rest, makes room for: the space that it asks
+-- for, or what the next words need
 abbrev pub ahead : Element → List Element → Option ℕ
 ahead (Binding label) rest = next_room rest
 ahead (Words goes_on cells) rest = next_room rest

@@ -18,16 +18,19 @@ abbrev pub bare : ℕ → Light
 bare growth = record { growth = growth; first = None; second = None; range = None }
 
 -- the item is right by itself, is no place for an island, and adds this
-pub record IsRightAnd (frame : FrameLayout) (flags : EmitFlags) (constants : FinMap nat_cmp (List ℕ)) (item : Item) (light : Light) : Type 0 where
+pub record IsRightAnd (frame : FrameLayout) (flags : EmitFlags)
+    (constants : FinMap nat_cmp (List ℕ)) (item : Item) (light : Light) : Type 0 where
   pub right : item_fault frame flags constants item ≡ None
   pub place : asked item ≡ None
   pub adds : IsLight (cells_of frame flags item) (growth_of frame flags item) light
 
 -- what was found of an item
 abbrev pub IsLook : FrameLayout → EmitFlags → FinMap nat_cmp (List ℕ) → Item → Look → Type 0
-IsLook frame flags constants item (looks.Fault fault) = item_fault frame flags constants item ≡ Some fault
+IsLook frame flags constants item (looks.Fault fault) =
+    item_fault frame flags constants item ≡ Some fault
 IsLook frame flags constants item looks.Binding = IsRightAnd frame flags constants item (bare 0)
-IsLook frame flags constants item (looks.Bare growth) = IsRightAnd frame flags constants item (bare growth)
+IsLook frame flags constants item (looks.Bare growth) =
+    IsRightAnd frame flags constants item (bare growth)
 IsLook frame flags constants item (looks.Light light) = IsRightAnd frame flags constants item light
 IsLook frame flags constants item looks.Right = item_fault frame flags constants item ≡ None
 

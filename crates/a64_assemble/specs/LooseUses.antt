@@ -1,5 +1,7 @@
 -- What elements that stand before a place may still want of islands behind it.
-use Rattle.std.specs.Prelude.{ℕ, ◌≡◌, ◌+◌, ◌*◌, ◌-◌, ◌^◌, ◌≤◌, ◌<◌, Bool, true, false, not, ◌&&◌, nat_le, nat_lt, is_none, if◌then◌else◌, List, [], ◌∷◌, take, drop, length, min, max, Contains, count_by, sum_by, slice_index, Some}
+use Rattle.std.specs.Prelude.{ℕ, ◌≡◌, ◌+◌, ◌*◌, ◌-◌, ◌^◌, ◌≤◌, ◌<◌, Bool, true, false, not, ◌&&◌}
+use Rattle.std.specs.Prelude.{nat_le, nat_lt, is_none, if◌then◌else◌, List, [], ◌∷◌, take, drop}
+use Rattle.std.specs.Prelude.{length, min, max, Contains, count_by, sum_by, slice_index, Some}
 use Rattle.a64_buffer.specs.declared.site.Target.TheVariants.{Label, Constant, Trap, IslandEnd}
 use Rattle.a64_buffer.specs.declared.site.Use.{Use}
 use Rattle.a64_buffer.specs.Buffer.{Buffer, end_of, label_of}
@@ -8,14 +10,16 @@ use Rattle.a64_label_use.specs.declared.label_use.LabelUse.{LabelUse}
 use Rattle.a64_cells.specs.declared.site.Site.{Site}
 use Rattle.a64_label_use.specs.LabelUses.{label_kinds}
 use Rattle.a64_cells.specs.Cells.{sites_of}
-use Rattle.a64_assemble.specs.Elements.{Element, Binding, cells_in, charge_in, sizes_in, growths_in, is_bound_by, element_at}
+use Rattle.a64_assemble.specs.Elements.{Element, Binding, cells_in, charge_in, sizes_in, growths_in}
+use Rattle.a64_assemble.specs.Elements.{is_bound_by, element_at}
 use Rattle.a64_emit.specs.Reach.{is_near, may_want}
 
 -- a branch to a label that passes a test, which no later element binds
 abbrev pub is_alive : (ℕ → Bool) → List Element → Site → Bool
 is_alive test later = may_want (λ label. test label.0 && not (is_bound_by later label.0)) false
 
--- how many branches of elements are to labels that pass a test and that no element behind them binds
+-- how many branches of elements are to labels that pass a test and that no element behind them
+-- binds
 abbrev pub alive : (ℕ → Bool) → List Element → ℕ
 alive test [] = 0
 alive test (x ∷ xs) = count_by (is_alive test xs) (sites_of (cells_in x)) + alive test xs
@@ -48,20 +52,27 @@ loose_in xs = alive (λ label. true) xs + loose_loads xs
 abbrev pub charges_in : List Element → ℕ
 charges_in xs = sum_by charge_in xs
 
--- how far the start of an element and the end of a later one may come apart; nothing wants an island in
--- quiet input
+-- how far the start of an element and the end of a later one may come apart; nothing wants an
+-- island in quiet input
 abbrev pub reach_between : Bool → List Element → ℕ → ℕ → ℕ
 reach_between quiet xs from to =
     sizes_in (drop from (take (to + 1) xs))
-    + (if quiet then 0 else charges_in (drop from (take (to + 1) xs)) + 28 * loose_in (take from xs))
+    + (if quiet then 0
+    else charges_in (drop from (take (to + 1) xs)) + 28 * loose_in (take from xs))
 
 -- all labels that elements use are bound by elements
 abbrev pub AreAllBound : List Element → Type 0
-AreAllBound xs = (i label : ℕ) (s : Site) → i < length xs → Contains (sites_of (cells_in (element_at xs i))) s → label_of s.target ≡ Some label → (j : ℕ) × (j < length xs) × (element_at xs j ≡ Binding label)
+AreAllBound xs =
+    (i label : ℕ) (s : Site) → i < length xs → Contains (sites_of (cells_in (element_at xs i))) s
+    → label_of s.target ≡ Some label → (j : ℕ) × (j < length xs) × (element_at xs j ≡ Binding label)
 
 -- each use that needs its label near has it in reach
 abbrev pub AreAllNear : Bool → List Element → Type 0
-AreAllNear quiet xs = (i j label : ℕ) (s : Site) → i < length xs → j < length xs → Contains (sites_of (cells_in (element_at xs i))) s → is_near s ≡ true → label_of s.target ≡ Some label → element_at xs j ≡ Binding label → reach_between quiet xs (min i j) (max i j) ≤ 2 ^ 20 - 1
+AreAllNear quiet xs =
+    (i j label : ℕ) (s : Site) → i < length xs → j < length xs
+    → Contains (sites_of (cells_in (element_at xs i))) s → is_near s ≡ true
+    → label_of s.target ≡ Some label → element_at xs j ≡ Binding label
+    → reach_between quiet xs (min i j) (max i j) ≤ 2 ^ 20 - 1
 
 -- ---- what of it a buffer knows
 
@@ -71,17 +82,21 @@ is_waiting u = is_open label_kinds u && is_none (label_of u.target)
 
 -- what those from a place on may add to the code
 abbrev pub waiting_cost : ℕ → Use LabelUse → ℕ
-waiting_cost from u = if is_waiting u && nat_le from u.offset then weigh label_kinds (cost third) u else 0
+waiting_cost from u =
+    if is_waiting u && nat_le from u.offset then weigh label_kinds (cost third) u else 0
 
 abbrev pub waiting_from : ℕ → List (Use LabelUse) → ℕ
 waiting_from from uses = sum_by (waiting_cost from) uses
 
 -- what is known of the code from the place of one of the first elements on
-pub record IsBehind (xs : List Element) (count : ℕ) (stations : List ℕ) (b : Buffer LabelUse) (i : ℕ) : Type 0 where
+pub record IsBehind (xs : List Element) (count : ℕ) (stations : List ℕ) (b : Buffer LabelUse)
+    (i : ℕ) : Type 0 where
   pub sizes : slice_index stations i + sizes_in (drop i (take count xs)) ≤ end_of b
   pub waiting : waiting_from (slice_index stations i) b.uses ≤ 28 * loads (drop i (take count xs))
 
--- two of the first places are at least the sizes apart, and at most the sizes, the charges, and what was owed
+-- two of the first places are at least the sizes apart, and at most the sizes, the charges, and
+-- what was owed
 pub record AreSpread (xs : List Element) (stations : List ℕ) (i j : ℕ) : Type 0 where
   pub least : slice_index stations i + sizes_in (drop i (take j xs)) ≤ slice_index stations j
-  pub most : slice_index stations j ≤ slice_index stations i + growths_in (drop i (take j xs)) + 28 * loose_in (take i xs)
+  pub most : slice_index stations j
+      ≤ slice_index stations i + growths_in (drop i (take j xs)) + 28 * loose_in (take i xs)

@@ -21,7 +21,8 @@ use Rattle.a64_assemble.specs.CellRecords.{AreRecorded}
 use Rattle.a64_assemble.specs.OwnStops.{AllStopAhead}
 
 -- the first elements were put, and nothing but them
-pub record HasPutFirst (force : ForceVeneers) (xs : List Element) (count : ℕ) (places : List ℕ) (b : Buffer LabelUse) : Type 0 where
+pub record HasPutFirst (force : ForceVeneers) (xs : List Element) (count : ℕ) (places : List ℕ)
+    (b : Buffer LabelUse) : Type 0 where
   pub whole : IsWhole label_kinds b
   pub put : HasPut force xs count places b
   pub distances : HasDistances xs count places b
@@ -46,7 +47,8 @@ pub record IsHandedOut (finished : Finished) (code : Code) : Type 0 where
   pub maps : code.maps.items ≡ finished.maps.items
 
 -- code of items: all of them were put into a buffer, which was finished
-pub record IsMadeOf (frame : FrameLayout) (flags : EmitFlags) (constants : FinMap nat_cmp (List ℕ)) (force : ForceVeneers) (items : List Item) (code : Code) : Type 0 where
+pub record IsMadeOf (frame : FrameLayout) (flags : EmitFlags) (constants : FinMap nat_cmp (List ℕ))
+    (force : ForceVeneers) (items : List Item) (code : Code) : Type 0 where
   pub buffer : Buffer LabelUse
   pub finished : Finished
   pub constants_are : buffer.constants ≡ constants

@@ -1,5 +1,7 @@
 -- Which uses are open at a place of a finished buffer, and why islands were asked for.
-use Rattle.std.specs.Prelude.{ℕ, ◌≡◌, ◌⊎◌, ◌+◌, ◌-◌, ◌*◌, ◌^◌, ◌<◌, Bool, true, false, not, ◌&&◌, nat_eq, nat_le, nat_lt, List, take, drop, All, length, slice_index, slice_index_or, count_by, Option, None, Some, IsSome}
+use Rattle.std.specs.Prelude.{ℕ, ◌≡◌, ◌⊎◌, ◌+◌, ◌-◌, ◌*◌, ◌^◌, ◌<◌, Bool, true, false, not, ◌&&◌}
+use Rattle.std.specs.Prelude.{nat_eq, nat_le, nat_lt, List, take, drop, All, length, slice_index}
+use Rattle.std.specs.Prelude.{slice_index_or, count_by, Option, None, Some, IsSome}
 use Rattle.std.specs.Ordering.{nat_cmp}
 use Rattle.std.specs.FinMap.{FinMap, get}
 use Rattle.a64_buffer.specs.declared.class.Class.TheVariants.{Far}
@@ -16,7 +18,8 @@ use Rattle.a64_label_use.specs.LabelUses.{label_kinds}
 use Rattle.a64_cells.specs.Cells.{sites_of}
 use Rattle.a64_cells.specs.declared.site.Site.{Site}
 use Rattle.a64_emit.specs.Contents.{site_class}
-use Rattle.a64_assemble.specs.Elements.{Element, cells_in, is_asking, falls_in, is_bound_by, ahead, element_at}
+use Rattle.a64_assemble.specs.Elements.{Element, cells_in, is_asking, falls_in, is_bound_by, ahead}
+use Rattle.a64_assemble.specs.Elements.{element_at}
 use Rattle.a64_assemble.specs.Stations.{IsIslandBehind}
 
 -- a stop is at a place or behind it
@@ -41,8 +44,8 @@ abbrev pub reach_of : Use LabelUse → ℕ
 reach_of u = range_of label_kinds (level_of (class label_kinds u))
 
 module _ (xs : List Element) (final : Buffer LabelUse) where
-  -- a use that stands before b is open at the end a of element k: it does not stop before a, unless it
-  -- stops at its label's place, and that label is bound by then
+  -- a use that stands before b is open at the end a of element k: it does not stop before a, unless
+  -- it stops at its label's place, and that label is bound by then
   abbrev pub is_open_in : ℕ → ℕ → ℕ → Use LabelUse → Bool
   is_open_in k a b u =
       nat_lt u.offset b && wants (class label_kinds u) && stops_from a u.stop
@@ -61,8 +64,8 @@ module _ (xs : List Element) (final : Buffer LabelUse) where
     pub within : index < length final.uses
     pub open' : (d : Use LabelUse) → is_open_at k a (slice_index_or final.uses index d) ≡ true
 
-  -- one of the uses that stand before b and are open at a, and passes a test, reaches less than what the
-  -- worst island needs, and the space behind it
+  -- one of the uses that stand before b and are open at a, and passes a test, reaches less than
+  -- what the worst island needs, and the space behind it
   pub record Needs (k a b space : ℕ) (passes : Use LabelUse → Type 0) : Type 0 where
     pub index : ℕ
     pub within : index < length final.uses
@@ -84,12 +87,13 @@ module _ (xs : List Element) (final : Buffer LabelUse) where
   StopsBehind k island u =
       is_open_in k island.0 island.1 u ≡ true → stops_from island.1 u.stop ≡ true
 
-  -- whatever is open there and is not of the longest range stops in the island; of the others, veneers in
-  -- the island included, none does, and islands are not forced, or all do, and that is needed, or islands are
-  -- forced
+  -- whatever is open there and is not of the longest range stops in the island; of the others,
+  -- veneers in the island included, none does, and islands are not forced, or all do, and that is
+  -- needed, or islands are forced
   pub record Holds (force : ForceVeneers) (k space : ℕ) (island : ℕ × ℕ) : Type 0 where
     pub near : All (λ u. (class label_kinds u ≡ Far → ⊥) → StopsIn k island u) final.uses
-    pub far : (All (λ u. class label_kinds u ≡ Far → StopsBehind k island u) final.uses × (force ≡ No))
+    pub far : (All (λ u. class label_kinds u ≡ Far → StopsBehind k island u) final.uses
+        × (force ≡ No))
         ⊎ (All (λ u. class label_kinds u ≡ Far → StopsIn k island u) final.uses
         × (Needs k island.0 island.1 space (λ u. class label_kinds u ≡ Far) ⊎ (force ≡ Yes)))
 
@@ -112,7 +116,8 @@ Cause force x rest b =
     ⊎ ((is_asking x ≡ true) × (force ≡ Yes) × (Fits label_kinds b (2 ^ 32 - 1) → ⊥))
 
 -- an island was asked for behind one of the first elements
-pub record WasAsked (force : ForceVeneers) (xs : List Element) (count : ℕ) (stations : List ℕ) (now : Buffer LabelUse) (island : ℕ × ℕ) : Type 0 where
+pub record WasAsked (force : ForceVeneers) (xs : List Element) (count : ℕ) (stations : List ℕ)
+    (now : Buffer LabelUse) (island : ℕ × ℕ) : Type 0 where
   pub after : ℕ
   pub within : after < count
   pub stands : IsIslandBehind xs stations after island
@@ -131,16 +136,18 @@ pub record WasAsked (force : ForceVeneers) (xs : List Element) (count : ℕ) (st
   pub has : HasIsland label_kinds distance force (falls_in (element_at xs after)) moment written
   pub since : IsLater written now
 
--- no island was written at one of the first elements, where one is asked for, and no use was open there
-pub record WasLeft (xs : List Element) (stations : List ℕ) (now : Buffer LabelUse) (i : ℕ) : Type 0 where
-  pub moment : Buffer LabelUse
-  pub at : end_of moment ≡ slice_index stations i
-  pub whole : IsWhole label_kinds moment
-  pub closed : All (λ u. is_open label_kinds u ≡ false) moment.uses
-  pub bound :
-      (label place : ℕ) → get moment.labels label ≡ Some place
-      → is_bound_by (take (i + 1) xs) label ≡ true
-  pub later : IsLater moment now
+-- no island was written at one of the first elements, where one is asked for, and no use was open
+-- there
+pub record WasLeft (xs : List Element) (stations : List ℕ) (now : Buffer LabelUse) (i : ℕ) : Type 0
+  where
+    pub moment : Buffer LabelUse
+    pub at : end_of moment ≡ slice_index stations i
+    pub whole : IsWhole label_kinds moment
+    pub closed : All (λ u. is_open label_kinds u ≡ false) moment.uses
+    pub bound :
+        (label place : ℕ) → get moment.labels label ≡ Some place
+        → is_bound_by (take (i + 1) xs) label ≡ true
+    pub later : IsLater moment now
 
 -- a use may want nothing of an island, or none is forced and so much code is shorter than its range
 abbrev pub SiteIsQuiet : ForceVeneers → ℕ → Site → Type 0

@@ -16,7 +16,9 @@ use Rattle.a64_assemble.specs.Placement.{standing_cells, UseStopsAt, IsLabelAt}
 
 -- a use that no island holds stops ahead of itself, or at its label's place
 abbrev pub StopsAhead : Buffer LabelUse → Use LabelUse → Type 0
-StopsAhead b u = IsOutside b.islands u.offset → IfSome u.stop (λ stop. (u.offset < stop) ⊎ (goal_of b.labels u.target ≡ Some stop))
+StopsAhead b u =
+    IsOutside b.islands u.offset
+    → IfSome u.stop (λ stop. (u.offset < stop) ⊎ (goal_of b.labels u.target ≡ Some stop))
 
 abbrev pub AllStopAhead : Buffer LabelUse → Type 0
 AllStopAhead b = All (StopsAhead b) b.uses
@@ -30,16 +32,18 @@ module _ (frame : FrameLayout) (flags : EmitFlags) (items : List Item) (code : C
     pub wanting : wants (site_class u.1) ≡ true
     pub stops : UseStopsAt frame flags items code u.0 u.1.kind stop
 
-  -- each stops ahead of itself, and goes back to nothing that stands in an island before it; but a branch may stop at its
-  -- label's place, wherever that is
+  -- each stops ahead of itself, and goes back to nothing that stands in an island before it; but a
+  -- branch may stop at its label's place, wherever that is
   abbrev pub StopAhead : Type 0
   StopAhead =
       (u : ℕ × Site) (stop : ℕ) → IsStopOf u stop
       → (u.0 < stop) ⊎ IsLabelAt frame flags items code u stop
 
-  -- two branches stop at one place only where the label of one of them stands: each veneer serves one of them
+  -- two branches stop at one place only where the label of one of them stands: each veneer serves
+  -- one of them
   abbrev pub HaveOwnVeneers : Type 0
   HaveOwnVeneers =
-      (u v : ℕ × Site) (stop : ℕ) → u.0 ≢ v.0 → IsSome (label_of u.1.target) → IsSome (label_of v.1.target)
+      (u v : ℕ × Site) (stop : ℕ) → u.0 ≢ v.0 → IsSome (label_of u.1.target)
+      → IsSome (label_of v.1.target)
       → IsStopOf u stop → IsStopOf v stop
       → IsLabelAt frame flags items code u stop ⊎ IsLabelAt frame flags items code v stop

@@ -1,5 +1,6 @@
 -- Whose the uses of a buffer are that may want something of an island.
-use Rattle.std.specs.Prelude.{ℕ, ◌≡◌, ◌⊎◌, ◌+◌, ◌/◌, ◌<◌, ◌≤◌, true, List, All, Contains, map, take, length, slice_index, slice_index_or, Some, IsSome}
+use Rattle.std.specs.Prelude.{ℕ, ◌≡◌, ◌⊎◌, ◌+◌, ◌/◌, ◌<◌, ◌≤◌, true, List, All, Contains, map, take}
+use Rattle.std.specs.Prelude.{length, slice_index, slice_index_or, Some, IsSome}
 use Rattle.a64_buffer.specs.declared.site.Use.{Use}
 use Rattle.a64_buffer.specs.Buffer.{Buffer, end_of, label_of}
 use Rattle.a64_buffer.specs.Classes.{wants, class}
@@ -13,7 +14,8 @@ use Rattle.a64_emit.specs.Contents.{IsCellUse}
 use Rattle.a64_assemble.specs.Elements.{Element, cells_in}
 
 module _ (cells : List (ℕ × Cell)) (b : Buffer LabelUse) where
-  -- the use of a jump word in an island, of a label: a shorter branch of a cell, with the same label, stops there
+  -- the use of a jump word in an island, of a label: a shorter branch of a cell, with the same
+  -- label, stops there
   pub record IsGivenJump (u : Use LabelUse) : Type 0 where
     pub kind : u.kind ≡ uses.Branch26
     pub labelled : IsSome (label_of u.target)
@@ -25,7 +27,9 @@ module _ (cells : List (ℕ × Cell)) (b : Buffer LabelUse) where
     pub before : u.offset + 4 ≤ island.1
     pub parent : ℕ
     pub within : parent < length b.uses
-    pub short : (d : Use LabelUse) → ((slice_index_or b.uses parent d).kind ≡ uses.Branch14) ⊎ ((slice_index_or b.uses parent d).kind ≡ uses.Branch19)
+    pub short : (d : Use LabelUse)
+        → ((slice_index_or b.uses parent d).kind ≡ uses.Branch14)
+        ⊎ ((slice_index_or b.uses parent d).kind ≡ uses.Branch19)
     pub target : (d : Use LabelUse) → (slice_index_or b.uses parent d).target ≡ u.target
     pub owned : (d : Use LabelUse) → IsCellUse cells (site_of (slice_index_or b.uses parent d))
     pub stops : (d : Use LabelUse) → (slice_index_or b.uses parent d).stop ≡ Some u.offset

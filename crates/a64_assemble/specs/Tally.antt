@@ -1,5 +1,7 @@
 -- What is counted of items, one after another, to say how far apart a use and its label may come.
-use Rattle.std.specs.Prelude.{ℕ, ◌≡◌, ◌+◌, ◌≤◌, ◌<◌, ◌^◌, Bool, true, false, not, ◌&&◌, nat_eq, if◌then◌else◌, List, [], ◌∷◌, length, take, count_by, sum_by, slice_index_or, Option, None, Some}
+use Rattle.std.specs.Prelude.{ℕ, ◌≡◌, ◌+◌, ◌≤◌, ◌<◌, ◌^◌, Bool, true, false, not, ◌&&◌, nat_eq}
+use Rattle.std.specs.Prelude.{if◌then◌else◌, List, [], ◌∷◌, length, take, count_by, sum_by}
+use Rattle.std.specs.Prelude.{slice_index_or, Option, None, Some}
 use Rattle.std.specs.Ordering.{nat_cmp}
 use Rattle.std.specs.FinMap.{FinMap, get}
 use Rattle.std.specs.List.{list_any}
@@ -60,7 +62,8 @@ module _ (frame : FrameLayout) (flags : EmitFlags) where
   -- how many branches of items are to labels that pass a test and that no item behind them binds
   abbrev pub alive : (ℕ → Bool) → List Item → ℕ
   alive test [] = 0
-  alive test (x ∷ xs) = count_by (is_alive test xs) (sites_of (cells_of frame flags x)) + alive test xs
+  alive test (x ∷ xs) =
+      count_by (is_alive test xs) (sites_of (cells_of frame flags x)) + alive test xs
 
   -- how many loads of constants and deferred traps items have
   abbrev pub loads : List Item → ℕ
@@ -88,15 +91,19 @@ HasBindings items indices = (label : MachLabel) → get indices label.0 ≡ bind
 
 -- each label has an index of an item that the sums are over
 abbrev pub AreWithin : FinMap nat_cmp ℕ → List Mark → Type 0
-AreWithin indices marks = (label : MachLabel) (i : ℕ) → get indices label.0 ≡ Some i → i + 1 < length marks
+AreWithin indices marks =
+    (label : MachLabel) (i : ℕ) → get indices label.0 ≡ Some i → i + 1 < length marks
 
 -- no sum falls
 pub record AreRising (marks : List Mark) : Type 0 where
   pub sizes : (i j : ℕ) → i ≤ j → j < length marks → (mark_at marks i).size ≤ (mark_at marks j).size
-  pub growths : (i j : ℕ) → i ≤ j → j < length marks → (mark_at marks i).growth ≤ (mark_at marks j).growth
-  pub loads : (i j : ℕ) → i ≤ j → j < length marks → (mark_at marks i).loads ≤ (mark_at marks j).loads
+  pub growths : (i j : ℕ) → i ≤ j → j < length marks
+      → (mark_at marks i).growth ≤ (mark_at marks j).growth
+  pub loads : (i j : ℕ) → i ≤ j → j < length marks
+      → (mark_at marks i).loads ≤ (mark_at marks j).loads
 
--- the first of the items before another behind which those before that one have less than 2^20 bytes
+-- the first of the items before another behind which those before that one have less than 2^20
+-- bytes
 pub record IsFirstWaiting (marks : List Mark) (index first : ℕ) : Type 0 where
   pub within : first ≤ index
   pub near : first < index → (mark_at marks index).size < (mark_at marks (first + 1)).size + 2 ^ 20

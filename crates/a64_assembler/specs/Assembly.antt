@@ -1,5 +1,24 @@
 -- Items that are added one after another, and what their assembly is told beside them.
-use Rattle.std.specs.Prelude.{ℕ, ◌≡◌, ◌⊎◌, ◌+◌, ◌^◌, ◌≤◌, List, [], ◌∷◌, ◌++◌, length, false, None, OnOk, OnErr, Result, IfErr, ⊤}
+use Rattle.std.specs.Prelude.{
+  ℕ,
+  ◌≡◌,
+  ◌⊎◌,
+  ◌+◌,
+  ◌^◌,
+  ◌≤◌,
+  List,
+  [],
+  ◌∷◌,
+  ◌++◌,
+  length,
+  false,
+  None,
+  OnOk,
+  OnErr,
+  Result,
+  IfErr,
+  ⊤,
+}
 use Rattle.std.specs.FinMap.{FinMap, empty, get}
 use Rattle.std.specs.Ordering.{nat_cmp}
 use Rattle.a64_base.specs.declared.convention.CallConv.TheVariants.{SystemV}
@@ -29,8 +48,8 @@ pub record Pool : Type 0 where
 abbrev pub IsFresh : FinMap nat_cmp (List ℕ) → ℕ → Type 0
 IsFresh constants number = (k : ℕ) → number ≤ k → get constants k ≡ None
 
--- what was added: items in their order and constants by their numbers; what their assembly is told beside these; and
--- how many labels and constants were given out
+-- what was added: items in their order and constants by their numbers; what their assembly is told
+-- beside these; and how many labels and constants were given out
 pub record Assembly : Type 0 where
   pub items : List Item
   pub constants : FinMap nat_cmp (List ℕ)
@@ -82,7 +101,8 @@ IsCause count more BadLength = ⊥
 IsCause count more OutOfMemory = ⊤
 
 -- what a call leaves that adds items: they stand behind the others, or nothing has changed
-pub record Adds {T : Type 0} (more : List Item) (result : Result T AddError) (a a' : Assembly) : Type 0 where
+pub record Adds {T : Type 0} (more : List Item) (result : Result T AddError) (a a' : Assembly) :
+    Type 0 where
   pub ok : OnOk result (a' ≡ with_items a more)
   pub err : OnErr result (a' ≡ a)
   pub cause : IfErr result (IsCause (length a.items) (length more))
@@ -91,7 +111,8 @@ pub record Adds {T : Type 0} (more : List Item) (result : Result T AddError) (a 
 abbrev pub label_at : ℕ → MachLabel
 label_at number = record { 0 = number }
 
--- a branch where a test succeeds, to a label; else execution goes on behind it, where this label is bound
+-- a branch where a test succeeds, to a label; else execution goes on behind it, where this label is
+-- bound
 abbrev pub branch_items : CondBrKind → MachLabel → MachLabel → List Item
 branch_items kind taken next = emitted (CondBr (Label taken) (Label next) kind) ∷ Bind next ∷ []
 
@@ -101,9 +122,13 @@ IsBranchCause a TooMany = IsFull (length a.items) 2 ⊎ IsFull a.labels 1
 IsBranchCause a BadLength = ⊥
 IsBranchCause a OutOfMemory = ⊤
 
--- what a conditional branch leaves: its items, and one label less to give out; or nothing has changed
-pub record AddsBranch {T : Type 0} (kind : CondBrKind) (taken : MachLabel) (result : Result T AddError) (a a' : Assembly) : Type 0 where
-  pub ok : OnOk result (a' ≡ record (with_items a (branch_items kind taken (label_at a.labels))) { labels = a.labels + 1 })
+-- what a conditional branch leaves: its items, and one label less to give out; or nothing has
+-- changed
+pub record AddsBranch {T : Type 0} (kind : CondBrKind) (taken : MachLabel)
+    (result : Result T AddError) (a a' : Assembly) : Type 0 where
+  pub ok : OnOk result (a'
+      ≡ record (with_items a (branch_items kind taken (label_at a.labels)))
+      { labels = a.labels + 1 })
   pub err : OnErr result (a' ≡ a)
   pub cause : IfErr result (IsBranchCause a)
 
@@ -123,5 +148,7 @@ abbrev pub IsPlain : {T : Type 0} → (CallInfo T → Inst) → T → Inst → T
 IsPlain {T} call to inst = (info : CallInfo T) × IsPlainCall to info × (inst ≡ call info)
 
 -- what adding such a call leaves
-abbrev pub AddsCall : {T S : Type 0} → (CallInfo S → Inst) → S → Result T AddError → Assembly → Assembly → Type 0
-AddsCall call to result a a' = (inst : Inst) × IsPlain call to inst × Adds (emitted inst ∷ []) result a a'
+abbrev pub AddsCall : {T S : Type 0} → (CallInfo S → Inst) → S → Result T AddError → Assembly
+    → Assembly → Type 0
+AddsCall call to result a a' =
+    (inst : Inst) × IsPlain call to inst × Adds (emitted inst ∷ []) result a a'

@@ -1,11 +1,42 @@
--- Code to which instructions are emitted one after another, and what their emission is told beside them.
-use Rattle.std.specs.Prelude.{ℕ, ◌≡◌, ◌⊎◌, ◌+◌, ◌^◌, ◌≤◌, ◌<◌, Bool, true, false, All, List, None, Some, Result, OnOk, IfErr, IsSome, is_some, slice_index_or, ⊤}
+-- Code to which instructions are emitted one after another, and what their emission is told beside
+-- them.
+use Rattle.std.specs.Prelude.{
+  ℕ,
+  ◌≡◌,
+  ◌⊎◌,
+  ◌+◌,
+  ◌^◌,
+  ◌≤◌,
+  ◌<◌,
+  Bool,
+  true,
+  false,
+  All,
+  List,
+  None,
+  Some,
+  Result,
+  OnOk,
+  IfErr,
+  IsSome,
+  is_some,
+  slice_index_or,
+  ⊤,
+}
 use Rattle.std.specs.Ordering.{nat_cmp}
 use Rattle.std.specs.FinMap.{FinMap, get}
 use Rattle.a64_base.specs.declared.entity.MachLabel.{MachLabel}
 use Rattle.a64_buffer.specs.declared.force.ForceVeneers.{ForceVeneers}
 use Rattle.a64_buffer.specs.declared.force.ForceVeneers.TheVariants.{No, Yes}
-use Rattle.a64_buffer.specs.Buffer.{Buffer, end_of, new_buffer, IsBound, IsDirect, IsFirstUnbound, IsFirstUnreached}
+use Rattle.a64_buffer.specs.Buffer.{
+  Buffer,
+  end_of,
+  new_buffer,
+  IsBound,
+  IsDirect,
+  IsFirstUnbound,
+  IsFirstUnreached,
+}
 use Rattle.a64_buffer.specs.Classes.{owed}
 use Rattle.a64_buffer.specs.Islands.{HasIsland}
 use Rattle.a64_inst.specs.declared.emission.EmitFlags.{EmitFlags}
@@ -20,9 +51,19 @@ use Rattle.a64_emit.specs.Emission.{Emits}
 use Rattle.a64_emit.specs.Rooms.{most_added, HasRoomFor}
 use Rattle.a64_assembler.specs.Assembly.{nothing, IsFull}
 use Rattle.a64_assembler.specs.declared.error.EmitterError.{EmitterError}
-use Rattle.a64_assembler.specs.declared.error.EmitterError.TheVariants.{BadInstruction, LabelBoundTwice, UnknownLabel, UnboundLabel, OutOfReach, TooLarge, TooMany, OutOfMemory}
+use Rattle.a64_assembler.specs.declared.error.EmitterError.TheVariants.{
+  BadInstruction,
+  LabelBoundTwice,
+  UnknownLabel,
+  UnboundLabel,
+  OutOfReach,
+  TooLarge,
+  TooMany,
+  OutOfMemory,
+}
 
--- the code so far, the settings, what emission keeps between instructions, and how many labels were given out
+-- the code so far, the settings, what emission keeps between instructions, and how many labels were
+-- given out
 pub record Emission : Type 0 where
   pub code : Buffer LabelUse
   pub flags : EmitFlags
@@ -42,8 +83,8 @@ begun constants = record {
   labels = 0;
 }
 
--- an island was written at the end, with a jump over it: behind it what is open still reaches over the worst case of an
--- instruction
+-- an island was written at the end, with a jump over it: behind it what is open still reaches over
+-- the worst case of an instruction
 abbrev pub WritesIsland : ForceVeneers → Buffer LabelUse → Buffer LabelUse → Type 0
 WritesIsland force b b' = HasIsland label_kinds 172 force true b b'
 
@@ -58,15 +99,17 @@ module _ (frame : FrameLayout) (flags : EmitFlags) (inst : Inst) where
   abbrev pub WritesIslandFor : ForceVeneers → Buffer LabelUse → Buffer LabelUse → Type 0
   WritesIslandFor force b b' = (HasRoomFor frame flags b inst → ⊥) × WritesIsland force b b'
 
-  -- room was made for an instruction: no island was written, or one, or two, each where there was no room for it; the
-  -- second gives veneers to all uses that wait
+  -- room was made for an instruction: no island was written, or one, or two, each where there was
+  -- no room for it; the second gives veneers to all uses that wait
   abbrev pub MakesRoom : Buffer LabelUse → Buffer LabelUse → Type 0
   MakesRoom b b' =
       (b' ≡ b)
       ⊎ WritesIslandFor No b b'
-      ⊎ ((between : Buffer LabelUse) × WritesIslandFor No b between × WritesIslandFor Yes between b')
+      ⊎ ((between : Buffer LabelUse) × WritesIslandFor No b between
+      × WritesIslandFor Yes between b')
 
--- with so many bytes, with what the open uses may add, and with two islands' jumps the code could reach 2^31 bytes
+-- with so many bytes, with what the open uses may add, and with two islands' jumps the code could
+-- reach 2^31 bytes
 abbrev pub IsTooLargeFor : Buffer LabelUse → ℕ → Type 0
 IsTooLargeFor b more = 2 ^ 31 ≤ end_of b + owed label_kinds b + more + 8
 
@@ -80,8 +123,9 @@ IsRoomCause b more _ = ⊥
 abbrev pub IsFaultless : Inst → Emission → Type 0
 IsFaultless inst e = inst_fault e.state.frame e.flags e.code.constants Refused inst ≡ None
 
--- why an instruction was not emitted: it is wrong by itself, and nothing has changed; or else the code could become too
--- large, and all that has changed is that room was made; or memory was missing
+-- why an instruction was not emitted: it is wrong by itself, and nothing has changed; or else the
+-- code could become too large, and all that has changed is that room was made; or memory was
+-- missing
 abbrev pub IsEmitCause : Inst → Emission → Emission → EmitterError → Type 0
 IsEmitCause inst e e' (BadInstruction fault) =
     (inst_fault e.state.frame e.flags e.code.constants Refused inst ≡ Some fault) × (e' ≡ e)
@@ -101,7 +145,8 @@ pub record IsEmitted (inst : Inst) (e : Emission) (b : Buffer LabelUse) : Type 0
   pub emits : Emits e.flags e.state inst between b
 
 -- what emitting an instruction leaves
-pub record EmitsOne {T : Type 0} (inst : Inst) (result : Result T EmitterError) (e e' : Emission) : Type 0 where
+pub record EmitsOne {T : Type 0} (inst : Inst) (result : Result T EmitterError) (e e' : Emission) :
+    Type 0 where
   pub ok : OnOk result (IsEmitted inst e e'.code)
   pub rest : OnOk result (e' ≡ record e { code = e'.code; state = record e.state { map = None } })
   pub cause : IfErr result (IsEmitCause inst e e')
@@ -127,7 +172,8 @@ HasItsLabels b = All (IsBound b.labels) b.uses × All (IsDirect label_kinds b.la
 abbrev pub most_bytes : Buffer LabelUse → ℕ
 most_bytes b = end_of b + owed label_kinds b
 
--- why code was not finished: the first of these that applies, and memory was missing where none of the others does
+-- why code was not finished: the first of these that applies, and memory was missing where none of
+-- the others does
 abbrev pub IsFinishCause : Buffer LabelUse → EmitterError → Type 0
 IsFinishCause b (UnboundLabel label) = IsFirstUnbound b (Some label)
 IsFinishCause b (OutOfReach label) =

@@ -11,7 +11,8 @@ use Rattle.a64_ops.specs.declared.operator.ALUOp.TheVariants.{Add}
 
 -- two registers are stored to the stack, which grows by 16 bytes
 abbrev pub pushed_pair : RegKind → RegKind → Inst
-pushed_pair rt rt2 = StoreP64 rt rt2 (SPPreIndexed (record { value = negsuc 15; scale_ty = I64 })) None
+pushed_pair rt rt2 =
+    StoreP64 rt rt2 (SPPreIndexed (record { value = negsuc 15; scale_ty = I64 })) None
 
 -- two registers are loaded from the stack, which shrinks by 16 bytes
 abbrev pub popped_pair : RegKind → RegKind → Inst
@@ -23,7 +24,11 @@ saved_frame = pushed_pair (integer_register 29) (integer_register 30)
 
 -- x29 points to them
 abbrev pub frame_set : Inst
-frame_set = AluRRImm12 Add Size64 (integer_register 29) (integer_register 63) (record { bits = 0; shift12 = false })
+frame_set =
+    AluRRImm12 Add Size64 (integer_register 29) (integer_register 63) (record {
+      bits = 0;
+      shift12 = false;
+    })
 
 -- x29 and x30 are restored
 abbrev pub restored_frame : Inst

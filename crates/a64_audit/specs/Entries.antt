@@ -29,23 +29,30 @@ entry_line (Data begin end) = line_of_two (codes "data") (decimal begin) (decima
 -- what the other lines of a report begin with; they mean nothing here
 abbrev pub passed_words : List (List ℕ)
 passed_words =
-    codes "item " ∷ codes "label " ∷ codes "island " ∷ codes "pool " ∷ codes "reloc " ∷ codes "call "
+    codes "item " ∷ codes "label " ∷ codes "island " ∷ codes "pool " ∷ codes "reloc "
+    ∷ codes "call "
     ∷ codes "patchable " ∷ codes "map " ∷ []
 
--- what the lines of a file say: the words of code, the places of traps, and where data begins and ends
+-- what the lines of a file say: the words of code, the places of traps, and where data begins and
+-- ends
 pub record Contents : Type 0 where
   pub words : List ℕ
   pub traps : List ℕ
   pub ranges : List (ℕ × ℕ)
 
 abbrev pub contents_of : AuditFile → Contents
-contents_of file = record { words = file.words.items; traps = file.traps.items; ranges = file.ranges.items }
+contents_of file = record {
+  words = file.words.items;
+  traps = file.traps.items;
+  ranges = file.ranges.items;
+}
 
 -- before the first line
 abbrev pub nothing : Contents
 nothing = record { words = []; traps = []; ranges = [] }
 
--- an entry may stand there: a word at the place behind those before it, a trap above the one before it
+-- an entry may stand there: a word at the place behind those before it, a trap above the one before
+-- it
 abbrev pub MayStand : Contents → Entry → Type 0
 MayStand old (Word place word) = place ≡ 4 * length old.words
 MayStand old (Trap place code) = IfSome (last_or None old.traps) (λ before. before < place)

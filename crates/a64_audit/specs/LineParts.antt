@@ -20,6 +20,9 @@ entry_parts (Data begin end) = (codes "data", decimal begin, decimal end)
 
 -- the line was cut at its first two spaces, where it has two
 pub record AreParts (line : List ℕ) (result : Option LineParts) : Type 0 where
-  pub some : IfSome result (λ parts. line ≡ line_of_two parts.name.now parts.first.now parts.second.now)
-  pub only : (name first second : List ℕ) → HasNo 32 name → HasNo 32 first → line ≡ line_of_two name first second
-      → MatchOption result ⊥ (λ parts. (parts.name.now ≡ name) × (parts.first.now ≡ first) × (parts.second.now ≡ second))
+  pub some : IfSome result (λ parts. line
+      ≡ line_of_two parts.name.now parts.first.now parts.second.now)
+  pub only : (name first second : List ℕ) → HasNo 32 name → HasNo 32 first
+      → line ≡ line_of_two name first second
+      → MatchOption result ⊥ (λ parts. (parts.name.now ≡ name) × (parts.first.now ≡ first)
+      × (parts.second.now ≡ second))

@@ -1,11 +1,14 @@
 -- What an audit finds in code.
-use Rattle.std.specs.Prelude.{ℕ, ℤ, pos, negsuc, suc, zero, ◌≡◌, ◌⊎◌, ◌-◌, ◌*◌, ◌/◌, ◌%◌, ◌^◌, ◌<◌, ◌≤◌, ◌+ℤ◌, ◌*ℤ◌, nat_lt, if◌then◌else◌, length, get_or, Option, Some, None}
+use Rattle.std.specs.Prelude.{ℕ, ℤ, pos, negsuc, suc, zero, ◌≡◌, ◌⊎◌, ◌-◌, ◌*◌, ◌/◌, ◌%◌, ◌^◌, ◌<◌}
+use Rattle.std.specs.Prelude.{◌≤◌, ◌+ℤ◌, ◌*ℤ◌, nat_lt, if◌then◌else◌, length, get_or, Option, Some}
+use Rattle.std.specs.Prelude.{None}
 use Rattle.std.specs.List.{Contains}
 use Rattle.a64_audit.specs.declared.verdict.Verdict.{Verdict}
 use Rattle.a64_audit.specs.declared.verdict.Verdict.TheVariants as verdicts
 use Rattle.a64_audit.specs.Entries.{Contents}
 use Rattle.a64_rows.specs.declared.row_table.Row.{Row}
-use Rattle.a64_rows.specs.declared.row_table.Row.TheVariants.{Branch26, BranchCond, CompareBranch, TestBranch}
+use Rattle.a64_rows.specs.declared.row_table.Row.TheVariants.{Branch26, BranchCond, CompareBranch}
+use Rattle.a64_rows.specs.declared.row_table.Row.TheVariants.{TestBranch}
 use Rattle.a64_rows.specs.Forms.{Matches, value_in}
 use Rattle.a64_rows.specs.Places.{imm14, imm19, imm26}
 
@@ -51,7 +54,8 @@ module _ (file : Contents) where
 
   -- a place lies in a range of data
   abbrev pub InData : ℕ → Type 0
-  InData place = (range : ℕ × ℕ) × Contains file.ranges range × ((range.0 ≤ place) × (place < range.1))
+  InData place =
+      (range : ℕ × ℕ) × Contains file.ranges range × ((range.0 ≤ place) × (place < range.1))
 
   -- a target lies within the code
   abbrev pub InCode : ℤ → Type 0
@@ -59,14 +63,17 @@ module _ (file : Contents) where
 
   -- the word there is an instruction, or the trap word where a trap is named
   abbrev pub IsKnown : ℕ → Type 0
-  IsKnown place = ((row : Row) × Matches row (word_at place)) ⊎ ((word_at place ≡ trap_word) × Contains file.traps place)
+  IsKnown place =
+      ((row : Row) × Matches row (word_at place))
+      ⊎ ((word_at place ≡ trap_word) × Contains file.traps place)
 
   -- a direct branch there stays inside the code, and outside the data
   abbrev pub StaysInCode : ℕ → Type 0
   StaysInCode place = (target : ℤ) → BranchesTo (word_at place) place target → InCode target
 
   abbrev pub StaysOutOfData : ℕ → Type 0
-  StaysOutOfData place = (target : ℕ) → BranchesTo (word_at place) place (pos target) → InData target → ⊥
+  StaysOutOfData place =
+      (target : ℕ) → BranchesTo (word_at place) place (pos target) → InData target → ⊥
 
   pub record IsFine (place : ℕ) : Type 0 where
     pub known : IsKnown place
@@ -96,7 +103,8 @@ module _ (file : Contents) where
 
   -- each place before this one is fine, outside the data
   abbrev pub AreFineBefore : ℕ → Type 0
-  AreFineBefore place = (before : ℕ) → IsPlace before → before < place → (InData before → ⊥) → IsFine before
+  AreFineBefore place =
+      (before : ℕ) → IsPlace before → before < place → (InData before → ⊥) → IsFine before
 
   -- all ranges are good, and this is the first place outside of them that may be wrong
   pub record IsFirstPlace (place : ℕ) : Type 0 where
@@ -105,16 +113,19 @@ module _ (file : Contents) where
     pub is_place : IsPlace place
     pub code : InData place → ⊥
 
-  -- nothing is wrong: all ranges are good; each word outside of them is an instruction, or the trap word where a trap is named;
-  -- and each direct branch there stays inside the code and outside the data
+  -- nothing is wrong: all ranges are good; each word outside of them is an instruction, or the trap
+  -- word where a trap is named; and each direct branch there stays inside the code and outside the
+  -- data
   pub record IsClean : Type 0 where
     pub good : AreGoodBefore (length file.ranges)
     pub fine : (place : ℕ) → IsPlace place → (InData place → ⊥) → IsFine place
 
-  -- what is found first: a range that is not good; else by place a word that is not known, a branch out of the code, one into data
+  -- what is found first: a range that is not good; else by place a word that is not known, a branch
+  -- out of the code, one into data
   abbrev pub IsVerdict : Verdict → Type 0
   IsVerdict verdicts.Clean = IsClean
   IsVerdict (verdicts.BadRange i) = (i < length file.ranges) × AreGoodBefore i × ¬ IsGoodRange i
   IsVerdict (verdicts.UnknownWord place) = IsFirstPlace place × ¬ IsKnown place
   IsVerdict (verdicts.OutOfCode place) = IsFirstPlace place × IsKnown place × ¬ StaysInCode place
-  IsVerdict (verdicts.IntoData place) = IsFirstPlace place × IsKnown place × StaysInCode place × ¬ StaysOutOfData place
+  IsVerdict (verdicts.IntoData place) =
+      IsFirstPlace place × IsKnown place × StaysInCode place × ¬ StaysOutOfData place

@@ -1,7 +1,8 @@
 -- Conditions of branches and of conditional instructions.
 use Rattle.std.specs.Prelude.{ℕ, List, codes}
 use Rattle.a64_base.specs.declared.cond.Cond.{Cond}
-use Rattle.a64_base.specs.declared.cond.Cond.TheVariants.{Eq, Ne, Hs, Lo, Mi, Pl, Vs, Vc, Hi, Ls, Ge, Lt, Gt, Le, Al, Nv}
+use Rattle.a64_base.specs.declared.cond.Cond.TheVariants.{Eq, Ne, Hs, Lo, Mi, Pl, Vs, Vc, Hi, Ls}
+use Rattle.a64_base.specs.declared.cond.Cond.TheVariants.{Ge, Lt, Gt, Le, Al, Nv}
 use Rattle.a64_base.specs.declared.cond.CondBrKind.{CondBrKind}
 use Rattle.a64_base.specs.declared.cond.CondBrKind.TheVariants as kinds
 use Rattle.a64_base.specs.declared.cond.TestBitAndBranchKind.{TestBitAndBranchKind}

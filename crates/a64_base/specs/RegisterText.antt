@@ -1,5 +1,6 @@
 -- Names of registers in listings.
-use Rattle.std.specs.Prelude.{ℕ, ◌==◌, if◌then◌else◌, List, ◌++◌, Bool, true, false, IsTrue, codes, decimal}
+use Rattle.std.specs.Prelude.{ℕ, ◌==◌, if◌then◌else◌, List, ◌++◌, Bool, true, false, IsTrue, codes}
+use Rattle.std.specs.Prelude.{decimal}
 use Rattle.a64_base.specs.declared.reg.Reg.{Reg}
 use Rattle.a64_base.specs.declared.reg.RegKind.TheVariants.{Real, Virtual}
 use Rattle.a64_base.specs.declared.reg.RegClass.{RegClass}
@@ -7,9 +8,12 @@ use Rattle.a64_base.specs.declared.reg.RegClass.TheVariants.{Int, Float}
 use Rattle.a64_base.specs.declared.size.OperandSize.{OperandSize}
 use Rattle.a64_base.specs.declared.size.OperandSize.TheVariants as operands
 use Rattle.a64_base.specs.declared.size.ScalarSize.{ScalarSize}
-use Rattle.a64_base.specs.declared.size.ScalarSize.TheVariants.{Size8, Size16, Size32, Size64, Size128}
+use Rattle.a64_base.specs.declared.size.ScalarSize.TheVariants.{Size8, Size16, Size32, Size64}
+use Rattle.a64_base.specs.declared.size.ScalarSize.TheVariants.{Size128}
 use Rattle.a64_base.specs.declared.size.VectorSize.{VectorSize}
-use Rattle.a64_base.specs.declared.size.VectorSize.TheVariants.{Size8x8, Size8x16, Size16x4, Size16x8, Size32x2, Size32x4, Size64x2}
+use Rattle.a64_base.specs.declared.size.VectorSize.TheVariants.{Size8x8, Size8x16, Size16x4}
+use Rattle.a64_base.specs.declared.size.VectorSize.TheVariants.{Size16x8, Size32x2, Size32x4}
+use Rattle.a64_base.specs.declared.size.VectorSize.TheVariants.{Size64x2}
 
 -- the letter before the number of an integer register
 abbrev pub letter_of : OperandSize → List ℕ

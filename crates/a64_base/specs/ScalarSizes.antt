@@ -6,7 +6,8 @@ use Rattle.a64_base.specs.declared.ir_type.IrType.TheVariants.{I8, I16, I32, I64
 use Rattle.a64_base.specs.declared.size.OperandSize.{OperandSize}
 use Rattle.a64_base.specs.declared.size.OperandSize.TheVariants as operands
 use Rattle.a64_base.specs.declared.size.ScalarSize.{ScalarSize}
-use Rattle.a64_base.specs.declared.size.ScalarSize.TheVariants.{Size8, Size16, Size32, Size64, Size128}
+use Rattle.a64_base.specs.declared.size.ScalarSize.TheVariants.{Size8, Size16, Size32, Size64}
+use Rattle.a64_base.specs.declared.size.ScalarSize.TheVariants.{Size128}
 
 -- a scalar of at most 64 bits fits an integer operand
 abbrev pub has_operand_size : ScalarSize → Bool

@@ -4,7 +4,8 @@ use Rattle.a64_base.specs.declared.shift.ShiftOp.{ShiftOp}
 use Rattle.a64_base.specs.declared.shift.ShiftOp.TheVariants.{LSL, LSR, ASR, ROR}
 use Rattle.a64_base.specs.declared.shift.ShiftOpAndAmt.{ShiftOpAndAmt}
 use Rattle.a64_base.specs.declared.shift.ExtendOp.{ExtendOp}
-use Rattle.a64_base.specs.declared.shift.ExtendOp.TheVariants.{UXTB, UXTH, UXTW, UXTX, SXTB, SXTH, SXTW, SXTX}
+use Rattle.a64_base.specs.declared.shift.ExtendOp.TheVariants.{UXTB, UXTH, UXTW, UXTX, SXTB, SXTH}
+use Rattle.a64_base.specs.declared.shift.ExtendOp.TheVariants.{SXTW, SXTX}
 
 -- the bits of a shift in an instruction
 abbrev pub shift_bits : ShiftOp → ℕ

@@ -1,7 +1,11 @@
 -- The types of values.
 use Rattle.std.specs.Prelude.{ℕ, Bool, true, false}
 use Rattle.a64_base.specs.declared.ir_type.IrType.{IrType}
-use Rattle.a64_base.specs.declared.ir_type.IrType.TheVariants.{I8, I16, I32, I64, I128, F16, F32, F64, F128, I8X2, I8X4, I8X8, I8X16, I16X2, I16X4, I16X8, I32X2, I32X4, I64X2, F16X4, F16X8, F32X2, F32X4, F64X2, I8X32}
+use Rattle.a64_base.specs.declared.ir_type.IrType.TheVariants.{I8, I16, I32, I64, I128, F16, F32}
+use Rattle.a64_base.specs.declared.ir_type.IrType.TheVariants.{F64, F128, I8X2, I8X4, I8X8, I8X16}
+use Rattle.a64_base.specs.declared.ir_type.IrType.TheVariants.{I16X2, I16X4, I16X8, I32X2, I32X4}
+use Rattle.a64_base.specs.declared.ir_type.IrType.TheVariants.{I64X2, F16X4, F16X8, F32X2, F32X4}
+use Rattle.a64_base.specs.declared.ir_type.IrType.TheVariants.{F64X2, I8X32}
 
 -- the width of a type in bits
 abbrev pub type_bits : IrType → ℕ

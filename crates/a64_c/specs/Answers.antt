@@ -1,5 +1,6 @@
 -- What a call answers of the code of a text.
-use Rattle.std.specs.Prelude.{ℕ, ◌≡◌, ◌⊎◌, ◌<◌, ◌≤◌, ◌++◌, List, Bool, true, false, None, Some, drop, length, pos}
+use Rattle.std.specs.Prelude.{ℕ, ◌≡◌, ◌⊎◌, ◌<◌, ◌≤◌, ◌++◌, List, Bool, true, false, None, Some}
+use Rattle.std.specs.Prelude.{drop, length, pos}
 use Rattle.a64_buffer.specs.declared.force.ForceVeneers.{ForceVeneers}
 use Rattle.a64_buffer.specs.declared.force.ForceVeneers.TheVariants.{No, Yes}
 use Rattle.a64_emit.specs.declared.code.Code.{Code}
@@ -41,8 +42,8 @@ pub record HasRightItems (text : List ℕ) : Type 0 where
   pub read : IsFile text file
   pub right : own_fault file.frame file.info file.constants file.items.items ≡ None
 
--- the cause of each refusal; want of memory has none in the text, but it comes to code only where each item is
--- right by itself
+-- the cause of each refusal; want of memory has none in the text, but it comes to code only where
+-- each item is right by itself
 abbrev pub IsCause : List ℕ → ForceVeneers → Refusal → Type 0
 IsCause text force TooLong = limit < length text
 IsCause text force (Line n) = (length text ≤ limit) × IsFirstBad text n

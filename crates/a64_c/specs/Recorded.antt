@@ -11,7 +11,8 @@ use Rattle.a64_c.specs.declared.record.PatchableCall.{PatchableCall}
 use Rattle.a64_c.specs.declared.record.StackMap.{StackMap}
 use Rattle.a64_c.specs.declared.recording.Counts.{Counts}
 use Rattle.a64_c.specs.Answers.{force_of, answer_of, IsCause, IsCodeOf}
-use Rattle.a64_c.specs.Records.{over, label_place_of, island_of, relocation_of, trap_of, patchable_call_of, stack_map_of}
+use Rattle.a64_c.specs.Records.{over, label_place_of, island_of, relocation_of, trap_of}
+use Rattle.a64_c.specs.Records.{patchable_call_of, stack_map_of}
 
 -- what stands in the caller's buffers
 pub record Rooms : Type 0 where

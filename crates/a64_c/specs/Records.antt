@@ -3,7 +3,10 @@ use Rattle.std.specs.Prelude.{ℕ, ℤ, List, ◌++◌, take, drop, length}
 use Rattle.a64_base.specs.declared.entity.ExternalName.{ExternalName}
 use Rattle.a64_base.specs.declared.entity.MachLabel.{MachLabel}
 use Rattle.a64_base.specs.declared.entity.Reloc.{Reloc}
-use Rattle.a64_base.specs.declared.entity.Reloc.TheVariants.{Arm64Call, Abs8, Aarch64AdrGotPage21, Aarch64Ld64GotLo12Nc, Aarch64AdrPrelPgHi21, Aarch64AddAbsLo12Nc}
+use Rattle.a64_base.specs.declared.entity.Reloc.TheVariants.{Arm64Call, Abs8, Aarch64AdrGotPage21}
+use Rattle.a64_base.specs.declared.entity.Reloc.TheVariants.{Aarch64Ld64GotLo12Nc}
+use Rattle.a64_base.specs.declared.entity.Reloc.TheVariants.{Aarch64AdrPrelPgHi21}
+use Rattle.a64_base.specs.declared.entity.Reloc.TheVariants.{Aarch64AddAbsLo12Nc}
 use Rattle.a64_base.specs.declared.entity.TrapCode.{TrapCode}
 use Rattle.a64_base.specs.declared.entity.UserStackMap.{UserStackMap}
 use Rattle.a64_c.specs.declared.record.LabelPlace.{LabelPlace}

@@ -1,5 +1,7 @@
 -- The words that items are made of: those of instructions, by their shapes.
-use Rattle.std.specs.Prelude.{ℕ, ℤ, pos, ◌-ℤ◌, Bool, true, false, ◌+◌, ◌*◌, ◌&&◌, ◌||◌, nat_eq, nat_lt, List, [], ◌∷◌, ◌++◌, length, map, if◌then◌else◌, not, is_none, Option, None, Some}
+use Rattle.std.specs.Prelude.{ℕ, ℤ, pos, ◌-ℤ◌, Bool, true, false, ◌+◌, ◌*◌, ◌&&◌, ◌||◌, nat_eq}
+use Rattle.std.specs.Prelude.{nat_lt, List, [], ◌∷◌, ◌++◌, length, map, if◌then◌else◌, not, is_none}
+use Rattle.std.specs.Prelude.{Option, None, Some}
 use Rattle.std.specs.Ordering.{int_eq}
 use Rattle.std.specs.Int.RustNames.{unsigned_abs}
 use Rattle.a64_base.specs.declared.entity.MachLabel.{MachLabel}
@@ -43,7 +45,8 @@ use Rattle.a64_rows.specs.Forms.{Form, form_word}
 use Rattle.a64_cells.specs.IntegerForms as integer
 use Rattle.a64_cells.specs.ControlForms as control
 use Rattle.a64_cells.specs.MemoryForms as memory
-use Rattle.a64_cells.specs.Shapes.{Body, FormOf, Data, Relocation, Marks, Cell, plain, several, Shape, OneWord, Several, Words, table_labels, entry_site}
+use Rattle.a64_cells.specs.Shapes.{Body, FormOf, Data, Relocation, Marks, Cell, plain, several}
+use Rattle.a64_cells.specs.Shapes.{Shape, OneWord, Several, Words, table_labels, entry_site}
 use Rattle.a64_cells.specs.PlainShapes.{plain_shape}
 
 -- the word of a body
@@ -76,7 +79,8 @@ memory_site inst = elim (access_of inst) [ None ↦ None | Some access ↦ mode_
 
 abbrev pub access_shape : FrameLayout → Access → Shape
 access_shape frame access =
-    Several (memory.access_steps frame access) (FormOf (memory.access_form frame access)) (mode_site access.mem) access.flags
+    Several (memory.access_steps frame access) (FormOf (memory.access_form frame access))
+    (mode_site access.mem) access.flags
 
 abbrev pub shape_cells : Shape → List Cell
 shape_cells (OneWord form) = plain form ∷ []
@@ -85,33 +89,49 @@ shape_cells (Words cells) = cells
 
 -- ---- calls
 
--- the stack pointer moves by so many bytes: by an addition where one holds the number, and else over x16
+-- the stack pointer moves by so many bytes: by an addition where one holds the number, and else
+-- over x16
 abbrev pub adjust_forms : ℤ → List Form
 adjust_forms amount =
     if int_eq amount (pos 0) then []
-    else if is_addend (unsigned_abs amount) then memory.addend_form (integer_register 63) (integer_register 63) amount ∷ []
+    else if is_addend (unsigned_abs amount)
+    then memory.addend_form (integer_register 63) (integer_register 63) amount ∷ []
     else memory.step_forms memory.offset_register (plan_of (unsigned_abs amount))
-    ++ integer.alu_rrr_extend_form (memory.sum_op amount) Size64 (integer_register 63) (integer_register 63) memory.offset_register UXTX ∷ []
+    ++ integer.alu_rrr_extend_form (memory.sum_op amount) Size64 (integer_register 63)
+    (integer_register 63) memory.offset_register UXTX ∷ []
 
--- what is recorded at the word of a call: that it returns behind it, and the symbol, which a linker fills in
+-- what is recorded at the word of a call: that it returns behind it, and the symbol, which a linker
+-- fills in
 abbrev pub callee_reloc : Callee → Option Relocation
 callee_reloc (Symbol name) = Some (Arm64Call, name, pos 0)
 callee_reloc (Address reg) = None
 
 abbrev pub call_marks : Callee → Option ℕ → Marks
-call_marks callee patchable = record { trap = None; reloc = callee_reloc callee; call = true; map = None; patchable = patchable }
+call_marks callee patchable = record {
+  trap = None;
+  reloc = callee_reloc callee;
+  call = true;
+  map = None;
+  patchable = patchable;
+}
 
 abbrev pub call_form : Callee → Form
 call_form (Symbol name) = control.branch_link_form
 call_form (Address reg) = control.branch_link_register_form reg
 
 abbrev pub call_cell : Callee → Option ℕ → Cell
-call_cell callee patchable = record { body = FormOf (call_form callee); site = None; marks = call_marks callee patchable }
+call_cell callee patchable = record {
+  body = FormOf (call_form callee);
+  site = None;
+  marks = call_marks callee patchable;
+}
 
 -- the load of a result that the function left on the stack, where one load loads it
 abbrev pub load_at : Reg → RetLocation → Option Inst
 load_at vreg (locations.Reg preg ty) = None
-load_at vreg (locations.Stack offset ty) = if type_has_load_form ty then Some (inst_with (load_op ty) vreg (modes.SPOffset offset) None) else None
+load_at vreg (locations.Stack offset ty) =
+    if type_has_load_form ty then Some (inst_with (load_op ty) vreg (modes.SPOffset offset) None)
+    else None
 
 abbrev pub result_load : CallRetPair → Option Inst
 result_load pair = load_at pair.vreg pair.location
@@ -119,20 +139,26 @@ result_load pair = load_at pair.vreg pair.location
 abbrev pub result_cells : FrameLayout → CallRetPair → List Cell
 result_cells frame pair = elim (result_load pair) [
   | None ↦ []
-  | Some load ↦ elim (access_of load) [ None ↦ [] | Some access ↦ shape_cells (access_shape frame access) ]
+  | Some load ↦ elim (access_of load) [
+    | None ↦ []
+    | Some access ↦ shape_cells (access_shape frame access)
+  ]
 ]
 
--- the function that was called has taken its arguments off the stack, and the stack pointer comes back to where it was
+-- the function that was called has taken its arguments off the stack, and the stack pointer comes
+-- back to where it was
 abbrev pub pop_forms : ℕ → List Form
 pop_forms pop = adjust_forms (pos 0 -ℤ pos pop)
 
 -- a call, and behind it the loads of its results
 abbrev pub call_cells : FrameLayout → Callee → List CallRetPair → ℕ → List Cell
-call_cells frame callee defs pop = call_cell callee None ∷ map plain (pop_forms pop) ++ flat_map (result_cells frame) defs
+call_cells frame callee defs pop =
+    call_cell callee None ∷ map plain (pop_forms pop) ++ flat_map (result_cells frame) defs
 
 -- a call that may be changed later, with all of its words
 abbrev pub patchable_cells : Callee → ℕ → List Cell
-patchable_cells callee pop = call_cell callee (Some (4 * (length (pop_forms pop) + 1))) ∷ map plain (pop_forms pop)
+patchable_cells callee pop =
+    call_cell callee (Some (4 * (length (pop_forms pop) + 1))) ∷ map plain (pop_forms pop)
 
 -- the first of some words, as no use; where there is none, one that does nothing
 abbrev pub lone_cell : List Cell → Cell
@@ -145,17 +171,24 @@ is_lone_cells [] = false
 is_lone_cells (c ∷ []) = is_none c.site && not c.marks.call
 is_lone_cells (c ∷ d ∷ cs) = false
 
--- an instruction of a list that a frame restores is its only word, which is no use; no instruction with other words may stand there
+-- an instruction of a list that a frame restores is its only word, which is no use; no instruction
+-- with other words may stand there
 abbrev pub restored_cell : FrameLayout → EmitFlags → Inst → Cell
-restored_cell frame flags inst = lone_cell (shape_cells (elim (access_of inst) [ None ↦ plain_shape frame flags inst | Some access ↦ access_shape frame access ]))
+restored_cell frame flags inst =
+    lone_cell (shape_cells (elim (access_of inst) [
+      | None ↦ plain_shape frame flags inst
+      | Some access ↦ access_shape frame access
+    ]))
 
 -- the saved frame pointer and return address, where they were saved
 abbrev pub frame_forms : ℕ → List Form
 frame_forms setup =
     if nat_eq setup 0 then []
-    else memory.pair_form 1 (integer_register 29) (integer_register 30) (pairs.SPPostIndexed (record { value = pos setup; scale_ty = I64 })) ∷ []
+    else memory.pair_form 1 (integer_register 29) (integer_register 30)
+    (pairs.SPPostIndexed (record { value = pos setup; scale_ty = I64 })) ∷ []
 
--- the return address is authenticated, where a key says so, and where it was saved or all return addresses are signed
+-- the return address is authenticated, where a key says so, and where it was saved or all return
+-- addresses are signed
 abbrev pub key_forms : ℕ → Bool → Option APIKey → List Form
 key_forms setup all None = []
 key_forms setup all (Some key) = if nat_lt 0 setup || all then control.auti_form key ∷ [] else []
@@ -163,7 +196,8 @@ key_forms setup all (Some key) = if nat_lt 0 setup || all then control.auti_form
 -- the words before the branch of a return that calls, behind the restored instructions
 abbrev pub leave_forms : FrameLayout → ℕ → Option APIKey → Bool → List Form
 leave_forms frame size key all =
-    frame_forms frame.setup_area_size ++ adjust_forms (pos frame.tail_args_size -ℤ pos size) ++ key_forms frame.setup_area_size all key
+    frame_forms frame.setup_area_size ++ adjust_forms (pos frame.tail_args_size -ℤ pos size)
+    ++ key_forms frame.setup_area_size all key
 
 -- the branch, behind which no function returns but from which this one is left as by a call
 abbrev pub return_form : Callee → Form
@@ -171,26 +205,39 @@ return_form (Symbol name) = control.jump_form (branch_targets.ResolvedOffset (po
 return_form (Address reg) = control.indirect_br_form reg
 
 abbrev pub return_cell : Callee → Cell
-return_cell callee = record { body = FormOf (return_form callee); site = None; marks = call_marks callee None }
+return_cell callee = record {
+  body = FormOf (return_form callee);
+  site = None;
+  marks = call_marks callee None;
+}
 
 -- a return that calls another function
 abbrev pub return_cells : FrameLayout → EmitFlags → Callee → ℕ → Option APIKey → Bool → List Cell
 return_cells frame flags callee size key all =
-    map (restored_cell frame flags) frame.restore ++ map plain (leave_forms frame size key all) ++ return_cell callee ∷ []
+    map (restored_cell frame flags) frame.restore ++ map plain (leave_forms frame size key all)
+    ++ return_cell callee ∷ []
 
 -- an instruction that is no load or store of one register
 abbrev pub other_shape : FrameLayout → EmitFlags → Inst → Shape
 other_shape frame flags (insts.Call info) =
-    Words (if info.patchable then patchable_cells (Symbol info.dest) info.callee_pop_size else call_cells frame (Symbol info.dest) info.defs info.callee_pop_size)
-other_shape frame flags (insts.CallInd info) = Words (call_cells frame (Address info.dest) info.defs info.callee_pop_size)
+    Words (if info.patchable then patchable_cells (Symbol info.dest) info.callee_pop_size
+    else call_cells frame (Symbol info.dest) info.defs info.callee_pop_size)
+other_shape frame flags (insts.CallInd info) =
+    Words (call_cells frame (Address info.dest) info.defs info.callee_pop_size)
 other_shape frame flags (insts.ReturnCall info) =
-    Words (return_cells frame flags (Symbol info.dest) info.new_stack_arg_size info.key info.sign_return_address_all)
+    Words (return_cells frame flags (Symbol info.dest) info.new_stack_arg_size info.key
+    info.sign_return_address_all)
 other_shape frame flags (insts.ReturnCallInd info) =
-    Words (return_cells frame flags (Address info.dest) info.new_stack_arg_size info.key info.sign_return_address_all)
+    Words (return_cells frame flags (Address info.dest) info.new_stack_arg_size info.key
+    info.sign_return_address_all)
 other_shape frame flags inst = plain_shape frame flags inst
 
 abbrev pub shape_of : FrameLayout → EmitFlags → Inst → Shape
-shape_of frame flags inst = elim (access_of inst) [ None ↦ other_shape frame flags inst | Some access ↦ access_shape frame access ]
+shape_of frame flags inst =
+    elim (access_of inst) [
+      | None ↦ other_shape frame flags inst
+      | Some access ↦ access_shape frame access
+    ]
 
 -- the word of an instruction that is one word without a use
 abbrev pub only_word : Shape → Option ℕ
@@ -208,7 +255,8 @@ other_cells (Words cells) = cells
 abbrev pub inst_cells : FrameLayout → EmitFlags → Inst → List Cell
 inst_cells frame flags inst = shape_cells (shape_of frame flags inst)
 
--- the map of the stack that is kept at an instruction counts where it is a call that returns behind it
+-- the map of the stack that is kept at an instruction counts where it is a call that returns behind
+-- it
 abbrev pub kept_by : Inst → Option UserStackMap → Option UserStackMap
 kept_by (insts.Call info) kept = kept
 kept_by (insts.CallInd info) kept = kept

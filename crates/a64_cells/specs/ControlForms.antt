@@ -1,5 +1,5 @@
--- The forms of control instructions, and their data (Arm Architecture Reference Manual, DDI 0487, C4.1, "Branches,
--- Exception Generating and System instructions").
+-- The forms of control instructions, and their data (Arm Architecture Reference Manual, DDI 0487,
+-- C4.1, "Branches, Exception Generating and System instructions").
 use Rattle.std.specs.Prelude.{ℕ, pos, ◌/◌, ◌%◌, Bool, false, List, [], ◌∷◌}
 use Rattle.a64_base.specs.declared.cond.CondBrKind.{CondBrKind}
 use Rattle.a64_base.specs.declared.key.APIKey.{APIKey}
@@ -21,16 +21,18 @@ use Rattle.a64_cells.specs.IntegerForms.{adr_form}
 unfoldable pub ret_form : Form
 ret_form = branch_reg (record { opc = 2; rn = 30 })
 
--- a return that authenticates its address by a key and the stack pointer: key A or B (Unconditional branch (register), RETAA and
--- RETAB)
+-- a return that authenticates its address by a key and the stack pointer: key A or B (Unconditional
+-- branch (register), RETAA and RETAB)
 unfoldable pub ret_auth_form : ℕ → Form
 ret_auth_form b = ret_auth (record { b = b })
 
--- a branch without link, over the offset in words, or over none as long as it has a label (Unconditional branch (immediate), B)
+-- a branch without link, over the offset in words, or over none as long as it has a label
+-- (Unconditional branch (immediate), B)
 unfoldable pub jump_form : BranchTarget → Form
 jump_form dest = branch26 (record { link = 0; imm26 = offset_field 26 dest })
 
--- a branch on a register (Compare and branch (immediate), CBZ and CBNZ) or on the flags (Conditional branch (immediate), B.cond)
+-- a branch on a register (Compare and branch (immediate), CBZ and CBNZ) or on the flags
+-- (Conditional branch (immediate), B.cond)
 unfoldable pub cond_br_form : BranchTarget → CondBrKind → Form
 cond_br_form taken kind = conditional_form (offset_field 19 taken) kind
 
@@ -38,17 +40,24 @@ cond_br_form taken kind = conditional_form (offset_field 19 taken) kind
 unfoldable pub trap_if_form : CondBrKind → Form
 trap_if_form kind = cond_br_form (ResolvedOffset (pos 0)) kind
 
--- a branch on one bit of a register, of which the word has the highest bit of its number apart (Test and branch (immediate),
--- TBZ and TBNZ)
+-- a branch on one bit of a register, of which the word has the highest bit of its number apart
+-- (Test and branch (immediate), TBZ and TBNZ)
 unfoldable pub test_bit_and_branch_form : TestBitAndBranchKind → BranchTarget → Reg → ℕ → Form
 test_bit_and_branch_form kind taken rn bit =
-    test_branch (record { b5 = bit / 32; nz = nonzero_of kind; b40 = bit % 32; imm14 = offset_field 14 taken; rt = register_field rn })
+    test_branch (record {
+      b5 = bit / 32;
+      nz = nonzero_of kind;
+      b40 = bit % 32;
+      imm14 = offset_field 14 taken;
+      rt = register_field rn;
+    })
 
 -- a branch to the address in a register (Unconditional branch (register), BR)
 unfoldable pub indirect_br_form : Reg → Form
 indirect_br_form rn = branch_reg (record { opc = 0; rn = register_field rn })
 
--- a branch with link, over no offset as long as its symbol has no place (Unconditional branch (immediate), BL)
+-- a branch with link, over no offset as long as its symbol has no place (Unconditional branch
+-- (immediate), BL)
 unfoldable pub branch_link_form : Form
 branch_link_form = branch26 (record { link = 1; imm26 = 0 })
 
@@ -67,8 +76,8 @@ auti_number BSP = 7
 unfoldable pub auti_form : APIKey → Form
 auti_form key = hint (record { crm = 3; op2 = auti_number key })
 
--- a return that authenticates the return address: in the same word where the modifier is the stack pointer and no hint is asked for,
--- else by a hint before it
+-- a return that authenticates the return address: in the same word where the modifier is the stack
+-- pointer and no hint is asked for, else by a hint before it
 abbrev pub authenticated_ret_forms : APIKey → Bool → List Form
 authenticated_ret_forms ASP false = ret_auth_form 0 ∷ []
 authenticated_ret_forms BSP false = ret_auth_form 1 ∷ []

@@ -1,11 +1,12 @@
--- The fields of instructions on scalar floats that operators and sizes give, and the forms of these instructions (Arm Architecture
--- Reference Manual, DDI 0487, C4.1, "Data Processing -- Scalar Floating-Point and Advanced SIMD"). PlainForms says which
--- instruction has which.
+-- The fields of instructions on scalar floats that operators and sizes give, and the forms of these
+-- instructions (Arm Architecture Reference Manual, DDI 0487, C4.1, "Data Processing -- Scalar
+-- Floating-Point and Advanced SIMD"). PlainForms says which instruction has which.
 use Rattle.std.specs.Prelude.{ℕ, ◌+◌, ◌-◌, ◌*◌}
 use Rattle.a64_base.specs.declared.cond.Cond.{Cond}
 use Rattle.a64_base.specs.declared.reg.Reg.{Reg}
 use Rattle.a64_base.specs.declared.size.ScalarSize.{ScalarSize}
-use Rattle.a64_base.specs.declared.size.ScalarSize.TheVariants.{Size8, Size16, Size32, Size64, Size128}
+use Rattle.a64_base.specs.declared.size.ScalarSize.TheVariants.{Size8, Size16, Size32, Size64}
+use Rattle.a64_base.specs.declared.size.ScalarSize.TheVariants.{Size128}
 use Rattle.a64_base.specs.declared.size.VectorSize.{VectorSize}
 use Rattle.a64_base.specs.Conditions.{condition_bits}
 use Rattle.a64_base.specs.ScalarSizes.{ftype_of}
@@ -20,11 +21,17 @@ use Rattle.a64_ops.specs.declared.float.FPUOp2.TheVariants.{Add, Sub, Mul, Div, 
 use Rattle.a64_ops.specs.declared.float.FPUOp3.{FPUOp3}
 use Rattle.a64_ops.specs.declared.float.FPUOp3.TheVariants.{MAdd, MSub, NMAdd, NMSub}
 use Rattle.a64_ops.specs.declared.float.FpuRoundMode.{FpuRoundMode}
-use Rattle.a64_ops.specs.declared.float.FpuRoundMode.TheVariants.{Minus32, Minus64, Plus32, Plus64, Zero32, Zero64, Nearest32, Nearest64}
+use Rattle.a64_ops.specs.declared.float.FpuRoundMode.TheVariants.{Minus32, Minus64, Plus32, Plus64}
+use Rattle.a64_ops.specs.declared.float.FpuRoundMode.TheVariants.{Zero32, Zero64, Nearest32}
+use Rattle.a64_ops.specs.declared.float.FpuRoundMode.TheVariants.{Nearest64}
 use Rattle.a64_ops.specs.declared.float.FpuToIntOp.{FpuToIntOp}
-use Rattle.a64_ops.specs.declared.float.FpuToIntOp.TheVariants.{F32ToU32, F32ToI32, F32ToU64, F32ToI64, F64ToU32, F64ToI32, F64ToU64, F64ToI64}
+use Rattle.a64_ops.specs.declared.float.FpuToIntOp.TheVariants.{F32ToU32, F32ToI32, F32ToU64}
+use Rattle.a64_ops.specs.declared.float.FpuToIntOp.TheVariants.{F32ToI64, F64ToU32, F64ToI32}
+use Rattle.a64_ops.specs.declared.float.FpuToIntOp.TheVariants.{F64ToU64, F64ToI64}
 use Rattle.a64_ops.specs.declared.float.IntToFpuOp.{IntToFpuOp}
-use Rattle.a64_ops.specs.declared.float.IntToFpuOp.TheVariants.{U32ToF32, I32ToF32, U32ToF64, I32ToF64, U64ToF32, I64ToF32, U64ToF64, I64ToF64}
+use Rattle.a64_ops.specs.declared.float.IntToFpuOp.TheVariants.{U32ToF32, I32ToF32, U32ToF64}
+use Rattle.a64_ops.specs.declared.float.IntToFpuOp.TheVariants.{I32ToF64, U64ToF32, I64ToF32}
+use Rattle.a64_ops.specs.declared.float.IntToFpuOp.TheVariants.{U64ToF64, I64ToF64}
 use Rattle.a64_operand.specs.declared.fpu_op.FPUOpRI.{FPUOpRI}
 use Rattle.a64_operand.specs.declared.fpu_op.FPUOpRI.TheVariants.{UShr32, UShr64}
 use Rattle.a64_operand.specs.declared.fpu_op.FPUOpRIMod.{FPUOpRIMod}
@@ -90,7 +97,8 @@ o0_of MSub = 1
 o0_of NMAdd = 0
 o0_of NMSub = 1
 
--- a conversion of a float to an integer, FCVTZS (24) or FCVTZU (25): sf says the integer's size, ftype the float's
+-- a conversion of a float to an integer, FCVTZS (24) or FCVTZU (25): sf says the integer's size,
+-- ftype the float's
 abbrev pub to_int : FpuToIntOp → Conversion
 to_int F32ToI32 = record { sf = 0; ftype = 0; op = 24 }
 to_int F32ToU32 = record { sf = 0; ftype = 0; op = 25 }
@@ -112,8 +120,8 @@ from_int U32ToF64 = record { sf = 0; ftype = 1; op = 3 }
 from_int I64ToF64 = record { sf = 1; ftype = 1; op = 2 }
 from_int U64ToF64 = record { sf = 1; ftype = 1; op = 3 }
 
--- a move of the bits of a general register, FMOV (7): of 64 bits out of one of 64, of fewer out of one of 32. Its rows for sizes
--- that floats do not have are not read
+-- a move of the bits of a general register, FMOV (7): of 64 bits out of one of 64, of fewer out of
+-- one of 32. Its rows for sizes that floats do not have are not read
 abbrev pub bits_to_float : ScalarSize → Conversion
 bits_to_float Size8 = record { sf = 0; ftype = 0; op = 7 }
 bits_to_float Size16 = record { sf = 0; ftype = 3; op = 7 }
@@ -121,8 +129,8 @@ bits_to_float Size32 = record { sf = 0; ftype = 0; op = 7 }
 bits_to_float Size64 = record { sf = 1; ftype = 1; op = 7 }
 bits_to_float Size128 = record { sf = 0; ftype = 0; op = 7 }
 
--- the field imm5 of a lane: its lowest one says the lane's size, and above it stands the lane's number. No lane has 128 bits, and its
--- row is not read
+-- the field imm5 of a lane: its lowest one says the lane's size, and above it stands the lane's
+-- number. No lane has 128 bits, and its row is not read
 abbrev pub lane_number : ScalarSize → ℕ → ℕ
 lane_number Size8 idx = 1 + 2 * idx
 lane_number Size16 idx = 2 + 4 * idx
@@ -142,7 +150,13 @@ left_field imm = imm.lane_size_in_bits + imm.amount
 
 -- Floating-point data-processing (1 source), FMOV (register)
 abbrev pub move_form : ScalarSize → Reg → Reg → Form
-move_form size rd rn = fp_one (record { ftype = ftype_of size; op = 0; rn = register_field rn; rd = register_field rd })
+move_form size rd rn =
+    fp_one (record {
+      ftype = ftype_of size;
+      op = 0;
+      rn = register_field rn;
+      rd = register_field rd;
+    })
 
 -- Advanced SIMD three same, ORR (vector, register) of 128 bits, of a register with itself
 abbrev pub move_vector_form : Reg → Reg → Form
@@ -160,16 +174,30 @@ move_vector_form rd rn =
 -- Advanced SIMD scalar copy, DUP (element)
 abbrev pub move_lane_form : VectorSize → ℕ → Reg → Reg → Form
 move_lane_form size idx rd rn =
-    scalar_copy (record { imm5 = lane_number (lane_of size) idx; rn = register_field rn; rd = register_field rd })
+    scalar_copy (record {
+      imm5 = lane_number (lane_of size) idx;
+      rn = register_field rn;
+      rd = register_field rd;
+    })
 
 -- Floating-point data-processing (1 source)
 abbrev pub one_float_form : FPUOp1 → ScalarSize → Reg → Reg → Form
 one_float_form op size rd rn =
-    fp_one (record { ftype = ftype_of size; op = one_opcode op; rn = register_field rn; rd = register_field rd })
+    fp_one (record {
+      ftype = ftype_of size;
+      op = one_opcode op;
+      rn = register_field rn;
+      rd = register_field rd;
+    })
 
 abbrev pub round_form : FpuRoundMode → Reg → Reg → Form
 round_form op rd rn =
-    fp_one (record { ftype = ftype_of (round_size op); op = round_opcode op; rn = register_field rn; rd = register_field rd })
+    fp_one (record {
+      ftype = ftype_of (round_size op);
+      op = round_opcode op;
+      rn = register_field rn;
+      rd = register_field rd;
+    })
 
 -- Floating-point data-processing (2 source)
 abbrev pub two_floats_form : FPUOp2 → ScalarSize → Reg → Reg → Reg → Form
@@ -195,24 +223,49 @@ three_floats_form op size rd rn rm ra =
       rd = register_field rd;
     })
 
--- a shift to the right of a lane of 32 bits (Advanced SIMD shift by immediate, USHR of 64 bits), or of the one lane of 64 (Advanced
--- SIMD scalar shift by immediate, USHR)
+-- a shift to the right of a lane of 32 bits (Advanced SIMD shift by immediate, USHR of 64 bits), or
+-- of the one lane of 64 (Advanced SIMD scalar shift by immediate, USHR)
 abbrev pub right_shift_form : FPUOpRI → Reg → Reg → Form
 right_shift_form (UShr32 imm) rd rn =
-    vec_shift (record { q = 0; u = 1; imm7 = right_field imm; op = 0; rn = register_field rn; rd = register_field rd })
+    vec_shift (record {
+      q = 0;
+      u = 1;
+      imm7 = right_field imm;
+      op = 0;
+      rn = register_field rn;
+      rd = register_field rd;
+    })
 right_shift_form (UShr64 imm) rd rn =
-    scalar_shift (record { imm7 = right_field imm; op = 0; rn = register_field rn; rd = register_field rd })
+    scalar_shift (record {
+      imm7 = right_field imm;
+      op = 0;
+      rn = register_field rn;
+      rd = register_field rd;
+    })
 
 -- a shift to the left that keeps the bits below (the same classes, SLI)
 abbrev pub kept_shift_form : FPUOpRIMod → Reg → Reg → Form
 kept_shift_form (Sli32 imm) rd rn =
-    vec_shift (record { q = 0; u = 1; imm7 = left_field imm; op = 10; rn = register_field rn; rd = register_field rd })
+    vec_shift (record {
+      q = 0;
+      u = 1;
+      imm7 = left_field imm;
+      op = 10;
+      rn = register_field rn;
+      rd = register_field rd;
+    })
 kept_shift_form (Sli64 imm) rd rn =
-    scalar_shift (record { imm7 = left_field imm; op = 10; rn = register_field rn; rd = register_field rd })
+    scalar_shift (record {
+      imm7 = left_field imm;
+      op = 10;
+      rn = register_field rn;
+      rd = register_field rd;
+    })
 
 -- Floating-point compare, FCMP
 abbrev pub compare_form : ScalarSize → Reg → Reg → Form
-compare_form size rn rm = fp_compare (record { ftype = ftype_of size; rm = register_field rm; rn = register_field rn })
+compare_form size rn rm =
+    fp_compare (record { ftype = ftype_of size; rm = register_field rm; rn = register_field rn })
 
 -- Floating-point conditional select, FCSEL
 abbrev pub select_form : ScalarSize → Reg → Reg → Reg → Cond → Form
@@ -227,7 +280,8 @@ select_form size rd rn rm cond =
 
 -- Floating-point immediate, FMOV (scalar, immediate)
 abbrev pub immediate_form : ScalarSize → ASIMDFPModImm → Reg → Form
-immediate_form size imm rd = fp_imm (record { ftype = ftype_of size; imm8 = imm.imm; rd = register_field rd })
+immediate_form size imm rd =
+    fp_imm (record { ftype = ftype_of size; imm8 = imm.imm; rd = register_field rd })
 
 -- Conversion between floating-point and integer
 abbrev pub conversion_form : Conversion → Reg → Reg → Form

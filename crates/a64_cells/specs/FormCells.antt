@@ -8,7 +8,8 @@ use Rattle.a64_inst.specs.declared.item.Item.TheVariants.{Bind, Emit}
 use Rattle.a64_rows.specs.Forms.{IsFormOf}
 use Rattle.a64_cells.specs.Shapes.{Body, FormOf, Data, Cell}
 
--- a form has as many values as its row has fields, each in its width, and they meet the row's limits
+-- a form has as many values as its row has fields, each in its width, and they meet the row's
+-- limits
 abbrev pub IsFormBody : Body → Type 0
 IsFormBody (FormOf form) = IsFormOf form
 IsFormBody (Data word) = Unit {0}

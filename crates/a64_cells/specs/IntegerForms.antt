@@ -1,6 +1,7 @@
--- The fields of integer instructions that operators give, and the forms of those that are irregular or stand in sequences too (Arm
--- Architecture Reference Manual, DDI 0487, C4.1, "Data Processing -- Immediate", "Data Processing -- Register", and of "Branches,
--- Exception Generating and System instructions" the hints and the moves of the flags). PlainForms has the form of each instruction.
+-- The fields of integer instructions that operators give, and the forms of those that are irregular
+-- or stand in sequences too (Arm Architecture Reference Manual, DDI 0487, C4.1, "Data Processing --
+-- Immediate", "Data Processing -- Register", and of "Branches, Exception Generating and System
+-- instructions" the hints and the moves of the flags). PlainForms has the form of each instruction.
 use Rattle.std.specs.Prelude.{ℕ, ℤ, ◌-◌, ◌%◌, Bool, not, ◌&&◌, nat_eq, nat_lt, if◌then◌else◌}
 use Rattle.a64_base.specs.declared.cond.Cond.{Cond}
 use Rattle.a64_base.specs.declared.reg.Reg.{Reg}
@@ -13,7 +14,10 @@ use Rattle.a64_base.specs.OperandSizes.{sf_of, operand_bits}
 use Rattle.a64_base.specs.ShiftParts.{Shift}
 use Rattle.a64_base.specs.Shifts.{shift_bits, extend_bits}
 use Rattle.a64_ops.specs.declared.operator.ALUOp.{ALUOp}
-use Rattle.a64_ops.specs.declared.operator.ALUOp.TheVariants.{Add, Sub, AddS, SubS, And, Orr, Eor, AndS, AndNot, OrrNot, EorNot, Adc, Sbc, AdcS, SbcS, UDiv, SDiv, Lsl, Lsr, Asr, Extr, SMulH, UMulH}
+use Rattle.a64_ops.specs.declared.operator.ALUOp.TheVariants.{Add, Sub, AddS, SubS, And, Orr, Eor}
+use Rattle.a64_ops.specs.declared.operator.ALUOp.TheVariants.{AndS, AndNot, OrrNot, EorNot, Adc}
+use Rattle.a64_ops.specs.declared.operator.ALUOp.TheVariants.{Sbc, AdcS, SbcS, UDiv, SDiv, Lsl, Lsr}
+use Rattle.a64_ops.specs.declared.operator.ALUOp.TheVariants.{Asr, Extr, SMulH, UMulH}
 use Rattle.a64_ops.specs.declared.operator.ALUOp3.{ALUOp3}
 use Rattle.a64_ops.specs.declared.operator.ALUOp3.TheVariants.{MAdd, MSub, UMAddL, SMAddL}
 use Rattle.a64_ops.specs.declared.operator.BfmOp.{BfmOp}
@@ -34,7 +38,11 @@ use Rattle.a64_enc_int.specs.Operators.{bit_of, move_wide_opc}
 use Rattle.a64_enc_int.specs.Registers.{register_field}
 use Rattle.a64_rows.specs.Forms.{Form}
 use Rattle.a64_rows.specs.Control.{hint, nzcv}
-use Rattle.a64_rows.specs.DataProcessing.{AddSubRegFields, add_sub_reg, LogicRegFields, logic_reg, add_sub_ext, AddSubCarryFields, add_sub_carry, DataProc2Fields, data_proc2, MulHighFields, mul_high, mul_add, mul_add_long, add_sub_imm, LogicImmFields, logic_imm, bitfield, extract, move_wide, cond_select, adr}
+use Rattle.a64_rows.specs.DataProcessing.{AddSubRegFields, add_sub_reg, LogicRegFields, logic_reg}
+use Rattle.a64_rows.specs.DataProcessing.{add_sub_ext, AddSubCarryFields, add_sub_carry}
+use Rattle.a64_rows.specs.DataProcessing.{DataProc2Fields, data_proc2, MulHighFields, mul_high}
+use Rattle.a64_rows.specs.DataProcessing.{mul_add, mul_add_long, add_sub_imm, LogicImmFields}
+use Rattle.a64_rows.specs.DataProcessing.{logic_imm, bitfield, extract, move_wide, cond_select, adr}
 
 -- ---- fields that operators give
 
@@ -84,7 +92,12 @@ opcode_of _ = 0
 
 -- the size flag and the registers as a word has them
 abbrev pub two_registers : OperandSize → Reg → Reg → Reg → TwoRegisters
-two_registers size rd rn rm = record { sf = sf_of size; rm = register_field rm; rn = register_field rn; rd = register_field rd }
+two_registers size rd rn rm = record {
+  sf = sf_of size;
+  rm = register_field rm;
+  rn = register_field rn;
+  rd = register_field rd;
+}
 
 -- a register that is not shifted
 abbrev pub no_shift : Shift
@@ -92,12 +105,30 @@ no_shift = record { op = LSL; amount = 0 }
 
 -- an addition or subtraction of a register that is shifted
 abbrev pub add_sub : ALUOp → Shift → TwoRegisters → AddSubRegFields
-add_sub op shift r = record { sf = r.sf; op = op_of op; s = s_of op; sh = shift_bits shift.op; rm = r.rm; imm6 = shift.amount; rn = r.rn; rd = r.rd }
+add_sub op shift r = record {
+  sf = r.sf;
+  op = op_of op;
+  s = s_of op;
+  sh = shift_bits shift.op;
+  rm = r.rm;
+  imm6 = shift.amount;
+  rn = r.rn;
+  rd = r.rd;
+}
 
 -- a logical operation with a register that is shifted, and inverted where N is 1
 abbrev pub logic : ALUOp → Shift → TwoRegisters → LogicRegFields
 logic op shift r =
-    record { sf = r.sf; opc = opc_of op; sh = shift_bits shift.op; n = n_of op; rm = r.rm; imm6 = shift.amount; rn = r.rn; rd = r.rd }
+    record {
+      sf = r.sf;
+      opc = opc_of op;
+      sh = shift_bits shift.op;
+      n = n_of op;
+      rm = r.rm;
+      imm6 = shift.amount;
+      rn = r.rn;
+      rd = r.rd;
+    }
 
 -- an addition or subtraction with the carry
 abbrev pub with_carry : ALUOp → TwoRegisters → AddSubCarryFields
@@ -111,8 +142,8 @@ two_sources op r = record { sf = r.sf; rm = r.rm; op6 = opcode_of op; rn = r.rn;
 abbrev pub high_product : ℕ → TwoRegisters → MulHighFields
 high_product u r = record { u = u; rm = r.rm; rn = r.rn; rd = r.rd }
 
--- an operation on two registers, by the class of its operator; those that add or subtract and the logical ones
--- shift the second
+-- an operation on two registers, by the class of its operator; those that add or subtract and the
+-- logical ones shift the second
 abbrev pub alu_form : ALUOp → Shift → TwoRegisters → Form
 -- Add/subtract (shifted register)
 alu_form Add shift r = add_sub_reg (add_sub Add shift r)
@@ -172,12 +203,15 @@ extended_form op extendop r =
 
 -- Add/subtract (extended register)
 unfoldable pub alu_rrr_extend_form : ALUOp → OperandSize → Reg → Reg → Reg → ExtendOp → Form
-alu_rrr_extend_form op size rd rn rm extendop = extended_form op extendop (two_registers size rd rn rm)
+alu_rrr_extend_form op size rd rn rm extendop =
+    extended_form op extendop (two_registers size rd rn rm)
 
 -- a product that is added to a register or taken from it
 abbrev pub product_form : ALUOp3 → ℕ → TwoRegisters → Form
-product_form MAdd ra r = mul_add (record { sf = r.sf; rm = r.rm; sub = 0; ra = ra; rn = r.rn; rd = r.rd })
-product_form MSub ra r = mul_add (record { sf = r.sf; rm = r.rm; sub = 1; ra = ra; rn = r.rn; rd = r.rd })
+product_form MAdd ra r =
+    mul_add (record { sf = r.sf; rm = r.rm; sub = 0; ra = ra; rn = r.rn; rd = r.rd })
+product_form MSub ra r =
+    mul_add (record { sf = r.sf; rm = r.rm; sub = 1; ra = ra; rn = r.rn; rd = r.rd })
 product_form SMAddL ra r = mul_add_long (record { u = 0; rm = r.rm; ra = ra; rn = r.rn; rd = r.rd })
 product_form UMAddL ra r = mul_add_long (record { u = 1; rm = r.rm; ra = ra; rn = r.rn; rd = r.rd })
 
@@ -190,12 +224,20 @@ bit_opcode Rev64 = 3
 bit_opcode Clz = 4
 bit_opcode Cls = 5
 
--- a move: an or with the zero register (Logical (shifted register)), or out of the stack pointer, which no such
--- operation reads, an addition of 0 (Add/subtract (immediate))
+-- a move: an or with the zero register (Logical (shifted register)), or out of the stack pointer,
+-- which no such operation reads, an addition of 0 (Add/subtract (immediate))
 unfoldable pub mov_form : OperandSize → Reg → Reg → Form
 mov_form size rd rm =
     if is_stack_pointer Refused rm
-    then add_sub_imm (record { sf = 1; op = 0; s = 0; sh = 0; imm12 = 0; rn = 31; rd = register_field rd })
+    then add_sub_imm (record {
+      sf = 1;
+      op = 0;
+      s = 0;
+      sh = 0;
+      imm12 = 0;
+      rn = 31;
+      rd = register_field rd;
+    })
     else
     logic_reg (record {
       sf = sf_of size;
@@ -264,12 +306,24 @@ alu_rr_imm_logic_form op size rd rn imml = logic_imm (logic_fields op size rd rn
 -- a wide move (Move wide (immediate), MOVN and MOVZ)
 unfoldable pub mov_wide_form : MoveWideOp → Reg → MoveWideConst → OperandSize → Form
 mov_wide_form op rd imm size =
-    move_wide (record { sf = sf_of size; opc = move_wide_opc op; hw = imm.shift; imm16 = imm.bits; rd = register_field rd })
+    move_wide (record {
+      sf = sf_of size;
+      opc = move_wide_opc op;
+      hw = imm.shift;
+      imm16 = imm.bits;
+      rd = register_field rd;
+    })
 
 -- a wide move that keeps the other halfwords (Move wide (immediate), MOVK)
 unfoldable pub mov_k_form : Reg → MoveWideConst → OperandSize → Form
 mov_k_form rd imm size =
-    move_wide (record { sf = sf_of size; opc = 3; hw = imm.shift; imm16 = imm.bits; rd = register_field rd })
+    move_wide (record {
+      sf = sf_of size;
+      opc = 3;
+      hw = imm.shift;
+      imm16 = imm.bits;
+      rd = register_field rd;
+    })
 
 -- ---- shifts, bitfields and extensions
 
@@ -290,7 +344,8 @@ shift_imms _ size amount = operand_bits size - 1
 
 -- a rotation, which is an extraction from one register twice (Extract), or a shift (Bitfield)
 unfoldable pub alu_rr_imm_shift_form : ALUOp → OperandSize → Reg → Reg → ImmShift → Form
-alu_rr_imm_shift_form Extr size rd rn immshift = extraction immshift.imm (two_registers size rd rn rn)
+alu_rr_imm_shift_form Extr size rd rn immshift =
+    extraction immshift.imm (two_registers size rd rn rn)
 alu_rr_imm_shift_form op size rd rn immshift =
     bitfield (record {
       sf = sf_of size;
@@ -301,13 +356,21 @@ alu_rr_imm_shift_form op size rd rn immshift =
       rd = register_field rd;
     })
 
--- an extension. That of one bit without a sign is an and with 1, the bitmask of the fields 0, 0 and 0 (Logical (immediate)).
--- That of 32 bits to 64 without a sign is a move of 32 bits, which clears the others. Else the lowest bits are a bitfield
--- (Bitfield, SBFM and UBFM)
+-- an extension. That of one bit without a sign is an and with 1, the bitmask of the fields 0, 0 and
+-- 0 (Logical (immediate)). That of 32 bits to 64 without a sign is a move of 32 bits, which clears
+-- the others. Else the lowest bits are a bitfield (Bitfield, SBFM and UBFM)
 unfoldable pub extend_form : Reg → Reg → Bool → ℕ → ℕ → Form
 extend_form rd rn signed from_bits to_bits =
     if not signed && nat_eq from_bits 1
-    then logic_imm (record { sf = 0; opc = 0; n = 0; immr = 0; imms = 0; rn = register_field rn; rd = register_field rd })
+    then logic_imm (record {
+      sf = 0;
+      opc = 0;
+      n = 0;
+      immr = 0;
+      imms = 0;
+      rn = register_field rn;
+      rd = register_field rd;
+    })
     else if not signed && (nat_eq from_bits 32 && nat_eq to_bits 64)
     then mov_form Size32 rd rn
     else
@@ -329,11 +392,13 @@ bfm_opc UBfm = 2
 
 -- PC-rel. addressing, ADR: immlo is the lowest two bits of the distance, and immhi the next 19
 unfoldable pub adr_form : Reg → ℤ → Form
-adr_form rd off = adr (record { page = 0; lo = distance_low off; hi = distance_high off; rd = register_field rd })
+adr_form rd off =
+    adr (record { page = 0; lo = distance_low off; hi = distance_high off; rd = register_field rd })
 
 -- PC-rel. addressing, ADRP
 unfoldable pub adrp_form : Reg → ℤ → Form
-adrp_form rd off = adr (record { page = 1; lo = distance_low off; hi = distance_high off; rd = register_field rd })
+adrp_form rd off =
+    adr (record { page = 1; lo = distance_low off; hi = distance_high off; rd = register_field rd })
 
 -- ---- hints and flags
 

@@ -1,6 +1,8 @@
--- The forms of loops of atomic accesses: an exclusive load, words between, an exclusive store, and a branch back to the load where
--- the store failed (Arm Architecture Reference Manual, DDI 0487, C3.2, load-exclusive and store-exclusive).
-use Rattle.std.specs.Prelude.{ℕ, pos, negsuc, ◌+◌, ◌*◌, true, List, [], ◌∷◌, ◌++◌, Option, None, Some}
+-- The forms of loops of atomic accesses: an exclusive load, words between, an exclusive store, and
+-- a branch back to the load where the store failed (Arm Architecture Reference Manual, DDI 0487,
+-- C3.2, load-exclusive and store-exclusive).
+use Rattle.std.specs.Prelude.{ℕ, pos, negsuc, ◌+◌, ◌*◌, true, List, [], ◌∷◌, ◌++◌, Option, None}
+use Rattle.std.specs.Prelude.{Some}
 use Rattle.a64_base.specs.declared.cond.Cond.{Cond}
 use Rattle.a64_base.specs.declared.cond.Cond.TheVariants.{Ne, Lo, Hi, Lt, Gt}
 use Rattle.a64_base.specs.declared.cond.CondBrKind.TheVariants as branches
@@ -48,23 +50,34 @@ new_register = integer_register 28
 
 -- an exclusive load with acquire (LDAXR)
 unfoldable pub load_exclusive_form : IrType → Reg → Reg → Form
-load_exclusive_form ty rt rn = load_ex (record { sz = access_size ty; rn = register_field rn; rt = register_field rt })
+load_exclusive_form ty rt rn =
+    load_ex (record { sz = access_size ty; rn = register_field rn; rt = register_field rt })
 
 -- an exclusive store with release, of which the first register gets whether it failed (STLXR)
 unfoldable pub store_exclusive_form : IrType → Reg → Reg → Reg → Form
 store_exclusive_form ty rs rt rn =
-    store_ex (record { sz = access_size ty; rs = register_field rs; rn = register_field rn; rt = register_field rt })
+    store_ex (record {
+      sz = access_size ty;
+      rs = register_field rs;
+      rn = register_field rn;
+      rt = register_field rt;
+    })
 
 -- a branch back over so many words, the store and the load, where the store failed (CBNZ)
 abbrev pub back_form : ℕ → Form
-back_form between = cond_br_form (ResolvedOffset (negsuc (4 * between + 7))) (branches.NotZero failed_register Size64)
+back_form between =
+    cond_br_form (ResolvedOffset (negsuc (4 * between + 7)))
+    (branches.NotZero failed_register Size64)
 
 -- ---- words between
 
--- a comparison of what was there with a register, of which the lowest bits are extended where they are fewer (CMP)
+-- a comparison of what was there with a register, of which the lowest bits are extended where they
+-- are fewer (CMP)
 abbrev pub compared_form : OperandSize → Option ExtendOp → Form
-compared_form size None = alu_rrr_form alu.SubS size (integer_register 31) old_register operand_register
-compared_form size (Some extendop) = alu_rrr_extend_form alu.SubS size (integer_register 31) old_register operand_register extendop
+compared_form size None =
+    alu_rrr_form alu.SubS size (integer_register 31) old_register operand_register
+compared_form size (Some extendop) =
+    alu_rrr_extend_form alu.SubS size (integer_register 31) old_register operand_register extendop
 
 -- the extensions of values of 8 and 16 bits: with zeros, and with their sign
 abbrev pub zero_extend_of : IrType → Option ExtendOp
@@ -88,7 +101,8 @@ operation_form op ty = alu_rrr_form op (loop_size ty) new_register old_register 
 
 -- the complement of what that gave
 abbrev pub complement_form : IrType → Form
-complement_form ty = alu_rrr_form alu.OrrNot (loop_size ty) new_register (integer_register 31) new_register
+complement_form ty =
+    alu_rrr_form alu.OrrNot (loop_size ty) new_register (integer_register 31) new_register
 
 -- the loaded 8 or 16 bits, extended with their sign to 32
 abbrev pub sign_forms : IrType → List Form
@@ -99,7 +113,8 @@ sign_forms _ = []
 -- the choice between what was there and the operand, by a condition on their comparison
 abbrev pub choice_forms : IrType → Option ExtendOp → Cond → List Form
 choice_forms ty extendop cond =
-    compared_form (loop_size ty) extendop ∷ csel_form new_register old_register operand_register cond ∷ []
+    compared_form (loop_size ty) extendop
+    ∷ csel_form new_register old_register operand_register cond ∷ []
 
 -- what an operation makes of what was there and the operand; an exchange makes nothing
 abbrev pub operator_forms : IrType → AtomicRMWLoopOp → List Form
@@ -122,4 +137,6 @@ stored_register _ = new_register
 
 -- a comparison with the value that is awaited, and a branch out of the loop where another was there
 abbrev pub awaited_forms : IrType → List Form
-awaited_forms ty = compared_form Size64 (zero_extend_of ty) ∷ cond_br_form (ResolvedOffset (pos 12)) (branches.Cond Ne) ∷ []
+awaited_forms ty =
+    compared_form Size64 (zero_extend_of ty)
+    ∷ cond_br_form (ResolvedOffset (pos 12)) (branches.Cond Ne) ∷ []

@@ -1,5 +1,7 @@
--- The forms of loads and stores, and of their addresses (Arm Architecture Reference Manual, DDI 0487, C4.1, "Loads and Stores").
-use Rattle.std.specs.Prelude.{ℕ, ℤ, pos, negsuc, ◌/◌, ◌^◌, Bool, true, false, nat_lt, if◌then◌else◌, Option, None, Some, List, map}
+-- The forms of loads and stores, and of their addresses (Arm Architecture Reference Manual, DDI
+-- 0487, C4.1, "Loads and Stores").
+use Rattle.std.specs.Prelude.{ℕ, ℤ, pos, negsuc, ◌/◌, ◌^◌, Bool, true, false, nat_lt, if◌then◌else◌}
+use Rattle.std.specs.Prelude.{Option, None, Some, List, map}
 use Rattle.std.specs.Int.RustNames.{unsigned_abs}
 use Rattle.a64_base.specs.declared.reg.Reg.{Reg}
 use Rattle.a64_base.specs.declared.size.OperandSize.TheVariants.{Size64}
@@ -25,7 +27,8 @@ use Rattle.a64_inst.specs.declared.mode.MemLabel.TheVariants.{PCRel, Mach, Pool}
 use Rattle.a64_inst.specs.declared.mode.PairAMode.{PairAMode}
 use Rattle.a64_inst.specs.declared.mode.PairAMode.TheVariants as pairs
 use Rattle.a64_inst.specs.Accesses.{access_type}
-use Rattle.a64_inst.specs.FinalModes.{FinalMode, SignedOffset, ScaledOffset, Other, final_mode, final_steps}
+use Rattle.a64_inst.specs.FinalModes.{FinalMode, SignedOffset, ScaledOffset, Other, final_mode}
+use Rattle.a64_inst.specs.FinalModes.{final_steps}
 use Rattle.a64_rows.specs.Forms.{Form}
 use Rattle.a64_rows.specs.Memory.{ld_st_imm9, ld_st_unsigned, ld_st_reg, ld_literal, ld_st_pair}
 use Rattle.a64_enc_int.specs.Operators.{simm7_field}
@@ -39,14 +42,16 @@ abbrev pub step_form : Reg → ConstStep → Form
 step_form rd (steps.MovZ imm size) = integer.mov_wide_form wide.MovZ rd imm size
 step_form rd (steps.MovN imm size) = integer.mov_wide_form wide.MovN rd imm size
 step_form rd (steps.MovK imm size) = integer.mov_k_form rd imm size
-step_form rd (steps.Orr imm) = integer.alu_rr_imm_logic_form alu.Orr imm.size rd (integer_register 31) imm
+step_form rd (steps.Orr imm) =
+    integer.alu_rr_imm_logic_form alu.Orr imm.size rd (integer_register 31) imm
 
 abbrev pub step_forms : Reg → List ConstStep → List Form
 step_forms rd plan = map (step_form rd) plan
 
 -- ---- loads and stores of one register
 
--- with an offset of 9 bits: 0 where the base stays, 1 where the offset is added to it after the access, 3 before it
+-- with an offset of 9 bits: 0 where the base stays, 1 where the offset is added to it after the
+-- access, 3 before it
 unfoldable pub imm9_form : AccessOp → Reg → ℕ → Reg → ℤ → Form
 imm9_form op rt mode rn offset =
     ld_st_imm9 (record {
@@ -71,7 +76,8 @@ unsigned_form op rt rn units =
       rt = register_field rt;
     })
 
--- with an index, extended in one of the ways of ADD (extended register), in bytes or in units of the access
+-- with an index, extended in one of the ways of ADD (extended register), in bytes or in units of
+-- the access
 unfoldable pub indexed_form : AccessOp → Reg → Reg → Reg → ℕ → ℕ → Form
 indexed_form op rt rn rm ext s =
     ld_st_reg (record {
@@ -91,7 +97,13 @@ option_or_zero (Some n) = n
 
 -- of a literal, by the distance in words
 unfoldable pub literal_form : AccessOp → Reg → ℕ → Form
-literal_form op rt words = ld_literal (record { opc = option_or_zero (literal_of op); v = vector_of op; imm19 = words; rt = register_field rt })
+literal_form op rt words =
+    ld_literal (record {
+      opc = option_or_zero (literal_of op);
+      v = vector_of op;
+      imm19 = words;
+      rt = register_field rt;
+    })
 
 -- which is zero as long as it is that of a label or of a constant
 abbrev pub literal_words : MemLabel → ℕ
@@ -103,17 +115,22 @@ literal_words (Pool addr) = 0
 abbrev pub not_extended : ℕ
 not_extended = 3
 
--- the form of an access in a mode that an instruction holds; the modes with an offset of 64 bits stand in none
+-- the form of an access in a mode that an instruction holds; the modes with an offset of 64 bits
+-- stand in none
 abbrev pub held_form : AccessOp → Reg → FinalMode → Form
 held_form op rt (SignedOffset rn offset) = imm9_form op rt 0 rn offset
 held_form op rt (ScaledOffset rn offset ty) = unsigned_form op rt rn (offset / type_bytes ty)
 held_form op rt (Other (modes.RegReg rn rm)) = indexed_form op rt rn rm not_extended 0
 held_form op rt (Other (modes.RegScaled rn rm)) = indexed_form op rt rn rm not_extended 1
-held_form op rt (Other (modes.RegExtended rn rm extendop)) = indexed_form op rt rn rm (extend_bits extendop) 0
-held_form op rt (Other (modes.RegScaledExtended rn rm extendop)) = indexed_form op rt rn rm (extend_bits extendop) 1
+held_form op rt (Other (modes.RegExtended rn rm extendop)) =
+    indexed_form op rt rn rm (extend_bits extendop) 0
+held_form op rt (Other (modes.RegScaledExtended rn rm extendop)) =
+    indexed_form op rt rn rm (extend_bits extendop) 1
 held_form op rt (Other (modes.Label label)) = literal_form op rt (literal_words label)
-held_form op rt (Other (modes.SPPreIndexed simm9)) = imm9_form op rt 3 (integer_register 63) simm9.value
-held_form op rt (Other (modes.SPPostIndexed simm9)) = imm9_form op rt 1 (integer_register 63) simm9.value
+held_form op rt (Other (modes.SPPreIndexed simm9)) =
+    imm9_form op rt 3 (integer_register 63) simm9.value
+held_form op rt (Other (modes.SPPostIndexed simm9)) =
+    imm9_form op rt 1 (integer_register 63) simm9.value
 held_form op rt (Other _) = integer.nop4_form
 
 -- the register for offsets that no access holds, and the one for those that no addition holds
@@ -124,14 +141,17 @@ abbrev pub addend_register : Reg
 addend_register = integer_register 17
 
 abbrev pub access_steps : FrameLayout → Access → List Form
-access_steps frame access = step_forms offset_register (final_steps frame (access_type access.op) access.mem)
+access_steps frame access =
+    step_forms offset_register (final_steps frame (access_type access.op) access.mem)
 
 abbrev pub access_form : FrameLayout → Access → Form
-access_form frame access = held_form access.op access.reg (final_mode frame (access_type access.op) access.mem)
+access_form frame access =
+    held_form access.op access.reg (final_mode frame (access_type access.op) access.mem)
 
 -- ---- loads and stores of two registers
 
--- the index of a mode: 2 where the base stays, 3 where the offset is added to it before the access, 1 after it
+-- the index of a mode: 2 where the base stays, 3 where the offset is added to it before the access,
+-- 1 after it
 abbrev pub pair_index : PairAMode → ℕ
 pair_index (pairs.SignedOffset reg simm7) = 2
 pair_index (pairs.SPPreIndexed simm7) = 3
@@ -163,11 +183,13 @@ pair_word_form load idx rn simm7 rt rt2 =
     })
 
 abbrev pub pair_form : ℕ → Reg → Reg → PairAMode → Form
-pair_form load rt rt2 mem = pair_word_form load (pair_index mem) (pair_base mem) (pair_offset mem) rt rt2
+pair_form load rt rt2 mem =
+    pair_word_form load (pair_index mem) (pair_base mem) (pair_offset mem) rt rt2
 
 -- of vector registers, by the field opc: 1 for 64 bits of each, 2 for 128
 unfoldable pub float_pair_form : ℕ → Bool → Reg → Reg → PairAMode → Form
-float_pair_form opc load rt rt2 mem = vector_pair_form opc (pair_index mem) load (pair_offset mem) (pair_base mem) rt rt2
+float_pair_form opc load rt rt2 mem =
+    vector_pair_form opc (pair_index mem) load (pair_offset mem) (pair_base mem) rt rt2
 
 -- ---- addresses
 
@@ -181,11 +203,14 @@ sum_op offset = if is_negative offset then alu.Sub else alu.Add
 
 -- a number as the immediate of an addition: in units of 4096 where it is not below that
 abbrev pub addend : ℕ → Imm12
-addend n = if nat_lt n 4096 then record { bits = n; shift12 = false } else record { bits = n / 4096; shift12 = true }
+addend n =
+    if nat_lt n 4096 then record { bits = n; shift12 = false }
+    else record { bits = n / 4096; shift12 = true }
 
 -- a base and an offset that an addition holds
 abbrev pub addend_form : Reg → Reg → ℤ → Form
-addend_form rd rn offset = integer.alu_rr_imm12_form (sum_op offset) Size64 rd rn (addend (unsigned_abs offset))
+addend_form rd rn offset =
+    integer.alu_rr_imm12_form (sum_op offset) Size64 rd rn (addend (unsigned_abs offset))
 
 -- a base, and an offset in x17
 abbrev pub sum_form : Reg → Reg → ℤ → Form

@@ -1,7 +1,8 @@
 -- Written by `python3 tools/instructions.py` from tables/instructions.txt.
--- The form of each instruction that is one plain word (Arm Architecture Reference Manual, DDI 0487, C4.1, "Data Processing --
--- Immediate", "Data Processing -- Register", "Data Processing -- Scalar Floating-Point and Advanced SIMD", and hints and barriers of
--- "Branches, Exception Generating and System instructions").
+-- The form of each instruction that is one plain word (Arm Architecture Reference Manual, DDI 0487,
+-- C4.1, "Data Processing -- Immediate", "Data Processing -- Register", "Data Processing -- Scalar
+-- Floating-Point and Advanced SIMD", and hints and barriers of "Branches, Exception Generating and
+-- System instructions").
 use Rattle.std.specs.Prelude.{true, false, Option, None, Some}
 use Rattle.a64_base.specs.declared.reg.RegKind.TheVariants.{Real}
 use Rattle.a64_base.specs.declared.size.OperandSize.TheVariants.{Size64}
@@ -20,7 +21,8 @@ use Rattle.a64_enc_int.specs.Registers.{register_field}
 use Rattle.a64_cells.specs.ControlForms as control
 use Rattle.a64_cells.specs.FloatForms as float
 use Rattle.a64_cells.specs.IntegerForms as integer
-use Rattle.a64_cells.specs.IntegerForms.{bfm_opc, bit_opcode, product_form, shifted_form, two_registers}
+use Rattle.a64_cells.specs.IntegerForms.{bfm_opc, bit_opcode, product_form, shifted_form}
+use Rattle.a64_cells.specs.IntegerForms.{two_registers}
 use Rattle.a64_cells.specs.VectorForms as vector
 use Rattle.a64_enc_vec.specs.VectorOperators as operators
 

@@ -15,13 +15,15 @@ use Rattle.a64_cells.specs.IntegerForms as integer
 use Rattle.a64_cells.specs.MemoryForms as memory
 use Rattle.a64_cells.specs.VectorForms as vector
 use Rattle.a64_cells.specs.PlainForms.{plain_form}
-use Rattle.a64_cells.specs.Shapes.{FormOf, Data, Shape, OneWord, Several, Words, plain, last_cell, data_cell}
+use Rattle.a64_cells.specs.Shapes.{FormOf, Data, Shape, OneWord, Several, Words, plain, last_cell}
+use Rattle.a64_cells.specs.Shapes.{data_cell}
 use Rattle.a64_cells.specs.Shapes.{branch, branches, trap_site, address_shape, table_jump}
-use Rattle.a64_cells.specs.Shapes.{got_cells, near_cells, far_cells, probe_forms, vector_select_forms}
+use Rattle.a64_cells.specs.Shapes.{got_cells, near_cells, far_cells, probe_forms}
+use Rattle.a64_cells.specs.Shapes.{vector_select_forms}
 use Rattle.a64_cells.specs.Shapes.{rmw_loop_cells, cas_loop_cells}
 
--- Loads and stores of one register have the shape of their access, calls their words, and neither has one here: what is left at
--- the end has the form of its plain word, if it is one.
+-- Loads and stores of one register have the shape of their access, calls their words, and neither
+-- has one here: what is left at the end has the form of its plain word, if it is one.
 abbrev pub plain_shape : FrameLayout → EmitFlags → Inst → Shape
 plain_shape frame flags (insts.Udf trap_code) =
     Words (last_cell (Data control.udf_word) None (Some trap_code) ∷ [])

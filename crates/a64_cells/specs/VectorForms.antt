@@ -1,10 +1,12 @@
--- The forms of instructions on vectors, and the fields that sizes and immediates give (Arm Architecture Reference Manual,
--- DDI 0487, C4.1, "Data Processing -- Scalar Floating-Point and Advanced SIMD"). PlainForms says which instruction has which.
+-- The forms of instructions on vectors, and the fields that sizes and immediates give (Arm
+-- Architecture Reference Manual, DDI 0487, C4.1, "Data Processing -- Scalar Floating-Point and
+-- Advanced SIMD"). PlainForms says which instruction has which.
 use Rattle.std.specs.Prelude.{ℕ, ◌+◌, ◌-◌, ◌*◌, ◌/◌, ◌%◌, Bool, if◌then◌else◌}
 use Rattle.a64_base.specs.declared.reg.Reg.{Reg}
 use Rattle.a64_base.specs.declared.size.OperandSize.{OperandSize}
 use Rattle.a64_base.specs.declared.size.ScalarSize.{ScalarSize}
-use Rattle.a64_base.specs.declared.size.ScalarSize.TheVariants.{Size8, Size16, Size32, Size64, Size128}
+use Rattle.a64_base.specs.declared.size.ScalarSize.TheVariants.{Size8, Size16, Size32, Size64}
+use Rattle.a64_base.specs.declared.size.ScalarSize.TheVariants.{Size128}
 use Rattle.a64_base.specs.declared.size.VectorSize.{VectorSize}
 use Rattle.a64_base.specs.declared.size.VectorSize.TheVariants.{Size32x4, Size64x2}
 use Rattle.a64_base.specs.OperandSizes.{sf_of}
@@ -22,7 +24,8 @@ use Rattle.a64_enc_int.specs.Registers.{register_field}
 use Rattle.a64_enc_vec.specs.declared.operator.LongFields.{LongFields}
 use Rattle.a64_enc_vec.specs.declared.operator.OpFields.{OpFields}
 use Rattle.a64_enc_vec.specs.declared.operator.ThreeOp.{ThreeOp}
-use Rattle.a64_enc_vec.specs.declared.operator.ThreeOp.TheVariants.{Lanes, Bits, Floats, Permute, Dot}
+use Rattle.a64_enc_vec.specs.declared.operator.ThreeOp.TheVariants.{Lanes, Bits, Floats, Permute}
+use Rattle.a64_enc_vec.specs.declared.operator.ThreeOp.TheVariants.{Dot}
 use Rattle.a64_enc_vec.specs.declared.operator.TwoFields.{TwoFields}
 use Rattle.a64_enc_vec.specs.declared.operator.TwoOp.{TwoOp}
 use Rattle.a64_enc_vec.specs.declared.operator.TwoOp.TheVariants as two
@@ -31,7 +34,9 @@ use Rattle.a64_enc_vec.specs.Shifts.{left_shift_field, shift_field}
 use Rattle.a64_enc_vec.specs.VectorOperators.{element_o2, shift_fields}
 use Rattle.a64_rows.specs.Forms.{Form}
 use Rattle.a64_rows.specs.Memory.{ld_replicate}
-use Rattle.a64_rows.specs.Vectors.{vec_across, vec_copy, vec_dot, vec_elem, vec_ext, vec_imm, vec_ins_elem, vec_long3, vec_permute, vec_scalar_pair, vec_shift, vec_table, vec_three, vec_two}
+use Rattle.a64_rows.specs.Vectors.{vec_across, vec_copy, vec_dot, vec_elem, vec_ext, vec_imm}
+use Rattle.a64_rows.specs.Vectors.{vec_ins_elem, vec_long3, vec_permute, vec_scalar_pair, vec_shift}
+use Rattle.a64_rows.specs.Vectors.{vec_table, vec_three, vec_two}
 
 -- ---- operations on two vectors
 
@@ -62,9 +67,16 @@ three_form (Permute op) size rd rn rm =
       rd = register_field rd;
     })
 three_form (Dot us) size rd rn rm =
-    vec_dot (record { q = q_of size; us = us; rm = register_field rm; rn = register_field rn; rd = register_field rd })
+    vec_dot (record {
+      q = q_of size;
+      us = us;
+      rm = register_field rm;
+      rn = register_field rn;
+      rd = register_field rd;
+    })
 
--- the number of an element: H is its upper bit, or its only one, and L its lower one. Rows for lanes that have none are not read
+-- the number of an element: H is its upper bit, or its only one, and L its lower one. Rows for
+-- lanes that have none are not read
 abbrev pub element_h : VectorSize → ℕ → ℕ
 element_h Size32x4 idx = idx / 2
 element_h Size64x2 idx = idx
@@ -105,9 +117,15 @@ long_product_form fields high rd rn rm =
 -- Advanced SIMD extract, EXT
 abbrev pub extract_form : ℕ → Reg → Reg → Reg → Form
 extract_form imm4 rd rn rm =
-    vec_ext (record { rm = register_field rm; imm4 = imm4; rn = register_field rn; rd = register_field rd })
+    vec_ext (record {
+      rm = register_field rm;
+      imm4 = imm4;
+      rn = register_field rn;
+      rd = register_field rd;
+    })
 
--- Advanced SIMD table lookup, in one register or two: TBL, and TBX, which keeps the bytes that it does not find
+-- Advanced SIMD table lookup, in one register or two: TBL, and TBX, which keeps the bytes that it
+-- does not find
 abbrev pub table_form : Bool → Bool → Reg → Reg → Reg → Form
 table_form two_registers kept rd rn rm =
     vec_table (record {
@@ -172,18 +190,21 @@ shift_form q fields imm7 rd rn =
 
 -- SHL, USHR and SSHR
 abbrev pub lane_shift_form : VecShiftImmOp → VectorSize → ℕ → Reg → Reg → Form
-lane_shift_form op size imm rd rn = shift_form (q_of size) (shift_fields op) (shift_field op size imm) rd rn
+lane_shift_form op size imm rd rn =
+    shift_form (q_of size) (shift_fields op) (shift_field op size imm) rd rn
 
 -- SLI
 abbrev pub kept_shift_form : VectorSize → ℕ → Reg → Reg → Form
-kept_shift_form size imm rd rn = shift_form (q_of size) (record { u = 1; op = 10 }) (left_shift_field size imm) rd rn
+kept_shift_form size imm rd rn =
+    shift_form (q_of size) (record { u = 1; op = 10 }) (left_shift_field size imm) rd rn
 
 -- SXTL and UXTL are SSHLL and USHLL by 0
 abbrev pub extend_fields : VecExtendOp → OpFields
 extend_fields Sxtl = record { u = 0; op = 20 }
 extend_fields Uxtl = record { u = 1; op = 20 }
 
--- the bits of a lane that is extended to one of this size. Its rows for sizes to which none is are not read
+-- the bits of a lane that is extended to one of this size. Its rows for sizes to which none is are
+-- not read
 abbrev pub half_bits : ScalarSize → ℕ
 half_bits Size8 = 0
 half_bits Size16 = 8
@@ -199,7 +220,13 @@ extend_form t high lane rd rn = shift_form (bit_of high) (extend_fields t) (half
 -- Advanced SIMD copy, INS (general)
 abbrev pub insert_form : VectorSize → ℕ → Reg → Reg → Form
 insert_form size idx rd rn =
-    vec_copy (record { q = 1; imm5 = lane_number (lane_of size) idx; op = 3; rn = register_field rn; rd = register_field rd })
+    vec_copy (record {
+      q = 1;
+      imm5 = lane_number (lane_of size) idx;
+      op = 3;
+      rn = register_field rn;
+      rd = register_field rd;
+    })
 
 -- UMOV: of 64 bits to 64, of fewer to 32
 abbrev pub unsigned_move_form : ScalarSize → ℕ → Reg → Reg → Form
@@ -260,14 +287,21 @@ move_element_form size dest_idx src_idx rd rn =
 -- Advanced SIMD modified immediate, whose fields abc and defgh are the immediate's bits
 abbrev pub modified_form : ℕ → ℕ → ℕ → ℕ → Reg → Form
 modified_form q op cmode imm rd =
-    vec_imm (record { q = q; op = op; abc = imm / 32; cmode = cmode; defgh = imm % 32; rd = register_field rd })
+    vec_imm (record {
+      q = q;
+      op = op;
+      abc = imm / 32;
+      cmode = cmode;
+      defgh = imm % 32;
+      rd = register_field rd;
+    })
 
 -- FMOV (vector, immediate)
 abbrev pub dup_float_form : VectorSize → ASIMDFPModImm → Reg → Form
 dup_float_form size imm rd = modified_form (q_of size) (float_field size) 15 imm.imm rd
 
--- MOVI and MVNI, by the size of a lane: the field op, which is 1 for MVNI and for lanes of 64 bits. Its row for a lane of 128 bits
--- is not read, nor is that of cmode
+-- MOVI and MVNI, by the size of a lane: the field op, which is 1 for MVNI and for lanes of 64 bits.
+-- Its row for a lane of 128 bits is not read, nor is that of cmode
 abbrev pub mov_op : ScalarSize → Bool → ℕ
 mov_op Size8 invert = 0
 mov_op Size16 invert = bit_of invert
@@ -285,11 +319,17 @@ mov_cmode Size128 imm = 0
 
 abbrev pub dup_immediate_form : VectorSize → ASIMDMovModImm → Bool → Reg → Form
 dup_immediate_form size imm invert rd =
-    modified_form (q_of size) (mov_op (lane_of size) invert) (mov_cmode (lane_of size) imm) imm.imm rd
+    modified_form (q_of size) (mov_op (lane_of size) invert) (mov_cmode (lane_of size) imm)
+    imm.imm rd
 
 -- ---- loads
 
 -- Advanced SIMD load/store single structure, LD1R
 abbrev pub replicate_form : VectorSize → Reg → Reg → Form
 replicate_form size rt rn =
-    ld_replicate (record { q = q_of size; sz = lane_field size; rn = register_field rn; rt = register_field rt })
+    ld_replicate (record {
+      q = q_of size;
+      sz = lane_field size;
+      rn = register_field rn;
+      rt = register_field rt;
+    })

@@ -4,7 +4,8 @@ use Rattle.std.specs.Prelude.{Bool, true, false}
 use Rattle.a64_inst.specs.declared.inst.Inst.{Inst}
 use Rattle.a64_inst.specs.declared.inst.Inst.TheVariants as insts
 
--- one that always goes to a label, to an address in a register or to another function, or that is none and traps
+-- one that always goes to a label, to an address in a register or to another function, or that is
+-- none and traps
 abbrev pub stops : Inst → Bool
 stops (insts.Udf trap_code) = true
 stops (insts.IndirectBr rn targets) = true

@@ -20,9 +20,12 @@ IsGeneralTest (Cond cond) = Unit {0}
 
 -- the form of a conditional branch over a distance in words
 abbrev pub conditional_form : ℕ → CondBrKind → Form
-conditional_form distance (Zero reg size) = compare_branch (record { sf = sf_of size; nz = 0; imm19 = distance; rt = register_field reg })
-conditional_form distance (NotZero reg size) = compare_branch (record { sf = sf_of size; nz = 1; imm19 = distance; rt = register_field reg })
-conditional_form distance (Cond cond) = branch_cond (record { imm19 = distance; cond = condition_bits cond })
+conditional_form distance (Zero reg size) =
+    compare_branch (record { sf = sf_of size; nz = 0; imm19 = distance; rt = register_field reg })
+conditional_form distance (NotZero reg size) =
+    compare_branch (record { sf = sf_of size; nz = 1; imm19 = distance; rt = register_field reg })
+conditional_form distance (Cond cond) =
+    branch_cond (record { imm19 = distance; cond = condition_bits cond })
 
 -- 1 where a branch on a bit is taken when the bit is set
 abbrev pub nonzero_of : TestBitAndBranchKind → ℕ

@@ -49,7 +49,12 @@ logic_imm_of bits_31_23 f =
 
 -- what the word of a compare and branch has in its fields
 abbrev pub compare_word_fields : ℕ → CompareBranchFields
-compare_word_fields op = record { sf = op / 2 ^ 31; nz = op / 2 ^ 24 % 2; imm19 = op / 2 ^ 5 % 2 ^ 19; rt = op % 2 ^ 5 }
+compare_word_fields op = record {
+  sf = op / 2 ^ 31;
+  nz = op / 2 ^ 24 % 2;
+  imm19 = op / 2 ^ 5 % 2 ^ 19;
+  rt = op % 2 ^ 5;
+}
 
 -- ---- loads and stores
 

@@ -23,7 +23,8 @@ IsGeneral reg = IsOfClass Int reg
 abbrev pub data_class : ℕ → RegClass
 data_class vector = if vector == 1 then Float else Int
 
--- the field that names a register: the lower five bits of its number, which are 31 for the stack pointer too
+-- the field that names a register: the lower five bits of its number, which are 31 for the stack
+-- pointer too
 abbrev pub register_field : Reg → ℕ
 register_field (Real p) = p.number % 32
 register_field (Virtual index class) = 0

@@ -9,7 +9,8 @@ use Rattle.a64_imms.specs.declared.offset.SImm7Scaled.{SImm7Scaled}
 use Rattle.a64_rows.specs.Floats.{fp_compare, fp_select}
 use Rattle.a64_rows.specs.Forms.{Form}
 use Rattle.a64_rows.specs.Memory.{ld_replicate, ld_st_pair}
-use Rattle.a64_rows.specs.Vectors.{vec_across, vec_imm, vec_long3, vec_scalar_pair, vec_table, vec_three, vec_two}
+use Rattle.a64_rows.specs.Vectors.{vec_across, vec_imm, vec_long3, vec_scalar_pair, vec_table}
+use Rattle.a64_rows.specs.Vectors.{vec_three, vec_two}
 use Rattle.a64_enc_int.specs.Named.{rrr_number}
 use Rattle.a64_enc_int.specs.Operators.{bit_of, simm7_field}
 use Rattle.a64_enc_int.specs.Registers.{register_field}
@@ -30,7 +31,8 @@ float_number top22 rd rn rm =
 
 abbrev pub fp_three_form : ℕ → Reg → Reg → Reg → Reg → Form
 fp_three_form top17 rd rn rm ra =
-    fp_three_of top17 (register_field rd) (register_field rn) (register_field rm) (register_field ra)
+    fp_three_of top17 (register_field rd) (register_field rn) (register_field rm)
+    (register_field ra)
 
 abbrev pub fp_int_form : ℕ → Reg → Reg → Form
 fp_int_form top16 rd rn = fp_int_of top16 (register_field rd) (register_field rn)
@@ -120,7 +122,8 @@ vector_misc_form qu size bits_12_16 rd rn =
 
 -- the sum of the two lanes of a vector
 abbrev pub vector_pair_sum_form : Reg → Reg → Form
-vector_pair_sum_form rd rn = vec_scalar_pair (record { rn = register_field rn; rd = register_field rd })
+vector_pair_sum_form rd rn =
+    vec_scalar_pair (record { rn = register_field rn; rd = register_field rd })
 
 -- the sums of neighbouring lanes, each twice as long
 abbrev pub vector_pair_long_form : ℕ → ℕ → Reg → Reg → Form

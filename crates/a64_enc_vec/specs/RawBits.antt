@@ -1,4 +1,5 @@
--- The forms of encoders to which raw bits of the word give some fields, and numbers of registers the others.
+-- The forms of encoders to which raw bits of the word give some fields, and numbers of registers
+-- the others.
 use Rattle.std.specs.Prelude.{ℕ, ◌/◌, ◌%◌, ◌^◌, ◌||◌, ◌==◌, IsTrue}
 use Rattle.a64_rows.specs.Forms.{Form}
 use Rattle.a64_rows.specs.Floats.{fp_int, fp_three}
@@ -16,10 +17,17 @@ fp_three_of top17 rd rn rm ra =
       rd = rd;
     })
 
--- a conversion between a float and an integer, Rd and Rn: the word's bits 31 to 16 give sf, ftype, and rmode and opcode
+-- a conversion between a float and an integer, Rd and Rn: the word's bits 31 to 16 give sf, ftype,
+-- and rmode and opcode
 abbrev pub fp_int_of : ℕ → ℕ → ℕ → Form
 fp_int_of top16 rd rn =
-    fp_int (record { sf = top16 / 2 ^ 15; ftype = top16 / 2 ^ 6 % 2 ^ 2; op = top16 % 2 ^ 5; rn = rn; rd = rd })
+    fp_int (record {
+      sf = top16 / 2 ^ 15;
+      ftype = top16 / 2 ^ 6 % 2 ^ 2;
+      op = top16 % 2 ^ 5;
+      rn = rn;
+      rd = rd;
+    })
 
 -- rmode and opcode of FCVTZS and FCVTZU, whose result is a general register
 abbrev pub IsToInteger : ℕ → Type 0

@@ -1,5 +1,5 @@
--- The fields immh and immb of shifts of lanes by a number, as one (Arm Architecture Reference Manual, DDI 0487, C4.1,
--- "Advanced SIMD shift by immediate").
+-- The fields immh and immb of shifts of lanes by a number, as one (Arm Architecture Reference
+-- Manual, DDI 0487, C4.1, "Advanced SIMD shift by immediate").
 use Rattle.std.specs.Prelude.{ℕ, ◌+◌, ◌-◌, ◌*◌}
 use Rattle.a64_base.specs.declared.size.VectorSize.{VectorSize}
 use Rattle.a64_operand.specs.VectorOperands.{lane_bits}

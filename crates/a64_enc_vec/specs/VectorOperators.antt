@@ -1,8 +1,10 @@
--- What the operators of vector instructions fix of their words (Arm Architecture Reference Manual, DDI 0487, C4.1,
--- "Data Processing -- Scalar Floating-Point and Advanced SIMD"): the row, where it is one of several, and fields.
+-- What the operators of vector instructions fix of their words (Arm Architecture Reference Manual,
+-- DDI 0487, C4.1, "Data Processing -- Scalar Floating-Point and Advanced SIMD"): the row, where it
+-- is one of several, and fields.
 use Rattle.std.specs.Prelude.{ℕ}
 use Rattle.a64_base.specs.declared.size.ScalarSize.{ScalarSize}
-use Rattle.a64_base.specs.declared.size.ScalarSize.TheVariants.{Size8, Size16, Size32, Size64, Size128}
+use Rattle.a64_base.specs.declared.size.ScalarSize.TheVariants.{Size8, Size16, Size32, Size64}
+use Rattle.a64_base.specs.declared.size.ScalarSize.TheVariants.{Size128}
 use Rattle.a64_ops.specs.declared.vector.VecALUModOp.{VecALUModOp}
 use Rattle.a64_ops.specs.declared.vector.VecALUModOp.TheVariants.{Bsl, Fmla, Fmls, Sdot, Usdot}
 use Rattle.a64_ops.specs.declared.vector.VecALUOp.{VecALUOp}
@@ -12,21 +14,26 @@ use Rattle.a64_ops.specs.declared.vector.VecLanesOp.TheVariants.{Addv, Uminv}
 use Rattle.a64_ops.specs.declared.vector.VecMisc2.{VecMisc2}
 use Rattle.a64_ops.specs.declared.vector.VecMisc2.TheVariants as two
 use Rattle.a64_ops.specs.declared.vector.VecRRLongOp.{VecRRLongOp}
-use Rattle.a64_ops.specs.declared.vector.VecRRLongOp.TheVariants.{Fcvtl16, Fcvtl32, Shll8, Shll16, Shll32}
+use Rattle.a64_ops.specs.declared.vector.VecRRLongOp.TheVariants.{Fcvtl16, Fcvtl32, Shll8, Shll16}
+use Rattle.a64_ops.specs.declared.vector.VecRRLongOp.TheVariants.{Shll32}
 use Rattle.a64_ops.specs.declared.vector.VecRRNarrowOp.{VecRRNarrowOp}
-use Rattle.a64_ops.specs.declared.vector.VecRRNarrowOp.TheVariants.{Xtn, Sqxtn, Sqxtun, Uqxtn, Fcvtn}
+use Rattle.a64_ops.specs.declared.vector.VecRRNarrowOp.TheVariants.{Xtn, Sqxtn, Sqxtun, Uqxtn}
+use Rattle.a64_ops.specs.declared.vector.VecRRNarrowOp.TheVariants.{Fcvtn}
 use Rattle.a64_ops.specs.declared.vector.VecRRPairLongOp.{VecRRPairLongOp}
-use Rattle.a64_ops.specs.declared.vector.VecRRPairLongOp.TheVariants.{Saddlp8, Saddlp16, Uaddlp8, Uaddlp16}
+use Rattle.a64_ops.specs.declared.vector.VecRRPairLongOp.TheVariants.{Saddlp8, Saddlp16, Uaddlp8}
+use Rattle.a64_ops.specs.declared.vector.VecRRPairLongOp.TheVariants.{Uaddlp16}
 use Rattle.a64_ops.specs.declared.vector.VecRRRLongModOp.{VecRRRLongModOp}
 use Rattle.a64_ops.specs.declared.vector.VecRRRLongModOp.TheVariants.{Umlal8, Umlal16, Umlal32}
 use Rattle.a64_ops.specs.declared.vector.VecRRRLongOp.{VecRRRLongOp}
-use Rattle.a64_ops.specs.declared.vector.VecRRRLongOp.TheVariants.{Smull8, Smull16, Smull32, Umull8, Umull16, Umull32}
+use Rattle.a64_ops.specs.declared.vector.VecRRRLongOp.TheVariants.{Smull8, Smull16, Smull32, Umull8}
+use Rattle.a64_ops.specs.declared.vector.VecRRRLongOp.TheVariants.{Umull16, Umull32}
 use Rattle.a64_ops.specs.declared.vector.VecShiftImmOp.{VecShiftImmOp}
 use Rattle.a64_ops.specs.declared.vector.VecShiftImmOp.TheVariants.{Shl, Ushr, Sshr}
 use Rattle.a64_enc_vec.specs.declared.operator.LongFields.{LongFields}
 use Rattle.a64_enc_vec.specs.declared.operator.OpFields.{OpFields}
 use Rattle.a64_enc_vec.specs.declared.operator.ThreeOp.{ThreeOp}
-use Rattle.a64_enc_vec.specs.declared.operator.ThreeOp.TheVariants.{Lanes, Bits, Floats, Permute, Dot}
+use Rattle.a64_enc_vec.specs.declared.operator.ThreeOp.TheVariants.{Lanes, Bits, Floats, Permute}
+use Rattle.a64_enc_vec.specs.declared.operator.ThreeOp.TheVariants.{Dot}
 use Rattle.a64_enc_vec.specs.declared.operator.TwoFields.{TwoFields}
 use Rattle.a64_enc_vec.specs.declared.operator.TwoOp.{TwoOp}
 use Rattle.a64_enc_vec.specs.declared.operator.TwoOp.TheVariants as two_ops
@@ -95,7 +102,8 @@ kept_three_op Fmls = Floats 0 25 2
 kept_three_op Sdot = Dot 0
 kept_three_op Usdot = Dot 1
 
--- the field o2 of a product with an element: FMLA (by element) 0, FMLS 1. Its rows for the other operators are not read
+-- the field o2 of a product with an element: FMLA (by element) 0, FMLS 1. Its rows for the other
+-- operators are not read
 abbrev pub element_o2 : VecALUModOp → ℕ
 element_o2 Bsl = 0
 element_o2 Fmla = 0
@@ -175,8 +183,8 @@ pair_long_fields Saddlp16 = record { u = 0; size = 1; op = 2 }
 pair_long_fields Uaddlp8 = record { u = 1; size = 0; op = 2 }
 pair_long_fields Uaddlp16 = record { u = 1; size = 1; op = 2 }
 
--- the field size of an operation whose lanes become half as long, by the lanes that they become. Its rows for lanes that none has
--- are not read
+-- the field size of an operation whose lanes become half as long, by the lanes that they become.
+-- Its rows for lanes that none has are not read
 abbrev pub narrow_size : ScalarSize → ℕ
 narrow_size Size8 = 0
 narrow_size Size16 = 1

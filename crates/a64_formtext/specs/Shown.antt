@@ -32,7 +32,9 @@ IsShown word line = IsShownForm word line ⊎ IsShownData word line
 -- the lines of some words, one behind another
 abbrev pub IsListing : List ℕ → List ℕ → Type 0
 IsListing [] text = text ≡ []
-IsListing (word ∷ words) text = (line : List ℕ) × (rest : List ℕ) × IsShown word line × (text ≡ line ++ codes "\n" ++ rest) × IsListing words rest
+IsListing (word ∷ words) text =
+    (line : List ℕ) × (rest : List ℕ) × IsShown word line × (text ≡ line ++ codes "\n" ++ rest)
+    × IsListing words rest
 
 -- the line is the one as which the word is shown, and no other word is shown as it
 pub record IsOneLine (word : ℕ) (line : List ℕ) : Type 0 where
@@ -64,7 +66,9 @@ says line old new = (word : ℕ) × IsU32 word × IsShown word line × (new ≡ 
 abbrev pub words_of : ShownFile → List ℕ
 words_of file = file.words.items
 
--- the bytes are this file: its lines say these words, and where they are the listing of some words, it is of these
+-- the bytes are this file: its lines say these words, and where they are the listing of some words,
+-- it is of these
 pub record IsShownFile (bytes : List ℕ) (file : ShownFile) : Type 0 where
   pub lines : Lines.IsFile says [] bytes (words_of file)
-  pub back : (words : List ℕ) → AllByRecursion IsU32 words → IsListing words bytes → words_of file ≡ words
+  pub back : (words : List ℕ) → AllByRecursion IsU32 words → IsListing words bytes
+      → words_of file ≡ words

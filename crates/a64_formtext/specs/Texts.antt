@@ -12,7 +12,8 @@ values_of form = Forms.form form.row form.fields.items
 
 -- each field behind a space: its name, an equals sign, and its number
 abbrev pub fields_text : List Field → List ℕ → List ℕ
-fields_text (field ∷ fields) (value ∷ values) = codes " " ++ text_of field.0 ++ codes "=" ++ decimal value ++ fields_text fields values
+fields_text (field ∷ fields) (value ∷ values) =
+    codes " " ++ text_of field.0 ++ codes "=" ++ decimal value ++ fields_text fields values
 fields_text _ _ = []
 
 -- the text of a form

@@ -20,7 +20,8 @@ field_token name value = name ++ 61 ∷ decimal value
 
 -- a token for each field
 abbrev pub field_tokens : List Field → List ℕ → List (List ℕ)
-field_tokens (field ∷ fields) (value ∷ values) = field_token (text_of field.0) value ∷ field_tokens fields values
+field_tokens (field ∷ fields) (value ∷ values) =
+    field_token (text_of field.0) value ∷ field_tokens fields values
 field_tokens _ _ = []
 
 -- as many values as fields, each within the width of its own

@@ -17,11 +17,13 @@ abbrev pub flag_bit : Bool → ℕ
 flag_bit flag = if flag then 1 else 0
 
 abbrev pub nzcv_bits : Flags → ℕ
-nzcv_bits flags = 8 * flag_bit flags.n + 4 * flag_bit flags.z + 2 * flag_bit flags.c + flag_bit flags.v
+nzcv_bits flags =
+    8 * flag_bit flags.n + 4 * flag_bit flags.z + 2 * flag_bit flags.c + flag_bit flags.v
 
 -- `#nzcv`, with a capital for each flag that is set
 abbrev pub nzcv_text : Flags → List ℕ
 nzcv_text flags =
-    codes "#" ++ (if flags.n then codes "N" else codes "n") ++ (if flags.z then codes "Z" else codes "z")
+    codes "#" ++ (if flags.n then codes "N" else codes "n")
+    ++ (if flags.z then codes "Z" else codes "z")
     ++ (if flags.c then codes "C" else codes "c")
     ++ (if flags.v then codes "V" else codes "v")

@@ -1,7 +1,8 @@
 -- Immediates that are floats.
 use Rattle.std.specs.Prelude.{ℕ, ◌≡◌, ◌<◌, ◌+◌, ◌-◌, ◌*◌, ◌/◌, ◌%◌, ◌^◌, List}
 use Rattle.a64_base.specs.declared.size.ScalarSize.{ScalarSize}
-use Rattle.a64_base.specs.declared.size.ScalarSize.TheVariants.{Size8, Size16, Size32, Size64, Size128}
+use Rattle.a64_base.specs.declared.size.ScalarSize.TheVariants.{Size8, Size16, Size32, Size64}
+use Rattle.a64_base.specs.declared.size.ScalarSize.TheVariants.{Size128}
 use Rattle.a64_imms.specs.declared.asimd_fp.ASIMDFPModImm.{ASIMDFPModImm}
 use Rattle.a64_imms.specs.Texts.{pattern_text}
 
@@ -32,12 +33,14 @@ repeats_of Size128 = 0
 -- from the highest bit: a, the complement of b, b repeated, the six bits c to h, and zeros
 abbrev pub pattern_in : ℕ → ℕ → ℕ → ℕ → ℕ → ℕ
 pattern_in width repeats a b rest =
-    a * 2 ^ (width - 1) + (1 - b) * 2 ^ (width - 2) + b * (2 ^ repeats - 1) * 2 ^ (width - 2 - repeats)
+    a * 2 ^ (width - 1) + (1 - b) * 2 ^ (width - 2) + b * (2 ^ repeats - 1) * 2 ^
+    (width - 2 - repeats)
     + rest * 2 ^ (width - 2 - repeats - 6)
 
 -- the bits of a float, of the eight bits a to h
 abbrev pub float_pattern : ScalarSize → ℕ → ℕ
-float_pattern size bits = pattern_in (bits_of size) (repeats_of size) (bits / 128) (bits / 64 % 2) (bits % 64)
+float_pattern size bits =
+    pattern_in (bits_of size) (repeats_of size) (bits / 128) (bits / 64 % 2) (bits % 64)
 
 -- the bits of a value that count
 abbrev pub pattern_at : ScalarSize → ℕ → ℕ

@@ -1,5 +1,6 @@
 -- The laws of the classes of immediates: a field has one value, and the values lie in their sets.
-use Rattle.std.specs.Prelude.{◌≡◌, ℕ, ℤ, pos, negsuc, ◌*ℤ◌, ◌≤ℤ◌, ◌+◌, ◌-◌, ◌*◌, ◌%◌, ◌^◌, ◌<◌, refl}
+use Rattle.std.specs.Prelude.{◌≡◌, ℕ, ℤ, pos, negsuc, ◌*ℤ◌, ◌≤ℤ◌, ◌+◌, ◌-◌, ◌*◌, ◌%◌, ◌^◌, ◌<◌}
+use Rattle.std.specs.Prelude.{refl}
 use Rattle.std.proofs.Common.{sym, ap₂, subst, inl, inr, arith}
 use Rattle.std.specs.Int.RustNames.{unsigned_abs}
 use Rattle.std.proofs.lemmas.Int.{ints}
@@ -21,13 +22,16 @@ same_flags x y same = grind arith
 pub imm12_within : (imm : Imm12) → imm.bits < 4096 → IsImm12Value (imm12_value imm)
 imm12_within imm low = grind arith
 
-pub one_imm12 : (x y : Imm12) → x.bits < 4096 → y.bits < 4096 → imm12_field x ≡ imm12_field y → imm12_value x ≡ imm12_value y
+pub one_imm12 : (x y : Imm12) → x.bits < 4096 → y.bits < 4096 → imm12_field x ≡ imm12_field y
+    → imm12_value x ≡ imm12_value y
 one_imm12 x y low_x low_y same = grind arith
 
-pub one_left : (lane x y : ℕ) → IsLeftShift lane x → IsLeftShift lane y → lane + x ≡ lane + y → x ≡ y
+pub one_left : (lane x y : ℕ) → IsLeftShift lane x → IsLeftShift lane y → lane + x ≡ lane + y
+    → x ≡ y
 one_left lane x y of_x of_y same = omega arith
 
-pub one_right : (lane x y : ℕ) → IsRightShift lane x → IsRightShift lane y → 2 * lane - x ≡ 2 * lane - y → x ≡ y
+pub one_right : (lane x y : ℕ) → IsRightShift lane x → IsRightShift lane y
+    → 2 * lane - x ≡ 2 * lane - y → x ≡ y
 one_right lane x y of_x of_y same =
     let low_x = of_x.at_most in
     let low_y = of_y.at_most in
@@ -36,7 +40,8 @@ one_right lane x y of_x of_y same =
 pub wide_within : (imm : MoveWideConst) → IsWide imm → IsWideValue (wide_value imm)
 wide_within imm lawful = (imm.bits, imm.shift, lawful.bits_fit, lawful.shift_fits, refl)
 
-pub one_wide : (x y : MoveWideConst) → IsWide x → IsWide y → wide_field x ≡ wide_field y → wide_value x ≡ wide_value y
+pub one_wide : (x y : MoveWideConst) → IsWide x → IsWide y → wide_field x ≡ wide_field y
+    → wide_value x ≡ wide_value y
 one_wide x y of_x of_y same =
     let fits_x = of_x.bits_fit in
     let fits_y = of_y.bits_fit in
@@ -45,14 +50,19 @@ one_wide x y of_x of_y same =
     ap₂ (λ (b s : ℕ). b * 2 ^ (16 * s)) bits shift
 
 pub one_offset9 : (x y : ℤ) → IsOffset9 x → IsOffset9 y → residue 512 x ≡ residue 512 y → x ≡ y
-one_offset9 (pos m) (pos n) in_x in_y same = let high_x = in_x.high in let high_y = in_y.high in omega (arith, ints)
-one_offset9 (pos m) (negsuc n) in_x in_y same = let high_x = in_x.high in let low_y = in_y.low in omega (arith, ints)
-one_offset9 (negsuc m) (pos n) in_x in_y same = let low_x = in_x.low in let high_y = in_y.high in omega (arith, ints)
-one_offset9 (negsuc m) (negsuc n) in_x in_y same = let low_x = in_x.low in let low_y = in_y.low in omega (arith, ints)
+one_offset9 (pos m) (pos n) in_x in_y same =
+    let high_x = in_x.high in let high_y = in_y.high in omega (arith, ints)
+one_offset9 (pos m) (negsuc n) in_x in_y same =
+    let high_x = in_x.high in let low_y = in_y.low in omega (arith, ints)
+one_offset9 (negsuc m) (pos n) in_x in_y same =
+    let low_x = in_x.low in let high_y = in_y.high in omega (arith, ints)
+one_offset9 (negsuc m) (negsuc n) in_x in_y same =
+    let low_x = in_x.low in let low_y = in_y.low in omega (arith, ints)
 
 -- offsets in units of a scale that have one field are one
 HasOneUnit : ℕ → Type 0
-HasOneUnit scale = (x y : ℤ) → (negsuc 63 *ℤ pos scale) ≤ℤ x → x ≤ℤ pos (63 * scale) → unsigned_abs x % scale ≡ 0
+HasOneUnit scale =
+    (x y : ℤ) → (negsuc 63 *ℤ pos scale) ≤ℤ x → x ≤ℤ pos (63 * scale) → unsigned_abs x % scale ≡ 0
     → (negsuc 63 *ℤ pos scale) ≤ℤ y → y ≤ℤ pos (63 * scale) → unsigned_abs y % scale ≡ 0
     → residue 128 (floor_div x scale) ≡ residue 128 (floor_div y scale) → x ≡ y
 
@@ -88,8 +98,11 @@ units_of ty scale = elim scale [
     at : (known : IrType) → known ≡ ty → HasOneUnit (type_bytes known) → HasOneUnit (type_bytes ty)
     at known is law = subst (λ t. HasOneUnit (type_bytes t)) is law
 
-pub one_pair_offset : (scale_ty : IrType) (x y : ℤ) → IsPairOffset scale_ty x → IsPairOffset scale_ty y
-    → residue 128 (floor_div x (type_bytes scale_ty)) ≡ residue 128 (floor_div y (type_bytes scale_ty)) → x ≡ y
+pub one_pair_offset : (scale_ty : IrType) (x y : ℤ) → IsPairOffset scale_ty x
+    → IsPairOffset scale_ty y
+    → residue 128 (floor_div x (type_bytes scale_ty))
+    ≡ residue 128 (floor_div y (type_bytes scale_ty)) → x ≡ y
 unfolding HasOneUnit
 one_pair_offset scale_ty x y in_x in_y same =
-    units_of scale_ty in_x.scale x y in_x.low in_x.high in_x.multiple in_y.low in_y.high in_y.multiple same
+    units_of scale_ty in_x.scale x y in_x.low in_x.high in_x.multiple in_y.low in_y.high
+    in_y.multiple same

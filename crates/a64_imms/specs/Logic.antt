@@ -1,12 +1,15 @@
 -- Immediates of logical instructions: the numbers of rotated runs.
-use Rattle.std.specs.Prelude.{ℕ, ◌≡◌, ◌+◌, ◌-◌, ◌*◌, ◌%◌, ◌^◌, Bool, true, false, ◌&&◌, nat_eq, nat_lt, if◌then◌else◌, Option, None, Some, option_map, option_and_then}
+use Rattle.std.specs.Prelude.{ℕ, ◌≡◌, ◌+◌, ◌-◌, ◌*◌, ◌%◌, ◌^◌, Bool, true, false, ◌&&◌, nat_eq}
+use Rattle.std.specs.Prelude.{nat_lt, if◌then◌else◌, Option, None, Some, option_map}
+use Rattle.std.specs.Prelude.{option_and_then}
 use Rattle.a64_base.specs.declared.ir_type.IrType.{IrType}
 use Rattle.a64_base.specs.declared.ir_type.IrType.TheVariants.{I32, I64}
 use Rattle.a64_base.specs.declared.size.OperandSize.{OperandSize}
 use Rattle.a64_base.specs.declared.size.OperandSize.TheVariants.{Size32, Size64}
 use Rattle.a64_imms.specs.declared.imm_logic.ImmLogic.{ImmLogic}
 use Rattle.a64_imms.specs.declared.run.Period.{Period}
-use Rattle.a64_imms.specs.declared.run.Period.TheVariants.{Two, Four, Eight, Sixteen, ThirtyTwo, SixtyFour}
+use Rattle.a64_imms.specs.declared.run.Period.TheVariants.{Two, Four, Eight, Sixteen, ThirtyTwo}
+use Rattle.a64_imms.specs.declared.run.Period.TheVariants.{SixtyFour}
 use Rattle.a64_imms.specs.declared.run.Run.{Run}
 use Rattle.a64_imms.specs.Runs.{prefix, copies, number, IsRun, is_run, opposite, run_of}
 
@@ -95,14 +98,26 @@ period_in false s =
 
 -- the run that N, R and S tell
 abbrev pub run_in : ImmLogic → Run
-run_in imm = let period = period_in imm.n imm.s in record { period = period; ones = imm.s - prefix period + 1; turn = imm.r }
+run_in imm =
+    let period = period_in imm.n imm.s in record {
+      period = period;
+      ones = imm.s - prefix period + 1;
+      turn = imm.r;
+    }
 
 -- the test of that: N, R and S tell the run whose number is seen
 unfoldable pub is_imm_logic : ImmLogic → Bool
-is_imm_logic imm = is_run (run_in imm) && nat_eq (number (run_in imm)) (seen imm.size (logic_value imm))
+is_imm_logic imm =
+    is_run (run_in imm) && nat_eq (number (run_in imm)) (seen imm.size (logic_value imm))
 
 -- the immediate of the complement, whose run is the opposite one
 unfoldable pub inverted : ImmLogic → ImmLogic
 inverted imm =
     let run = opposite (run_in imm) in
-    record { value = 2 ^ 64 - 1 - logic_value imm; n = is_widest run.period; r = run.turn; s = prefix run.period + (run.ones - 1); size = imm.size }
+    record {
+      value = 2 ^ 64 - 1 - logic_value imm;
+      n = is_widest run.period;
+      r = run.turn;
+      s = prefix run.period + (run.ones - 1);
+      size = imm.size;
+    }

@@ -1,8 +1,10 @@
 -- Immediates of vector moves.
-use Rattle.std.specs.Prelude.{ℕ, ◌≡◌, ◌<◌, ◌+◌, ◌-◌, ◌*◌, ◌/◌, ◌%◌, ◌^◌, ◌==◌, ◌⊎◌, Bool, true, false, IsTrue, if◌then◌else◌, List, [], ◌∷◌, ◌++◌, codes}
+use Rattle.std.specs.Prelude.{ℕ, ◌≡◌, ◌<◌, ◌+◌, ◌-◌, ◌*◌, ◌/◌, ◌%◌, ◌^◌, ◌==◌, ◌⊎◌, Bool, true}
+use Rattle.std.specs.Prelude.{false, IsTrue, if◌then◌else◌, List, [], ◌∷◌, ◌++◌, codes}
 use Rattle.std.specs.Int.{w64, from_le_bytes}
 use Rattle.a64_base.specs.declared.size.ScalarSize.{ScalarSize}
-use Rattle.a64_base.specs.declared.size.ScalarSize.TheVariants.{Size8, Size16, Size32, Size64, Size128}
+use Rattle.a64_base.specs.declared.size.ScalarSize.TheVariants.{Size8, Size16, Size32, Size64}
+use Rattle.a64_base.specs.declared.size.ScalarSize.TheVariants.{Size128}
 use Rattle.a64_imms.specs.declared.asimd_mov.ASIMDMovModImm.{ASIMDMovModImm}
 use Rattle.a64_imms.specs.Texts.{number_text}
 
@@ -16,7 +18,8 @@ byte_of bits place = if bits / 2 ^ place % 2 == 1 then 0xff else 0
 unfoldable pub spread : ℕ → ℕ
 spread bits =
     from_le_bytes w64
-    (byte_of bits 0 ∷ byte_of bits 1 ∷ byte_of bits 2 ∷ byte_of bits 3 ∷ byte_of bits 4 ∷ byte_of bits 5 ∷ byte_of bits 6 ∷ byte_of bits 7 ∷ [])
+    (byte_of bits 0 ∷ byte_of bits 1 ∷ byte_of bits 2 ∷ byte_of bits 3 ∷ byte_of bits 4
+    ∷ byte_of bits 5 ∷ byte_of bits 6 ∷ byte_of bits 7 ∷ [])
 
 -- ---- up to 32 bits
 
@@ -66,7 +69,8 @@ pub record HoldsForm (form : Form) (number : ℕ) (imm : ASIMDMovModImm) : Type 
 -- the immediate has the first of the forms that the number has
 abbrev pub IsFirst : List Form → ℕ → ASIMDMovModImm → Type 0
 IsFirst [] number imm = ⊥
-IsFirst (form ∷ forms) number imm = HoldsForm form number imm ⊎ ((¬ HasForm form number) × IsFirst forms number imm)
+IsFirst (form ∷ forms) number imm =
+    HoldsForm form number imm ⊎ ((¬ HasForm form number) × IsFirst forms number imm)
 
 -- ---- all sizes
 
@@ -153,4 +157,6 @@ HasMovFields imm = IsTrue imm.is_64bit → imm.shift ≡ 0
 abbrev pub mov_text : ASIMDMovModImm → List ℕ
 mov_text imm =
     if imm.is_64bit then number_text (spread imm.imm)
-    else number_text imm.imm ++ (if imm.shift == 0 then [] else (if imm.shift_ones then codes ", MSL " else codes ", LSL ") ++ number_text imm.shift)
+    else number_text imm.imm
+    ++ (if imm.shift == 0 then []
+    else (if imm.shift_ones then codes ", MSL " else codes ", LSL ") ++ number_text imm.shift)

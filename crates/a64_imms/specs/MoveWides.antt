@@ -1,12 +1,14 @@
 -- 16 bits at one of the four halfwords of a register.
-use Rattle.std.specs.Prelude.{ℕ, ◌≡◌, ◌<◌, ◌≤◌, ◌+◌, ◌*◌, ◌/◌, ◌%◌, ◌^◌, ◌==◌, nat_eq, if◌then◌else◌, Option, List, [], ◌++◌, codes, find, map}
+use Rattle.std.specs.Prelude.{ℕ, ◌≡◌, ◌<◌, ◌≤◌, ◌+◌, ◌*◌, ◌/◌, ◌%◌, ◌^◌, ◌==◌, nat_eq}
+use Rattle.std.specs.Prelude.{if◌then◌else◌, Option, List, [], ◌++◌, codes, find, map}
 use Rattle.std.specs.List.{range_with_len}
 use Rattle.a64_imms.specs.declared.move_wide.MoveWideConst.{MoveWideConst}
 use Rattle.a64_imms.specs.Texts.{number_text}
 
 -- at most one halfword is not zero
 abbrev pub IsWideValue : ℕ → Type 0
-IsWideValue value = (bits shift : ℕ) × (bits < 2 ^ 16) × (shift ≤ 3) × (bits * 2 ^ (16 * shift) ≡ value)
+IsWideValue value =
+    (bits shift : ℕ) × (bits < 2 ^ 16) × (shift ≤ 3) × (bits * 2 ^ (16 * shift) ≡ value)
 
 abbrev pub wide_value : MoveWideConst → ℕ
 wide_value imm = imm.bits * 2 ^ (16 * imm.shift)
@@ -35,8 +37,11 @@ wide_at value k = record { bits = halfword k value; shift = k }
 
 -- the immediate of a value: its lowest halfword that is all of it
 unfoldable pub wide_of : ℕ → Option MoveWideConst
-wide_of value = find (λ imm. nat_eq (wide_value imm) value) (map (wide_at value) (range_with_len 0 4))
+wide_of value =
+    find (λ imm. nat_eq (wide_value imm) value) (map (wide_at value) (range_with_len 0 4))
 
 -- `#` and the bits, then the shift in bits where it is not 0
 abbrev pub wide_text : MoveWideConst → List ℕ
-wide_text imm = number_text imm.bits ++ (if imm.shift == 0 then [] else codes ", LSL " ++ number_text (16 * imm.shift))
+wide_text imm =
+    number_text imm.bits
+    ++ (if imm.shift == 0 then [] else codes ", LSL " ++ number_text (16 * imm.shift))

@@ -1,5 +1,6 @@
 -- Offsets in addressing modes.
-use Rattle.std.specs.Prelude.{ℕ, ℤ, pos, negsuc, ◌≡◌, ◌≤◌, ◌≤ℤ◌, ◌*ℤ◌, ◌-◌, ◌*◌, ◌/◌, ◌%◌, ◌^◌, nat_lt, if◌then◌else◌}
+use Rattle.std.specs.Prelude.{ℕ, ℤ, pos, negsuc, ◌≡◌, ◌≤◌, ◌≤ℤ◌, ◌*ℤ◌, ◌-◌, ◌*◌, ◌/◌, ◌%◌, ◌^◌}
+use Rattle.std.specs.Prelude.{nat_lt, if◌then◌else◌}
 use Rattle.std.specs.Int.RustNames.{unsigned_abs}
 use Rattle.a64_base.specs.declared.ir_type.IrType.{IrType}
 use Rattle.a64_imms.specs.Scales.{type_bytes, IsPairScale}
@@ -11,7 +12,8 @@ residue m (negsuc n) = m - 1 - n % m
 
 -- a field of so many bits, read as a signed number
 abbrev pub signed : ℕ → ℕ → ℤ
-signed bits field = if nat_lt field (2 ^ (bits - 1)) then pos field else negsuc (2 ^ bits - 1 - field)
+signed bits field =
+    if nat_lt field (2 ^ (bits - 1)) then pos field else negsuc (2 ^ bits - 1 - field)
 
 -- a quotient, rounded down
 abbrev pub floor_div : ℤ → ℕ → ℤ

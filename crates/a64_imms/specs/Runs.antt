@@ -1,8 +1,10 @@
 -- Rotated runs of ones: the numbers that logical instructions can hold.
-use Rattle.std.specs.Prelude.{ℕ, zero, suc, ◌<◌, ◌+◌, ◌-◌, ◌*◌, ◌/◌, ◌%◌, ◌^◌, Bool, ◌&&◌, nat_lt, nat_eq, Option, List, [], ◌∷◌, find, map, flat_map}
+use Rattle.std.specs.Prelude.{ℕ, zero, suc, ◌<◌, ◌+◌, ◌-◌, ◌*◌, ◌/◌, ◌%◌, ◌^◌, Bool, ◌&&◌, nat_lt}
+use Rattle.std.specs.Prelude.{nat_eq, Option, List, [], ◌∷◌, find, map, flat_map}
 use Rattle.std.specs.List.{range_with_len}
 use Rattle.a64_imms.specs.declared.run.Period.{Period}
-use Rattle.a64_imms.specs.declared.run.Period.TheVariants.{Two, Four, Eight, Sixteen, ThirtyTwo, SixtyFour}
+use Rattle.a64_imms.specs.declared.run.Period.TheVariants.{Two, Four, Eight, Sixteen, ThirtyTwo}
+use Rattle.a64_imms.specs.declared.run.Period.TheVariants.{SixtyFour}
 use Rattle.a64_imms.specs.declared.run.Run.{Run}
 
 -- the number of bits of a period
@@ -44,13 +46,18 @@ pub record IsRun (run : Run) : Type 0 where
 
 -- the test of that
 abbrev pub is_run : Run → Bool
-is_run run = nat_lt 0 run.ones && (nat_lt run.ones (width run.period) && nat_lt run.turn (width run.period))
+is_run run =
+    nat_lt 0 run.ones && (nat_lt run.ones (width run.period) && nat_lt run.turn (width run.period))
 
 -- the zeros of a run as ones: the run of the complement
 abbrev pub opposite : Run → Run
 opposite run =
     let bits = width run.period in
-    record { period = run.period; ones = bits - run.ones; turn = (run.turn + (bits - run.ones)) % bits }
+    record {
+      period = run.period;
+      ones = bits - run.ones;
+      turn = (run.turn + (bits - run.ones)) % bits;
+    }
 
 -- the number of a run: its ones, rotated right, and repeated to 64 bits
 unfoldable pub number : Run → ℕ
@@ -58,7 +65,8 @@ number run = let bits = width run.period in repeated bits (rotated bits run.turn
 
 -- words of every period, with up to 63 ones and turned by less than 64: among them are all runs
 abbrev pub turns_of : Period → ℕ → List Run
-turns_of period ones = map (λ turn. record { period = period; ones = ones; turn = turn }) (range_with_len 0 64)
+turns_of period ones =
+    map (λ turn. record { period = period; ones = ones; turn = turn }) (range_with_len 0 64)
 
 abbrev pub words_of : Period → List Run
 words_of period = flat_map (turns_of period) (range_with_len 0 64)
@@ -66,7 +74,8 @@ words_of period = flat_map (turns_of period) (range_with_len 0 64)
 abbrev pub periods : List Period
 periods = Two ∷ Four ∷ Eight ∷ Sixteen ∷ ThirtyTwo ∷ SixtyFour ∷ []
 
--- the run with this number, by trying all of them. No program does that; it only says which run it is.
+-- the run with this number, by trying all of them. No program does that; it only says which run it
+-- is.
 unfoldable pub run_of : ℕ → Option Run
 run_of value = find (λ run. is_run run && nat_eq (number run) value) (flat_map words_of periods)
 

@@ -13,10 +13,13 @@ exact n d none = omega (arith, div-add-mod' n d)
 
 pub scaled_offset_within : (scale_ty : IrType) (imm : UImm12Scaled) → uimm12_scale imm ≡ scale_ty
     → IsScaledOffset scale_ty (pos (uimm12_value imm))
-scaled_offset_within scale_ty imm is = subst (λ ty. IsScaledOffset ty (pos (uimm12_value imm))) is imm.in_set
+scaled_offset_within scale_ty imm is =
+    subst (λ ty. IsScaledOffset ty (pos (uimm12_value imm))) is imm.in_set
 
-pub one_scaled_offset : (scale_ty : IrType) (x y : UImm12Scaled) → uimm12_scale x ≡ scale_ty → uimm12_scale y ≡ scale_ty
-    → uimm12_value x / type_bytes scale_ty ≡ uimm12_value y / type_bytes scale_ty → pos (uimm12_value x) ≡ pos (uimm12_value y)
+pub one_scaled_offset : (scale_ty : IrType) (x y : UImm12Scaled) → uimm12_scale x ≡ scale_ty
+    → uimm12_scale y ≡ scale_ty
+    → uimm12_value x / type_bytes scale_ty ≡ uimm12_value y / type_bytes scale_ty
+    → pos (uimm12_value x) ≡ pos (uimm12_value y)
 one_scaled_offset scale_ty x y of_x of_y same =
     let bytes = type_bytes scale_ty in
     let back_x = exact (uimm12_value x) bytes (scaled_offset_within scale_ty x of_x).multiple in

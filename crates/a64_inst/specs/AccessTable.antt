@@ -4,7 +4,8 @@ use Rattle.std.specs.Prelude.{Option, Some, None}
 use Rattle.a64_base.specs.declared.entity.TrapCode.{TrapCode}
 use Rattle.a64_base.specs.declared.reg.Reg.{Reg}
 use Rattle.a64_base.specs.declared.ir_type.IrType.{IrType}
-use Rattle.a64_base.specs.declared.ir_type.IrType.TheVariants.{I8, I16, I32, I64, F16, F32, F64, I8X16}
+use Rattle.a64_base.specs.declared.ir_type.IrType.TheVariants.{I8, I16, I32, I64, F16, F32, F64}
+use Rattle.a64_base.specs.declared.ir_type.IrType.TheVariants.{I8X16}
 use Rattle.a64_ops.specs.declared.access.AccessOp.{AccessOp}
 use Rattle.a64_ops.specs.declared.access.AccessOp.TheVariants as ops
 use Rattle.a64_inst.specs.declared.access.Access.{Access}
@@ -34,7 +35,8 @@ access_type ops.FpuStore32 = F32
 access_type ops.FpuStore64 = F64
 access_type ops.FpuStore128 = I8X16
 
--- a load or a store of one register as its operator, its register, its address and what is known of it
+-- a load or a store of one register as its operator, its register, its address and what is known of
+-- it
 abbrev pub access_of : Inst → Option Access
 access_of (insts.ULoad8 rd mem flags) =
     Some (record { op = ops.ULoad8; reg = rd; mem = mem; flags = flags })

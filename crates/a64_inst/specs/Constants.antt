@@ -15,8 +15,8 @@ use Rattle.a64_inst.specs.declared.inst.Inst.{Inst}
 use Rattle.a64_inst.specs.declared.inst.Inst.TheVariants.{MovWide, MovK, AluRRImmLogic}
 use Rattle.a64_inst.specs.Faults.{inst_fault}
 
--- a step as an instruction into a register. A movk keeps the rest of the register itself, and an orr
--- takes the zero register.
+-- a step as an instruction into a register. A movk keeps the rest of the register itself, and an
+-- orr takes the zero register.
 abbrev pub step_into : Reg → ConstStep → Inst
 step_into rd (steps.MovZ imm size) = MovWide wide.MovZ rd imm size
 step_into rd (steps.MovN imm size) = MovWide wide.MovN rd imm size
@@ -26,5 +26,6 @@ step_into rd (steps.Orr imm) = AluRRImmLogic alu.Orr imm.size rd (integer_regist
 -- no instruction has a fault of its own, under any frame and settings
 abbrev pub HaveNoFault : List Inst → Type 0
 HaveNoFault insts =
-    (frame : FrameLayout) (flags : EmitFlags) (constants : FinMap nat_cmp (List ℕ)) (virtuals : VirtualRegisters)
+    (frame : FrameLayout) (flags : EmitFlags) (constants : FinMap nat_cmp (List ℕ))
+    (virtuals : VirtualRegisters)
     → All (λ inst. inst_fault frame flags constants virtuals inst ≡ None) insts

@@ -23,9 +23,13 @@ is_test virtuals (NotZero reg size) = is_register_or_zero virtuals reg
 is_test virtuals (Cond cond) = true
 
 -- behind the conditional branch stands a jump
-unfoldable pub are_cond_br_operands : VirtualRegisters → BranchTarget → BranchTarget → CondBrKind → Bool
-are_cond_br_operands virtuals taken not_taken kind = is_target (2 ^ 20) taken && are_jump_operands not_taken && is_test virtuals kind
+unfoldable pub are_cond_br_operands : VirtualRegisters → BranchTarget → BranchTarget → CondBrKind
+    → Bool
+are_cond_br_operands virtuals taken not_taken kind =
+    is_target (2 ^ 20) taken && are_jump_operands not_taken && is_test virtuals kind
 
-unfoldable pub are_test_bit_operands : VirtualRegisters → BranchTarget → BranchTarget → Reg → ℕ → Bool
+unfoldable pub are_test_bit_operands : VirtualRegisters → BranchTarget → BranchTarget → Reg → ℕ
+    → Bool
 are_test_bit_operands virtuals taken not_taken rn bit =
-    is_target (2 ^ 15) taken && are_jump_operands not_taken && is_register_or_zero virtuals rn && nat_lt bit 64
+    is_target (2 ^ 15) taken && are_jump_operands not_taken && is_register_or_zero virtuals rn
+    && nat_lt bit 64

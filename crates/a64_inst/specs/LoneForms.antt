@@ -15,7 +15,8 @@ use Rattle.a64_inst.specs.declared.mode.AMode.TheVariants as modes
 use Rattle.a64_inst.specs.declared.mode.MemLabel.{MemLabel}
 use Rattle.a64_inst.specs.declared.mode.MemLabel.TheVariants.{PCRel, Mach, Pool}
 use Rattle.a64_inst.specs.AccessTable.{access_type}
-use Rattle.a64_inst.specs.FinalModes.{FinalMode, SignedOffset, ScaledOffset, Other, final_mode, needs_x16}
+use Rattle.a64_inst.specs.FinalModes.{FinalMode, SignedOffset, ScaledOffset, Other, final_mode}
+use Rattle.a64_inst.specs.FinalModes.{needs_x16}
 use Rattle.a64_inst.specs.MemoryOperands.{is_addend}
 use Rattle.a64_operand.specs.Operands.{is_other_register}
 
@@ -37,12 +38,14 @@ is_no_use _ = true
 
 -- an access without steps before it
 abbrev pub is_lone_access : FrameLayout → Access → Bool
-is_lone_access frame access = is_no_use access.mem && not (needs_x16 frame (access_type access.op) access.mem)
+is_lone_access frame access =
+    is_no_use access.mem && not (needs_x16 frame (access_type access.op) access.mem)
 
--- the sum of a base and an offset is nothing where they are the result already, and more than one word where no addition holds
--- the offset
+-- the sum of a base and an offset is nothing where they are the result already, and more than one
+-- word where no addition holds the offset
 abbrev pub is_lone_sum : Reg → Reg → ℤ → Bool
-is_lone_sum rd rn offset = if int_eq offset (pos 0) then is_other_register rd rn else is_addend (unsigned_abs offset)
+is_lone_sum rd rn offset =
+    if int_eq offset (pos 0) then is_other_register rd rn else is_addend (unsigned_abs offset)
 
 abbrev pub is_lone_address : Reg → Bool → FinalMode → Bool
 is_lone_address rd steps (SignedOffset rn offset) = is_lone_sum rd rn offset
@@ -53,7 +56,8 @@ is_lone_address rd steps (Other _) = false
 abbrev pub is_lone_mode : Reg → FrameLayout → AMode → Bool
 is_lone_mode rd frame mem = is_lone_address rd (needs_x16 frame I8 mem) (final_mode frame I8 mem)
 
--- a return that authenticates its address in the same word: by the stack pointer, where no hint is asked for
+-- a return that authenticates its address in the same word: by the stack pointer, where no hint is
+-- asked for
 abbrev pub is_lone_return : APIKey → Bool → Bool
 is_lone_return ASP false = true
 is_lone_return BSP false = true

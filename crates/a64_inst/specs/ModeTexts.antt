@@ -1,5 +1,6 @@
 -- Addressing modes in listings.
-use Rattle.std.specs.Prelude.{ℕ, zero, ℤ, pos, ◌≡◌, ◌==◌, Bool, true, false, if◌then◌else◌, List, [], ◌++◌, codes}
+use Rattle.std.specs.Prelude.{ℕ, zero, ℤ, pos, ◌≡◌, ◌==◌, Bool, true, false, if◌then◌else◌, List}
+use Rattle.std.specs.Prelude.{[], ◌++◌, codes}
 use Rattle.std.specs.Fmt.{decimal, signed_decimal}
 use Rattle.a64_base.specs.declared.reg.Reg.{Reg}
 use Rattle.a64_base.specs.declared.shift.ExtendOp.{ExtendOp}
@@ -68,13 +69,17 @@ index_front base size index = codes "[" ++ (base_text base ++ (codes ", " ++ siz
 
 -- the same of an index that is extended, with the extension
 abbrev pub extended_front : Reg → Reg → ExtendOp → List ℕ
-extended_front base index extendop = index_front base (index_size extendop) index ++ (codes ", " ++ extend_name extendop)
+extended_front base index extendop =
+    index_front base (index_size extendop) index ++ (codes ", " ++ extend_name extendop)
 
--- another mode, of an access of so many bytes. The five with an offset of 64 bits have no text: they stand in no instruction.
+-- another mode, of an access of so many bytes. The five with an offset of 64 bits have no text:
+-- they stand in no instruction.
 abbrev pub other_text : ℕ → AMode → List ℕ
 other_text bytes (modes.RegReg rn rm) = index_front rn Size64 rm ++ codes "]"
-other_text bytes (modes.RegScaled rn rm) = index_front rn Size64 rm ++ (codes ", LSL " ++ (number_text (unit_shift bytes) ++ codes "]"))
-other_text bytes (modes.RegScaledExtended rn rm extendop) = extended_front rn rm extendop ++ (codes " " ++ (number_text (unit_shift bytes) ++ codes "]"))
+other_text bytes (modes.RegScaled rn rm) =
+    index_front rn Size64 rm ++ (codes ", LSL " ++ (number_text (unit_shift bytes) ++ codes "]"))
+other_text bytes (modes.RegScaledExtended rn rm extendop) =
+    extended_front rn rm extendop ++ (codes " " ++ (number_text (unit_shift bytes) ++ codes "]"))
 other_text bytes (modes.RegExtended rn rm extendop) = extended_front rn rm extendop ++ codes "]"
 other_text bytes (modes.Label label) = label_text label
 other_text bytes (modes.SPPreIndexed simm9) = pre_text simm9.value

@@ -1,5 +1,6 @@
 -- Written by `python3 tools/instructions.py` from tables/instructions.txt.
--- What must hold of the operands of an instruction that is no call, and no load or store of one register.
+-- What must hold of the operands of an instruction that is no call, and no load or store of one
+-- register.
 use Rattle.std.specs.Prelude.{Bool, true, ◌&&◌}
 use Rattle.a64_base.specs.declared.ir_type.IrType.TheVariants.{F64, I8X16}
 use Rattle.a64_inst.specs.declared.emission.EmitFlags.{EmitFlags}
@@ -78,4 +79,5 @@ module _ (frame : FrameLayout) (flags : EmitFlags) (virtuals : VirtualRegisters)
   has_plain_operands (insts.AtomicRMW ty op rs rt rn flags) =
       atomic.are_rmw_operands virtuals ty rs rt rn
   has_plain_operands (insts.LoadAddr rd mem) = memory.are_address_operands frame virtuals rd mem
-  has_plain_operands inst = is_plain (group_of inst) && fields_fit virtuals (sheet inst) (has_rest virtuals inst)
+  has_plain_operands inst =
+      is_plain (group_of inst) && fields_fit virtuals (sheet inst) (has_rest virtuals inst)

@@ -14,6 +14,8 @@ is_plain _ = false
 -- the registers are of their classes, and the rest holds
 abbrev pub fields_fit : VirtualRegisters → List Field → Bool → Bool
 fields_fit virtuals [] rest = rest
-fields_fit virtuals (Def class reg ∷ others) rest = is_of virtuals class reg && fields_fit virtuals others rest
-fields_fit virtuals (Use class reg ∷ others) rest = is_of virtuals class reg && fields_fit virtuals others rest
+fields_fit virtuals (Def class reg ∷ others) rest =
+    is_of virtuals class reg && fields_fit virtuals others rest
+fields_fit virtuals (Use class reg ∷ others) rest =
+    is_of virtuals class reg && fields_fit virtuals others rest
 fields_fit virtuals (Is operand ∷ others) rest = fields_fit virtuals others rest

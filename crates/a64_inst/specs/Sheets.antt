@@ -1,6 +1,6 @@
 -- Written by `python3 tools/instructions.py` from tables/instructions.txt.
--- The fields of each instruction that is one plain word, in the order of a file, and what must hold of them (Arm
--- Architecture Reference Manual, C6.2 and C7.2).
+-- The fields of each instruction that is one plain word, in the order of a file, and what must hold
+-- of them (Arm Architecture Reference Manual, C6.2 and C7.2).
 use Rattle.std.specs.Prelude.{Bool, true, List, [], ◌∷◌, nat_lt}
 use Rattle.a64_base.specs.ScalarSizes.{has_ftype}
 use Rattle.a64_operand.specs.declared.class.Class.TheVariants.{Zero, Stack, Vector, Own}

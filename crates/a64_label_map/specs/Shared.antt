@@ -1,5 +1,6 @@
 -- A map from numbers as a table and a tree.
-use Rattle.std.specs.Prelude.{ℕ, suc, ◌≡◌, ◌+◌, ◌*◌, ◌^◌, ◌<◌, ◌≤◌, List, [], ◌∷◌, ◌++◌, length, Option, None, Some}
+use Rattle.std.specs.Prelude.{ℕ, suc, ◌≡◌, ◌+◌, ◌*◌, ◌^◌, ◌<◌, ◌≤◌, List, [], ◌∷◌, ◌++◌, length}
+use Rattle.std.specs.Prelude.{Option, None, Some}
 use Rattle.std.specs.Ordering.{nat_cmp}
 use Rattle.std.specs.FinMap.{FinMap, from_entries, get, len}
 use Rattle.std.specs.BTreeMap as tree
@@ -20,9 +21,10 @@ pub record AreShared {X : Type 0} (table : List (Option X)) (others : BTreeMap �
   pub short : length table ≤ 2 ^ 32
   pub apart : (number : ℕ) → number < length table → tree.get nat_cmp others number ≡ None
 
--- and the table is not much longer than the map, and the numbers that are expected besides. Each number has
--- 32 bits, so there are 2 ^ 32 of them at most
-pub record IsBalanced {X : Type 0} (table : List (Option X)) (others : BTreeMap ℕ X) (count expected : ℕ) : Type 0 where
+-- and the table is not much longer than the map, and the numbers that are expected besides. Each
+-- number has 32 bits, so there are 2 ^ 32 of them at most
+pub record IsBalanced {X : Type 0} (table : List (Option X)) (others : BTreeMap ℕ X)
+    (count expected : ℕ) : Type 0 where
   pub shared : AreShared table others
   pub counted : count ≤ len (whole table others)
   pub within : (number : ℕ) → 2 ^ 32 ≤ number → get (whole table others) number ≡ None

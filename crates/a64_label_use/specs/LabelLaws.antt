@@ -5,7 +5,9 @@ use Rattle.a64_words.specs.Word.{signed}
 use Rattle.a64_buffer.specs.Kinds.{IsLawful}
 use Rattle.a64_label_use.specs.declared.label_use.LabelUse.{LabelUse}
 use Rattle.a64_label_use.specs.declared.label_use.LabelUse.TheVariants as uses
-use Rattle.a64_label_use.specs.LabelUses.{mask_for, distance_in, adds_distance, has_veneer, urgency_of, urgency_range, forward_range, backward_range, label_kinds}
+use Rattle.a64_label_use.specs.LabelUses.{mask_for, distance_in, adds_distance, has_veneer}
+use Rattle.a64_label_use.specs.LabelUses.{urgency_of, urgency_range, forward_range, backward_range}
+use Rattle.a64_label_use.specs.LabelUses.{label_kinds}
 
 pub label_kinds_lawful : IsLawful label_kinds
 label_kinds_lawful = record {
@@ -38,7 +40,8 @@ label_kinds_lawful = record {
     mask uses.Adr21 adds = absurd cc
     mask uses.PCRel32 adds = refl
 
-    field : (kind : LabelUse) → IsTrue (adds_distance kind) → (word : ℕ) → word < 2 ^ 32 → distance_in kind word ≡ signed 32 word
+    field : (kind : LabelUse) → IsTrue (adds_distance kind) → (word : ℕ) → word < 2 ^ 32
+        → distance_in kind word ≡ signed 32 word
     field uses.Branch14 adds word fits = absurd cc
     field uses.Branch19 adds word fits = absurd cc
     field uses.Branch26 adds word fits = absurd cc
@@ -70,7 +73,8 @@ label_kinds_lawful = record {
     replaces uses.Adr21 urgent adds = omega (arith, urgent)
     replaces uses.PCRel32 urgent adds = omega (arith, urgent)
 
-    range : (kind : LabelUse) → 1 ≤ urgency_of kind → forward_range kind ≡ urgency_range (urgency_of kind)
+    range : (kind : LabelUse) → 1 ≤ urgency_of kind
+        → forward_range kind ≡ urgency_range (urgency_of kind)
     range uses.Branch14 urgent = refl
     range uses.Branch19 urgent = refl
     range uses.Branch26 urgent = refl

@@ -1,5 +1,6 @@
 -- What the kinds of label uses of A64 code mean.
-use Rattle.std.specs.Prelude.{ℕ, ℤ, pos, ◌*ℤ◌, ◌+◌, ◌*◌, ◌-◌, ◌^◌, Bool, true, false, nat_eq, if◌then◌else◌, [], ◌∷◌, Option, None, Some}
+use Rattle.std.specs.Prelude.{ℕ, ℤ, pos, ◌*ℤ◌, ◌+◌, ◌*◌, ◌-◌, ◌^◌, Bool, true, false, nat_eq}
+use Rattle.std.specs.Prelude.{if◌then◌else◌, [], ◌∷◌, Option, None, Some}
 use Rattle.std.specs.Ordering.{int_eq}
 use Rattle.a64_base.specs.declared.entity.Reloc.{Reloc}
 use Rattle.a64_base.specs.declared.entity.Reloc.TheVariants as relocs
@@ -82,7 +83,8 @@ urgency_of uses.PCRel32 = 0
 
 -- the ranges by urgency
 abbrev pub urgency_range : ℕ → ℕ
-urgency_range urgency = if nat_eq urgency 1 then 2 ^ 15 - 1 else if nat_eq urgency 2 then 2 ^ 20 - 1 else 2 ^ 27 - 1
+urgency_range urgency =
+    if nat_eq urgency 1 then 2 ^ 15 - 1 else if nat_eq urgency 2 then 2 ^ 20 - 1 else 2 ^ 27 - 1
 
 -- the use that a relocation is: a call of a symbol alone, with no addend
 abbrev pub relocated_use : Reloc → ℤ → Option LabelUse

@@ -7,8 +7,8 @@ abbrev pub BeginsWith : List ℕ → List (List ℕ) → Type 0
 BeginsWith line words =
     (word : List ℕ) × Contains words word × ((rest : List ℕ) × (line ≡ word ++ rest))
 
--- entries of a kind, with the line of each; which may stand behind what was said before, and what is
--- then said
+-- entries of a kind, with the line of each; which may stand behind what was said before, and what
+-- is then said
 module _ {E T : Type 0} (fits : E → Type 0) (line_of : E → List ℕ)
     (stands_behind : T → E → Type 0) (said : E → T → T) where
   -- the line is this entry, which may stand there

@@ -1,13 +1,16 @@
 -- Files whose lines say something, one after another.
-use Rattle.std.specs.Prelude.{ℕ, ◌≡◌, ◌+◌, ◌⊎◌, Bool, true, false, List, [], ◌∷◌, ◌++◌, length, Result, Ok, Err, IfOk, IfErr, ⊤}
+use Rattle.std.specs.Prelude.{ℕ, ◌≡◌, ◌+◌, ◌⊎◌, Bool, true, false, List, [], ◌∷◌, ◌++◌, length}
+use Rattle.std.specs.Prelude.{Result, Ok, Err, IfOk, IfErr, ⊤}
 use Rattle.a64_lines.specs.declared.error.LinesError.{LinesError}
 use Rattle.a64_lines.specs.declared.error.LinesError.TheVariants.{BadLine, OutOfMemory}
 use Rattle.a64_tokens.specs.Splitting.{is_blank, lines_of}
 
 module _ {T : Type 0} (says : List ℕ → T → T → Type 0) where
-  -- a line leads from what was said before it to what is said behind it: one that means nothing leaves it as it was
+  -- a line leads from what was said before it to what is said behind it: one that means nothing
+  -- leaves it as it was
   abbrev pub Leads : List ℕ → T → T → Type 0
-  Leads line old new = ((is_blank line ≡ true) × (new ≡ old)) ⊎ ((is_blank line ≡ false) × says line old new)
+  Leads line old new =
+      ((is_blank line ≡ true) × (new ≡ old)) ⊎ ((is_blank line ≡ false) × says line old new)
 
   -- lines lead there one after another
   abbrev pub LeadAll : List (List ℕ) → T → T → Type 0
@@ -37,7 +40,8 @@ module _ {T : Type 0} (says : List ℕ → T → T → Type 0) where
 
   -- the same of any line: one that means nothing is taken, and says nothing
   abbrev pub TakesAny : List ℕ → T → T → Bool → Type 0
-  TakesAny line old new true = Leads line old new × ((other : T) → Leads line old other → other ≡ new)
+  TakesAny line old new true =
+      Leads line old new × ((other : T) → Leads line old other → other ≡ new)
   TakesAny line old new false = (is_blank line ≡ false) × ((other : T) → says line old other → ⊥)
 
   -- the answer is a file that says this, unless memory ran out
@@ -58,7 +62,8 @@ IfBadLine P (BadLine n) = P n
 IfBadLine P OutOfMemory = ⊤
 
 -- what reading answers, in both directions
-pub record Answers {T : Type 0} (says : List ℕ → T → T → Type 0) (bytes : List ℕ) (start : T) (result : Result T LinesError) : Type 0 where
+pub record Answers {T : Type 0} (says : List ℕ → T → T
+    → Type 0) (bytes : List ℕ) (start : T) (result : Result T LinesError) : Type 0 where
   pub ok : IfOk result (IsFile says start bytes)
   pub bad : IfErr result (IfBadLine (IsFirstBad says start bytes))
   pub only_ok : (told : T) → IsFile says start bytes told → Gives says told result

@@ -1,5 +1,7 @@
 -- Why units are not linked: the first of some faults.
-use Rattle.std.specs.Prelude.{ℕ, pos, ◌≡◌, ◌⊎◌, ◌+◌, ◌*◌, ◌/◌, ◌%◌, ◌^◌, ◌&&◌, not, nat_lt, nat_le, nat_eq, bit_and, Bool, true, false, if◌then◌else◌, List, [], ◌∷◌, ◌++◌, length, get_or, Option, None, Some, is_some, Result, Ok, Err}
+use Rattle.std.specs.Prelude.{ℕ, pos, ◌≡◌, ◌⊎◌, ◌+◌, ◌*◌, ◌/◌, ◌%◌, ◌^◌, ◌&&◌, not, nat_lt, nat_le}
+use Rattle.std.specs.Prelude.{nat_eq, bit_and, Bool, true, false, if◌then◌else◌, List, [], ◌∷◌}
+use Rattle.std.specs.Prelude.{◌++◌, length, get_or, Option, None, Some, is_some, Result, Ok, Err}
 use Rattle.std.specs.List.{list_any}
 use Rattle.std.specs.Ordering.{int_eq}
 use Rattle.a64_base.specs.declared.entity.Reloc.{Reloc}
@@ -10,7 +12,8 @@ use Rattle.a64_rows.specs.Rows.{fixed_of}
 use Rattle.a64_link.specs.declared.error.LinkError.{LinkError}
 use Rattle.a64_link.specs.declared.error.LinkError.TheVariants as errors
 use Rattle.a64_link.specs.declared.unit.Unit.{Unit}
-use Rattle.a64_link.specs.Units.{Definition, Relocation, is_call, size, room, rooms, near, symbol_of}
+use Rattle.a64_link.specs.Units.{Definition, Relocation, is_call, size, room, rooms, near}
+use Rattle.a64_link.specs.Units.{symbol_of}
 use Rattle.a64_link.specs.Linking.{site_size}
 
 -- the first fault, where there is one, else the second

@@ -1,5 +1,6 @@
 -- Units that are linked, as a whole.
-use Rattle.std.specs.Prelude.{ℕ, pos, ◌≡◌, ◌⊎◌, ◌+◌, ◌*◌, ◌<◌, ◌≤◌, ◌+ℤ◌, ◌↔◌, IsTrue, List, map, length, None, Some}
+use Rattle.std.specs.Prelude.{ℕ, pos, ◌≡◌, ◌⊎◌, ◌+◌, ◌*◌, ◌<◌, ◌≤◌, ◌+ℤ◌, ◌↔◌, IsTrue, List, map}
+use Rattle.std.specs.Prelude.{length, None, Some}
 use Rattle.std.specs.List.{Contains, filter, flat_map, enumerate_from}
 use Rattle.std.specs.List.Sorted.{IsStrictlyIncreasing}
 use Rattle.a64_base.specs.declared.entity.ExternalName.{ExternalName}
@@ -16,7 +17,8 @@ use Rattle.a64_link.specs.declared.unit.Unit.{Unit}
 use Rattle.a64_link.specs.declared.unit.Symbol.{Symbol}
 use Rattle.a64_link.specs.declared.unit.Linked.{Linked}
 use Rattle.a64_link.specs.Units.{Relocation, is_call, size, span, near, symbol_of}
-use Rattle.a64_link.specs.Layout.{AreStarts, IsUnit, Defines, is_far, end_before, start_of, thunk_of}
+use Rattle.a64_link.specs.Layout.{AreStarts, IsUnit, Defines, is_far, end_before, start_of}
+use Rattle.a64_link.specs.Layout.{thunk_of}
 use Rattle.a64_link.specs.Linking.{word_at, IsReloc, AreLinked}
 use Rattle.a64_link.specs.Faults.{fault_of}
 

@@ -1,5 +1,7 @@
 -- What stands in linked code.
-use Rattle.std.specs.Prelude.{ℕ, pos, ◌≡◌, ◌⊎◌, ◌+◌, ◌*◌, ◌/◌, ◌%◌, ◌<◌, ◌≤◌, ◌^◌, ◌+ℤ◌, if◌then◌else◌, IsTrue, MatchBool, List, [], ◌∷◌, ◌++◌, length, get_or, slice_set, Some}
+use Rattle.std.specs.Prelude.{ℕ, pos, ◌≡◌, ◌⊎◌, ◌+◌, ◌*◌, ◌/◌, ◌%◌, ◌<◌, ◌≤◌, ◌^◌, ◌+ℤ◌}
+use Rattle.std.specs.Prelude.{if◌then◌else◌, IsTrue, MatchBool, List, [], ◌∷◌, ◌++◌, length, get_or}
+use Rattle.std.specs.Prelude.{slice_set, Some}
 use Rattle.std.specs.Ordering.{nat_cmp}
 use Rattle.std.specs.FinMap.{FinMap}
 use Rattle.a64_base.specs.declared.entity.ExternalName.{ExternalName}
@@ -11,7 +13,8 @@ use Rattle.a64_label_use.specs.FarJumps.{LeadFar}
 use Rattle.a64_link.specs.declared.unit.Unit.{Unit}
 use Rattle.a64_link.specs.declared.unit.Symbol.{Symbol}
 use Rattle.a64_link.specs.Units.{Relocation, is_call, size, room, near, symbol_of}
-use Rattle.a64_link.specs.Layout.{AreSums, AreSymbols, AreStarts, IsUnit, start_of, goal_of, thunk_of, stop_of, is_far, end_before}
+use Rattle.a64_link.specs.Layout.{AreSums, AreSymbols, AreStarts, IsUnit, start_of, goal_of}
+use Rattle.a64_link.specs.Layout.{thunk_of, stop_of, is_far, end_before}
 
 -- the word at a place
 abbrev pub word_at : List ℕ → ℕ → ℕ

@@ -1,5 +1,6 @@
 -- Units, what they define and ask for, and how much room they take.
-use Rattle.std.specs.Prelude.{ℕ, ℤ, suc, ◌+◌, ◌*◌, ◌/◌, ◌-◌, ◌^◌, nat_eq, min, max, Bool, true, false, List, [], ◌∷◌, ◌++◌, length, slice_range, Option}
+use Rattle.std.specs.Prelude.{ℕ, ℤ, suc, ◌+◌, ◌*◌, ◌/◌, ◌-◌, ◌^◌, nat_eq, min, max, Bool, true}
+use Rattle.std.specs.Prelude.{false, List, [], ◌∷◌, ◌++◌, length, slice_range, Option}
 use Rattle.std.specs.List.{sum_by, count_by}
 use Rattle.std.specs.Map.{lookup}
 use Rattle.a64_base.specs.declared.entity.Reloc.{Reloc}

@@ -1,5 +1,7 @@
 -- The lines of a file of units.
-use Rattle.std.specs.Prelude.{ℕ, ℤ, ◌≡◌, ◌+◌, ◌*◌, ◌^◌, ◌<◌, ◌≤◌, Bool, true, false, List, [], ◌∷◌, ◌++◌, codes, length, map, replicate, Option, Some, None, MatchOption, option_map, Result, IfOk, ⊤}
+use Rattle.std.specs.Prelude.{ℕ, ℤ, ◌≡◌, ◌+◌, ◌*◌, ◌^◌, ◌<◌, ◌≤◌, Bool, true, false, List, [], ◌∷◌}
+use Rattle.std.specs.Prelude.{◌++◌, codes, length, map, replicate, Option, Some, None, MatchOption}
+use Rattle.std.specs.Prelude.{option_map, Result, IfOk, ⊤}
 use Rattle.std.specs.Fmt.{decimal}
 use Rattle.std.specs.Option.{option_to_list}
 use Rattle.a64_base.specs.declared.entity.ExternalName.{ExternalName}

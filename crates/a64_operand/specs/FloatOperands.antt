@@ -1,9 +1,10 @@
--- What must hold of the operands of instructions on scalar floats, beside the classes of their registers (Arm Architecture
--- Reference Manual, C7.2).
+-- What must hold of the operands of instructions on scalar floats, beside the classes of their
+-- registers (Arm Architecture Reference Manual, C7.2).
 use Rattle.std.specs.Prelude.{ℕ, Bool, true, false, ◌&&◌, nat_lt, nat_le, nat_eq}
 use Rattle.a64_base.specs.declared.reg.Reg.{Reg}
 use Rattle.a64_base.specs.declared.size.ScalarSize.{ScalarSize}
-use Rattle.a64_base.specs.declared.size.ScalarSize.TheVariants.{Size8, Size16, Size32, Size64, Size128}
+use Rattle.a64_base.specs.declared.size.ScalarSize.TheVariants.{Size8, Size16, Size32, Size64}
+use Rattle.a64_base.specs.declared.size.ScalarSize.TheVariants.{Size128}
 use Rattle.a64_base.specs.declared.size.VectorSize.{VectorSize}
 use Rattle.a64_base.specs.ScalarSizes.{has_ftype}
 use Rattle.a64_base.specs.VectorSizes.{has_float_lanes}
@@ -44,7 +45,8 @@ is_float_lane size idx = has_float_lanes size && is_lane size idx
 
 -- the amount of a right shift of a lane of so many bits: from 1 to the lane's bits
 abbrev pub is_right_shift_of : ℕ → FPURightShiftImm → Bool
-is_right_shift_of lane imm = nat_eq imm.lane_size_in_bits lane && (nat_lt 0 imm.amount && nat_le imm.amount lane)
+is_right_shift_of lane imm =
+    nat_eq imm.lane_size_in_bits lane && (nat_lt 0 imm.amount && nat_le imm.amount lane)
 
 abbrev pub is_right_shift : FPUOpRI → Bool
 is_right_shift (UShr32 imm) = is_right_shift_of 32 imm

@@ -23,7 +23,9 @@ use Rattle.a64_ops.specs.declared.operator.BitOp.TheVariants.{Rev64}
 use Rattle.a64_operand.specs.declared.class.Class.{Class}
 use Rattle.a64_operand.specs.declared.class.Class.TheVariants.{Zero, Stack}
 use Rattle.a64_operand.specs.declared.virtuals.VirtualRegisters.{VirtualRegisters}
-use Rattle.a64_operand.specs.Operands.{is_int, is_register, is_register_or_zero, is_register_or_stack, is_stack_pointer, is_same_register, is_bit_of, is_imm12, is_logic_of, is_wide_in}
+use Rattle.a64_operand.specs.Operands.{is_int, is_register, is_register_or_zero}
+use Rattle.a64_operand.specs.Operands.{is_register_or_stack, is_stack_pointer, is_same_register}
+use Rattle.a64_operand.specs.Operands.{is_bit_of, is_imm12, is_logic_of, is_wide_in}
 
 -- ---- operations on registers
 
@@ -53,8 +55,8 @@ is_add_sub alu.AddS = true
 is_add_sub alu.SubS = true
 is_add_sub _ = false
 
--- where their results may go, with an immediate or an extended register: of one that sets the flags into the zero register, which
--- drops it, of the others into the stack pointer
+-- where their results may go, with an immediate or an extended register: of one that sets the flags
+-- into the zero register, which drops it, of the others into the stack pointer
 abbrev pub add_sub_class : ALUOp → Class
 add_sub_class alu.Add = Stack
 add_sub_class alu.Sub = Stack
@@ -64,7 +66,8 @@ abbrev pub is_no_rotation : ShiftOp → Bool
 is_no_rotation ROR = false
 is_no_rotation _ = true
 
--- how an extraction from two registers is written: as a shift to the left at 32 bits, and to the right at 64
+-- how an extraction from two registers is written: as a shift to the left at 32 bits, and to the
+-- right at 64
 abbrev pub is_extraction : OperandSize → ShiftOp → Bool
 is_extraction Size32 LSL = true
 is_extraction Size64 LSR = true
@@ -100,10 +103,12 @@ is_bit_op_at op size = not (is_rev64 op) || is_64_bits size
 
 -- ---- moves
 
--- a move at 64 bits: between registers, or out of the stack pointer, into which the zero register cannot be its result
+-- a move at 64 bits: between registers, or out of the stack pointer, into which the zero register
+-- cannot be its result
 abbrev pub are_move_registers : VirtualRegisters → Reg → Reg → Bool
 are_move_registers virtuals rd rm =
-    (is_register_or_zero virtuals rd && is_register_or_zero virtuals rm) || (is_register virtuals rd && is_stack_pointer virtuals rm)
+    (is_register_or_zero virtuals rd && is_register_or_zero virtuals rm)
+    || (is_register virtuals rd && is_stack_pointer virtuals rm)
 
 unfoldable pub is_move : VirtualRegisters → OperandSize → Reg → Reg → Bool
 is_move virtuals Size32 rd rm = is_register virtuals rd && is_register_or_zero virtuals rm
@@ -111,7 +116,8 @@ is_move virtuals Size64 rd rm = are_move_registers virtuals rd rm
 
 -- x21, x29 and x30
 abbrev pub is_fixed_result : RealRegister → Bool
-is_fixed_result p = is_int p.class && (nat_eq p.number 21 || (nat_eq p.number 29 || nat_eq p.number 30))
+is_fixed_result p =
+    is_int p.class && (nat_eq p.number 21 || (nat_eq p.number 29 || nat_eq p.number 30))
 
 -- these, and the stack pointer
 abbrev pub is_fixed_operand : RealRegister → Bool
@@ -166,10 +172,12 @@ is_kept rd rn imm size = is_same_register rd rn && is_wide_in size imm
 
 -- an extension to at most 64 bits, of 32 bits at most where they are unsigned
 abbrev pub is_extension : Bool → ℕ → ℕ → Bool
-is_extension signed from_bits to_bits = (nat_le 1 from_bits && (nat_le from_bits to_bits && nat_le to_bits 64)) && (signed || nat_le from_bits 32)
+is_extension signed from_bits to_bits =
+    (nat_le 1 from_bits && (nat_le from_bits to_bits && nat_le to_bits 64))
+    && (signed || nat_le from_bits 32)
 
--- one bit that is unsigned is kept by an operation that may set the stack pointer, and 32 are moved by one
--- whose result is a register
+-- one bit that is unsigned is kept by an operation that may set the stack pointer, and 32 are moved
+-- by one whose result is a register
 abbrev pub is_extend_result : VirtualRegisters → Bool → ℕ → ℕ → Reg → Bool
 is_extend_result virtuals signed from_bits to_bits rd =
     if not signed && nat_eq from_bits 1 then is_register_or_stack virtuals rd
@@ -177,7 +185,8 @@ is_extend_result virtuals signed from_bits to_bits rd =
     else is_register_or_zero virtuals rd
 
 unfoldable pub is_extended : VirtualRegisters → Reg → Bool → ℕ → ℕ → Bool
-is_extended virtuals rd signed from_bits to_bits = is_extension signed from_bits to_bits && is_extend_result virtuals signed from_bits to_bits rd
+is_extended virtuals rd signed from_bits to_bits =
+    is_extension signed from_bits to_bits && is_extend_result virtuals signed from_bits to_bits rd
 
 abbrev pub is_bitfield : OperandSize → UImm6 → UImm6 → Bool
 is_bitfield size immr imms = is_bit_of size immr.imm && is_bit_of size imms.imm

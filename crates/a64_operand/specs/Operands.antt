@@ -1,5 +1,6 @@
 -- Which operands an instruction may have (Arm Architecture Reference Manual, C6 and C7).
-use Rattle.std.specs.Prelude.{ℕ, ℤ, pos, negsuc, ◌+◌, ◌%◌, ◌^◌, Bool, true, false, not, ◌&&◌, ◌||◌, nat_lt, nat_le, nat_eq}
+use Rattle.std.specs.Prelude.{ℕ, ℤ, pos, negsuc, ◌+◌, ◌%◌, ◌^◌, Bool, true, false, not, ◌&&◌, ◌||◌}
+use Rattle.std.specs.Prelude.{nat_lt, nat_le, nat_eq}
 use Rattle.a64_base.specs.declared.reg.Reg.{Reg}
 use Rattle.a64_base.specs.declared.reg.RegKind.TheVariants.{Real, Virtual}
 use Rattle.a64_base.specs.declared.reg.RegClass.{RegClass}
@@ -31,14 +32,16 @@ abbrev pub is_int : RegClass → Bool
 is_int Int = true
 is_int Float = false
 
--- x0 to x30, or the zero register. Of a virtual register, where they are allowed, the class alone counts.
+-- x0 to x30, or the zero register. Of a virtual register, where they are allowed, the class alone
+-- counts.
 abbrev pub is_register_or_zero : VirtualRegisters → Reg → Bool
 is_register_or_zero virtuals (Real p) = is_int p.class && nat_lt p.number 32
 is_register_or_zero virtuals (Virtual index class) = are_allowed virtuals && is_int class
 
 -- x0 to x30, or the stack pointer
 abbrev pub is_register_or_stack : VirtualRegisters → Reg → Bool
-is_register_or_stack virtuals (Real p) = is_int p.class && (nat_lt p.number 31 || nat_eq p.number 63)
+is_register_or_stack virtuals (Real p) =
+    is_int p.class && (nat_lt p.number 31 || nat_eq p.number 63)
 is_register_or_stack virtuals (Virtual index class) = are_allowed virtuals && is_int class
 
 -- x0 to x30
@@ -84,7 +87,8 @@ is_same_register _ _ = true
 
 -- two registers may be two: a virtual one may be any
 abbrev pub is_other_register : Reg → Reg → Bool
-is_other_register (Real p) (Real q) = not (is_same_class p.class q.class && nat_eq p.number q.number)
+is_other_register (Real p) (Real q) =
+    not (is_same_class p.class q.class && nat_eq p.number q.number)
 is_other_register _ _ = true
 
 -- ---- lanes
@@ -125,8 +129,8 @@ is_same_size _ _ = false
 abbrev pub is_logic_of : OperandSize → ImmLogic → Bool
 is_logic_of size imm = is_same_size imm.size size && is_imm_logic imm
 
--- an offset that a branch or a load can hold which reaches so many bytes: a multiple of 4, from minus
--- the reach to 4 below it
+-- an offset that a branch or a load can hold which reaches so many bytes: a multiple of 4, from
+-- minus the reach to 4 below it
 abbrev pub is_offset : ℕ → ℤ → Bool
 is_offset reach (pos n) = nat_eq (n % 4) 0 && nat_lt n reach
 is_offset reach (negsuc n) = nat_eq (n % 4) 3 && nat_lt n reach

@@ -1,14 +1,18 @@
--- What must hold of the operands of vector instructions, beside the classes of their registers (Arm Architecture Reference
--- Manual, C7.2).
-use Rattle.std.specs.Prelude.{ℕ, ◌+◌, ◌%◌, Bool, true, false, not, ◌&&◌, ◌||◌, if◌then◌else◌, nat_lt, nat_le, nat_eq}
+-- What must hold of the operands of vector instructions, beside the classes of their registers (Arm
+-- Architecture Reference Manual, C7.2).
+use Rattle.std.specs.Prelude.{ℕ, ◌+◌, ◌%◌, Bool, true, false, not, ◌&&◌, ◌||◌, if◌then◌else◌}
+use Rattle.std.specs.Prelude.{nat_lt, nat_le, nat_eq}
 use Rattle.a64_base.specs.declared.reg.Reg.{Reg}
 use Rattle.a64_base.specs.declared.reg.RegKind.TheVariants.{Real}
 use Rattle.a64_base.specs.declared.size.OperandSize.{OperandSize}
 use Rattle.a64_base.specs.declared.size.OperandSize.TheVariants as operands
 use Rattle.a64_base.specs.declared.size.ScalarSize.{ScalarSize}
-use Rattle.a64_base.specs.declared.size.ScalarSize.TheVariants.{Size8, Size16, Size32, Size64, Size128}
+use Rattle.a64_base.specs.declared.size.ScalarSize.TheVariants.{Size8, Size16, Size32, Size64}
+use Rattle.a64_base.specs.declared.size.ScalarSize.TheVariants.{Size128}
 use Rattle.a64_base.specs.declared.size.VectorSize.{VectorSize}
-use Rattle.a64_base.specs.declared.size.VectorSize.TheVariants.{Size8x8, Size8x16, Size16x4, Size16x8, Size32x2, Size32x4, Size64x2}
+use Rattle.a64_base.specs.declared.size.VectorSize.TheVariants.{Size8x8, Size8x16, Size16x4}
+use Rattle.a64_base.specs.declared.size.VectorSize.TheVariants.{Size16x8, Size32x2, Size32x4}
+use Rattle.a64_base.specs.declared.size.VectorSize.TheVariants.{Size64x2}
 use Rattle.a64_base.specs.ScalarSizes.{has_operand_size}
 use Rattle.a64_base.specs.VectorSizes.{has_float_lanes, is_full, lane_of}
 use Rattle.a64_imms.specs.declared.asimd_fp.ASIMDFPModImm.{ASIMDFPModImm}
@@ -27,7 +31,8 @@ use Rattle.a64_operand.specs.declared.lanes.Lanes.{Lanes}
 use Rattle.a64_operand.specs.declared.lanes.Lanes.TheVariants as lanes
 use Rattle.a64_operand.specs.declared.virtuals.VirtualRegisters.{VirtualRegisters}
 use Rattle.a64_operand.specs.FloatOperands.{is_same_scalar}
-use Rattle.a64_operand.specs.Operands.{is_lane, is_register_or_stack, is_same_class, is_same_register, is_vector_register, lanes_of}
+use Rattle.a64_operand.specs.Operands.{is_lane, is_register_or_stack, is_same_class}
+use Rattle.a64_operand.specs.Operands.{is_same_register, is_vector_register, lanes_of}
 
 -- ---- the lanes that operators have
 
@@ -35,7 +40,8 @@ abbrev pub has_lanes : Lanes → VectorSize → Bool
 has_lanes lanes.Any size = true
 has_lanes lanes.To32 Size64x2 = false
 has_lanes lanes.To32 _ = true
-has_lanes lanes.Of16Or32 size = is_same_scalar (lane_of size) Size16 || is_same_scalar (lane_of size) Size32
+has_lanes lanes.Of16Or32 size =
+    is_same_scalar (lane_of size) Size16 || is_same_scalar (lane_of size) Size32
 has_lanes lanes.Floats size = has_float_lanes size
 has_lanes lanes.Full size = is_full size
 has_lanes lanes.FullFloats size = is_full size && has_float_lanes size
@@ -180,14 +186,16 @@ is_signed_size Size64x2 scalar_size = false
 is_signed_size _ scalar_size = true
 
 abbrev pub is_signed_lane : VectorSize → ℕ → OperandSize → Bool
-is_signed_lane size idx scalar_size = is_signed_size size scalar_size && nat_lt idx (lane_count size)
+is_signed_lane size idx scalar_size =
+    is_signed_size size scalar_size && nat_lt idx (lane_count size)
 
 -- the register of which other lanes stay is the result's
 abbrev pub is_kept_lane : Reg → Reg → VectorSize → ℕ → Bool
 is_kept_lane rd ri size idx = is_same_register rd ri && is_lane size idx
 
 abbrev pub are_kept_lanes : Reg → Reg → VectorSize → ℕ → ℕ → Bool
-are_kept_lanes rd ri size dest_idx src_idx = is_kept_lane rd ri size dest_idx && is_lane size src_idx
+are_kept_lanes rd ri size dest_idx src_idx =
+    is_kept_lane rd ri size dest_idx && is_lane size src_idx
 
 -- four lanes of 32 bits or two of 64, and the number of one of them
 abbrev pub is_elem : VectorSize → ℕ → Bool
@@ -200,7 +208,8 @@ is_elem_at rd ri op size idx = is_same_register rd ri && (is_elem_op op && is_el
 
 -- an immediate float is one of a lane's size, by eight bits
 abbrev pub is_float_imm_in : VectorSize → ASIMDFPModImm → Bool
-is_float_imm_in size imm = has_float_lanes size && (is_same_scalar imm.size (lane_of size) && nat_lt imm.imm 256)
+is_float_imm_in size imm =
+    has_float_lanes size && (is_same_scalar imm.size (lane_of size) && nat_lt imm.imm 256)
 
 -- an amount of whole bytes, up to so many bits
 abbrev pub is_byte_shift : ℕ → ℕ → Bool
@@ -208,11 +217,16 @@ is_byte_shift most shift = nat_eq (shift % 8) 0 && nat_le shift most
 
 -- the immediate of a vector move, and whether it is complemented, by the size of a lane
 abbrev pub is_mov_imm_of : ScalarSize → ASIMDMovModImm → Bool → Bool
-is_mov_imm_of Size8 imm invert = not imm.is_64bit && (not invert && (not imm.shift_ones && nat_eq imm.shift 0))
-is_mov_imm_of Size16 imm invert = not imm.is_64bit && (not imm.shift_ones && is_byte_shift 8 imm.shift)
+is_mov_imm_of Size8 imm invert =
+    not imm.is_64bit && (not invert && (not imm.shift_ones && nat_eq imm.shift 0))
+is_mov_imm_of Size16 imm invert =
+    not imm.is_64bit && (not imm.shift_ones && is_byte_shift 8 imm.shift)
 is_mov_imm_of Size32 imm invert =
-    not imm.is_64bit && (if imm.shift_ones then nat_eq imm.shift 8 || nat_eq imm.shift 16 else is_byte_shift 24 imm.shift)
-is_mov_imm_of Size64 imm invert = imm.is_64bit && (not invert && (not imm.shift_ones && nat_eq imm.shift 0))
+    not imm.is_64bit
+    && (if imm.shift_ones then nat_eq imm.shift 8 || nat_eq imm.shift 16
+    else is_byte_shift 24 imm.shift)
+is_mov_imm_of Size64 imm invert =
+    imm.is_64bit && (not invert && (not imm.shift_ones && nat_eq imm.shift 0))
 is_mov_imm_of Size128 imm invert = false
 
 abbrev pub is_mov_imm_in : VectorSize → ASIMDMovModImm → Bool → Bool
@@ -264,7 +278,8 @@ is_kept_amount rd ri size imm = is_same_register rd ri && is_left_amount size im
 
 -- a register may be the next behind another, and v0 that behind v31; a virtual one may be any
 abbrev pub is_next_vector : Reg → Reg → Bool
-is_next_vector (Real p) (Real q) = is_same_class p.class q.class && nat_eq q.number ((p.number + 1) % 32)
+is_next_vector (Real p) (Real q) =
+    is_same_class p.class q.class && nat_eq q.number ((p.number + 1) % 32)
 is_next_vector _ _ = true
 
 -- the register of which bytes stay is the result's
@@ -275,9 +290,11 @@ is_kept_table rd ri rn rn2 = is_same_register rd ri && is_next_vector rn rn2
 
 -- a load of one value to all lanes: the address may be the stack pointer
 unfoldable pub are_replicate_operands : VirtualRegisters → Reg → Reg → Bool
-are_replicate_operands virtuals rd rn = is_vector_register virtuals rd && is_register_or_stack virtuals rn
+are_replicate_operands virtuals rd rn =
+    is_vector_register virtuals rd && is_register_or_stack virtuals rn
 
 -- a select of one of two vectors
 unfoldable pub are_select_operands : VirtualRegisters → Reg → Reg → Reg → Bool
 are_select_operands virtuals rd rn rm =
-    is_vector_register virtuals rd && (is_vector_register virtuals rn && is_vector_register virtuals rm)
+    is_vector_register virtuals rd
+    && (is_vector_register virtuals rn && is_vector_register virtuals rm)

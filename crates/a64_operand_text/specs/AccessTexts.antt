@@ -9,7 +9,8 @@ use Rattle.a64_ops.specs.declared.access.AccessOp.TheVariants as ops
 use Rattle.a64_operand_text.specs.declared.operand.Operand.{Operand}
 use Rattle.a64_operand_text.specs.declared.operand.Operand.TheVariants as operand
 
--- the name, where the mode that is written has a signed offset of 9 bits, or has not. A vector register has one name.
+-- the name, where the mode that is written has a signed offset of 9 bits, or has not. A vector
+-- register has one name.
 abbrev pub access_name : Bool → AccessOp → List ℕ
 access_name unscaled ops.ULoad8 = if unscaled then codes "ldurb" else codes "ldrb"
 access_name unscaled ops.SLoad8 = if unscaled then codes "ldursb" else codes "ldrsb"

@@ -10,9 +10,11 @@ use Rattle.a64_operand_text.specs.SequenceTexts.{pair_text}
 abbrev pub call_arg_text : CallArgPair → List ℕ
 call_arg_text pair = pair_text pair.vreg pair.preg
 
--- what stands behind the function of a return that calls: the bytes of its arguments, and its registers
+-- what stands behind the function of a return that calls: the bytes of its arguments, and its
+-- registers
 unfoldable pub return_part : ℕ → List CallArgPair → List ℕ
-return_part bytes uses = codes " new_stack_arg_size:" ++ (decimal bytes ++ flat_map call_arg_text uses)
+return_part bytes uses =
+    codes " new_stack_arg_size:" ++ (decimal bytes ++ flat_map call_arg_text uses)
 
 -- a return that calls: its name, its function, and what stands behind that
 abbrev pub return_call_text : List ℕ → Operand → ℕ → List CallArgPair → List ℕ

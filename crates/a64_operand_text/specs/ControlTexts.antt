@@ -43,15 +43,25 @@ bti_text target_types.JC = codes "bti jc"
 
 -- a branch where a test succeeds, and one where it fails
 abbrev pub cond_br_text : CondBrKind → BranchTarget → BranchTarget → List ℕ
-cond_br_text (kinds.Zero reg size) taken not_taken = two_lines_text (codes "cbz") (operand.Sized size reg ∷ operand.Target taken ∷ []) (codes "b") (operand.Target not_taken ∷ [])
-cond_br_text (kinds.NotZero reg size) taken not_taken = two_lines_text (codes "cbnz") (operand.Sized size reg ∷ operand.Target taken ∷ []) (codes "b") (operand.Target not_taken ∷ [])
-cond_br_text (kinds.Cond cond) taken not_taken = codes "b." ++ two_lines_text (condition_name cond) (operand.Target taken ∷ []) (codes "b") (operand.Target not_taken ∷ [])
+cond_br_text (kinds.Zero reg size) taken not_taken =
+    two_lines_text (codes "cbz") (operand.Sized size reg ∷ operand.Target taken
+    ∷ []) (codes "b") (operand.Target not_taken ∷ [])
+cond_br_text (kinds.NotZero reg size) taken not_taken =
+    two_lines_text (codes "cbnz") (operand.Sized size reg ∷ operand.Target taken
+    ∷ []) (codes "b") (operand.Target not_taken ∷ [])
+cond_br_text (kinds.Cond cond) taken not_taken =
+    codes "b."
+    ++ two_lines_text (condition_name cond) (operand.Target taken
+    ∷ []) (codes "b") (operand.Target not_taken ∷ [])
 
 -- a trap where a test succeeds
 abbrev pub trap_if_text : CondBrKind → TrapCode → List ℕ
-trap_if_text (kinds.Zero reg size) trap_code = line_text (codes "cbz") (operand.Sized size reg ∷ operand.Trap trap_code ∷ [])
-trap_if_text (kinds.NotZero reg size) trap_code = line_text (codes "cbnz") (operand.Sized size reg ∷ operand.Trap trap_code ∷ [])
-trap_if_text (kinds.Cond cond) trap_code = codes "b." ++ line_text (condition_name cond) (operand.Trap trap_code ∷ [])
+trap_if_text (kinds.Zero reg size) trap_code =
+    line_text (codes "cbz") (operand.Sized size reg ∷ operand.Trap trap_code ∷ [])
+trap_if_text (kinds.NotZero reg size) trap_code =
+    line_text (codes "cbnz") (operand.Sized size reg ∷ operand.Trap trap_code ∷ [])
+trap_if_text (kinds.Cond cond) trap_code =
+    codes "b." ++ line_text (condition_name cond) (operand.Trap trap_code ∷ [])
 
 -- the name of a branch on one bit
 abbrev pub test_bit_name : TestBitAndBranchKind → List ℕ
@@ -61,7 +71,8 @@ test_bit_name NZ = codes "tbnz"
 -- a branch on one bit, and one where the bit is another
 abbrev pub test_bit_text : TestBitAndBranchKind → BranchTarget → BranchTarget → Reg → ℕ → List ℕ
 test_bit_text kind taken not_taken rn bit =
-    two_lines_text (test_bit_name kind) (operand.X rn ∷ operand.Number bit ∷ operand.Target taken ∷ [])
+    two_lines_text (test_bit_name kind) (operand.X rn ∷ operand.Number bit ∷ operand.Target taken
+    ∷ [])
     (codes "b") (operand.Target not_taken ∷ [])
 
 -- a name and a number that no `#` stands before

@@ -31,13 +31,21 @@ fpu_rr_size fpu_op1s.Cvt64To32 scalar = Size32
 
 -- a shift to the right: of lanes of 32 bits, or of one of 64
 abbrev pub fpu_rri_text : FPUOpRI → Reg → Reg → List ℕ
-fpu_rri_text (UShr32 imm) rd rn = line_text (codes "ushr") (operand.Vector Size32x2 rd ∷ operand.Vector Size32x2 rn ∷ operand.Number imm.amount ∷ [])
-fpu_rri_text (UShr64 imm) rd rn = line_text (codes "ushr") (operand.Scalar Size64 rd ∷ operand.Scalar Size64 rn ∷ operand.Number imm.amount ∷ [])
+fpu_rri_text (UShr32 imm) rd rn =
+    line_text (codes "ushr") (operand.Vector Size32x2 rd ∷ operand.Vector Size32x2 rn
+    ∷ operand.Number imm.amount ∷ [])
+fpu_rri_text (UShr64 imm) rd rn =
+    line_text (codes "ushr") (operand.Scalar Size64 rd ∷ operand.Scalar Size64 rn
+    ∷ operand.Number imm.amount ∷ [])
 
 -- a shift to the left that keeps the bits below
 abbrev pub fpu_rri_mod_text : FPUOpRIMod → Reg → Reg → Reg → List ℕ
-fpu_rri_mod_text (Sli32 imm) rd ri rn = line_text (codes "sli") (operand.Vector Size32x2 rd ∷ operand.Vector Size32x2 ri ∷ operand.Vector Size32x2 rn ∷ operand.Number imm.amount ∷ [])
-fpu_rri_mod_text (Sli64 imm) rd ri rn = line_text (codes "sli") (operand.Scalar Size64 rd ∷ operand.Scalar Size64 ri ∷ operand.Scalar Size64 rn ∷ operand.Number imm.amount ∷ [])
+fpu_rri_mod_text (Sli32 imm) rd ri rn =
+    line_text (codes "sli") (operand.Vector Size32x2 rd ∷ operand.Vector Size32x2 ri
+    ∷ operand.Vector Size32x2 rn ∷ operand.Number imm.amount ∷ [])
+fpu_rri_mod_text (Sli64 imm) rd ri rn =
+    line_text (codes "sli") (operand.Scalar Size64 rd ∷ operand.Scalar Size64 ri
+    ∷ operand.Scalar Size64 rn ∷ operand.Number imm.amount ∷ [])
 
 -- the sizes of a conversion of a float to an integer: of the integer, and of the float
 abbrev pub to_int_size : FpuToIntOp → OperandSize

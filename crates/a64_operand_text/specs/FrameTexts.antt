@@ -8,7 +8,8 @@ use Rattle.a64_inst.specs.declared.inst.Inst.{Inst}
 use Rattle.a64_inst.specs.declared.inst.Inst.TheVariants as insts
 use Rattle.a64_operand_text.specs.declared.operand.Operand.TheVariants as operand
 use Rattle.a64_operand_text.specs.Lines.{line_text}
-use Rattle.a64_operand_text.specs.MemoryTexts.{access_text, address_text, cas_text, cas128_text, width_size, width_suffix}
+use Rattle.a64_operand_text.specs.MemoryTexts.{access_text, address_text, cas_text, cas128_text}
+use Rattle.a64_operand_text.specs.MemoryTexts.{width_size, width_suffix}
 use Rattle.a64_ops.specs.Names.{atomic_rmw_op_name}
 
 abbrev pub memory_text : FrameLayout → Inst → List ℕ

@@ -1,5 +1,6 @@
 -- Parts of the texts of integer instructions.
-use Rattle.std.specs.Prelude.{ℕ, nat_eq, Bool, false, ◌&&◌, ◌||◌, not, if◌then◌else◌, List, [], ◌∷◌, codes}
+use Rattle.std.specs.Prelude.{ℕ, nat_eq, Bool, false, ◌&&◌, ◌||◌, not, if◌then◌else◌, List, [], ◌∷◌}
+use Rattle.std.specs.Prelude.{codes}
 use Rattle.a64_base.specs.declared.reg.Reg.{Reg}
 use Rattle.a64_base.specs.declared.size.OperandSize.{OperandSize}
 use Rattle.a64_base.specs.declared.size.OperandSize.TheVariants.{Size32, Size64}
@@ -24,7 +25,8 @@ unfoldable pub alu_rr_imm12_text : ALUOp → OperandSize → Reg → Reg → Imm
 alu_rr_imm12_text op size rd rn imm12 =
     if is_move op size imm12
     then line_text (codes "mov") (operand.Sized size rd ∷ operand.Sized size rn ∷ [])
-    else line_text (alu_op_name op) (operand.Sized size rd ∷ operand.Sized size rn ∷ operand.Number (imm12_value imm12) ∷ [])
+    else line_text (alu_op_name op) (operand.Sized size rd ∷ operand.Sized size rn
+    ∷ operand.Number (imm12_value imm12) ∷ [])
 
 -- the size of the sum of a product: of a long one 64 bits
 abbrev pub sum_size : ALUOp3 → OperandSize → OperandSize
@@ -35,7 +37,8 @@ sum_size alu_op3s.SMAddL size = Size64
 
 -- whether an extension from so many bits has a name of its own
 abbrev pub has_extension_name : Bool → ℕ → Bool
-has_extension_name signed from_bits = nat_eq from_bits 8 || (nat_eq from_bits 16 || (signed && nat_eq from_bits 32))
+has_extension_name signed from_bits =
+    nat_eq from_bits 8 || (nat_eq from_bits 16 || (signed && nat_eq from_bits 32))
 
 -- that name
 abbrev pub extension_name : Bool → ℕ → List ℕ
@@ -56,14 +59,19 @@ extended_size signed to_bits = if signed then operand_of_bits to_bits else Size3
 unfoldable pub field_extend_text : Reg → Reg → Bool → ℕ → ℕ → List ℕ
 field_extend_text rd rn signed from_bits to_bits =
     if has_extension_name signed from_bits
-    then line_text (extension_name signed from_bits) (operand.Sized (extended_size signed to_bits) rd ∷ operand.Sized Size32 rn ∷ [])
-    else line_text (lowest_bits_name signed) (operand.Sized (operand_of_bits to_bits) rd ∷ operand.Sized (operand_of_bits to_bits) rn ∷ operand.Number 0 ∷ operand.Number from_bits ∷ [])
+    then line_text (extension_name signed from_bits)
+    (operand.Sized (extended_size signed to_bits) rd ∷ operand.Sized Size32 rn ∷ [])
+    else line_text (lowest_bits_name signed) (operand.Sized (operand_of_bits to_bits) rd
+    ∷ operand.Sized (operand_of_bits to_bits) rn ∷ operand.Number 0 ∷ operand.Number from_bits
+    ∷ [])
 
--- an extension: of one bit without a sign an and with 1, of 32 bits to 64 without a sign a move of 32 bits, else a bitfield move
+-- an extension: of one bit without a sign an and with 1, of 32 bits to 64 without a sign a move of
+-- 32 bits, else a bitfield move
 unfoldable pub extend_text : Reg → Reg → Bool → ℕ → ℕ → List ℕ
 extend_text rd rn signed from_bits to_bits =
     if not signed && nat_eq from_bits 1
-    then line_text (codes "and") (operand.Sized Size32 rd ∷ operand.Sized Size32 rn ∷ operand.Number 1 ∷ []) else
+    then line_text (codes "and") (operand.Sized Size32 rd ∷ operand.Sized Size32 rn
+    ∷ operand.Number 1 ∷ []) else
     if not signed && (nat_eq from_bits 32 && nat_eq to_bits 64)
     then line_text (codes "mov") (operand.Sized Size32 rd ∷ operand.Sized Size32 rn ∷ [])
     else field_extend_text rd rn signed from_bits to_bits

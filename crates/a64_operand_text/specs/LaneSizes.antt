@@ -1,4 +1,5 @@
--- The lanes of operands, by operators and halves. Each table is total; a row that no instruction has is not read.
+-- The lanes of operands, by operators and halves. Each table is total; a row that no instruction
+-- has is not read.
 use Rattle.std.specs.Prelude.{Bool, if◌then◌else◌}
 use Rattle.a64_base.specs.declared.size.ScalarSize.{ScalarSize}
 use Rattle.a64_base.specs.declared.size.ScalarSize.TheVariants as scalars
@@ -20,8 +21,8 @@ use Rattle.a64_ops.specs.declared.vector.VecRRRLongOp.TheVariants as vec_rrr_lon
 use Rattle.a64_ops.specs.declared.vector.VecRRRLongModOp.{VecRRRLongModOp}
 use Rattle.a64_ops.specs.declared.vector.VecRRRLongModOp.TheVariants as vec_rrr_long_mod_ops
 
--- the vector with lanes of this size, of 128 bits or of 64. No instruction has lanes of 128 bits, or
--- a single lane of 64
+-- the vector with lanes of this size, of 128 bits or of 64. No instruction has lanes of 128 bits,
+-- or a single lane of 64
 abbrev pub vector_of : ScalarSize → Bool → VectorSize
 vector_of scalars.Size8 full = if full then vectors.Size8x16 else vectors.Size8x8
 vector_of scalars.Size16 full = if full then vectors.Size16x8 else vectors.Size16x4

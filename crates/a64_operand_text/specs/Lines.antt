@@ -11,7 +11,8 @@ behind_text operand = codes ", " ++ operand_text operand
 -- a name, and the operands behind it
 unfoldable pub line_text : List ℕ → List Operand → List ℕ
 line_text name [] = name
-line_text name (first ∷ rest) = name ++ (codes " " ++ (operand_text first ++ flat_map behind_text rest))
+line_text name (first ∷ rest) =
+    name ++ (codes " " ++ (operand_text first ++ flat_map behind_text rest))
 
 -- two lines of one instruction
 unfoldable pub two_lines_text : List ℕ → List Operand → List ℕ → List Operand → List ℕ

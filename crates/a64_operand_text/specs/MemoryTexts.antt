@@ -1,5 +1,6 @@
 -- The texts of loads and stores, and of the addresses of their modes.
-use Rattle.std.specs.Prelude.{ℕ, ℤ, pos, zero, Bool, true, false, if◌then◌else◌, List, [], ◌∷◌, ◌++◌, codes}
+use Rattle.std.specs.Prelude.{ℕ, ℤ, pos, zero, Bool, true, false, if◌then◌else◌, List, [], ◌∷◌}
+use Rattle.std.specs.Prelude.{◌++◌, codes}
 use Rattle.std.specs.Int.RustNames.{unsigned_abs}
 use Rattle.std.specs.List.{flat_map}
 use Rattle.a64_base.specs.declared.ir_type.IrType.{IrType}
@@ -18,7 +19,8 @@ use Rattle.a64_inst.specs.declared.mode.AMode.{AMode}
 use Rattle.a64_inst.specs.declared.mode.AMode.TheVariants as modes
 use Rattle.a64_inst.specs.Accesses.{access_type}
 use Rattle.a64_inst.specs.Constants.{step_into}
-use Rattle.a64_inst.specs.FinalModes.{FinalMode, SignedOffset, ScaledOffset, Other, mode_for, final_steps}
+use Rattle.a64_inst.specs.FinalModes.{FinalMode, SignedOffset, ScaledOffset, Other, mode_for}
+use Rattle.a64_inst.specs.FinalModes.{final_steps}
 use Rattle.a64_inst.specs.MemoryOperands.{is_addend}
 use Rattle.a64_inst.specs.ModeTexts.{final_text}
 use Rattle.a64_operand_text.specs.declared.operand.Operand.TheVariants as operand
@@ -45,7 +47,8 @@ steps_before frame ty mem = flat_map step_before (final_steps frame ty mem)
 abbrev pub held_text : FrameLayout → AccessOp → Reg → AMode → List ℕ
 held_text frame op reg mem =
     access_name (is_unscaled mem) op ++ (codes " " ++ (operand_text (access_operand op reg)
-    ++ (codes ", " ++ final_text (type_bytes (access_type op)) (mode_for false frame (access_type op) mem))))
+    ++ (codes ", "
+    ++ final_text (type_bytes (access_type op)) (mode_for false frame (access_type op) mem))))
 
 unfoldable pub access_text : FrameLayout → AccessOp → Reg → AMode → List ℕ
 access_text frame op reg mem = steps_before frame (access_type op) mem ++ held_text frame op reg mem
@@ -66,29 +69,37 @@ sum_name offset = if is_negative offset then codes "sub" else codes "add"
 
 -- a base and an offset that an addition holds
 abbrev pub near_sum_text : Reg → Reg → ℤ → List ℕ
-near_sum_text rd rn offset = line_text (sum_name offset) (operand.X rd ∷ operand.X rn ∷ operand.Number (unsigned_abs offset) ∷ [])
+near_sum_text rd rn offset =
+    line_text (sum_name offset) (operand.X rd ∷ operand.X rn ∷ operand.Number (unsigned_abs offset)
+    ∷ [])
 
 -- a base and an offset, of which x17 gets the amount first
 abbrev pub far_sum_text : Reg → Reg → ℤ → List ℕ
 far_sum_text rd rn offset =
     steps_text (integer_register 17) (plan_of (unsigned_abs offset))
-    ++ line_text (sum_name offset) (operand.X rd ∷ operand.X rn ∷ operand.X (integer_register 17) ∷ [])
+    ++ line_text (sum_name offset) (operand.X rd ∷ operand.X rn ∷ operand.X (integer_register 17)
+    ∷ [])
 
 -- a base and an offset
 unfoldable pub sum_text : Reg → Reg → ℤ → List ℕ
 sum_text rd rn (pos zero) = line_text (codes "mov") (operand.X rd ∷ operand.X rn ∷ [])
-sum_text rd rn offset = if is_addend (unsigned_abs offset) then near_sum_text rd rn offset else far_sum_text rd rn offset
+sum_text rd rn offset =
+    if is_addend (unsigned_abs offset) then near_sum_text rd rn offset
+    else far_sum_text rd rn offset
 
 -- the address of a mode that stands in an instruction; other modes have none
 abbrev pub final_address_text : Reg → FinalMode → List ℕ
 final_address_text rd (SignedOffset rn offset) = sum_text rd rn offset
 final_address_text rd (ScaledOffset rn offset ty) = sum_text rd rn (pos offset)
-final_address_text rd (Other (modes.RegExtended rn rm extendop)) = line_text (codes "add") (operand.X rd ∷ operand.X rn ∷ operand.X rm ∷ operand.Extend extendop ∷ [])
+final_address_text rd (Other (modes.RegExtended rn rm extendop)) =
+    line_text (codes "add") (operand.X rd ∷ operand.X rn ∷ operand.X rm ∷ operand.Extend extendop
+    ∷ [])
 final_address_text rd (Other _) = []
 
 unfoldable pub address_text : FrameLayout → Reg → AMode → List ℕ
 address_text frame rd mem =
-    steps_text (integer_register 16) (final_steps frame types.I8 mem) ++ final_address_text rd (mode_for false frame types.I8 mem)
+    steps_text (integer_register 16) (final_steps frame types.I8 mem)
+    ++ final_address_text rd (mode_for false frame types.I8 mem)
 
 -- ---- atomic accesses
 
@@ -106,11 +117,14 @@ width_size _ = Size32
 -- a comparison and exchange of one register
 abbrev pub cas_text : IrType → Reg → Reg → Reg → Reg → List ℕ
 cas_text ty rd rs rt rn =
-    codes "casal" ++ line_text (width_suffix ty) (operand.Sized (width_size ty) rd ∷ operand.Sized (width_size ty) rs
+    codes "casal"
+    ++ line_text (width_suffix ty) (operand.Sized (width_size ty) rd
+    ∷ operand.Sized (width_size ty) rs
     ∷ operand.Sized (width_size ty) rt ∷ operand.Base rn ∷ [])
 
 -- a comparison and exchange of two registers
 abbrev pub cas128_text : AtomicCAS128Args → List ℕ
 cas128_text args =
-    line_text (codes "caspal") (operand.X args.rd_lo ∷ operand.X args.rd_hi ∷ operand.X args.rs_lo ∷ operand.X args.rs_hi
+    line_text (codes "caspal") (operand.X args.rd_lo ∷ operand.X args.rd_hi ∷ operand.X args.rs_lo
+    ∷ operand.X args.rs_hi
     ∷ operand.X args.rt_lo ∷ operand.X args.rt_hi ∷ operand.Base args.rn ∷ [])

@@ -39,7 +39,9 @@ operand_text (operand.Bytes reg) = vector_text Size8x16 reg
 operand_text (operand.Vector size reg) = vector_text size reg
 operand_text (operand.Element idx scalar reg) = element_text idx scalar reg
 operand_text (operand.Table size reg) = codes "{ " ++ (vector_text size reg ++ codes " }")
-operand_text (operand.TablePair reg second) = codes "{ " ++ (vector_text Size8x16 reg ++ (codes ", " ++ (vector_text Size8x16 second ++ codes " }")))
+operand_text (operand.TablePair reg second) =
+    codes "{ "
+    ++ (vector_text Size8x16 reg ++ (codes ", " ++ (vector_text Size8x16 second ++ codes " }")))
 operand_text (operand.Number number) = number_text number
 operand_text operand.FloatZero = codes "#0.0"
 operand_text (operand.Wide imm) = wide_text imm
@@ -54,7 +56,10 @@ operand_text (operand.Condition cond) = condition_name cond
 operand_text (operand.Shift shifted) = shift_text shifted
 operand_text (operand.Extend op) = extend_name op
 operand_text (operand.Base reg) = codes "[" ++ (sized_text Size64 reg ++ codes "]")
-operand_text (operand.TableEntry base index) = codes "[" ++ (sized_text Size64 base ++ (codes ", " ++ (sized_text Size64 index ++ codes ", uxtw #2]")))
+operand_text (operand.TableEntry base index) =
+    codes "["
+    ++ (sized_text Size64 base ++ (codes ", " ++ (sized_text Size64 index ++ codes ", uxtw #2]")))
 operand_text (operand.PairMode mem) = pair_text mem
 operand_text (operand.Symbol name) = symbol_text name
-operand_text (operand.SymbolOffset name offset) = symbol_text name ++ (codes "+" ++ signed_decimal offset)
+operand_text (operand.SymbolOffset name offset) =
+    symbol_text name ++ (codes "+" ++ signed_decimal offset)

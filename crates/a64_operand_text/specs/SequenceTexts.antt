@@ -69,12 +69,17 @@ table_jump_text rtmp1 rtmp2 =
 -- the entries, and where the jump goes without one
 unfoldable pub table_targets_text : MachLabel → List MachLabel → List ℕ
 table_targets_text default targets =
-    label_list_text (codes "jt_entries") targets ++ (codes " ; " ++ line_text (codes "default") (operand.Target (Label default) ∷ []))
+    label_list_text (codes "jt_entries") targets
+    ++ (codes " ; " ++ line_text (codes "default") (operand.Target (Label default) ∷ []))
 
 -- a jump by a table
 unfoldable pub jt_sequence_text : MachLabel → List MachLabel → Reg → Reg → Reg → List ℕ
 jt_sequence_text default targets ridx rtmp1 rtmp2 =
-    table_bound_text (length targets) ridx rtmp2 ++ (codes " ; csdb ; " ++ (table_entry_text rtmp1 rtmp2 ++ (codes " ; " ++ (table_jump_text rtmp1 rtmp2 ++ (codes " ; " ++ table_targets_text default targets)))))
+    table_bound_text (length targets) ridx rtmp2
+    ++ (codes " ; csdb ; "
+    ++ (table_entry_text rtmp1 rtmp2
+    ++ (codes " ; "
+    ++ (table_jump_text rtmp1 rtmp2 ++ (codes " ; " ++ table_targets_text default targets)))))
 
 -- a register behind its name
 abbrev pub named_text : List ℕ → Reg → List ℕ
@@ -83,16 +88,24 @@ named_text name reg = name ++ sized_text Size64 reg
 -- the registers of a loop that changes memory by an operator
 unfoldable pub rmw_loop_registers_text : Reg → Reg → Reg → Reg → Reg → List ℕ
 rmw_loop_registers_text addr value oldval scratch1 scratch2 =
-    named_text (codes " addr=") addr ++ (named_text (codes " operand=") value ++ (named_text (codes " oldval=") oldval ++ (named_text (codes " scratch1=") scratch1 ++ named_text (codes " scratch2=") scratch2)))
+    named_text (codes " addr=") addr
+    ++ (named_text (codes " operand=") value
+    ++ (named_text (codes " oldval=") oldval
+    ++ (named_text (codes " scratch1=") scratch1 ++ named_text (codes " scratch2=") scratch2)))
 
 -- the name of a loop that changes memory by an operator, with the operator and the bits
 unfoldable pub rmw_loop_name : AtomicRMWLoopOp → IrType → List ℕ
-rmw_loop_name op ty = codes "atomic_rmw_loop_" ++ (atomic_rmw_loop_op_name op ++ (codes "_" ++ decimal (type_bits ty)))
+rmw_loop_name op ty =
+    codes "atomic_rmw_loop_"
+    ++ (atomic_rmw_loop_op_name op ++ (codes "_" ++ decimal (type_bits ty)))
 
 -- the registers of a loop that compares memory and replaces it
 unfoldable pub cas_loop_registers_text : Reg → Reg → Reg → Reg → Reg → List ℕ
 cas_loop_registers_text addr expected replacement oldval scratch =
-    named_text (codes " addr=") addr ++ (named_text (codes ", expect=") expected ++ (named_text (codes ", replacement=") replacement ++ (named_text (codes ", oldval=") oldval ++ named_text (codes ", scratch=") scratch)))
+    named_text (codes " addr=") addr
+    ++ (named_text (codes ", expect=") expected
+    ++ (named_text (codes ", replacement=") replacement
+    ++ (named_text (codes ", oldval=") oldval ++ named_text (codes ", scratch=") scratch)))
 
 -- a loop that changes memory by an operator
 unfoldable pub rmw_loop_text : AtomicRMWLoopOp → IrType → Reg → Reg → Reg → Reg → Reg → List ℕ
@@ -102,9 +115,12 @@ rmw_loop_text op ty addr value oldval scratch1 scratch2 =
 -- a loop that compares memory and replaces it: its name with the bits, and its registers
 unfoldable pub cas_loop_text : IrType → Reg → Reg → Reg → Reg → Reg → List ℕ
 cas_loop_text ty addr expected replacement oldval scratch =
-    codes "atomic_cas_loop_" ++ (decimal (type_bits ty) ++ cas_loop_registers_text addr expected replacement oldval scratch)
+    codes "atomic_cas_loop_"
+    ++ (decimal (type_bits ty)
+    ++ cas_loop_registers_text addr expected replacement oldval scratch)
 
 -- a choice between vectors
 unfoldable pub vec_csel_text : Reg → Reg → Reg → Cond → List ℕ
 vec_csel_text rd rn rm cond =
-    line_text (codes "vcsel") (operand.Bytes rd ∷ operand.Bytes rn ∷ operand.Bytes rm ∷ operand.Condition cond ∷ []) ++ codes " (if-then-else diamond)"
+    line_text (codes "vcsel") (operand.Bytes rd ∷ operand.Bytes rn ∷ operand.Bytes rm
+    ∷ operand.Condition cond ∷ []) ++ codes " (if-then-else diamond)"

@@ -1,5 +1,6 @@
 -- Written by `python3 tools/instructions.py` from tables/instructions.txt.
--- The text of each instruction, but for loads, stores and addresses of their modes, whose texts depend on the frame.
+-- The text of each instruction, but for loads, stores and addresses of their modes, whose texts
+-- depend on the frame.
 use Rattle.std.specs.Prelude.{ℕ, pos, ◌*ℤ◌, true, false, List, [], ◌∷◌, codes}
 use Rattle.a64_base.specs.declared.reg.RegKind.TheVariants.{Real}
 use Rattle.a64_base.specs.declared.size.ScalarSize.TheVariants as scalars
@@ -14,19 +15,31 @@ use Rattle.a64_inst.specs.declared.inst.Inst.{Inst}
 use Rattle.a64_inst.specs.declared.inst.Inst.TheVariants as insts
 use Rattle.a64_operand_text.specs.declared.operand.Operand.TheVariants as operand
 use Rattle.a64_operand_text.specs.CallTexts.{return_call_text}
-use Rattle.a64_operand_text.specs.ControlTexts.{authenticated_ret_text, bare_number_text, bti_text, cond_br_text}
+use Rattle.a64_operand_text.specs.ControlTexts.{authenticated_ret_text, bare_number_text, bti_text}
+use Rattle.a64_operand_text.specs.ControlTexts.{cond_br_text}
 use Rattle.a64_operand_text.specs.ControlTexts.{paci_text, test_bit_text, trap_if_text}
-use Rattle.a64_operand_text.specs.FloatTexts.{fpu_rr_size, fpu_rri_text, fpu_rri_mod_text, from_float_size, from_int_size}
+use Rattle.a64_operand_text.specs.FloatTexts.{fpu_rr_size, fpu_rri_text, fpu_rri_mod_text}
+use Rattle.a64_operand_text.specs.FloatTexts.{from_float_size, from_int_size}
 use Rattle.a64_operand_text.specs.FloatTexts.{round_size, to_float_size, to_int_size}
 use Rattle.a64_operand_text.specs.IntegerTexts.{alu_rr_imm12_text, extend_text, sum_size}
-use Rattle.a64_operand_text.specs.LaneSizes.{added_product_lane, alu_lanes, alu_mod_lanes, pair_long_lane}
+use Rattle.a64_operand_text.specs.LaneSizes.{added_product_lane, alu_lanes, alu_mod_lanes}
+use Rattle.a64_operand_text.specs.LaneSizes.{pair_long_lane}
 use Rattle.a64_operand_text.specs.LaneSizes.{product_lane, vector_of}
 use Rattle.a64_operand_text.specs.Lines.{line_text}
-use Rattle.a64_operand_text.specs.SequenceTexts.{args_text, cas_loop_text, jt_sequence_text, rets_text, rmw_loop_text}
+use Rattle.a64_operand_text.specs.SequenceTexts.{args_text, cas_loop_text, jt_sequence_text}
+use Rattle.a64_operand_text.specs.SequenceTexts.{rets_text, rmw_loop_text}
 use Rattle.a64_operand_text.specs.SequenceTexts.{vec_csel_text}
-use Rattle.a64_operand_text.specs.VectorTexts.{half_text, lane_move_name, vec_misc_text, vec_rr_long_text}
+use Rattle.a64_operand_text.specs.VectorTexts.{half_text, lane_move_name, vec_misc_text}
+use Rattle.a64_operand_text.specs.VectorTexts.{vec_rr_long_text}
 use Rattle.a64_operand_text.specs.VectorTexts.{vector_imm_name}
-use Rattle.a64_ops.specs.Names.{alu_op3_name, alu_op_name, bfm_op_name, bit_op_name, fpu_op1_name, fpu_op2_name, fpu_op3_name, fpu_round_mode_name, fpu_to_int_op_name, int_to_fpu_op_name, move_wide_op_name, vec_alu_mod_op_name, vec_alu_op_name, vec_extend_op_name, vec_lanes_op_name, vec_pair_op_name, vec_rr_narrow_op_name, vec_rr_pair_long_op_name, vec_rrr_long_mod_op_name, vec_rrr_long_op_name, vec_shift_imm_mod_op_name, vec_shift_imm_op_name}
+use Rattle.a64_ops.specs.Names.{alu_op3_name, alu_op_name, bfm_op_name, bit_op_name, fpu_op1_name}
+use Rattle.a64_ops.specs.Names.{fpu_op2_name, fpu_op3_name, fpu_round_mode_name}
+use Rattle.a64_ops.specs.Names.{fpu_to_int_op_name, int_to_fpu_op_name, move_wide_op_name}
+use Rattle.a64_ops.specs.Names.{vec_alu_mod_op_name, vec_alu_op_name, vec_extend_op_name}
+use Rattle.a64_ops.specs.Names.{vec_lanes_op_name, vec_pair_op_name, vec_rr_narrow_op_name}
+use Rattle.a64_ops.specs.Names.{vec_rr_pair_long_op_name, vec_rrr_long_mod_op_name}
+use Rattle.a64_ops.specs.Names.{vec_rrr_long_op_name, vec_shift_imm_mod_op_name}
+use Rattle.a64_ops.specs.Names.{vec_shift_imm_op_name}
 
 abbrev pub own_text : Inst → List ℕ
 own_text (insts.Adr rd off) = line_text (codes "adr") (operand.X rd ∷ operand.Near off ∷ [])

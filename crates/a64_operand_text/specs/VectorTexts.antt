@@ -35,7 +35,8 @@ long_shift vec_rr_long_ops.Shll32 = operand.Number 32 ∷ []
 unfoldable pub vec_rr_long_text : VecRRLongOp → Bool → Reg → Reg → List ℕ
 vec_rr_long_text op high_half rd rn =
     half_text (vec_rr_long_op_name op) high_half
-    (operand.Vector (vector_of (wider (long_lane op)) true) rd ∷ operand.Vector (vector_of (long_lane op) high_half) rn ∷ long_shift op)
+    (operand.Vector (vector_of (wider (long_lane op)) true) rd
+    ∷ operand.Vector (vector_of (long_lane op) high_half) rn ∷ long_shift op)
 
 -- the zero with which lanes are compared
 abbrev pub compared_zero : VecMisc2 → List Operand
@@ -54,7 +55,8 @@ compared_zero _ = []
 -- a line of an operator on one vector
 unfoldable pub vec_misc_text : VecMisc2 → VectorSize → Reg → Reg → List ℕ
 vec_misc_text op size rd rn =
-    line_text (vec_misc2_name op) (operand.Vector (misc_lanes op size) rd ∷ operand.Vector (misc_lanes op size) rn ∷ compared_zero op)
+    line_text (vec_misc2_name op) (operand.Vector (misc_lanes op size) rd
+    ∷ operand.Vector (misc_lanes op size) rn ∷ compared_zero op)
 
 -- the name of a move of a lane to an integer register, which fills it with zeros
 abbrev pub lane_move_name : ScalarSize → List ℕ

@@ -1,5 +1,6 @@
 -- Written by `python3 tools/instructions.py` from tables/instructions.txt.
--- The loads and stores of one register: the fields of their words (Arm Architecture Reference Manual, C4.1: loads and stores).
+-- The loads and stores of one register: the fields of their words (Arm Architecture Reference
+-- Manual, C4.1: loads and stores).
 use Rattle.std.specs.Prelude.{ℕ, Bool, true, false, Option, Some, None}
 use Rattle.a64_ops.specs.declared.access.AccessOp.{AccessOp}
 use Rattle.a64_ops.specs.declared.access.AccessOp.TheVariants as ops

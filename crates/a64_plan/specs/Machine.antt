@@ -15,11 +15,12 @@ cut size n = n % 2 ^ operand_bits size
 
 -- a number with other bits at halfword k: all above it, the bits, all below it
 abbrev pub with_halfword : ℕ → ℕ → ℕ → ℕ
-with_halfword k bits n = n / 2 ^ (16 * k + 16) * 2 ^ (16 * k + 16) + bits * 2 ^ (16 * k) + n % 2 ^ (16 * k)
+with_halfword k bits n =
+    n / 2 ^ (16 * k + 16) * 2 ^ (16 * k + 16) + bits * 2 ^ (16 * k) + n % 2 ^ (16 * k)
 
--- the register after a step, where it held a number before.
--- movz: the bits at their halfword, and zeros elsewhere; movn: the complement of that within the size;
--- movk: the bits at their halfword, and elsewhere what was there; orr: the number that N, R and S tell, at 32 bits its low half.
+-- the register after a step, where it held a number before. movz: the bits at their halfword, and
+-- zeros elsewhere; movn: the complement of that within the size; movk: the bits at their halfword,
+-- and elsewhere what was there; orr: the number that N, R and S tell, at 32 bits its low half.
 abbrev pub after : ConstStep → ℕ → ℕ
 after (MovZ imm size) old = cut size (wide_value imm)
 after (MovN imm size) old = 2 ^ operand_bits size - 1 - cut size (wide_value imm)

@@ -40,4 +40,6 @@ Leave steps value = (old : ℕ) → after_all steps old ≡ value
 
 -- steps of a shape that leave the value, from whatever the register held, are so many or more
 abbrev pub NoneFewer : ℕ → ℕ → Type 0
-NoneFewer many value = (steps : List ConstStep) (old : ℕ) → IsShape steps → after_all steps old ≡ value → many ≤ length steps
+NoneFewer many value =
+    (steps : List ConstStep) (old : ℕ) → IsShape steps → after_all steps old ≡ value
+    → many ≤ length steps

@@ -26,10 +26,14 @@ text_of frame inst = elim (group_of inst) [
 
 -- settings that allow whatever a setting can
 abbrev pub all_settings : EmitFlags
-all_settings = record { enable_probestack = true; enable_table_access_spectre_mitigation = true; use_csdb = true }
+all_settings = record {
+  enable_probestack = true;
+  enable_table_access_spectre_mitigation = true;
+  use_csdb = true;
+}
 
--- an instruction may be printed: its operands are in their sets, where registers may be virtual and each setting is on,
--- and its addressing mode exists. How long its constant is does not count
+-- an instruction may be printed: its operands are in their sets, where registers may be virtual and
+-- each setting is on, and its addressing mode exists. How long its constant is does not count
 pub record CanPrint (frame : FrameLayout) (inst : Inst) : Type 0 where
   pub operands : has_operands frame all_settings Allowed inst ≡ true
   pub mode : has_mode inst ≡ true

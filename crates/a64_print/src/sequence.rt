@@ -40,14 +40,16 @@ fn push_vec_csel(out: &mut String, rd: Reg, rn: Reg, rm: Reg, cond: Cond) -> Res
 
 /// Appends the registers in which arguments come.
 fn push_args(out: &mut String, args: &[ArgPair]) -> Result<(), AllocError>
-    ensures { OnOk result (string_bytes out.new ≡ string_bytes out.old ++ texts.args_text args.now) }
+    ensures { OnOk result (string_bytes out.new
+        ≡ string_bytes out.old ++ texts.args_text args.now) }
 {
     push_pairs(out, "args", args)
 }
 
 /// Appends the registers in which results go.
 fn push_rets(out: &mut String, rets: &[RetPair]) -> Result<(), AllocError>
-    ensures { OnOk result (string_bytes out.new ≡ string_bytes out.old ++ texts.rets_text rets.now) }
+    ensures { OnOk result (string_bytes out.new
+        ≡ string_bytes out.old ++ texts.rets_text rets.now) }
 {
     push_pairs(out, "rets", rets)
 }

@@ -14,8 +14,14 @@ use Rattle.a64_read.specs.Heading.{Heading}
 use Rattle.a64_read.specs.Parts.{part_texts, IsPart}
 
 abbrev pub cond_br_heading : CondBrName → Heading
-cond_br_heading cond_br_names.Zero = record { text = codes "Zero"; kinds = kinds.Reg ∷ kinds.Size ∷ [] }
-cond_br_heading cond_br_names.NotZero = record { text = codes "NotZero"; kinds = kinds.Reg ∷ kinds.Size ∷ [] }
+cond_br_heading cond_br_names.Zero = record {
+  text = codes "Zero";
+  kinds = kinds.Reg ∷ kinds.Size ∷ [];
+}
+cond_br_heading cond_br_names.NotZero = record {
+  text = codes "NotZero";
+  kinds = kinds.Reg ∷ kinds.Size ∷ [];
+}
 cond_br_heading cond_br_names.Cond = record { text = codes "Cond"; kinds = kinds.Cond ∷ [] }
 
 abbrev pub cond_br_name_text : CondBrName → List ℕ
@@ -30,9 +36,18 @@ pub record CondBrParts : Type 0 where
   pub fields : List Value
 
 abbrev pub cond_br_parts : CondBrKind → CondBrParts
-cond_br_parts (cond_brs.Zero reg size) = record { name = cond_br_names.Zero; fields = values.Reg reg ∷ values.Size size ∷ [] }
-cond_br_parts (cond_brs.NotZero reg size) = record { name = cond_br_names.NotZero; fields = values.Reg reg ∷ values.Size size ∷ [] }
-cond_br_parts (cond_brs.Cond cond) = record { name = cond_br_names.Cond; fields = values.Cond cond ∷ [] }
+cond_br_parts (cond_brs.Zero reg size) = record {
+  name = cond_br_names.Zero;
+  fields = values.Reg reg ∷ values.Size size ∷ [];
+}
+cond_br_parts (cond_brs.NotZero reg size) = record {
+  name = cond_br_names.NotZero;
+  fields = values.Reg reg ∷ values.Size size ∷ [];
+}
+cond_br_parts (cond_brs.Cond cond) = record {
+  name = cond_br_names.Cond;
+  fields = values.Cond cond ∷ [];
+}
 
 abbrev pub cond_br_name_of : CondBrKind → CondBrName
 cond_br_name_of kind = (cond_br_parts kind).name
@@ -44,7 +59,9 @@ abbrev pub IsOwnCondBr : CondBrKind → Type 0
 IsOwnCondBr kind = Unit {0}
 
 abbrev pub cond_br_text : CondBrKind → List ℕ
-cond_br_text kind = call_text (cond_br_name_text (cond_br_name_of kind), join_with_byte 44 (part_texts (cond_br_fields kind)))
+cond_br_text kind =
+    call_text
+    (cond_br_name_text (cond_br_name_of kind), join_with_byte 44 (part_texts (cond_br_fields kind)))
 
 abbrev pub IsCondBr : CondBrKind → Type 0
 IsCondBr kind = AllByRecursion IsPart (cond_br_fields kind) × IsOwnCondBr kind

@@ -8,8 +8,8 @@ use Rattle.a64_tokens.specs.Fields.{preg_text}
 use Rattle.a64_tokens.specs.Lists.{list_text}
 use Rattle.a64_tokens.specs.Reads.{IsU32}
 
--- the registers of the machine in the order in which lists have them: the integer registers by number, of
--- which the stack pointer has the highest, and behind them the float registers
+-- the registers of the machine in the order in which lists have them: the integer registers by
+-- number, of which the stack pointer has the highest, and behind them the float registers
 abbrev pub nth_register : ℕ → RealRegister
 nth_register n =
     if nat_lt n 32 then record { number = n; class = Int } else
@@ -20,7 +20,8 @@ nth_register n =
 abbrev pub members_from : PRegSet → ℕ → ℕ → List RealRegister
 members_from set n zero = []
 members_from set n (suc more) =
-    if has set (nth_register n) then nth_register n ∷ members_from set (suc n) more else members_from set (suc n) more
+    if has set (nth_register n) then nth_register n ∷ members_from set (suc n) more
+    else members_from set (suc n) more
 
 -- all that a set has, in their order
 unfoldable pub members : PRegSet → List RealRegister

@@ -1,5 +1,5 @@
--- The texts of shifts of scalar floats: the name, which says the lane, and in parentheses the amount, for which the
--- constructor gives it at that lane.
+-- The texts of shifts of scalar floats: the name, which says the lane, and in parentheses the
+-- amount, for which the constructor gives it at that lane.
 use Rattle.std.specs.Prelude.{ℕ, ◌≡◌, codes, List}
 use Rattle.std.specs.Fmt.{decimal}
 use Rattle.a64_imms.specs.FpuShifts.{IsLeftShift, IsRightShift}

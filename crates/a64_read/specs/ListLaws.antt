@@ -8,8 +8,13 @@ use Rattle.a64_tokens.specs.Fields.{label_text, IsLabel}
 use Rattle.a64_tokens.specs.SplitLaws.{comma_apart}
 use Rattle.a64_tokens.specs.Splitting.{comma_tokens}
 
-pub label_apart : (label : MachLabel) (labels : List MachLabel) → AllByRecursion IsLabel (label ∷ labels) → comma_tokens (join_with_byte 44 (map label_text (label ∷ labels))) ≡ map label_text (label ∷ labels)
-label_apart = comma_apart label_text IsLabel (λ label fits. decimal_apart 44 label.0 (inl (lit< tt)) (omega (arith, fits)))
+pub label_apart : (label : MachLabel) (labels : List MachLabel)
+    → AllByRecursion IsLabel (label ∷ labels)
+    → comma_tokens (join_with_byte 44 (map label_text (label ∷ labels)))
+    ≡ map label_text (label ∷ labels)
+label_apart =
+    comma_apart label_text IsLabel
+    (λ label fits. decimal_apart 44 label.0 (inl (lit< tt)) (omega (arith, fits)))
 
 pub label_no_dash : (label : MachLabel) → IsLabel label → label_text label ≡ codes "-" → ⊥
 label_no_dash label fits e = cc

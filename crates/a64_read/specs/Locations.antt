@@ -14,8 +14,14 @@ use Rattle.a64_read.specs.Heading.{Heading}
 use Rattle.a64_read.specs.Parts.{part_texts, IsPart}
 
 abbrev pub location_heading : LocationName → Heading
-location_heading location_names.Reg = record { text = codes "reg"; kinds = kinds.Reg ∷ kinds.Type ∷ [] }
-location_heading location_names.Stack = record { text = codes "stack"; kinds = kinds.I64 ∷ kinds.Type ∷ [] }
+location_heading location_names.Reg = record {
+  text = codes "reg";
+  kinds = kinds.Reg ∷ kinds.Type ∷ [];
+}
+location_heading location_names.Stack = record {
+  text = codes "stack";
+  kinds = kinds.I64 ∷ kinds.Type ∷ [];
+}
 
 abbrev pub location_name_text : LocationName → List ℕ
 location_name_text name = (location_heading name).text
@@ -29,8 +35,14 @@ pub record LocationParts : Type 0 where
   pub fields : List Value
 
 abbrev pub location_parts : RetLocation → LocationParts
-location_parts (locations.Reg preg ty) = record { name = location_names.Reg; fields = values.Reg preg ∷ values.Type ty ∷ [] }
-location_parts (locations.Stack offset ty) = record { name = location_names.Stack; fields = values.I64 offset ∷ values.Type ty ∷ [] }
+location_parts (locations.Reg preg ty) = record {
+  name = location_names.Reg;
+  fields = values.Reg preg ∷ values.Type ty ∷ [];
+}
+location_parts (locations.Stack offset ty) = record {
+  name = location_names.Stack;
+  fields = values.I64 offset ∷ values.Type ty ∷ [];
+}
 
 abbrev pub location_name_of : RetLocation → LocationName
 location_name_of location = (location_parts location).name
@@ -42,7 +54,12 @@ abbrev pub IsOwnLocation : RetLocation → Type 0
 IsOwnLocation location = Unit {0}
 
 abbrev pub location_text : RetLocation → List ℕ
-location_text location = call_text (location_name_text (location_name_of location), join_with_byte 44 (part_texts (location_fields location)))
+location_text location =
+    call_text (
+      location_name_text (location_name_of location),
+      join_with_byte 44
+          (part_texts (location_fields location)),
+    )
 
 abbrev pub IsLocation : RetLocation → Type 0
 IsLocation location = AllByRecursion IsPart (location_fields location) × IsOwnLocation location

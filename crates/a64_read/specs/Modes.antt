@@ -29,20 +29,50 @@ use Rattle.a64_tokens.specs.Types.{is_scale}
 -- ---- modes of one register
 
 abbrev pub mode_heading : ModeName → Heading
-mode_heading mode_names.RegReg = record { text = codes "RegReg"; kinds = kinds.Reg ∷ kinds.Reg ∷ [] }
-mode_heading mode_names.RegScaled = record { text = codes "RegScaled"; kinds = kinds.Reg ∷ kinds.Reg ∷ [] }
-mode_heading mode_names.RegScaledExtended = record { text = codes "RegScaledExtended"; kinds = kinds.Reg ∷ kinds.Reg ∷ kinds.Extend ∷ [] }
-mode_heading mode_names.RegExtended = record { text = codes "RegExtended"; kinds = kinds.Reg ∷ kinds.Reg ∷ kinds.Extend ∷ [] }
-mode_heading mode_names.Unscaled = record { text = codes "Unscaled"; kinds = kinds.Reg ∷ kinds.Offset9 ∷ [] }
-mode_heading mode_names.UnsignedOffset = record { text = codes "UnsignedOffset"; kinds = kinds.Reg ∷ kinds.I64 ∷ kinds.Type ∷ [] }
-mode_heading mode_names.Label = record { text = codes "Label"; kinds = kinds.MemLabelName ∷ kinds.I64 ∷ [] }
-mode_heading mode_names.SPPreIndexed = record { text = codes "SPPreIndexed"; kinds = kinds.Offset9 ∷ [] }
-mode_heading mode_names.SPPostIndexed = record { text = codes "SPPostIndexed"; kinds = kinds.Offset9 ∷ [] }
+mode_heading mode_names.RegReg = record {
+  text = codes "RegReg";
+  kinds = kinds.Reg ∷ kinds.Reg ∷ [];
+}
+mode_heading mode_names.RegScaled = record {
+  text = codes "RegScaled";
+  kinds = kinds.Reg ∷ kinds.Reg ∷ [];
+}
+mode_heading mode_names.RegScaledExtended = record {
+  text = codes "RegScaledExtended";
+  kinds = kinds.Reg ∷ kinds.Reg ∷ kinds.Extend ∷ [];
+}
+mode_heading mode_names.RegExtended = record {
+  text = codes "RegExtended";
+  kinds = kinds.Reg ∷ kinds.Reg ∷ kinds.Extend ∷ [];
+}
+mode_heading mode_names.Unscaled = record {
+  text = codes "Unscaled";
+  kinds = kinds.Reg ∷ kinds.Offset9 ∷ [];
+}
+mode_heading mode_names.UnsignedOffset = record {
+  text = codes "UnsignedOffset";
+  kinds = kinds.Reg ∷ kinds.I64 ∷ kinds.Type ∷ [];
+}
+mode_heading mode_names.Label = record {
+  text = codes "Label";
+  kinds = kinds.MemLabelName ∷ kinds.I64 ∷ [];
+}
+mode_heading mode_names.SPPreIndexed = record {
+  text = codes "SPPreIndexed";
+  kinds = kinds.Offset9 ∷ [];
+}
+mode_heading mode_names.SPPostIndexed = record {
+  text = codes "SPPostIndexed";
+  kinds = kinds.Offset9 ∷ [];
+}
 mode_heading mode_names.FPOffset = record { text = codes "FPOffset"; kinds = kinds.I64 ∷ [] }
 mode_heading mode_names.SPOffset = record { text = codes "SPOffset"; kinds = kinds.I64 ∷ [] }
 mode_heading mode_names.IncomingArg = record { text = codes "IncomingArg"; kinds = kinds.I64 ∷ [] }
 mode_heading mode_names.SlotOffset = record { text = codes "SlotOffset"; kinds = kinds.I64 ∷ [] }
-mode_heading mode_names.RegOffset = record { text = codes "RegOffset"; kinds = kinds.Reg ∷ kinds.I64 ∷ [] }
+mode_heading mode_names.RegOffset = record {
+  text = codes "RegOffset";
+  kinds = kinds.Reg ∷ kinds.I64 ∷ [];
+}
 mode_heading mode_names.Const = record { text = codes "Const"; kinds = kinds.U32 ∷ [] }
 
 abbrev pub mode_name_text : ModeName → List ℕ
@@ -75,20 +105,64 @@ pub record ModeParts : Type 0 where
   pub fields : List Value
 
 abbrev pub mode_parts : AMode → ModeParts
-mode_parts (modes.RegReg rn rm) = record { name = mode_names.RegReg; fields = values.Reg rn ∷ values.Reg rm ∷ [] }
-mode_parts (modes.RegScaled rn rm) = record { name = mode_names.RegScaled; fields = values.Reg rn ∷ values.Reg rm ∷ [] }
-mode_parts (modes.RegScaledExtended rn rm extendop) = record { name = mode_names.RegScaledExtended; fields = values.Reg rn ∷ values.Reg rm ∷ values.Extend extendop ∷ [] }
-mode_parts (modes.RegExtended rn rm extendop) = record { name = mode_names.RegExtended; fields = values.Reg rn ∷ values.Reg rm ∷ values.Extend extendop ∷ [] }
-mode_parts (modes.Unscaled rn simm9) = record { name = mode_names.Unscaled; fields = values.Reg rn ∷ values.Offset9 simm9 ∷ [] }
-mode_parts (modes.UnsignedOffset rn uimm12) = record { name = mode_names.UnsignedOffset; fields = values.Reg rn ∷ values.I64 (scaled_parts uimm12).0 ∷ values.Type (scaled_parts uimm12).1 ∷ [] }
-mode_parts (modes.Label label) = record { name = mode_names.Label; fields = values.MemLabelName (mem_label_parts label).0 ∷ values.I64 (mem_label_parts label).1 ∷ [] }
-mode_parts (modes.SPPreIndexed simm9) = record { name = mode_names.SPPreIndexed; fields = values.Offset9 simm9 ∷ [] }
-mode_parts (modes.SPPostIndexed simm9) = record { name = mode_names.SPPostIndexed; fields = values.Offset9 simm9 ∷ [] }
-mode_parts (modes.FPOffset off) = record { name = mode_names.FPOffset; fields = values.I64 off ∷ [] }
-mode_parts (modes.SPOffset off) = record { name = mode_names.SPOffset; fields = values.I64 off ∷ [] }
-mode_parts (modes.IncomingArg off) = record { name = mode_names.IncomingArg; fields = values.I64 off ∷ [] }
-mode_parts (modes.SlotOffset off) = record { name = mode_names.SlotOffset; fields = values.I64 off ∷ [] }
-mode_parts (modes.RegOffset rn off) = record { name = mode_names.RegOffset; fields = values.Reg rn ∷ values.I64 off ∷ [] }
+mode_parts (modes.RegReg rn rm) = record {
+  name = mode_names.RegReg;
+  fields = values.Reg rn ∷ values.Reg rm ∷ [];
+}
+mode_parts (modes.RegScaled rn rm) = record {
+  name = mode_names.RegScaled;
+  fields = values.Reg rn ∷ values.Reg rm ∷ [];
+}
+mode_parts (modes.RegScaledExtended rn rm extendop) = record {
+  name = mode_names.RegScaledExtended;
+  fields = values.Reg rn ∷ values.Reg rm ∷ values.Extend extendop ∷ [];
+}
+mode_parts (modes.RegExtended rn rm extendop) = record {
+  name = mode_names.RegExtended;
+  fields = values.Reg rn ∷ values.Reg rm ∷ values.Extend extendop ∷ [];
+}
+mode_parts (modes.Unscaled rn simm9) = record {
+  name = mode_names.Unscaled;
+  fields = values.Reg rn ∷ values.Offset9 simm9 ∷ [];
+}
+mode_parts (modes.UnsignedOffset rn uimm12) = record {
+  name = mode_names.UnsignedOffset;
+  fields = values.Reg rn ∷ values.I64 (scaled_parts uimm12).0 ∷ values.Type (scaled_parts uimm12).1
+      ∷ [];
+}
+mode_parts (modes.Label label) = record {
+  name = mode_names.Label;
+  fields = values.MemLabelName (mem_label_parts label).0 ∷ values.I64 (mem_label_parts label).1
+      ∷ [];
+}
+mode_parts (modes.SPPreIndexed simm9) = record {
+  name = mode_names.SPPreIndexed;
+  fields = values.Offset9 simm9 ∷ [];
+}
+mode_parts (modes.SPPostIndexed simm9) = record {
+  name = mode_names.SPPostIndexed;
+  fields = values.Offset9 simm9 ∷ [];
+}
+mode_parts (modes.FPOffset off) = record {
+  name = mode_names.FPOffset;
+  fields = values.I64 off ∷ [];
+}
+mode_parts (modes.SPOffset off) = record {
+  name = mode_names.SPOffset;
+  fields = values.I64 off ∷ [];
+}
+mode_parts (modes.IncomingArg off) = record {
+  name = mode_names.IncomingArg;
+  fields = values.I64 off ∷ [];
+}
+mode_parts (modes.SlotOffset off) = record {
+  name = mode_names.SlotOffset;
+  fields = values.I64 off ∷ [];
+}
+mode_parts (modes.RegOffset rn off) = record {
+  name = mode_names.RegOffset;
+  fields = values.Reg rn ∷ values.I64 off ∷ [];
+}
 mode_parts (modes.Const addr) = record { name = mode_names.Const; fields = values.U32 addr.0 ∷ [] }
 
 abbrev pub mode_name_of : AMode → ModeName
@@ -104,7 +178,9 @@ IsOwnMode (modes.Label label) = IsMemLabel label
 IsOwnMode _ = Unit {0}
 
 abbrev pub mode_text : AMode → List ℕ
-mode_text mode = call_text (mode_name_text (mode_name_of mode), join_with_byte 44 (part_texts (mode_fields mode)))
+mode_text mode =
+    call_text
+    (mode_name_text (mode_name_of mode), join_with_byte 44 (part_texts (mode_fields mode)))
 
 abbrev pub IsMode : AMode → Type 0
 IsMode mode = AllByRecursion IsPart (mode_fields mode) × IsOwnMode mode
@@ -112,9 +188,18 @@ IsMode mode = AllByRecursion IsPart (mode_fields mode) × IsOwnMode mode
 -- ---- modes of a pair, as a line has them
 
 abbrev pub pair_heading : PairModeName → Heading
-pair_heading pair_names.SignedOffset = record { text = codes "SignedOffset"; kinds = kinds.Reg ∷ kinds.I64 ∷ [] }
-pair_heading pair_names.SPPreIndexed = record { text = codes "SPPreIndexed"; kinds = kinds.I64 ∷ [] }
-pair_heading pair_names.SPPostIndexed = record { text = codes "SPPostIndexed"; kinds = kinds.I64 ∷ [] }
+pair_heading pair_names.SignedOffset = record {
+  text = codes "SignedOffset";
+  kinds = kinds.Reg ∷ kinds.I64 ∷ [];
+}
+pair_heading pair_names.SPPreIndexed = record {
+  text = codes "SPPreIndexed";
+  kinds = kinds.I64 ∷ [];
+}
+pair_heading pair_names.SPPostIndexed = record {
+  text = codes "SPPostIndexed";
+  kinds = kinds.I64 ∷ [];
+}
 
 abbrev pub pair_name_text : PairModeName → List ℕ
 pair_name_text name = (pair_heading name).text
@@ -128,9 +213,18 @@ pub record PairParts : Type 0 where
   pub fields : List Value
 
 abbrev pub pair_parts : WrittenPairMode → PairParts
-pair_parts (pair_modes.SignedOffset reg offset) = record { name = pair_names.SignedOffset; fields = values.Reg reg ∷ values.I64 offset ∷ [] }
-pair_parts (pair_modes.SPPreIndexed offset) = record { name = pair_names.SPPreIndexed; fields = values.I64 offset ∷ [] }
-pair_parts (pair_modes.SPPostIndexed offset) = record { name = pair_names.SPPostIndexed; fields = values.I64 offset ∷ [] }
+pair_parts (pair_modes.SignedOffset reg offset) = record {
+  name = pair_names.SignedOffset;
+  fields = values.Reg reg ∷ values.I64 offset ∷ [];
+}
+pair_parts (pair_modes.SPPreIndexed offset) = record {
+  name = pair_names.SPPreIndexed;
+  fields = values.I64 offset ∷ [];
+}
+pair_parts (pair_modes.SPPostIndexed offset) = record {
+  name = pair_names.SPPostIndexed;
+  fields = values.I64 offset ∷ [];
+}
 
 abbrev pub pair_name_of : WrittenPairMode → PairModeName
 pair_name_of mode = (pair_parts mode).name
@@ -142,7 +236,9 @@ abbrev pub IsOwnPair : WrittenPairMode → Type 0
 IsOwnPair mode = Unit {0}
 
 abbrev pub pair_text : WrittenPairMode → List ℕ
-pair_text mode = call_text (pair_name_text (pair_name_of mode), join_with_byte 44 (part_texts (pair_fields mode)))
+pair_text mode =
+    call_text
+    (pair_name_text (pair_name_of mode), join_with_byte 44 (part_texts (pair_fields mode)))
 
 abbrev pub IsPairMode : WrittenPairMode → Type 0
 IsPairMode mode = AllByRecursion IsPart (pair_fields mode) × IsOwnPair mode

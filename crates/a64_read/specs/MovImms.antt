@@ -1,4 +1,5 @@
--- The texts of immediates of vector moves: the bits, their shift, and whether ones are shifted in, with commas between.
+-- The texts of immediates of vector moves: the bits, their shift, and whether ones are shifted in,
+-- with commas between.
 use Rattle.std.specs.Prelude.{ℕ, List, [], ◌∷◌}
 use Rattle.std.specs.List.{AllByRecursion, join_with_byte}
 use Rattle.a64_tokens.specs.declared.value.WrittenMovImm.{WrittenMovImm}

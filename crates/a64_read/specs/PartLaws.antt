@@ -7,7 +7,8 @@ use Rattle.a64_read.specs.Parts.{is_part, part_text, IsPart}
 use Rattle.a64_read.specs.Values.{kind_of, value_text, IsValue}
 
 -- a line for each kind
-pub part_is : (v : Value) → IsPart v → IsValue v × (value_text v ≡ part_text v) × (is_part (kind_of v) ≡ true)
+pub part_is : (v : Value) → IsPart v
+    → IsValue v × (value_text v ≡ part_text v) × (is_part (kind_of v) ≡ true)
 part_is (values.Reg x) fits = (fits, refl, refl)
 part_is (values.Extend x) fits = (fits, refl, refl)
 part_is (values.U32 x) fits = (fits, refl, refl)

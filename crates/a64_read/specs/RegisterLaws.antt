@@ -1,5 +1,6 @@
 -- Bytes that stand between fields, of which no text of a register has one.
-use Rattle.std.specs.Prelude.{ℕ, ℤ, pos, negsuc, suc, ◌==◌, ◌<◌, ◌^◌, ◌⊎◌, ◌++◌, if◌then◌else◌, Bool, true, false, codes, List, ◌∷◌, ◌≡◌, refl}
+use Rattle.std.specs.Prelude.{ℕ, ℤ, pos, negsuc, suc, ◌==◌, ◌<◌, ◌^◌, ◌⊎◌, ◌++◌, if◌then◌else◌}
+use Rattle.std.specs.Prelude.{Bool, true, false, codes, List, ◌∷◌, ◌≡◌, refl}
 use Rattle.std.proofs.Common.{arith, lit<, inl, inr, sym, subst}
 use Rattle.std.specs.Fmt.{decimal, signed_decimal}
 use Rattle.std.proofs.lemmas.Int.{ints}
@@ -36,7 +37,8 @@ at_each P one two three c (inr (inl e)) = subst P (sym e) two
 at_each P one two three c (inr (inr e)) = subst P (sym e) three
 
 -- a text behind a byte that is another
-pub behind : (b : ℕ) (xs : List ℕ) → (b == 32) ≡ false → (b == 44) ≡ false → (b == 61) ≡ false → (c : ℕ) → IsBetween c → HasNo c xs → HasNo c (b ∷ xs)
+pub behind : (b : ℕ) (xs : List ℕ) → (b == 32) ≡ false → (b == 44) ≡ false → (b == 61) ≡ false
+    → (c : ℕ) → IsBetween c → HasNo c xs → HasNo c (b ∷ xs)
 behind b xs one two three c is h = rw (at_each (λ c. (b == c) ≡ false) one two three c is, h) refl
 
 pub append_apart : (c : ℕ) (xs ys : List ℕ) → HasNo c xs → HasNo c ys → HasNo c (xs ++ ys)
@@ -49,23 +51,38 @@ number_fits Float n fits = grind (arith, fits)
 
 module _ (c : ℕ) (is : IsBetween c) where
   pub digits : (n : ℕ) → n < 2 ^ 64 → HasNo c (decimal n)
-  digits n fits = decimal_apart c n (at_each IsNoDigit (inl (lit< tt)) (inl (lit< tt)) (inr (lit< tt)) c is) fits
+  digits n fits =
+      decimal_apart c n (at_each IsNoDigit (inl (lit< tt)) (inl (lit< tt)) (inr (lit< tt)) c is)
+      fits
 
   integer_apart : (n : ℕ) → IsRegisterNumber Int n → HasNo c (integer_text n)
   integer_apart n fits = go (n == 31) (n == 63)
     where
-      go : (zero sp : Bool) → HasNo c (if zero then codes "xzr" else if sp then codes "sp" else (codes "x" ++ decimal n))
+      go : (zero sp : Bool)
+          → HasNo c (if zero then codes "xzr" else if sp then codes "sp"
+          else (codes "x" ++ decimal n))
       go true sp = at_each (λ c. HasNo c (codes "xzr")) refl refl refl c is
       go false true = at_each (λ c. HasNo c (codes "sp")) refl refl refl c is
-      go false false = behind 120 (decimal n) refl refl refl c is (digits n (omega (arith, number_fits Int n fits)))
+      go false false =
+          behind 120 (decimal n) refl refl refl c is
+          (digits n (omega (arith, number_fits Int n fits)))
 
-  pub real_apart : (class : RegClass) (n : ℕ) → IsRegisterNumber class n → HasNo c (real_text class n)
+  pub real_apart : (class : RegClass) (n : ℕ) → IsRegisterNumber class n
+      → HasNo c (real_text class n)
   real_apart Int n fits = integer_apart n fits
-  real_apart Float n fits = behind 118 (decimal n) refl refl refl c is (digits n (omega (arith, number_fits Float n fits)))
+  real_apart Float n fits =
+      behind 118 (decimal n) refl refl refl c is
+      (digits n (omega (arith, number_fits Float n fits)))
 
   virtual_apart : (class : RegClass) (n : ℕ) → IsU32 n → HasNo c (virtual_text class n)
-  virtual_apart Int n fits = behind 37 (105 ∷ decimal n) refl refl refl c is (behind 105 (decimal n) refl refl refl c is (digits n (omega (arith, fits))))
-  virtual_apart Float n fits = behind 37 (102 ∷ decimal n) refl refl refl c is (behind 102 (decimal n) refl refl refl c is (digits n (omega (arith, fits))))
+  virtual_apart Int n fits =
+      behind 37 (105
+      ∷ decimal n) refl refl refl c is
+      (behind 105 (decimal n) refl refl refl c is (digits n (omega (arith, fits))))
+  virtual_apart Float n fits =
+      behind 37 (102
+      ∷ decimal n) refl refl refl c is
+      (behind 102 (decimal n) refl refl refl c is (digits n (omega (arith, fits))))
 
   pub reg_apart : (reg : Reg) → IsReg reg → HasNo c (reg_text reg)
   reg_apart (Real p) fits = real_apart p.class p.number fits
@@ -74,7 +91,8 @@ module _ (c : ℕ) (is : IsBetween c) where
   -- nor has one of a number, or of a type
   pub signed_apart : (z : ℤ) → IsI64 z → HasNo c (signed_decimal z)
   signed_apart (pos n) fits = digits n (omega (arith, ints, fits))
-  signed_apart (negsuc n) fits = behind 45 (decimal (suc n)) refl refl refl c is (digits (suc n) (omega (arith, ints, fits)))
+  signed_apart (negsuc n) fits =
+      behind 45 (decimal (suc n)) refl refl refl c is (digits (suc n) (omega (arith, ints, fits)))
 
   pub type_apart : (x : IrType) → HasNo c (type_text x)
   type_apart I8 = at_each (λ c. HasNo c (type_text I8)) refl refl refl c is

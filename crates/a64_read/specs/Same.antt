@@ -7,7 +7,17 @@ use Rattle.a64_tokens.specs.declared.value.Value.{Value}
 use Rattle.a64_tokens.specs.declared.value.Value.TheVariants as values
 use Rattle.a64_tokens.specs.declared.vec_op.VecOp.{VecOp}
 use Rattle.a64_read.specs.Values.{kind_of}
-use Rattle.a64_read.specs.At.{alu_op_of, alu_op3_of, atomic_rmw_loop_op_of, atomic_rmw_op_of, bit_op_of, bfm_op_of, move_wide_op_of, size_of, reg_of, preg_of, imm12_of, wide_of, imm_shift_of, mov_imm_of, uimm5_of, uimm6_of, shift_of, extend_of, cond_of, nzcv_of, truth_of, u8_of, u32_of, u64_of, i32_of, target_of, label_of, frame_field_of, emit_flag_of, i64_of, offset9_of, type_of, mem_label_name_of, mode_of, pair_mode_of, flags_of, cond_br_kind_of, test_bit_kind_of, list_of, convention_of, key_of, map_of, fpu_op1_of, fpu_op2_of, fpu_op3_of, fpu_op_ri_of, fpu_op_ri_mod_of, fpu_to_int_op_of, int_to_fpu_op_of, fpu_round_mode_of, scalar_size_of, vector_size_of, branch_target_type_of, api_key_of, vec_op_of}
+use Rattle.a64_read.specs.At.{alu_op_of, alu_op3_of, atomic_rmw_loop_op_of, atomic_rmw_op_of}
+use Rattle.a64_read.specs.At.{bit_op_of, bfm_op_of, move_wide_op_of, size_of, reg_of, preg_of}
+use Rattle.a64_read.specs.At.{imm12_of, wide_of, imm_shift_of, mov_imm_of, uimm5_of, uimm6_of}
+use Rattle.a64_read.specs.At.{shift_of, extend_of, cond_of, nzcv_of, truth_of, u8_of, u32_of}
+use Rattle.a64_read.specs.At.{u64_of, i32_of, target_of, label_of, frame_field_of, emit_flag_of}
+use Rattle.a64_read.specs.At.{i64_of, offset9_of, type_of, mem_label_name_of, mode_of, pair_mode_of}
+use Rattle.a64_read.specs.At.{flags_of, cond_br_kind_of, test_bit_kind_of, list_of, convention_of}
+use Rattle.a64_read.specs.At.{key_of, map_of, fpu_op1_of, fpu_op2_of, fpu_op3_of, fpu_op_ri_of}
+use Rattle.a64_read.specs.At.{fpu_op_ri_mod_of, fpu_to_int_op_of, int_to_fpu_op_of}
+use Rattle.a64_read.specs.At.{fpu_round_mode_of, scalar_size_of, vector_size_of}
+use Rattle.a64_read.specs.At.{branch_target_type_of, api_key_of, vec_op_of}
 use Rattle.a64_read.specs.VecOps.{as_own_vec_op, as_vec_op}
 
 -- a field of the kind, which is the given one where that is of the kind
@@ -76,11 +86,14 @@ as_own_kind _ = refl
 -- fields of these kinds, the first from place i of the values
 abbrev pub from_places : List Kind → List Value → ℕ → List Value
 from_places [] values i = []
-from_places (kind ∷ kinds) values i = as_kind kind (slice_get values i) ∷ from_places kinds values (suc i)
+from_places (kind ∷ kinds) values i =
+    as_kind kind (slice_get values i) ∷ from_places kinds values (suc i)
 
-one_place_on : (kinds : List Kind) (v : Value) (vs : List Value) (i : ℕ) → from_places kinds (v ∷ vs) (suc i) ≡ from_places kinds vs i
+one_place_on : (kinds : List Kind) (v : Value) (vs : List Value) (i : ℕ)
+    → from_places kinds (v ∷ vs) (suc i) ≡ from_places kinds vs i
 one_place_on [] v vs i = refl
-one_place_on (kind ∷ kinds) v vs i = ap (λ (t : List Value). as_kind kind (slice_get vs i) ∷ t) (one_place_on kinds v vs (suc i))
+one_place_on (kind ∷ kinds) v vs i =
+    ap (λ (t : List Value). as_kind kind (slice_get vs i) ∷ t) (one_place_on kinds v vs (suc i))
 
 all_places : (vs : List Value) → from_places (map kind_of vs) vs 0 ≡ vs
 all_places [] = refl
@@ -89,5 +102,6 @@ all_places (v ∷ vs) =
     ∙ ap (λ (t : List Value). v ∷ t) (one_place_on (map kind_of vs) v vs 0 ∙ all_places vs)
 
 -- values of these kinds are what stands at their places
-pub at_their_places : (kinds : List Kind) (vs : List Value) → map kind_of vs ≡ kinds → from_places kinds vs 0 ≡ vs
+pub at_their_places : (kinds : List Kind) (vs : List Value) → map kind_of vs ≡ kinds
+    → from_places kinds vs 0 ≡ vs
 at_their_places kinds vs e = ap (λ (ks : List Kind). from_places ks vs 0) (sym e) ∙ all_places vs

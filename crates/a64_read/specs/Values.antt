@@ -67,17 +67,26 @@ use Rattle.a64_tokens.specs.declared.value.Kind.TheVariants as kinds
 use Rattle.a64_tokens.specs.declared.value.Value.{Value}
 use Rattle.a64_tokens.specs.declared.value.Value.TheVariants as values
 use Rattle.a64_tokens.specs.Reads.{Always, IsU64, IsI32}
-use Rattle.a64_tokens.specs.Operators.{alu_op3_text, alu_op_text, atomic_rmw_loop_op_text, atomic_rmw_op_text, bfm_op_text, bit_op_text, branch_target_type_text, emit_flag_text, frame_field_text, move_wide_op_text, test_bit_text}
+use Rattle.a64_tokens.specs.Operators.{alu_op3_text, alu_op_text, atomic_rmw_loop_op_text}
+use Rattle.a64_tokens.specs.Operators.{atomic_rmw_op_text, bfm_op_text, bit_op_text}
+use Rattle.a64_tokens.specs.Operators.{branch_target_type_text, emit_flag_text, frame_field_text}
+use Rattle.a64_tokens.specs.Operators.{move_wide_op_text, test_bit_text}
 use Rattle.a64_read.specs.Branches.{cond_br_text, IsCondBr}
 use Rattle.a64_tokens.specs.Conventions.{api_key_text, convention_text, key_text}
-use Rattle.a64_tokens.specs.FloatOperators.{fpu_op1_text, fpu_op2_text, fpu_op3_text, fpu_round_mode_text, fpu_to_int_op_text, int_to_fpu_op_text}
+use Rattle.a64_tokens.specs.FloatOperators.{fpu_op1_text, fpu_op2_text, fpu_op3_text}
+use Rattle.a64_tokens.specs.FloatOperators.{fpu_round_mode_text, fpu_to_int_op_text}
+use Rattle.a64_tokens.specs.FloatOperators.{int_to_fpu_op_text}
 use Rattle.a64_read.specs.FloatShifts.{fpu_op_ri_mod_text, fpu_op_ri_text, IsFpuOpRI, IsFpuOpRIMod}
 use Rattle.a64_tokens.specs.Lists.{same_text}
 use Rattle.a64_read.specs.Modes.{mode_text, IsMode, pair_text, IsPairMode}
 use Rattle.a64_read.specs.MovImms.{mov_imm_text, IsWrittenMovImm}
 use Rattle.a64_read.specs.Parts.{part_text, IsPart}
 use Rattle.a64_read.specs.VecOps.{vec_op_kind, vec_op_text}
-use Rattle.a64_tokens.specs.Fields.{flags_text, imm12_text, imm_shift_text, label_text, map_text, nzcv_text, preg_text, scalar_size_text, shift_text, target_text, uimm5_text, uimm6_text, vector_size_text, wide_text, HasNo, IsFlags, IsImm12, IsImmShift, IsLabel, IsMapNumber, IsPReg, IsShift, IsTarget, IsUImm6, IsWide}
+use Rattle.a64_tokens.specs.Fields.{flags_text, imm12_text, imm_shift_text, label_text, map_text}
+use Rattle.a64_tokens.specs.Fields.{nzcv_text, preg_text, scalar_size_text, shift_text, target_text}
+use Rattle.a64_tokens.specs.Fields.{uimm5_text, uimm6_text, vector_size_text, wide_text, HasNo}
+use Rattle.a64_tokens.specs.Fields.{IsFlags, IsImm12, IsImmShift, IsLabel, IsMapNumber, IsPReg}
+use Rattle.a64_tokens.specs.Fields.{IsShift, IsTarget, IsUImm6, IsWide}
 
 abbrev pub kind_of : Value → Kind
 kind_of (values.AluOp x) = kinds.AluOp
@@ -236,8 +245,10 @@ IsValue part = IsPart part
 abbrev pub IsOf : Kind → Value → Type 0
 IsOf kind value = (kind_of value ≡ kind) × IsValue value
 
--- Some field of this kind exactly where the token is the text of one. `make` makes all fields of the kind
-pub record ReadsAs {X : Type 0} (kind : Kind) (make : X → Value) (token : List ℕ) (result : Option Value) : Type 0 where
+-- Some field of this kind exactly where the token is the text of one. `make` makes all fields of
+-- the kind
+pub record ReadsAs {X : Type 0} (kind : Kind) (make : X
+    → Value) (token : List ℕ) (result : Option Value) : Type 0 where
   pub some : IfSome result (λ v. IsOf kind v × (token ≡ value_text v))
   pub only : (x : X) → IsValue (make x) → token ≡ value_text (make x) → result ≡ Some (make x)
 
@@ -247,7 +258,8 @@ ReadsKind kinds.AluOp3 = ReadsAs kinds.AluOp3 (λ (x : ALUOp3). values.AluOp3 x)
 ReadsKind kinds.BitOp = ReadsAs kinds.BitOp (λ (x : BitOp). values.BitOp x)
 ReadsKind kinds.BfmOp = ReadsAs kinds.BfmOp (λ (x : BfmOp). values.BfmOp x)
 ReadsKind kinds.AtomicRmwOp = ReadsAs kinds.AtomicRmwOp (λ (x : AtomicRMWOp). values.AtomicRmwOp x)
-ReadsKind kinds.AtomicRmwLoopOp = ReadsAs kinds.AtomicRmwLoopOp (λ (x : AtomicRMWLoopOp). values.AtomicRmwLoopOp x)
+ReadsKind kinds.AtomicRmwLoopOp =
+    ReadsAs kinds.AtomicRmwLoopOp (λ (x : AtomicRMWLoopOp). values.AtomicRmwLoopOp x)
 ReadsKind kinds.MoveWideOp = ReadsAs kinds.MoveWideOp (λ (x : MoveWideOp). values.MoveWideOp x)
 ReadsKind kinds.FpuOp1 = ReadsAs kinds.FpuOp1 (λ (x : FPUOp1). values.FpuOp1 x)
 ReadsKind kinds.FpuOp2 = ReadsAs kinds.FpuOp2 (λ (x : FPUOp2). values.FpuOp2 x)
@@ -256,20 +268,39 @@ ReadsKind kinds.FpuOpRI = ReadsAs kinds.FpuOpRI (λ (x : FPUOpRI). values.FpuOpR
 ReadsKind kinds.FpuOpRIMod = ReadsAs kinds.FpuOpRIMod (λ (x : FPUOpRIMod). values.FpuOpRIMod x)
 ReadsKind kinds.FpuToIntOp = ReadsAs kinds.FpuToIntOp (λ (x : FpuToIntOp). values.FpuToIntOp x)
 ReadsKind kinds.IntToFpuOp = ReadsAs kinds.IntToFpuOp (λ (x : IntToFpuOp). values.IntToFpuOp x)
-ReadsKind kinds.FpuRoundMode = ReadsAs kinds.FpuRoundMode (λ (x : FpuRoundMode). values.FpuRoundMode x)
-ReadsKind (kinds.VecOp vec_kinds.Alu) = ReadsAs (kinds.VecOp vec_kinds.Alu) (λ (x : VecALUOp). values.VecOp (vec_ops.Alu x))
-ReadsKind (kinds.VecOp vec_kinds.AluMod) = ReadsAs (kinds.VecOp vec_kinds.AluMod) (λ (x : VecALUModOp). values.VecOp (vec_ops.AluMod x))
-ReadsKind (kinds.VecOp vec_kinds.Misc2) = ReadsAs (kinds.VecOp vec_kinds.Misc2) (λ (x : VecMisc2). values.VecOp (vec_ops.Misc2 x))
-ReadsKind (kinds.VecOp vec_kinds.Lanes) = ReadsAs (kinds.VecOp vec_kinds.Lanes) (λ (x : VecLanesOp). values.VecOp (vec_ops.Lanes x))
-ReadsKind (kinds.VecOp vec_kinds.Extend) = ReadsAs (kinds.VecOp vec_kinds.Extend) (λ (x : VecExtendOp). values.VecOp (vec_ops.Extend x))
-ReadsKind (kinds.VecOp vec_kinds.RRLong) = ReadsAs (kinds.VecOp vec_kinds.RRLong) (λ (x : VecRRLongOp). values.VecOp (vec_ops.RRLong x))
-ReadsKind (kinds.VecOp vec_kinds.RRNarrow) = ReadsAs (kinds.VecOp vec_kinds.RRNarrow) (λ (x : VecRRNarrowOp). values.VecOp (vec_ops.RRNarrow x))
-ReadsKind (kinds.VecOp vec_kinds.Pair) = ReadsAs (kinds.VecOp vec_kinds.Pair) (λ (x : VecPairOp). values.VecOp (vec_ops.Pair x))
-ReadsKind (kinds.VecOp vec_kinds.RRPairLong) = ReadsAs (kinds.VecOp vec_kinds.RRPairLong) (λ (x : VecRRPairLongOp). values.VecOp (vec_ops.RRPairLong x))
-ReadsKind (kinds.VecOp vec_kinds.RRRLong) = ReadsAs (kinds.VecOp vec_kinds.RRRLong) (λ (x : VecRRRLongOp). values.VecOp (vec_ops.RRRLong x))
-ReadsKind (kinds.VecOp vec_kinds.RRRLongMod) = ReadsAs (kinds.VecOp vec_kinds.RRRLongMod) (λ (x : VecRRRLongModOp). values.VecOp (vec_ops.RRRLongMod x))
-ReadsKind (kinds.VecOp vec_kinds.ShiftImm) = ReadsAs (kinds.VecOp vec_kinds.ShiftImm) (λ (x : VecShiftImmOp). values.VecOp (vec_ops.ShiftImm x))
-ReadsKind (kinds.VecOp vec_kinds.ShiftImmMod) = ReadsAs (kinds.VecOp vec_kinds.ShiftImmMod) (λ (x : VecShiftImmModOp). values.VecOp (vec_ops.ShiftImmMod x))
+ReadsKind kinds.FpuRoundMode =
+    ReadsAs kinds.FpuRoundMode (λ (x : FpuRoundMode). values.FpuRoundMode x)
+ReadsKind (kinds.VecOp vec_kinds.Alu) =
+    ReadsAs (kinds.VecOp vec_kinds.Alu) (λ (x : VecALUOp). values.VecOp (vec_ops.Alu x))
+ReadsKind (kinds.VecOp vec_kinds.AluMod) =
+    ReadsAs (kinds.VecOp vec_kinds.AluMod) (λ (x : VecALUModOp). values.VecOp (vec_ops.AluMod x))
+ReadsKind (kinds.VecOp vec_kinds.Misc2) =
+    ReadsAs (kinds.VecOp vec_kinds.Misc2) (λ (x : VecMisc2). values.VecOp (vec_ops.Misc2 x))
+ReadsKind (kinds.VecOp vec_kinds.Lanes) =
+    ReadsAs (kinds.VecOp vec_kinds.Lanes) (λ (x : VecLanesOp). values.VecOp (vec_ops.Lanes x))
+ReadsKind (kinds.VecOp vec_kinds.Extend) =
+    ReadsAs (kinds.VecOp vec_kinds.Extend) (λ (x : VecExtendOp). values.VecOp (vec_ops.Extend x))
+ReadsKind (kinds.VecOp vec_kinds.RRLong) =
+    ReadsAs (kinds.VecOp vec_kinds.RRLong) (λ (x : VecRRLongOp). values.VecOp (vec_ops.RRLong x))
+ReadsKind (kinds.VecOp vec_kinds.RRNarrow) =
+    ReadsAs (kinds.VecOp vec_kinds.RRNarrow)
+    (λ (x : VecRRNarrowOp). values.VecOp (vec_ops.RRNarrow x))
+ReadsKind (kinds.VecOp vec_kinds.Pair) =
+    ReadsAs (kinds.VecOp vec_kinds.Pair) (λ (x : VecPairOp). values.VecOp (vec_ops.Pair x))
+ReadsKind (kinds.VecOp vec_kinds.RRPairLong) =
+    ReadsAs (kinds.VecOp vec_kinds.RRPairLong)
+    (λ (x : VecRRPairLongOp). values.VecOp (vec_ops.RRPairLong x))
+ReadsKind (kinds.VecOp vec_kinds.RRRLong) =
+    ReadsAs (kinds.VecOp vec_kinds.RRRLong) (λ (x : VecRRRLongOp). values.VecOp (vec_ops.RRRLong x))
+ReadsKind (kinds.VecOp vec_kinds.RRRLongMod) =
+    ReadsAs (kinds.VecOp vec_kinds.RRRLongMod)
+    (λ (x : VecRRRLongModOp). values.VecOp (vec_ops.RRRLongMod x))
+ReadsKind (kinds.VecOp vec_kinds.ShiftImm) =
+    ReadsAs (kinds.VecOp vec_kinds.ShiftImm)
+    (λ (x : VecShiftImmOp). values.VecOp (vec_ops.ShiftImm x))
+ReadsKind (kinds.VecOp vec_kinds.ShiftImmMod) =
+    ReadsAs (kinds.VecOp vec_kinds.ShiftImmMod)
+    (λ (x : VecShiftImmModOp). values.VecOp (vec_ops.ShiftImmMod x))
 ReadsKind kinds.Size = ReadsAs kinds.Size (λ (x : OperandSize). values.Size x)
 ReadsKind kinds.ScalarSize = ReadsAs kinds.ScalarSize (λ (x : ScalarSize). values.ScalarSize x)
 ReadsKind kinds.VectorSize = ReadsAs kinds.VectorSize (λ (x : VectorSize). values.VectorSize x)
@@ -297,13 +328,16 @@ ReadsKind kinds.EmitFlag = ReadsAs kinds.EmitFlag (λ (x : EmitFlag). values.Emi
 ReadsKind kinds.I64 = ReadsAs kinds.I64 (λ (x : ℤ). values.I64 x)
 ReadsKind kinds.Offset9 = ReadsAs kinds.Offset9 (λ (x : SImm9). values.Offset9 x)
 ReadsKind kinds.Type = ReadsAs kinds.Type (λ (x : IrType). values.Type x)
-ReadsKind kinds.MemLabelName = ReadsAs kinds.MemLabelName (λ (x : MemLabelName). values.MemLabelName x)
+ReadsKind kinds.MemLabelName =
+    ReadsAs kinds.MemLabelName (λ (x : MemLabelName). values.MemLabelName x)
 ReadsKind kinds.Mode = ReadsAs kinds.Mode (λ (x : AMode). values.Mode x)
 ReadsKind kinds.PairMode = ReadsAs kinds.PairMode (λ (x : WrittenPairMode). values.PairMode x)
 ReadsKind kinds.Flags = ReadsAs kinds.Flags (λ (x : Option TrapCode). values.Flags x)
 ReadsKind kinds.CondBrKind = ReadsAs kinds.CondBrKind (λ (x : CondBrKind). values.CondBrKind x)
-ReadsKind kinds.TestBitAndBranchKind = ReadsAs kinds.TestBitAndBranchKind (λ (x : TestBitAndBranchKind). values.TestBitAndBranchKind x)
-ReadsKind kinds.BranchTargetType = ReadsAs kinds.BranchTargetType (λ (x : BranchTargetType). values.BranchTargetType x)
+ReadsKind kinds.TestBitAndBranchKind =
+    ReadsAs kinds.TestBitAndBranchKind (λ (x : TestBitAndBranchKind). values.TestBitAndBranchKind x)
+ReadsKind kinds.BranchTargetType =
+    ReadsAs kinds.BranchTargetType (λ (x : BranchTargetType). values.BranchTargetType x)
 ReadsKind kinds.List = ReadsAs kinds.List (λ (x : List ℕ). values.List x)
 ReadsKind kinds.Convention = ReadsAs kinds.Convention (λ (x : CallConv). values.Convention x)
 ReadsKind kinds.Key = ReadsAs kinds.Key (λ (x : Option APIKey). values.Key x)

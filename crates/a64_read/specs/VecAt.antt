@@ -15,7 +15,11 @@ use Rattle.a64_ops.specs.declared.vector.VecShiftImmOp.{VecShiftImmOp}
 use Rattle.a64_ops.specs.declared.vector.VecShiftImmModOp.{VecShiftImmModOp}
 use Rattle.a64_tokens.specs.declared.value.Value.{Value}
 use Rattle.a64_read.specs.At.{vec_op_at}
-use Rattle.a64_read.specs.VecOps.{vec_alu_mod_op_in, vec_alu_op_in, vec_extend_op_in, vec_lanes_op_in, vec_misc2_in, vec_pair_op_in, vec_rr_long_op_in, vec_rr_narrow_op_in, vec_rr_pair_long_op_in, vec_rrr_long_mod_op_in, vec_rrr_long_op_in, vec_shift_imm_mod_op_in, vec_shift_imm_op_in}
+use Rattle.a64_read.specs.VecOps.{vec_alu_mod_op_in, vec_alu_op_in, vec_extend_op_in}
+use Rattle.a64_read.specs.VecOps.{vec_lanes_op_in, vec_misc2_in, vec_pair_op_in, vec_rr_long_op_in}
+use Rattle.a64_read.specs.VecOps.{vec_rr_narrow_op_in, vec_rr_pair_long_op_in}
+use Rattle.a64_read.specs.VecOps.{vec_rrr_long_mod_op_in, vec_rrr_long_op_in}
+use Rattle.a64_read.specs.VecOps.{vec_shift_imm_mod_op_in, vec_shift_imm_op_in}
 
 abbrev pub vec_alu_op_at : List Value → ℕ → VecALUOp
 vec_alu_op_at values i = vec_alu_op_in (vec_op_at values i)

@@ -30,7 +30,12 @@ use Rattle.a64_tokens.specs.declared.vec_op.VecOp.{VecOp}
 use Rattle.a64_tokens.specs.declared.vec_op.VecOp.TheVariants as vec_ops
 use Rattle.a64_tokens.specs.declared.vec_op.VecOpKind.{VecOpKind}
 use Rattle.a64_tokens.specs.declared.vec_op.VecOpKind.TheVariants as vec_kinds
-use Rattle.a64_tokens.specs.VectorOperators.{vec_alu_mod_op_text, vec_alu_op_text, vec_extend_op_text, vec_lanes_op_text, vec_misc2_text, vec_pair_op_text, vec_rr_long_op_text, vec_rr_narrow_op_text, vec_rr_pair_long_op_text, vec_rrr_long_mod_op_text, vec_rrr_long_op_text, vec_shift_imm_mod_op_text, vec_shift_imm_op_text}
+use Rattle.a64_tokens.specs.VectorOperators.{vec_alu_mod_op_text, vec_alu_op_text}
+use Rattle.a64_tokens.specs.VectorOperators.{vec_extend_op_text, vec_lanes_op_text, vec_misc2_text}
+use Rattle.a64_tokens.specs.VectorOperators.{vec_pair_op_text, vec_rr_long_op_text}
+use Rattle.a64_tokens.specs.VectorOperators.{vec_rr_narrow_op_text, vec_rr_pair_long_op_text}
+use Rattle.a64_tokens.specs.VectorOperators.{vec_rrr_long_mod_op_text, vec_rrr_long_op_text}
+use Rattle.a64_tokens.specs.VectorOperators.{vec_shift_imm_mod_op_text, vec_shift_imm_op_text}
 
 abbrev pub vec_op_kind : VecOp → VecOpKind
 vec_op_kind (vec_ops.Alu x) = vec_kinds.Alu

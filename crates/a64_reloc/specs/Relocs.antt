@@ -3,7 +3,10 @@ use Rattle.std.specs.Prelude.{ℕ, ℤ, List, ◌++◌, codes}
 use Rattle.std.specs.Fmt.{decimal, signed_decimal}
 use Rattle.a64_base.specs.declared.entity.ExternalName.{ExternalName}
 use Rattle.a64_base.specs.declared.entity.Reloc.{Reloc}
-use Rattle.a64_base.specs.declared.entity.Reloc.TheVariants.{Arm64Call, Abs8, Aarch64AdrGotPage21, Aarch64Ld64GotLo12Nc, Aarch64AdrPrelPgHi21, Aarch64AddAbsLo12Nc}
+use Rattle.a64_base.specs.declared.entity.Reloc.TheVariants.{Arm64Call, Abs8, Aarch64AdrGotPage21}
+use Rattle.a64_base.specs.declared.entity.Reloc.TheVariants.{Aarch64Ld64GotLo12Nc}
+use Rattle.a64_base.specs.declared.entity.Reloc.TheVariants.{Aarch64AdrPrelPgHi21}
+use Rattle.a64_base.specs.declared.entity.Reloc.TheVariants.{Aarch64AddAbsLo12Nc}
 use Rattle.a64_tokens.specs.Reads.{IsI64, IsU32}
 
 -- the name of a kind of relocation

@@ -1,5 +1,6 @@
 -- Lines that are kept.
-use Rattle.std.specs.Prelude.{ℕ, ◌≡◌, ◌+◌, ◌/◌, ◌%◌, ◌^◌, ◌<◌, ◌≤◌, List, [], ◌∷◌, ◌++◌, drop, length, codes}
+use Rattle.std.specs.Prelude.{ℕ, ◌≡◌, ◌+◌, ◌/◌, ◌%◌, ◌^◌, ◌<◌, ◌≤◌, List, [], ◌∷◌, ◌++◌, drop}
+use Rattle.std.specs.Prelude.{length, codes}
 use Rattle.std.specs.Fmt.{decimal}
 use Rattle.std.specs.List.{flat_map, enumerate_from}
 use Rattle.a64_report.specs.declared.hundred.Hundred.{Hundred}
@@ -10,16 +11,18 @@ use Rattle.a64_tokens.specs.Hex.{hex_word}
 abbrev pub last_digits : ℕ → List ℕ
 last_digits n = (48 + n / 10) ∷ (48 + n % 10) ∷ []
 
--- the `span` numbers from `first` on have texts that differ in the last two digits alone, and a number is of their
--- hundred
+-- the `span` numbers from `first` on have texts that differ in the last two digits alone, and a
+-- number is of their hundred
 pub record Shares (first span number : ℕ) : Type 0 where
   pub few : span ≤ 100
   pub fits : first + span < 2 ^ 64
   pub some : 0 < span → (100 ≤ first) × (first % 100 ≡ 0) × (number / 100 ≡ first / 100)
 
--- the line of an item stands in a buffer, from `start` to 64, and the text of its number ends at `index_end`
+-- the line of an item stands in a buffer, from `start` to 64, and the text of its number ends at
+-- `index_end`
 pub record KeepsItem (buffer : List ℕ) (start index_end index place : ℕ) : Type 0 where
-  pub text : drop start buffer ≡ codes "item " ++ (decimal index ++ (codes " " ++ (decimal place ++ drop 63 buffer)))
+  pub text : drop start buffer
+      ≡ codes "item " ++ (decimal index ++ (codes " " ++ (decimal place ++ drop 63 buffer)))
   pub last : drop 63 buffer ≡ 10 ∷ drop 64 buffer
   pub front : index_end ≡ start + (5 + length (decimal index))
   pub begins : 16 ≤ start
@@ -30,7 +33,8 @@ pub record KeepsItem (buffer : List ℕ) (start index_end index place : ℕ) : T
 -- the line of some item of two hundreds stands there
 abbrev pub KeepsItemOf : List ℕ → ℕ → ℕ → Hundred → Hundred → Type 0
 KeepsItemOf buffer start index_end like hundred =
-    (index : ℕ) × (place : ℕ) × KeepsItem buffer start index_end index place × Shares like.first like.span index × Shares hundred.first hundred.span place
+    (index : ℕ) × (place : ℕ) × KeepsItem buffer start index_end index place
+    × Shares like.first like.span index × Shares hundred.first hundred.span place
 
 -- the line of a word of code with its place
 abbrev pub placed_word : ℕ → ℕ → List ℕ
@@ -48,7 +52,8 @@ pub record KeepsWord (buffer : List ℕ) (start place word : ℕ) : Type 0 where
 
 -- the line of this word at some place of a hundred stands there
 abbrev pub KeepsWordOf : List ℕ → ℕ → Hundred → ℕ → Type 0
-KeepsWordOf buffer start like word = (place : ℕ) × KeepsWord buffer start place word × Shares like.first like.span place
+KeepsWordOf buffer start like word =
+    (place : ℕ) × KeepsWord buffer start place word × Shares like.first like.span place
 
 -- the lines of the items from the one with this index on
 abbrev pub item_lines : List ℕ → ℕ → List ℕ

@@ -1,5 +1,6 @@
 -- The lines of linked code.
-use Rattle.std.specs.Prelude.{ℕ, ◌+◌, ◌*◌, ◌||◌, not, nat_eq, nat_lt, if◌then◌else◌, List, [], ◌++◌, take, drop, replicate, codes}
+use Rattle.std.specs.Prelude.{ℕ, ◌+◌, ◌*◌, ◌||◌, not, nat_eq, nat_lt, if◌then◌else◌, List, [], ◌++◌}
+use Rattle.std.specs.Prelude.{take, drop, replicate, codes}
 use Rattle.std.specs.Fmt.{decimal}
 use Rattle.std.specs.List.{flat_map, enumerate_from, prefix_len, suffix_len}
 use Rattle.a64_base.specs.declared.entity.ExternalName.{ExternalName}

@@ -29,7 +29,8 @@ abbrev pub item_line : ℕ × ℕ → List ℕ
 item_line (index, place) = line_of_two (codes "item") index place
 
 abbrev pub label_line : MachLabel × ℕ → List ℕ
-label_line (label, place) = codes "label L" ++ decimal label.0 ++ codes " " ++ decimal place ++ codes "\n"
+label_line (label, place) =
+    codes "label L" ++ decimal label.0 ++ codes " " ++ decimal place ++ codes "\n"
 
 abbrev pub island_line : ℕ × ℕ → List ℕ
 island_line (begin, end) = line_of_two (codes "island") begin end
@@ -38,7 +39,8 @@ abbrev pub pool_line : ℕ → List ℕ
 pool_line place = line_of_one (codes "pool") place
 
 abbrev pub word_line : ℕ × ℕ → List ℕ
-word_line (index, word) = codes "word " ++ decimal (4 * index) ++ codes " " ++ hex_word word ++ codes "\n"
+word_line (index, word) =
+    codes "word " ++ decimal (4 * index) ++ codes " " ++ hex_word word ++ codes "\n"
 
 -- the lines of words, from the first on
 abbrev pub words_text : List ℕ → List ℕ

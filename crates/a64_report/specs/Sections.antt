@@ -3,8 +3,12 @@ use Rattle.std.specs.Prelude.{ℕ, List}
 use Rattle.std.specs.List.{flat_map, enumerate_from}
 use Rattle.a64_emit.specs.declared.code.Code.{Code}
 use Rattle.a64_report.specs.declared.report.Section.{Section}
-use Rattle.a64_report.specs.declared.report.Section.TheVariants.{Items, Labels, Islands, Pool, Words, Relocs, Traps, Calls, Patchable, Maps}
-use Rattle.a64_report.specs.Report.{item_line, label_line, island_line, pool_line, word_line, words_in, reloc_line, trap_line, call_line, patchable_line, map_line}
+use Rattle.a64_report.specs.declared.report.Section.TheVariants.{Items, Labels, Islands, Pool}
+use Rattle.a64_report.specs.declared.report.Section.TheVariants.{Words, Relocs, Traps, Calls}
+use Rattle.a64_report.specs.declared.report.Section.TheVariants.{Patchable, Maps}
+use Rattle.a64_report.specs.Report.{item_line, label_line, island_line, pool_line, word_line}
+use Rattle.a64_report.specs.Report.{words_in, reloc_line, trap_line, call_line, patchable_line}
+use Rattle.a64_report.specs.Report.{map_line}
 
 -- the lines of a section
 abbrev pub section_text : Code → Section → List ℕ

@@ -8,7 +8,8 @@ use Rattle.a64_report.specs.Report.{words_in, line_of_one}
 abbrev pub word_sum : List ℕ → ℕ
 word_sum bytes = sum (words_in bytes) % 2 ^ 32
 
--- four lines: how many items there are, how many bytes of code, how many islands, and the sum of the words
+-- four lines: how many items there are, how many bytes of code, how many islands, and the sum of
+-- the words
 abbrev pub summary_lines : ℕ → ℕ → ℕ → ℕ → List ℕ
 summary_lines items bytes islands total =
     line_of_one (codes "items") items
@@ -18,4 +19,6 @@ summary_lines items bytes islands total =
 
 -- what is told of the code of so many items
 abbrev pub summary_of : ℕ → Code → List ℕ
-summary_of items code = summary_lines items (length code.bytes.items) (length code.islands.items) (word_sum code.bytes.items)
+summary_of items code =
+    summary_lines items (length code.bytes.items) (length code.islands.items)
+    (word_sum code.bytes.items)

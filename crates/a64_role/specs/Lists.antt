@@ -21,7 +21,9 @@ use Rattle.a64_inst.specs.Fields as fields
 use Rattle.a64_inst.specs.Fields.{Field, Def, Use, Is}
 use Rattle.a64_ops.specs.Accesses.{loads}
 use Rattle.a64_role.specs.declared.role.Role.{Role}
-use Rattle.a64_role.specs.declared.role.Role.TheVariants.{RegUse, RegDef, RegReuseDef, RegFixedUse, RegFixedDef, AnyDef, RegFixedNonallocatable, RegClobbers}
+use Rattle.a64_role.specs.declared.role.Role.TheVariants.{RegUse, RegDef, RegReuseDef, RegFixedUse}
+use Rattle.a64_role.specs.declared.role.Role.TheVariants.{RegFixedDef, AnyDef}
+use Rattle.a64_role.specs.declared.role.Role.TheVariants.{RegFixedNonallocatable, RegClobbers}
 
 -- a register that is written: the one that the operand with index 1 is read from, or any
 abbrev pub result_role : Bool → Reg → Role
@@ -32,7 +34,8 @@ abbrev pub field_roles : Bool → List Field → List Role
 field_roles tied [] = []
 field_roles tied (Def class reg ∷ others) = result_role tied reg ∷ field_roles tied others
 field_roles tied (Use class reg ∷ others) = RegUse reg ∷ field_roles tied others
-field_roles tied (Is (fields.PReg reg) ∷ others) = RegFixedNonallocatable reg ∷ field_roles tied others
+field_roles tied (Is (fields.PReg reg) ∷ others) =
+    RegFixedNonallocatable reg ∷ field_roles tied others
 field_roles tied (Is operand ∷ others) = field_roles tied others
 
 -- the registers of an addressing mode, which are read: its base, then its index
@@ -81,7 +84,8 @@ defined_in number reg = RegFixedDef reg (integer_register number)
 -- the registers of a compare and swap of 128 bits, which an allocator has to put in pairs
 abbrev pub pair_swap_roles : AtomicCAS128Args → List Role
 pair_swap_roles args =
-    used_in 24 args.rs_lo ∷ used_in 25 args.rs_hi ∷ defined_in 24 args.rd_lo ∷ defined_in 25 args.rd_hi
+    used_in 24 args.rs_lo ∷ used_in 25 args.rs_hi ∷ defined_in 24 args.rd_lo
+    ∷ defined_in 25 args.rd_hi
     ∷ used_in 26 args.rt_lo ∷ used_in 27 args.rt_hi ∷ used_in 28 args.rn ∷ []
 
 -- what enters a function, and what leaves it

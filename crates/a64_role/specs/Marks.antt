@@ -44,7 +44,8 @@ term_of (insts.ReturnCall info) = terms.RetCall
 term_of (insts.ReturnCallInd info) = terms.RetCall
 term_of _ = terms.None
 
--- whether an instruction loads or stores a pair of registers; stores of pairs of vector registers do not count
+-- whether an instruction loads or stores a pair of registers; stores of pairs of vector registers
+-- do not count
 abbrev pub is_pair_access : Inst → Bool
 is_pair_access (insts.StoreP64 rt rt2 mem flags) = true
 is_pair_access (insts.LoadP64 rt rt2 mem flags) = true

@@ -1,10 +1,13 @@
 -- What is asked of an instruction beside the roles of its registers, and what makes instructions.
-use Rattle.std.specs.Prelude.{ℕ, ◌≡◌, ◌↔◌, ◌||◌, ⊤, nat_eq, nat_le, nat_lt, Bool, true, false, if◌then◌else◌, IsTrue, List, [], ◌∷◌, Option, Some, None, is_some}
+use Rattle.std.specs.Prelude.{ℕ, ◌≡◌, ◌↔◌, ◌||◌, ⊤, nat_eq, nat_le, nat_lt, Bool, true, false}
+use Rattle.std.specs.Prelude.{if◌then◌else◌, IsTrue, List, [], ◌∷◌, Option, Some, None, is_some}
 use Rattle.a64_base.specs.declared.convention.CallConv.{CallConv}
 use Rattle.a64_base.specs.declared.convention.CallConv.TheVariants as conventions
 use Rattle.a64_base.specs.declared.entity.MachLabel.{MachLabel}
 use Rattle.a64_base.specs.declared.ir_type.IrType.{IrType}
-use Rattle.a64_base.specs.declared.ir_type.IrType.TheVariants.{I8, I16, I32, I64, I128, F16, F32, F64, F128, I8X2, I8X4, I8X8, I8X16, I8X32}
+use Rattle.a64_base.specs.declared.ir_type.IrType.TheVariants.{I8, I16, I32, I64, I128, F16, F32}
+use Rattle.a64_base.specs.declared.ir_type.IrType.TheVariants.{F64, F128, I8X2, I8X4, I8X8, I8X16}
+use Rattle.a64_base.specs.declared.ir_type.IrType.TheVariants.{I8X32}
 use Rattle.a64_base.specs.declared.reg.PReg.{PReg}
 use Rattle.a64_base.specs.declared.reg.Reg.{Reg}
 use Rattle.a64_base.specs.declared.reg.RegClass.{RegClass}
@@ -30,7 +33,8 @@ move_of (insts.FpuMove64 rd rn) = Some (rd, rn)
 move_of (insts.FpuMove128 rd rn) = Some (rd, rn)
 move_of _ = None
 
--- the loads and stores of pairs of registers, but for stores of pairs of vector registers, and those of one register
+-- the loads and stores of pairs of registers, but for stores of pairs of vector registers, and
+-- those of one register
 abbrev pub is_mem_access : Inst → Bool
 is_mem_access inst = is_pair_access inst || is_some (access_of inst)
 
@@ -49,12 +53,15 @@ pub record HasMore (set other : PRegSet) : Type 0 where
   pub member : has set register ≡ true
   pub lacked : has other register ≡ false
 
--- what an instruction changes counts among what its function changes: never what the arguments of the function do, and of a call
--- only where the function that is called may change a register that the caller may not
+-- what an instruction changes counts among what its function changes: never what the arguments of
+-- the function do, and of a call only where the function that is called may change a register that
+-- the caller may not
 abbrev pub IsIncludedInClobbers : ClobberTable → Inst → Type 0
 IsIncludedInClobbers table (insts.Args args) = ⊥
-IsIncludedInClobbers table (insts.Call info) = HasMore (clobbers_of table info.callee_conv) (clobbers_of table info.caller_conv)
-IsIncludedInClobbers table (insts.CallInd info) = HasMore (clobbers_of table info.callee_conv) (clobbers_of table info.caller_conv)
+IsIncludedInClobbers table (insts.Call info) =
+    HasMore (clobbers_of table info.callee_conv) (clobbers_of table info.caller_conv)
+IsIncludedInClobbers table (insts.CallInd info) =
+    HasMore (clobbers_of table info.callee_conv) (clobbers_of table info.caller_conv)
 IsIncludedInClobbers table _ = ⊤
 
 -- ---- instructions that are made
@@ -62,7 +69,8 @@ IsIncludedInClobbers table _ = ⊤
 -- a move of a value between registers of a class: of an integer register always whole
 abbrev pub class_move : RegClass → Reg → Reg → IrType → Inst
 class_move Int to from ty = insts.Mov Size64 to from
-class_move Float to from ty = if nat_le (type_bits ty) 64 then insts.FpuMove64 to from else insts.FpuMove128 to from
+class_move Float to from ty =
+    if nat_le (type_bits ty) 64 then insts.FpuMove64 to from else insts.FpuMove128 to from
 
 abbrev pub move_inst : Reg → Reg → IrType → Inst
 move_inst to from ty = class_move (class_of to) to from ty
@@ -83,7 +91,9 @@ block_start _ _ = None
 
 -- the type of lanes of 8 bits that is as wide as a vector, in bits
 abbrev pub bytes_type : ℕ → IrType
-bytes_type bits = if nat_eq bits 16 then I8X2 else if nat_eq bits 32 then I8X4 else if nat_eq bits 64 then I8X8 else I8X16
+bytes_type bits =
+    if nat_eq bits 16 then I8X2 else if nat_eq bits 32 then I8X4 else if nat_eq bits 64 then I8X8
+    else I8X16
 
 -- the classes of the registers in which a value of a type stands, and the types of its parts there
 abbrev pub classes_of : IrType → Option (List RegClass × List IrType)

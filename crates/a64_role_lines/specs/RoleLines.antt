@@ -14,7 +14,9 @@ use Rattle.a64_role.specs.declared.query.CallType.TheVariants as calls
 use Rattle.a64_role.specs.declared.query.MachTerminator.{MachTerminator}
 use Rattle.a64_role.specs.declared.query.MachTerminator.TheVariants as terms
 use Rattle.a64_role.specs.declared.role.Role.{Role}
-use Rattle.a64_role.specs.declared.role.Role.TheVariants.{RegUse, RegDef, RegEarlyDef, AnyDef, RegReuseDef, RegFixedUse, RegFixedDef, RegFixedNonallocatable, RegClobbers}
+use Rattle.a64_role.specs.declared.role.Role.TheVariants.{RegUse, RegDef, RegEarlyDef, AnyDef}
+use Rattle.a64_role.specs.declared.role.Role.TheVariants.{RegReuseDef, RegFixedUse, RegFixedDef}
+use Rattle.a64_role.specs.declared.role.Role.TheVariants.{RegFixedNonallocatable, RegClobbers}
 use Rattle.a64_role.specs.Marks.{call_type_of, is_args, is_safepoint, is_trap, term_of}
 use Rattle.a64_role.specs.Queries.{is_mem_access, move_of}
 use Rattle.a64_roles.specs.Roles.{roles_of}
@@ -25,9 +27,12 @@ role_text (RegUse reg) = codes "use(" ++ reg_text reg ++ codes ")"
 role_text (RegDef reg) = codes "def(" ++ reg_text reg ++ codes ")"
 role_text (RegEarlyDef reg) = codes "early(" ++ reg_text reg ++ codes ")"
 role_text (AnyDef reg) = codes "any(" ++ reg_text reg ++ codes ")"
-role_text (RegReuseDef reg index) = codes "reuse(" ++ reg_text reg ++ codes "," ++ decimal index ++ codes ")"
-role_text (RegFixedUse reg preg) = codes "fixed_use(" ++ reg_text reg ++ codes "," ++ reg_text preg ++ codes ")"
-role_text (RegFixedDef reg preg) = codes "fixed_def(" ++ reg_text reg ++ codes "," ++ reg_text preg ++ codes ")"
+role_text (RegReuseDef reg index) =
+    codes "reuse(" ++ reg_text reg ++ codes "," ++ decimal index ++ codes ")"
+role_text (RegFixedUse reg preg) =
+    codes "fixed_use(" ++ reg_text reg ++ codes "," ++ reg_text preg ++ codes ")"
+role_text (RegFixedDef reg preg) =
+    codes "fixed_def(" ++ reg_text reg ++ codes "," ++ reg_text preg ++ codes ")"
 role_text (RegFixedNonallocatable preg) = codes "fixed(" ++ preg_text preg ++ codes ")"
 role_text (RegClobbers set) = codes "clobbers(" ++ clobbers_text set ++ codes ")"
 
@@ -75,7 +80,8 @@ line_of_words words = join_with_byte 32 words ++ codes "\n"
 
 -- the line of an instruction with its number: a word for each role, and then one for each query
 abbrev pub role_line : ℕ → Inst → List ℕ
-role_line number inst = line_of_words (decimal number ∷ (map role_text (roles_of inst) ++ query_words inst))
+role_line number inst =
+    line_of_words (decimal number ∷ (map role_text (roles_of inst) ++ query_words inst))
 
 -- the line of an item with its number; a binding has none
 abbrev pub item_line : ℕ × Item → List ℕ

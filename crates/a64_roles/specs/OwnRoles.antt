@@ -6,8 +6,10 @@ use Rattle.a64_inst.specs.declared.inst.Inst.{Inst}
 use Rattle.a64_inst.specs.declared.inst.Inst.TheVariants as insts
 use Rattle.a64_inst.specs.Sheets.{sheet}
 use Rattle.a64_role.specs.declared.role.Role.{Role}
-use Rattle.a64_role.specs.declared.role.Role.TheVariants.{RegUse, RegDef, RegEarlyDef, RegReuseDef, RegFixedUse, RegFixedDef}
-use Rattle.a64_role.specs.Lists.{call_roles, field_roles, kind_roles, mode_roles, pair_mode_roles, pair_swap_roles, return_call_roles}
+use Rattle.a64_role.specs.declared.role.Role.TheVariants.{RegUse, RegDef, RegEarlyDef, RegReuseDef}
+use Rattle.a64_role.specs.declared.role.Role.TheVariants.{RegFixedUse, RegFixedDef}
+use Rattle.a64_role.specs.Lists.{call_roles, field_roles, kind_roles, mode_roles, pair_mode_roles}
+use Rattle.a64_role.specs.Lists.{pair_swap_roles, return_call_roles}
 use Rattle.a64_roles.specs.Sequences.{args_roles, rets_roles, rmw_loop_roles}
 
 -- whether the result is the register of the operand that is read behind it
@@ -82,5 +84,6 @@ own_roles (insts.FpuLoadP128 rt rt2 mem flags) =
     (RegDef rt ∷ RegDef rt2 ∷ []) ++ pair_mode_roles mem
 own_roles (insts.AtomicRMW ty op rs rt rn flags) = RegUse rs ∷ RegDef rt ∷ RegUse rn ∷ []
 own_roles (insts.LoadAddr rd mem) = (RegDef rd ∷ []) ++ mode_roles mem
--- the others: the registers among the fields of their sheets, in their order; what has no sheet has none
+-- the others: the registers among the fields of their sheets, in their order; what has no sheet has
+-- none
 own_roles inst = field_roles (is_tied inst) (sheet inst)

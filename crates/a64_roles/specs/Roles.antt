@@ -7,7 +7,8 @@ use Rattle.a64_role.specs.declared.role.Role.{Role}
 use Rattle.a64_role.specs.Lists.{access_roles}
 use Rattle.a64_roles.specs.OwnRoles.{own_roles}
 
--- the roles of an instruction that is a load or a store of one register, or else has roles of its own
+-- the roles of an instruction that is a load or a store of one register, or else has roles of its
+-- own
 abbrev pub roles_or : Option Access → List Role → List Role
 roles_or (Some access) roles = access_roles access
 roles_or None roles = roles

@@ -23,4 +23,5 @@ second_scratch_roles _ scratch2 = defined_in 28 scratch2 ∷ []
 -- a loop that updates memory by an operation
 abbrev pub rmw_loop_roles : AtomicRMWLoopOp → Reg → Reg → Reg → Reg → Reg → List Role
 rmw_loop_roles op addr operand oldval scratch1 scratch2 =
-    used_in 25 addr ∷ used_in 26 operand ∷ defined_in 27 oldval ∷ defined_in 24 scratch1 ∷ second_scratch_roles op scratch2
+    used_in 25 addr ∷ used_in 26 operand ∷ defined_in 27 oldval ∷ defined_in 24 scratch1
+    ∷ second_scratch_roles op scratch2

@@ -2,7 +2,9 @@
 -- Control: the forms of "Branches, Exception Generating and System instructions"
 -- (Arm Architecture Reference Manual, DDI 0487, C4.1), by the names of their fields.
 use Rattle.std.specs.Prelude.{ℕ, [], ◌∷◌}
-use Rattle.a64_rows.specs.declared.row_table.Row.TheVariants.{Branch26, BranchCond, CompareBranch, TestBranch, BranchReg, RetAuth, Hint, Barrier, Brk, Nzcv}
+use Rattle.a64_rows.specs.declared.row_table.Row.TheVariants.{Branch26, BranchCond, CompareBranch}
+use Rattle.a64_rows.specs.declared.row_table.Row.TheVariants.{TestBranch, BranchReg, RetAuth, Hint}
+use Rattle.a64_rows.specs.declared.row_table.Row.TheVariants.{Barrier, Brk, Nzcv}
 use Rattle.a64_rows.specs.Forms.{Form, form}
 
 -- Branches, Exception Generating and System instructions, Unconditional branch (immediate)
@@ -42,7 +44,8 @@ pub record TestBranchFields : Type 0 where
 abbrev pub test_branch : TestBranchFields → Form
 test_branch f = form TestBranch (f.b5 ∷ f.nz ∷ f.b40 ∷ f.imm14 ∷ f.rt ∷ [])
 
--- Branches, Exception Generating and System instructions, Unconditional branch (register): BR, BLR and RET
+-- Branches, Exception Generating and System instructions, Unconditional branch (register): BR, BLR
+-- and RET
 pub record BranchRegFields : Type 0 where
   pub opc : ℕ
   pub rn : ℕ
@@ -50,7 +53,8 @@ pub record BranchRegFields : Type 0 where
 abbrev pub branch_reg : BranchRegFields → Form
 branch_reg f = form BranchReg (f.opc ∷ f.rn ∷ [])
 
--- Branches, Exception Generating and System instructions, Unconditional branch (register): RETAA and RETAB
+-- Branches, Exception Generating and System instructions, Unconditional branch (register): RETAA
+-- and RETAB
 pub record RetAuthFields : Type 0 where
   pub b : ℕ
 

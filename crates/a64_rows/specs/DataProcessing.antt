@@ -2,7 +2,12 @@
 -- Data processing: the forms of "Data Processing -- Immediate" and "Data Processing -- Register"
 -- (Arm Architecture Reference Manual, DDI 0487, C4.1), by the names of their fields.
 use Rattle.std.specs.Prelude.{ℕ, [], ◌∷◌}
-use Rattle.a64_rows.specs.declared.row_table.Row.TheVariants.{AddSubReg, LogicReg, AddSubExt, AddSubCarry, DataProc2, MulHigh, MulAdd, MulAddLong, AddSubImm, LogicImm, Bitfield, Extract, DataProc1, MoveWide, CondSelect, CondCompare, Adr}
+use Rattle.a64_rows.specs.declared.row_table.Row.TheVariants.{AddSubReg, LogicReg, AddSubExt}
+use Rattle.a64_rows.specs.declared.row_table.Row.TheVariants.{AddSubCarry, DataProc2, MulHigh}
+use Rattle.a64_rows.specs.declared.row_table.Row.TheVariants.{MulAdd, MulAddLong, AddSubImm}
+use Rattle.a64_rows.specs.declared.row_table.Row.TheVariants.{LogicImm, Bitfield, Extract}
+use Rattle.a64_rows.specs.declared.row_table.Row.TheVariants.{DataProc1, MoveWide, CondSelect}
+use Rattle.a64_rows.specs.declared.row_table.Row.TheVariants.{CondCompare, Adr}
 use Rattle.a64_rows.specs.Forms.{Form, form}
 
 -- Data Processing -- Register, Add/subtract (shifted register)

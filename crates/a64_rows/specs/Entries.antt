@@ -2,12 +2,32 @@
 -- The table of instruction words: the name of each row, what it fixes, and its fields.
 use Rattle.std.specs.Prelude.{ℕ, List, [], ◌∷◌, codes}
 use Rattle.a64_rows.specs.declared.row_table.Row.{Row}
-use Rattle.a64_rows.specs.declared.row_table.Row.TheVariants.{AddSubReg, LogicReg, AddSubExt, AddSubCarry, DataProc2, MulHigh, MulAdd, MulAddLong, AddSubImm, LogicImm, Bitfield, Extract, DataProc1, MoveWide, CondSelect, CondCompare, Adr, Branch26, BranchCond, CompareBranch, TestBranch, BranchReg, RetAuth, Hint, Barrier, Brk, Nzcv, LdStImm9, LdStUnsigned, LdStReg, LdLiteral, LdStPair, LdReplicate, AtomicOp, LoadAcq, StoreRel, LoadEx, StoreEx, Cas, Casp, FpOne, FpTwo, FpThree, FpCompare, FpSelect, FpImm, FpInt, VecThree, VecPermute, VecDot, VecElem, VecTwo, VecScalarPair, VecAcross, VecLong3, VecShift, VecImm, ScalarShift, VecCopy, ScalarCopy, VecInsElem, VecExt, VecTable}
+use Rattle.a64_rows.specs.declared.row_table.Row.TheVariants.{AddSubReg, LogicReg, AddSubExt}
+use Rattle.a64_rows.specs.declared.row_table.Row.TheVariants.{AddSubCarry, DataProc2, MulHigh}
+use Rattle.a64_rows.specs.declared.row_table.Row.TheVariants.{MulAdd, MulAddLong, AddSubImm}
+use Rattle.a64_rows.specs.declared.row_table.Row.TheVariants.{LogicImm, Bitfield, Extract}
+use Rattle.a64_rows.specs.declared.row_table.Row.TheVariants.{DataProc1, MoveWide, CondSelect}
+use Rattle.a64_rows.specs.declared.row_table.Row.TheVariants.{CondCompare, Adr, Branch26}
+use Rattle.a64_rows.specs.declared.row_table.Row.TheVariants.{BranchCond, CompareBranch}
+use Rattle.a64_rows.specs.declared.row_table.Row.TheVariants.{TestBranch, BranchReg, RetAuth, Hint}
+use Rattle.a64_rows.specs.declared.row_table.Row.TheVariants.{Barrier, Brk, Nzcv, LdStImm9}
+use Rattle.a64_rows.specs.declared.row_table.Row.TheVariants.{LdStUnsigned, LdStReg, LdLiteral}
+use Rattle.a64_rows.specs.declared.row_table.Row.TheVariants.{LdStPair, LdReplicate, AtomicOp}
+use Rattle.a64_rows.specs.declared.row_table.Row.TheVariants.{LoadAcq, StoreRel, LoadEx, StoreEx}
+use Rattle.a64_rows.specs.declared.row_table.Row.TheVariants.{Cas, Casp, FpOne, FpTwo, FpThree}
+use Rattle.a64_rows.specs.declared.row_table.Row.TheVariants.{FpCompare, FpSelect, FpImm, FpInt}
+use Rattle.a64_rows.specs.declared.row_table.Row.TheVariants.{VecThree, VecPermute, VecDot}
+use Rattle.a64_rows.specs.declared.row_table.Row.TheVariants.{VecElem, VecTwo, VecScalarPair}
+use Rattle.a64_rows.specs.declared.row_table.Row.TheVariants.{VecAcross, VecLong3, VecShift}
+use Rattle.a64_rows.specs.declared.row_table.Row.TheVariants.{VecImm, ScalarShift, VecCopy}
+use Rattle.a64_rows.specs.declared.row_table.Row.TheVariants.{ScalarCopy, VecInsElem, VecExt}
+use Rattle.a64_rows.specs.declared.row_table.Row.TheVariants.{VecTable}
 use Rattle.a64_rows.specs.declared.field.FieldName.TheVariants as name
 use Rattle.a64_rows.specs.declared.slots.Slot.TheVariants.{Bits, Doubled}
 use Rattle.a64_rows.specs.Slots.{Field, Entry, entry}
 
--- the fields; where fields of one name stand at several places, the lowest bit and the width follow the name
+-- the fields; where fields of one name stand at several places, the lowest bit and the width follow
+-- the name
 abbrev sf : Field
 sf = (name.Sf, Bits 31 1)
 
@@ -403,4 +423,12 @@ name_of VecTable = codes "VecTable"
 
 -- all rows
 abbrev pub all_rows : List Row
-all_rows = AddSubReg ∷ LogicReg ∷ AddSubExt ∷ AddSubCarry ∷ DataProc2 ∷ MulHigh ∷ MulAdd ∷ MulAddLong ∷ AddSubImm ∷ LogicImm ∷ Bitfield ∷ Extract ∷ DataProc1 ∷ MoveWide ∷ CondSelect ∷ CondCompare ∷ Adr ∷ Branch26 ∷ BranchCond ∷ CompareBranch ∷ TestBranch ∷ BranchReg ∷ RetAuth ∷ Hint ∷ Barrier ∷ Brk ∷ Nzcv ∷ LdStImm9 ∷ LdStUnsigned ∷ LdStReg ∷ LdLiteral ∷ LdStPair ∷ LdReplicate ∷ AtomicOp ∷ LoadAcq ∷ StoreRel ∷ LoadEx ∷ StoreEx ∷ Cas ∷ Casp ∷ FpOne ∷ FpTwo ∷ FpThree ∷ FpCompare ∷ FpSelect ∷ FpImm ∷ FpInt ∷ VecThree ∷ VecPermute ∷ VecDot ∷ VecElem ∷ VecTwo ∷ VecScalarPair ∷ VecAcross ∷ VecLong3 ∷ VecShift ∷ VecImm ∷ ScalarShift ∷ VecCopy ∷ ScalarCopy ∷ VecInsElem ∷ VecExt ∷ VecTable ∷ []
+all_rows =
+    AddSubReg ∷ LogicReg ∷ AddSubExt ∷ AddSubCarry ∷ DataProc2 ∷ MulHigh ∷ MulAdd ∷ MulAddLong
+    ∷ AddSubImm ∷ LogicImm ∷ Bitfield ∷ Extract ∷ DataProc1 ∷ MoveWide ∷ CondSelect ∷ CondCompare
+    ∷ Adr ∷ Branch26 ∷ BranchCond ∷ CompareBranch ∷ TestBranch ∷ BranchReg ∷ RetAuth ∷ Hint
+    ∷ Barrier ∷ Brk ∷ Nzcv ∷ LdStImm9 ∷ LdStUnsigned ∷ LdStReg ∷ LdLiteral ∷ LdStPair ∷ LdReplicate
+    ∷ AtomicOp ∷ LoadAcq ∷ StoreRel ∷ LoadEx ∷ StoreEx ∷ Cas ∷ Casp ∷ FpOne ∷ FpTwo ∷ FpThree
+    ∷ FpCompare ∷ FpSelect ∷ FpImm ∷ FpInt ∷ VecThree ∷ VecPermute ∷ VecDot ∷ VecElem ∷ VecTwo
+    ∷ VecScalarPair ∷ VecAcross ∷ VecLong3 ∷ VecShift ∷ VecImm ∷ ScalarShift ∷ VecCopy ∷ ScalarCopy
+    ∷ VecInsElem ∷ VecExt ∷ VecTable ∷ []

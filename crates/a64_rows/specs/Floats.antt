@@ -2,10 +2,12 @@
 -- Floats: the forms of "Data Processing -- Scalar Floating-Point and Advanced SIMD" on one float
 -- (Arm Architecture Reference Manual, DDI 0487, C4.1), by the names of their fields.
 use Rattle.std.specs.Prelude.{ℕ, [], ◌∷◌}
-use Rattle.a64_rows.specs.declared.row_table.Row.TheVariants.{FpOne, FpTwo, FpThree, FpCompare, FpSelect, FpImm, FpInt}
+use Rattle.a64_rows.specs.declared.row_table.Row.TheVariants.{FpOne, FpTwo, FpThree, FpCompare}
+use Rattle.a64_rows.specs.declared.row_table.Row.TheVariants.{FpSelect, FpImm, FpInt}
 use Rattle.a64_rows.specs.Forms.{Form, form}
 
--- Data Processing -- Scalar Floating-Point and Advanced SIMD, Floating-point data-processing (1 source)
+-- Data Processing -- Scalar Floating-Point and Advanced SIMD, Floating-point data-processing (1
+-- source)
 pub record FpOneFields : Type 0 where
   pub ftype : ℕ
   pub op : ℕ
@@ -15,7 +17,8 @@ pub record FpOneFields : Type 0 where
 abbrev pub fp_one : FpOneFields → Form
 fp_one f = form FpOne (f.ftype ∷ f.op ∷ f.rn ∷ f.rd ∷ [])
 
--- Data Processing -- Scalar Floating-Point and Advanced SIMD, Floating-point data-processing (2 source)
+-- Data Processing -- Scalar Floating-Point and Advanced SIMD, Floating-point data-processing (2
+-- source)
 pub record FpTwoFields : Type 0 where
   pub ftype : ℕ
   pub rm : ℕ
@@ -26,7 +29,8 @@ pub record FpTwoFields : Type 0 where
 abbrev pub fp_two : FpTwoFields → Form
 fp_two f = form FpTwo (f.ftype ∷ f.rm ∷ f.op ∷ f.rn ∷ f.rd ∷ [])
 
--- Data Processing -- Scalar Floating-Point and Advanced SIMD, Floating-point data-processing (3 source)
+-- Data Processing -- Scalar Floating-Point and Advanced SIMD, Floating-point data-processing (3
+-- source)
 pub record FpThreeFields : Type 0 where
   pub ftype : ℕ
   pub o1 : ℕ
@@ -39,7 +43,8 @@ pub record FpThreeFields : Type 0 where
 abbrev pub fp_three : FpThreeFields → Form
 fp_three f = form FpThree (f.ftype ∷ f.o1 ∷ f.rm ∷ f.o0 ∷ f.ra ∷ f.rn ∷ f.rd ∷ [])
 
--- Data Processing -- Scalar Floating-Point and Advanced SIMD, Floating-point compare: FCMP of registers
+-- Data Processing -- Scalar Floating-Point and Advanced SIMD, Floating-point compare: FCMP of
+-- registers
 pub record FpCompareFields : Type 0 where
   pub ftype : ℕ
   pub rm : ℕ
@@ -68,7 +73,8 @@ pub record FpImmFields : Type 0 where
 abbrev pub fp_imm : FpImmFields → Form
 fp_imm f = form FpImm (f.ftype ∷ f.imm8 ∷ f.rd ∷ [])
 
--- Data Processing -- Scalar Floating-Point and Advanced SIMD, Conversion between floating-point and integer
+-- Data Processing -- Scalar Floating-Point and Advanced SIMD, Conversion between floating-point and
+-- integer
 pub record FpIntFields : Type 0 where
   pub sf : ℕ
   pub ftype : ℕ

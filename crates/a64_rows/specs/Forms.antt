@@ -1,5 +1,6 @@
 -- The word of a row with values for its fields, and the rows and values of a word.
-use Rattle.std.specs.Prelude.{ℕ, ◌≡◌, ◌+◌, ◌-◌, ◌*◌, ◌/◌, ◌%◌, ◌^◌, ◌<◌, List, [], ◌∷◌, map, bit_and, IsTrue}
+use Rattle.std.specs.Prelude.{ℕ, ◌≡◌, ◌+◌, ◌-◌, ◌*◌, ◌/◌, ◌%◌, ◌^◌, ◌<◌, List, [], ◌∷◌, map}
+use Rattle.std.specs.Prelude.{bit_and, IsTrue}
 use Rattle.a64_rows.specs.declared.row_table.Row.{Row}
 use Rattle.a64_rows.specs.declared.slots.Slot.{Slot}
 use Rattle.a64_rows.specs.declared.slots.Slot.TheVariants.{Bits, Doubled}
@@ -46,7 +47,8 @@ IsWordOf row fields word = IsForm row fields × (row_word row fields ≡ word)
 
 -- no other row or values have this word
 abbrev pub IsOnlyFormOf : Row → List ℕ → ℕ → Type 0
-IsOnlyFormOf row fields word = (other : Row) (values : List ℕ) → IsWordOf other values word → (other ≡ row) × (values ≡ fields)
+IsOnlyFormOf row fields word =
+    (other : Row) (values : List ℕ) → IsWordOf other values word → (other ≡ row) × (values ≡ fields)
 
 -- what a word has in a field
 abbrev pub value_in : ℕ → Slot → ℕ
@@ -72,8 +74,8 @@ HasTwins [] word = Unit {0}
 HasTwins (Bits _ _ ∷ slots) word = HasTwins slots word
 HasTwins (Doubled ∷ slots) word = (word / 2 ^ 31 % 2 ≡ word / 2 ^ 22 % 2) × HasTwins slots word
 
--- a word matches a row: outside the fields its bits are those of the fixed word, the bits of a field that stands twice are
--- alike, and what it has in the fields meets the limits
+-- a word matches a row: outside the fields its bits are those of the fixed word, the bits of a
+-- field that stands twice are alike, and what it has in the fields meets the limits
 abbrev pub Matches : Row → ℕ → Type 0
 Matches row word =
     (bit_and word (fixed_mask row) ≡ fixed_of row)
@@ -102,8 +104,8 @@ IsFormOf form = IsForm form.row form.fields
 abbrev pub NamedValue : Type 0
 NamedValue = ℕ × (Row → Slot)
 
--- a form has these values under these names: they are the values of all its fields, and its row has each field at the place of
--- the name
+-- a form has these values under these names: they are the values of all its fields, and its row has
+-- each field at the place of the name
 pub record IsPlaced (form : Form) (named : List NamedValue) : Type 0 where
   pub values : form.fields ≡ map (λ v. v.0) named
   pub slots : slots_of form.row ≡ map (λ v. v.1 form.row) named

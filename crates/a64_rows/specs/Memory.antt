@@ -2,10 +2,14 @@
 -- Memory: the forms of "Loads and Stores"
 -- (Arm Architecture Reference Manual, DDI 0487, C4.1), by the names of their fields.
 use Rattle.std.specs.Prelude.{ℕ, [], ◌∷◌}
-use Rattle.a64_rows.specs.declared.row_table.Row.TheVariants.{LdStImm9, LdStUnsigned, LdStReg, LdLiteral, LdStPair, LdReplicate, AtomicOp, LoadAcq, StoreRel, LoadEx, StoreEx, Cas, Casp}
+use Rattle.a64_rows.specs.declared.row_table.Row.TheVariants.{LdStImm9, LdStUnsigned, LdStReg}
+use Rattle.a64_rows.specs.declared.row_table.Row.TheVariants.{LdLiteral, LdStPair, LdReplicate}
+use Rattle.a64_rows.specs.declared.row_table.Row.TheVariants.{AtomicOp, LoadAcq, StoreRel, LoadEx}
+use Rattle.a64_rows.specs.declared.row_table.Row.TheVariants.{StoreEx, Cas, Casp}
 use Rattle.a64_rows.specs.Forms.{Form, form}
 
--- Loads and Stores, Load/store register (unscaled immediate, immediate post-indexed and pre-indexed)
+-- Loads and Stores, Load/store register (unscaled immediate, immediate post-indexed and
+-- pre-indexed)
 pub record LdStImm9Fields : Type 0 where
   pub sz : ℕ
   pub v : ℕ

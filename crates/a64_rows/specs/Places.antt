@@ -1,6 +1,6 @@
 -- Written by `python3 tools/rows.py` from tables/rows.txt.
--- Where the field of each name stands in the rows that have it (Arm Architecture Reference Manual, DDI 0487, C4.1). The name
--- that the manual gives a field stands in front of what it says.
+-- Where the field of each name stands in the rows that have it (Arm Architecture Reference Manual,
+-- DDI 0487, C4.1). The name that the manual gives a field stands in front of what it says.
 use Rattle.a64_rows.specs.declared.row_table.Row.{Row}
 use Rattle.a64_rows.specs.declared.row_table.Row.TheVariants as row
 use Rattle.a64_rows.specs.declared.slots.Slot.{Slot}
@@ -69,7 +69,8 @@ abbrev pub n : Row → Slot
 n row.LogicImm = Bits 22 1
 n _ = Bits 21 1
 
--- option: how a register is extended; of a table lookup op, 1 where it keeps what it finds no entry for
+-- option: how a register is extended; of a table lookup op, 1 where it keeps what it finds no entry
+-- for
 abbrev pub ext : Row → Slot
 ext row.VecTable = Bits 12 1
 ext _ = Bits 13 3
@@ -117,7 +118,8 @@ abbrev pub cond : Row → Slot
 cond row.BranchCond = Bits 0 4
 cond _ = Bits 12 4
 
--- the lowest bit of op2 of a conditional select; of products by an element, the bit of opcode that subtracts
+-- the lowest bit of op2 of a conditional select; of products by an element, the bit of opcode that
+-- subtracts
 abbrev pub o2 : Row → Slot
 o2 row.VecElem = Bits 14 1
 o2 _ = Bits 10 1
@@ -190,7 +192,8 @@ op2 _ = Bits 5 3
 abbrev pub read : Row → Slot
 read _ = Bits 21 1
 
--- size: the logarithm of the bytes that are moved; of products by an element, the lowest bit of size
+-- size: the logarithm of the bytes that are moved; of products by an element, the lowest bit of
+-- size
 abbrev pub sz : Row → Slot
 sz row.LdReplicate = Bits 10 2
 sz row.VecElem = Bits 22 1
@@ -216,7 +219,8 @@ idx _ = Bits 23 2
 abbrev pub load : Row → Slot
 load _ = Bits 22 1
 
--- imm7: an offset in units of the size; of shifts immh and immb, the size of an element with the amount
+-- imm7: an offset in units of the size; of shifts immh and immb, the size of an element with the
+-- amount
 abbrev pub imm7 : Row → Slot
 imm7 row.LdStPair = Bits 15 7
 imm7 _ = Bits 16 7

@@ -16,7 +16,8 @@ fixed_of row = (entry_of row).fixed
 abbrev pub fields_of : Row → List Field
 fields_of row = (entry_of row).fields
 
--- where the fields of a row stand: the lowest bit and the width of each, or the one bit that stands at 31 and at 22
+-- where the fields of a row stand: the lowest bit and the width of each, or the one bit that stands
+-- at 31 and at 22
 abbrev pub slots_of : Row → List Slot
 slots_of row = map (λ f. f.1) (fields_of row)
 

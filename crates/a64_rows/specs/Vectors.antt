@@ -1,8 +1,13 @@
 -- Written by `python3 tools/rows.py` from tables/rows.txt.
--- Vectors: the forms of "Data Processing -- Scalar Floating-Point and Advanced SIMD" on vectors and their elements
--- (Arm Architecture Reference Manual, DDI 0487, C4.1), by the names of their fields.
+-- Vectors: the forms of "Data Processing -- Scalar Floating-Point and Advanced SIMD" on vectors and
+-- their elements (Arm Architecture Reference Manual, DDI 0487, C4.1), by the names of their fields.
 use Rattle.std.specs.Prelude.{ℕ, [], ◌∷◌}
-use Rattle.a64_rows.specs.declared.row_table.Row.TheVariants.{VecThree, VecPermute, VecDot, VecElem, VecTwo, VecScalarPair, VecAcross, VecLong3, VecShift, VecImm, ScalarShift, VecCopy, ScalarCopy, VecInsElem, VecExt, VecTable}
+use Rattle.a64_rows.specs.declared.row_table.Row.TheVariants.{VecThree, VecPermute, VecDot}
+use Rattle.a64_rows.specs.declared.row_table.Row.TheVariants.{VecElem, VecTwo, VecScalarPair}
+use Rattle.a64_rows.specs.declared.row_table.Row.TheVariants.{VecAcross, VecLong3, VecShift}
+use Rattle.a64_rows.specs.declared.row_table.Row.TheVariants.{VecImm, ScalarShift, VecCopy}
+use Rattle.a64_rows.specs.declared.row_table.Row.TheVariants.{ScalarCopy, VecInsElem, VecExt}
+use Rattle.a64_rows.specs.declared.row_table.Row.TheVariants.{VecTable}
 use Rattle.a64_rows.specs.Forms.{Form, form}
 
 -- Data Processing -- Scalar Floating-Point and Advanced SIMD, Advanced SIMD three same
@@ -29,7 +34,8 @@ pub record VecPermuteFields : Type 0 where
 abbrev pub vec_permute : VecPermuteFields → Form
 vec_permute f = form VecPermute (f.size ∷ f.rm ∷ f.op ∷ f.rn ∷ f.rd ∷ [])
 
--- Data Processing -- Scalar Floating-Point and Advanced SIMD, Advanced SIMD three-register extension: SDOT and USDOT
+-- Data Processing -- Scalar Floating-Point and Advanced SIMD, Advanced SIMD three-register
+-- extension: SDOT and USDOT
 pub record VecDotFields : Type 0 where
   pub q : ℕ
   pub us : ℕ
@@ -40,7 +46,8 @@ pub record VecDotFields : Type 0 where
 abbrev pub vec_dot : VecDotFields → Form
 vec_dot f = form VecDot (f.q ∷ f.us ∷ f.rm ∷ f.rn ∷ f.rd ∷ [])
 
--- Data Processing -- Scalar Floating-Point and Advanced SIMD, Advanced SIMD vector x indexed element: FMLA and FMLS
+-- Data Processing -- Scalar Floating-Point and Advanced SIMD, Advanced SIMD vector x indexed
+-- element: FMLA and FMLS
 pub record VecElemFields : Type 0 where
   pub q : ℕ
   pub sz : ℕ
@@ -54,7 +61,8 @@ pub record VecElemFields : Type 0 where
 abbrev pub vec_elem : VecElemFields → Form
 vec_elem f = form VecElem (f.q ∷ f.sz ∷ f.l ∷ f.rm ∷ f.o2 ∷ f.h ∷ f.rn ∷ f.rd ∷ [])
 
--- Data Processing -- Scalar Floating-Point and Advanced SIMD, Advanced SIMD two-register miscellaneous
+-- Data Processing -- Scalar Floating-Point and Advanced SIMD, Advanced SIMD two-register
+-- miscellaneous
 pub record VecTwoFields : Type 0 where
   pub q : ℕ
   pub u : ℕ
@@ -86,7 +94,8 @@ pub record VecAcrossFields : Type 0 where
 abbrev pub vec_across : VecAcrossFields → Form
 vec_across f = form VecAcross (f.q ∷ f.u ∷ f.size ∷ f.op ∷ f.rn ∷ f.rd ∷ [])
 
--- Data Processing -- Scalar Floating-Point and Advanced SIMD, Advanced SIMD three different: SMLAL, UMLAL, SMULL and UMULL
+-- Data Processing -- Scalar Floating-Point and Advanced SIMD, Advanced SIMD three different: SMLAL,
+-- UMLAL, SMULL and UMULL
 pub record VecLong3Fields : Type 0 where
   pub q : ℕ
   pub u : ℕ
@@ -123,7 +132,8 @@ pub record VecImmFields : Type 0 where
 abbrev pub vec_imm : VecImmFields → Form
 vec_imm f = form VecImm (f.q ∷ f.op ∷ f.abc ∷ f.cmode ∷ f.defgh ∷ f.rd ∷ [])
 
--- Data Processing -- Scalar Floating-Point and Advanced SIMD, Advanced SIMD scalar shift by immediate: USHR and SLI
+-- Data Processing -- Scalar Floating-Point and Advanced SIMD, Advanced SIMD scalar shift by
+-- immediate: USHR and SLI
 pub record ScalarShiftFields : Type 0 where
   pub imm7 : ℕ
   pub op : ℕ
@@ -133,7 +143,8 @@ pub record ScalarShiftFields : Type 0 where
 abbrev pub scalar_shift : ScalarShiftFields → Form
 scalar_shift f = form ScalarShift (f.imm7 ∷ f.op ∷ f.rn ∷ f.rd ∷ [])
 
--- Data Processing -- Scalar Floating-Point and Advanced SIMD, Advanced SIMD copy of one element or general register
+-- Data Processing -- Scalar Floating-Point and Advanced SIMD, Advanced SIMD copy of one element or
+-- general register
 pub record VecCopyFields : Type 0 where
   pub q : ℕ
   pub imm5 : ℕ
@@ -144,7 +155,8 @@ pub record VecCopyFields : Type 0 where
 abbrev pub vec_copy : VecCopyFields → Form
 vec_copy f = form VecCopy (f.q ∷ f.imm5 ∷ f.op ∷ f.rn ∷ f.rd ∷ [])
 
--- Data Processing -- Scalar Floating-Point and Advanced SIMD, Advanced SIMD scalar copy: DUP (element)
+-- Data Processing -- Scalar Floating-Point and Advanced SIMD, Advanced SIMD scalar copy: DUP
+-- (element)
 pub record ScalarCopyFields : Type 0 where
   pub imm5 : ℕ
   pub rn : ℕ

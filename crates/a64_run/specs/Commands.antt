@@ -1,5 +1,6 @@
 -- What the commands are: a line for each in each table.
-use Rattle.std.specs.Prelude.{All, ℕ, ◌≡◌, ◌≢◌, ◌⊎◌, ◌≤◌, List, [], ◌∷◌, codes, length, Bool, true, false, Option, None, Some, IfSome, IsSomeAnd, ⊤}
+use Rattle.std.specs.Prelude.{All, ℕ, ◌≡◌, ◌≢◌, ◌⊎◌, ◌≤◌, List, [], ◌∷◌, codes, length, Bool, true}
+use Rattle.std.specs.Prelude.{false, Option, None, Some, IfSome, IsSomeAnd, ⊤}
 use Rattle.std.specs.Fmt.{decimal}
 use Rattle.a64_buffer.specs.declared.force.ForceVeneers.{ForceVeneers}
 use Rattle.a64_buffer.specs.declared.force.ForceVeneers.TheVariants.{No, Yes}
@@ -71,8 +72,10 @@ alone_name commands.Stubs = Some (codes "stubs")
 
 -- the words of the command
 abbrev pub IsCommand : List (List ℕ) → Command → Type 0
-IsCommand words (Asm force) = ((force ≡ No) × (words ≡ [])) ⊎ (words ≡ codes "asm" ∷ force_words force)
-IsCommand words (Gen count force) = IsCount count × (words ≡ codes "gen" ∷ decimal count ∷ force_words force)
+IsCommand words (Asm force) =
+    ((force ≡ No) × (words ≡ [])) ⊎ (words ≡ codes "asm" ∷ force_words force)
+IsCommand words (Gen count force) =
+    IsCount count × (words ≡ codes "gen" ∷ decimal count ∷ force_words force)
 IsCommand words command = IsSomeAnd (alone_name command) (λ name. words ≡ name ∷ [])
 
 -- some words may be the command's
@@ -120,7 +123,8 @@ format_of (inputs.Listing file) = formats.Listing
 format_of (inputs.Units file) = formats.Units
 format_of (inputs.Addresses file) = formats.Addresses
 
--- what the lines of a file say, in each format; of units, what keeps them from being linked, if anything does
+-- what the lines of a file say, in each format; of units, what keeps them from being linked, if
+-- anything does
 pub data Said : Type 0 where
   SaysItems : Contents → Said
   SaysWords : Audit.Contents → Said
@@ -143,9 +147,11 @@ IsText bytes (inputs.Listing file) = Shown.IsShownFile bytes file
 IsText bytes (inputs.Units file) = LinkFiles.IsLinkFile bytes file
 IsText bytes (inputs.Addresses file) = StubFiles.IsStubFile bytes file
 
--- what stands in the bytes of a listing beside lines that mean nothing is what `dis` writes for its words
+-- what stands in the bytes of a listing beside lines that mean nothing is what `dis` writes for its
+-- words
 abbrev pub IsAsWritten : List ℕ → Input → Type 0
-IsAsWritten bytes (inputs.Listing file) = Shown.IsOneListing (Shown.words_of file) (Shown.meant_lines bytes)
+IsAsWritten bytes (inputs.Listing file) =
+    Shown.IsOneListing (Shown.words_of file) (Shown.meant_lines bytes)
 IsAsWritten bytes input = ⊤
 
 -- line n, counted from 1, is the first that is no entry which may stand there
@@ -160,23 +166,27 @@ IsFirstBad formats.Addresses bytes n = Lines.IsFirstBad StubFiles.says [] bytes 
 
 -- the first fault of `assemble` in what a file says
 abbrev pub assembly_fault : Command → Contents → Option EmitError
-assembly_fault command file = fault_of file.frame file.flags file.constants (force_of command) file.items
+assembly_fault command file =
+    fault_of file.frame file.flags file.constants (force_of command) file.items
 
 -- the first fault that the command finds in what a file says; `roles` looks for none
 abbrev pub contents_fault : Command → Contents → Option EmitError
 contents_fault (Asm force) file = assembly_fault (Asm force) file
 contents_fault (Gen count force) file = assembly_fault (Gen count force) file
-contents_fault commands.List file = first_shown_fault file.frame file.flags file.constants file.items
+contents_fault commands.List file =
+    first_shown_fault file.frame file.flags file.constants file.items
 contents_fault command file = None
 
 abbrev pub file_fault : Command → File → Option EmitError
 file_fault command file = contents_fault command (contents_of file)
 
--- the fault that the command finds first in what the lines of a file say: in items that of the assembler, in words what an audit
--- finds first, in units what keeps them from being linked
+-- the fault that the command finds first in what the lines of a file say: in items that of the
+-- assembler, in words what an audit finds first, in units what keeps them from being linked
 abbrev pub FindsFault : Command → Said → Fault → Type 0
-FindsFault command (SaysItems file) (faults.Assembly error) = contents_fault command file ≡ Some error
-FindsFault commands.Audit (SaysWords words) (faults.Audit verdict) = IsVerdict words verdict × (verdict ≢ Clean)
+FindsFault command (SaysItems file) (faults.Assembly error) =
+    contents_fault command file ≡ Some error
+FindsFault commands.Audit (SaysWords words) (faults.Audit verdict) =
+    IsVerdict words verdict × (verdict ≢ Clean)
 FindsFault commands.Link (SaysUnits found) (faults.Link error) = found ≡ Some error
 FindsFault command said fault = ⊥
 
@@ -198,7 +208,8 @@ IsFaultless command input = FindsNone command (said_of input)
 abbrev pub HasRightItems : File → Type 0
 HasRightItems file = own_fault file.frame file.info file.constants file.items.items ≡ None
 
--- the command finds no fault that stands in one item of a file alone, and none in words; of units it may find any
+-- the command finds no fault that stands in one item of a file alone, and none in words; of units
+-- it may find any
 abbrev pub HasNoItemFault : Command → Input → Type 0
 HasNoItemFault (Asm force) (inputs.Items file) = HasRightItems file
 HasNoItemFault (Gen count force) (inputs.Items file) = HasRightItems file
@@ -209,7 +220,8 @@ HasNoItemFault command input = IsFaultless command input
 
 -- the code is that of the file
 abbrev pub IsCodeOf : Command → File → Code → Type 0
-IsCodeOf command file code = IsAssembled file.frame file.info file.constants (force_of command) file.items.items code
+IsCodeOf command file code =
+    IsAssembled file.frame file.info file.constants (force_of command) file.items.items code
 
 -- the most bytes that a source may hold
 abbrev pub limit : ℕ
@@ -234,13 +246,16 @@ IsInput (Gen count force) left left' input = IsGenFile count input
 IsInput command left left' input = WasRead (works_on command) left left' input
 
 -- linked code of these units, and its lines. Each call leads to the place of its symbol
-pub record AreLinkedTo (units : List Unit) (base : ℕ) (linked : Linked) (output : List ℕ) : Type 0 where
-  pub layout : IsLinked units base linked
-  pub calls : CallsArrive units linked
-  pub lines : output ≡ linked_text linked.starts.items linked.symbols.items linked.thunks.items linked.words.items
+pub record AreLinkedTo (units : List Unit) (base : ℕ) (linked : Linked) (output : List ℕ) : Type 0
+  where
+    pub layout : IsLinked units base linked
+    pub calls : CallsArrive units linked
+    pub lines : output
+        ≡ linked_text linked.starts.items linked.symbols.items linked.thunks.items
+        linked.words.items
 
--- stubs to these addresses, and their lines. Each arrives at its address and changes x16 alone, and none that does is shorter; its
--- steps have the forms that they have in code
+-- stubs to these addresses, and their lines. Each arrives at its address and changes x16 alone, and
+-- none that does is shorter; its steps have the forms that they have in code
 pub record AreStubsTo (addresses : List ℕ) (stubs : Stubs) (output : List ℕ) : Type 0 where
   pub stand : AreStubs addresses stubs.words.items stubs.places.items
   pub arrive : All IsTrampoline addresses
@@ -249,18 +264,24 @@ pub record AreStubsTo (addresses : List ℕ) (stubs : Stubs) (output : List ℕ)
 
 -- what the command makes of it: what is kept of that, if anything, and the bytes that are written
 abbrev pub IsOutput : Command → Input → Option Product → List ℕ → Type 0
-IsOutput (Asm force) (inputs.Items file) (Some (products.Code c)) output = IsCodeOf (Asm force) file c × (output ≡ report_of c)
-IsOutput (Gen count force) (inputs.Items file) (Some (products.Code c)) output = IsCodeOf (Gen count force) file c × (output ≡ summary_of (length file.items.items) c)
-IsOutput commands.List (inputs.Items file) None output = output ≡ listing_of file.frame file.items.items
+IsOutput (Asm force) (inputs.Items file) (Some (products.Code c)) output =
+    IsCodeOf (Asm force) file c × (output ≡ report_of c)
+IsOutput (Gen count force) (inputs.Items file) (Some (products.Code c)) output =
+    IsCodeOf (Gen count force) file c × (output ≡ summary_of (length file.items.items) c)
+IsOutput commands.List (inputs.Items file) None output =
+    output ≡ listing_of file.frame file.items.items
 IsOutput commands.Roles (inputs.Items file) None output = output ≡ role_listing_of file.items.items
 IsOutput commands.Audit (inputs.Words file) None output = output ≡ codes "clean\n"
 IsOutput commands.Dis (inputs.Words file) None output = Shown.IsListing file.words.items output
 IsOutput commands.Undis (inputs.Listing file) None output = output ≡ words_text file.words.items
-IsOutput commands.Link (inputs.Units file) (Some (products.Linked linked)) output = AreLinkedTo file.units.items file.base linked output
-IsOutput commands.Stubs (inputs.Addresses file) (Some (products.Stubs stubs)) output = AreStubsTo file.addresses.items stubs output
+IsOutput commands.Link (inputs.Units file) (Some (products.Linked linked)) output =
+    AreLinkedTo file.units.items file.base linked output
+IsOutput commands.Stubs (inputs.Addresses file) (Some (products.Stubs stubs)) output =
+    AreStubsTo file.addresses.items stubs output
 IsOutput command input product output = ⊥
 
 -- the same, where the command finds no fault
-pub record IsMade (command : Command) (input : Input) (product : Option Product) (output : List ℕ) : Type 0 where
+pub record IsMade (command : Command) (input : Input) (product : Option Product)
+    (output : List ℕ) : Type 0 where
   pub no_fault : IsFaultless command input
   pub output_is : IsOutput command input product output

@@ -1,5 +1,6 @@
 -- The file that `gen` makes for itself.
-use Rattle.std.specs.Prelude.{ℕ, ◌+◌, ◌*◌, ◌%◌, ◌==◌, zero, suc, if◌then◌else◌, List, [], ◌∷◌, ◌++◌, min, None}
+use Rattle.std.specs.Prelude.{ℕ, ◌+◌, ◌*◌, ◌%◌, ◌==◌, zero, suc, if◌then◌else◌, List, [], ◌∷◌, ◌++◌}
+use Rattle.std.specs.Prelude.{min, None}
 use Rattle.std.specs.List.{flat_map, range_with_len}
 use Rattle.std.specs.Ordering.{nat_cmp}
 use Rattle.std.specs.FinMap.{FinMap, empty, insert}
@@ -24,19 +25,25 @@ abbrev pub gen_test : ℕ → TestBitAndBranchKind
 gen_test number = if number % 2 == 0 then Z else NZ
 
 abbrev pub gen_branch : ℕ → ℕ → Inst
-gen_branch count number = insts.TestBitAndBranch (gen_test number) (Label (label_at count)) (Label (label_at number)) (integer_register 1) (number % 64)
+gen_branch count number =
+    insts.TestBitAndBranch (gen_test number) (Label (label_at count)) (Label (label_at number))
+    (integer_register 1) (number % 64)
 
 -- the load with this number: of one of four constants into one of the vector registers
 abbrev pub gen_load : ℕ → Inst
-gen_load number = insts.FpuLoad64 (float_register (number % 32)) (Const (record { 0 = number % 4 })) None
+gen_load number =
+    insts.FpuLoad64 (float_register (number % 32)) (Const (record { 0 = number % 4 })) None
 
 -- the three items of a turn, of so many turns
 abbrev pub gen_turn : ℕ → ℕ → List Item
-gen_turn count number = Emit (gen_branch count number) None ∷ Bind (label_at number) ∷ Emit (gen_load number) None ∷ []
+gen_turn count number =
+    Emit (gen_branch count number) None ∷ Bind (label_at number) ∷ Emit (gen_load number) None ∷ []
 
 -- the items: the turns by number, and behind them their common label and a return
 abbrev pub gen_items : ℕ → List Item
-gen_items count = flat_map (gen_turn count) (range_with_len 0 count) ++ Bind (label_at count) ∷ Emit insts.Ret None ∷ []
+gen_items count =
+    flat_map (gen_turn count) (range_with_len 0 count) ++ Bind (label_at count)
+    ∷ Emit insts.Ret None ∷ []
 
 -- the bytes of a constant: eight numbers from the one behind the last of the constant before
 abbrev pub gen_bytes : ℕ → List ℕ
@@ -53,4 +60,9 @@ gen_constants count = constants_below (min count 4)
 
 -- what the file of so many turns says. Frame and settings are those of a file that names none
 abbrev pub gen_file : ℕ → Contents
-gen_file count = record { items = gen_items count; constants = gen_constants count; frame = default_frame; flags = default_flags }
+gen_file count = record {
+  items = gen_items count;
+  constants = gen_constants count;
+  frame = default_frame;
+  flags = default_flags;
+}

@@ -18,12 +18,15 @@ use Rattle.a64_run.specs.Run.{Kept, status_of}
 abbrev pub asked_by : {A : Type 0} → IntoIter (String A) A → Command → Type 0
 asked_by args = IsCommand (map string_bytes (drop 1 (into_iter_items args)))
 
-module _ {S K E : Type 0} (left : S → Option (List ℕ)) (read_faults : S → ℕ) (taken : K → Option (List ℕ)) (write_faults : K → ℕ) (told : E → Option (List ℕ)) (tell_faults : E → ℕ) (source source' : S) (sink sink' : K) (errs errs' : E) where
+module _ {S K E : Type 0} (left : S → Option (List ℕ)) (read_faults : S → ℕ) (taken : K
+    → Option (List ℕ)) (write_faults : K → ℕ) (told : E → Option (List ℕ)) (tell_faults : E
+    → ℕ) (source source' : S) (sink sink' : K) (errs errs' : E) where
   -- a run for what was asked for, with its status
   pub record EndsFor (asked : Command → Type 0) (status : ℕ) : Type 0 where
     pub kept : Kept
     pub fault : Option Fault
-    pub answers : Answers left read_faults taken write_faults source source' sink sink' asked kept fault
+    pub answers : Answers left read_faults taken write_faults source source' sink sink' asked kept
+        fault
     pub tells : TellsFault told tell_faults errs errs' fault
     pub status_is : status ≡ status_of fault
 

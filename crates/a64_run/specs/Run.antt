@@ -1,5 +1,6 @@
 -- What a run of the program answers.
-use Rattle.std.specs.Prelude.{ℕ, ◌≡◌, ◌≢◌, ◌⊎◌, ◌<◌, ◌≤◌, ◌++◌, List, codes, drop, length, Option, None, Some, IfSome, IsSomeAnd, ⊤}
+use Rattle.std.specs.Prelude.{ℕ, ◌≡◌, ◌≢◌, ◌⊎◌, ◌<◌, ◌≤◌, ◌++◌, List, codes, drop, length, Option}
+use Rattle.std.specs.Prelude.{None, Some, IfSome, IsSomeAnd, ⊤}
 use Rattle.std.specs.Fmt.{decimal}
 use Rattle.a64_emit.specs.declared.code.Code.{Code}
 use Rattle.a64_emit.specs.declared.error.EmitError.TheVariants as errors
@@ -25,7 +26,8 @@ use Rattle.a64_audit.specs.declared.verdict.Verdict.TheVariants as verdicts
 use Rattle.a64_formtext.specs.declared.file.ShownFile.{ShownFile}
 use Rattle.a64_run.specs.declared.ran.Fault.{Fault}
 use Rattle.a64_run.specs.declared.ran.Fault.TheVariants as faults
-use Rattle.a64_run.specs.Commands.{limit, works_on, format_of, IsText, IsFirstBad, HasNoItemFault, IsFaultOf, IsFaultless, IsInput, IsMade}
+use Rattle.a64_run.specs.Commands.{limit, works_on, format_of, IsText, IsFirstBad, HasNoItemFault}
+use Rattle.a64_run.specs.Commands.{IsFaultOf, IsFaultless, IsInput, IsMade}
 use Rattle.a64_io.specs.Streams.{Takes, TakesPart}
 
 -- the status of each answer
@@ -45,9 +47,12 @@ status_of (Some faults.Memory) = 5
 abbrev pub verdict_text : Verdict → List ℕ
 verdict_text verdicts.Clean = codes "clean"
 verdict_text (verdicts.BadRange i) = codes "range " ++ decimal i ++ codes ": bad"
-verdict_text (verdicts.UnknownWord place) = codes "place " ++ decimal place ++ codes ": unknown word"
-verdict_text (verdicts.OutOfCode place) = codes "place " ++ decimal place ++ codes ": branch out of code"
-verdict_text (verdicts.IntoData place) = codes "place " ++ decimal place ++ codes ": branch into data"
+verdict_text (verdicts.UnknownWord place) =
+    codes "place " ++ decimal place ++ codes ": unknown word"
+verdict_text (verdicts.OutOfCode place) =
+    codes "place " ++ decimal place ++ codes ": branch out of code"
+verdict_text (verdicts.IntoData place) =
+    codes "place " ++ decimal place ++ codes ": branch into data"
 
 -- the line of each answer, without its line feed
 abbrev pub fault_text : Fault → List ℕ
@@ -71,7 +76,8 @@ IsDue due fault = (fault ≡ due) ⊎ ((fault ≡ Some faults.Read) ⊎ (fault �
 -- what the source held, at each answer that speaks of it
 abbrev pub Held : Format → Option (List ℕ) → Option Fault → Type 0
 Held format left (Some faults.TooLong) = IfSome left (λ text. limit < length text)
-Held format left (Some (faults.Line n)) = IfSome left (λ text. (length text ≤ limit) × IsFirstBad format text n)
+Held format left (Some (faults.Line n)) =
+    IfSome left (λ text. (length text ≤ limit) × IsFirstBad format text n)
 Held format left _ = ⊤
 
 -- a stream's count of failures stays as it was, unless this is the answer: no call that failed is
@@ -90,13 +96,15 @@ Untouched taken taken' (Some faults.Write) = ⊤
 Untouched taken taken' (Some _) = taken' ≡ taken
 
 module _ (command : Command) (left left' : Option (List ℕ)) (taken taken' : Option (List ℕ)) where
-  -- the headline: what the command works on is right, and what it makes of it was written. For `asm`, what was read is a
-  -- file of items, and the report was written of code in which the words of each item stand at its place, in order, with only
-  -- islands between them that no item runs into and one pool behind them, and each use of a label or constant leads to it. For
-  -- `list`, it was the listing of such a file, of which each item may be shown; for `roles`, the lines of the roles of any such
-  -- file. For `audit` it was the one word `clean`, of words that are; for `dis` the texts of words, and for `undis` the words
-  -- that have such texts. For `link` it was the code of units, in which each call leads to the place of its symbol, and for
-  -- `stubs` words that arrive at addresses and change x16 alone
+  -- the headline: what the command works on is right, and what it makes of it was written. For
+  -- `asm`, what was read is a file of items, and the report was written of code in which the words
+  -- of each item stand at its place, in order, with only islands between them that no item runs
+  -- into and one pool behind them, and each use of a label or constant leads to it. For `list`, it
+  -- was the listing of such a file, of which each item may be shown; for `roles`, the lines of the
+  -- roles of any such file. For `audit` it was the one word `clean`, of words that are; for `dis`
+  -- the texts of words, and for `undis` the words that have such texts. For `link` it was the code
+  -- of units, in which each call leads to the place of its symbol, and for `stubs` words that
+  -- arrive at addresses and change x16 alone
   pub record IsDone (input : Input) (product : Option Product) : Type 0 where
     pub is_input : IsInput command left left' input
     pub output : List ℕ
@@ -110,11 +118,13 @@ module _ (command : Command) (left left' : Option (List ℕ)) (taken taken' : Op
     pub made : IsMade command input product output
     pub written : TakesPart taken taken' output
 
-  -- what the command works on is refused, for the fault that it finds first; want of memory is an answer of its own
+  -- what the command works on is refused, for the fault that it finds first; want of memory is an
+  -- answer of its own
   pub record IsRefused (fault : Fault) (input : Input) : Type 0 where
     pub is_input : IsInput command left left' input
     pub is_fault : IsFaultOf command input fault
-    pub no_memory : (fault ≢ faults.Assembly errors.OutOfMemory) × (fault ≢ faults.Link link_errors.OutOfMemory)
+    pub no_memory : (fault ≢ faults.Assembly errors.OutOfMemory)
+        × (fault ≢ faults.Link link_errors.OutOfMemory)
 
   -- there was no memory for it, though the command finds no fault in an item of it alone
   pub record IsUndone (input : Input) : Type 0 where
@@ -125,9 +135,12 @@ module _ (command : Command) (left left' : Option (List ℕ)) (taken taken' : Op
   abbrev pub Keeps : Option Fault → Option Input → Option Product → Type 0
   Keeps None input product = IsSomeAnd input (λ i. IsDone i product)
   Keeps (Some faults.Write) input product = IsSomeAnd input (λ i. IsCutOff i product)
-  Keeps (Some (faults.Assembly error)) input product = IsSomeAnd input (IsRefused (faults.Assembly error)) × (product ≡ None)
-  Keeps (Some (faults.Audit verdict)) input product = IsSomeAnd input (IsRefused (faults.Audit verdict)) × (product ≡ None)
-  Keeps (Some (faults.Link error)) input product = IsSomeAnd input (IsRefused (faults.Link error)) × (product ≡ None)
+  Keeps (Some (faults.Assembly error)) input product =
+      IsSomeAnd input (IsRefused (faults.Assembly error)) × (product ≡ None)
+  Keeps (Some (faults.Audit verdict)) input product =
+      IsSomeAnd input (IsRefused (faults.Audit verdict)) × (product ≡ None)
+  Keeps (Some (faults.Link error)) input product =
+      IsSomeAnd input (IsRefused (faults.Link error)) × (product ≡ None)
   Keeps (Some faults.Memory) input product = IfSome input IsUndone × (product ≡ None)
   Keeps (Some _) input product = (input ≡ None) × (product ≡ None)
 
@@ -144,7 +157,16 @@ pub record Kept : Type 0 where
 
 -- none of them
 abbrev pub nothing_kept : Kept
-nothing_kept = record { file = None; audit = None; shown = None; link_file = None; stub_file = None; code = None; linked = None; stubs = None }
+nothing_kept = record {
+  file = None;
+  audit = None;
+  shown = None;
+  link_file = None;
+  stub_file = None;
+  code = None;
+  linked = None;
+  stubs = None;
+}
 
 abbrev pub with_input : Option Input → Kept → Kept
 with_input None kept = kept
@@ -165,20 +187,37 @@ kept_for input product = with_input input (with_product product nothing_kept)
 
 -- what a run keeps
 abbrev pub kept_in : Ran → Kept
-kept_in ran = record { file = ran.file; audit = ran.audit; shown = ran.shown; link_file = ran.link_file; stub_file = ran.stub_file; code = ran.code; linked = ran.linked; stubs = ran.stubs }
+kept_in ran = record {
+  file = ran.file;
+  audit = ran.audit;
+  shown = ran.shown;
+  link_file = ran.link_file;
+  stub_file = ran.stub_file;
+  code = ran.code;
+  linked = ran.linked;
+  stubs = ran.stubs;
+}
 
-abbrev pub KeepsAll : Command → Option (List ℕ) → Option (List ℕ) → Option (List ℕ) → Option (List ℕ) → Kept → Option Fault → Type 0
-KeepsAll command left left' taken taken' kept fault = (input : Option Input) × (product : Option Product) × (kept ≡ kept_for input product) × Keeps command left left' taken taken' fault input product
+abbrev pub KeepsAll : Command → Option (List ℕ) → Option (List ℕ) → Option (List ℕ)
+    → Option (List ℕ) → Kept → Option Fault → Type 0
+KeepsAll command left left' taken taken' kept fault =
+    (input : Option Input) × (product : Option Product) × (kept ≡ kept_for input product)
+    × Keeps command left left' taken taken' fault input product
 
 -- which answer is due for a source that tells this text, where the command reads it
 pub record IsDueForText (command : Command) (text : List ℕ) (fault : Option Fault) : Type 0 where
   pub too_long : limit < length text → IsDue (Some faults.TooLong) fault
-  pub bad_line : (n : ℕ) → length text ≤ limit → IsFirstBad (works_on command) text n → IsDue (Some (faults.Line n)) fault
-  pub refused : (input : Input) (first : Fault) → length text ≤ limit → format_of input ≡ works_on command → IsText text input → IsFaultOf command input first → IsDue (Some first) fault
-  pub done : (input : Input) → length text ≤ limit → format_of input ≡ works_on command → IsText text input → IsFaultless command input → IsDue None fault ⊎ (fault ≡ Some faults.Write)
+  pub bad_line : (n : ℕ) → length text ≤ limit → IsFirstBad (works_on command) text n
+      → IsDue (Some (faults.Line n)) fault
+  pub refused : (input : Input) (first : Fault) → length text ≤ limit
+      → format_of input ≡ works_on command → IsText text input → IsFaultOf command input first
+      → IsDue (Some first) fault
+  pub done : (input : Input) → length text ≤ limit → format_of input ≡ works_on command
+      → IsText text input → IsFaultless command input
+      → IsDue None fault ⊎ (fault ≡ Some faults.Write)
 
--- nothing but a failed write or want of memory keeps a command from being done that reads nothing and has a
--- file without a fault
+-- nothing but a failed write or want of memory keeps a command from being done that reads nothing
+-- and has a file without a fault
 abbrev pub IsDueAlways : Option Fault → Type 0
 IsDueAlways fault = (fault ≡ None) ⊎ ((fault ≡ Some faults.Write) ⊎ (fault ≡ Some faults.Memory))
 

@@ -1,5 +1,6 @@
 -- What the parts of a run answer.
-use Rattle.std.specs.Prelude.{ℕ, codes, ◌≡◌, ◌≢◌, ◌<◌, ◌≤◌, ◌^◌, ◌++◌, List, [], take, drop, length, Option, None, Some, IfSome, Result, IfOk, IfErr, ⊤}
+use Rattle.std.specs.Prelude.{ℕ, codes, ◌≡◌, ◌≢◌, ◌<◌, ◌≤◌, ◌^◌, ◌++◌, List, [], take, drop, length}
+use Rattle.std.specs.Prelude.{Option, None, Some, IfSome, Result, IfOk, IfErr, ⊤}
 use Rattle.std.specs.Fmt.{decimal}
 use Rattle.std.specs.String.{string_bytes}
 use Rattle.std.specs.List.{sum_by}
@@ -20,11 +21,14 @@ use Rattle.a64_run.specs.declared.ran.Fault.{Fault}
 use Rattle.a64_run.specs.declared.ran.Fault.TheVariants as faults
 use Rattle.a64_text.specs.States.{contents_of}
 use Rattle.a64_run.specs.declared.making.Made.{Made}
-use Rattle.a64_run.specs.declared.making.Made.TheVariants.{Report, Summary, Listing, Words, Clean, Linked, Stubs}
+use Rattle.a64_run.specs.declared.making.Made.TheVariants.{Report, Summary, Listing, Words, Clean}
+use Rattle.a64_run.specs.declared.making.Made.TheVariants.{Linked, Stubs}
 use Rattle.a64_report.specs.Report.{report_of, words_in, words_text}
 use Rattle.a64_report.specs.Summary.{summary_of}
 use Rattle.a64_io.specs.Streams.{HasFailed, Takes, TakesPart}
-use Rattle.a64_run.specs.Commands.{limit, works_on, format_of, said_of, IsText, IsAsWritten, IsFirstBad, IsCommand, OfAsked, HasRightItems, HasNoItemFault, IsFaultOf, assembly_fault, IsMade}
+use Rattle.a64_run.specs.Commands.{limit, works_on, format_of, said_of, IsText, IsAsWritten}
+use Rattle.a64_run.specs.Commands.{IsFirstBad, IsCommand, OfAsked, HasRightItems, HasNoItemFault}
+use Rattle.a64_run.specs.Commands.{IsFaultOf, assembly_fault, IsMade}
 use Rattle.a64_run.specs.Run.{Held, IsDueForText}
 
 -- what is answered for words: Some exactly for the command that they are
@@ -44,10 +48,12 @@ pub record HasRead (text bytes : List ℕ) (left : Option (List ℕ)) : Type 0 w
 
 -- some more bytes, at most `most`, were taken from the front of a source
 abbrev pub TakesAtMost : ℕ → Option (List ℕ) → Option (List ℕ) → Type 0
-TakesAtMost most left left' = IfSome left (λ text. (n : ℕ) × (n ≤ most) × (left' ≡ Some (drop n text)))
+TakesAtMost most left left' =
+    IfSome left (λ text. (n : ℕ) × (n ≤ most) × (left' ≡ Some (drop n text)))
 
 -- a read took n bytes and put them behind those before; n is 0 only at the end
-pub record TakesBehind (text : List ℕ) (n : ℕ) (before bytes : List ℕ) (left : Option (List ℕ)) : Type 0 where
+pub record TakesBehind (text : List ℕ) (n : ℕ) (before bytes : List ℕ) (left : Option (List ℕ)) :
+    Type 0 where
   pub moved : bytes ≡ before ++ take n text
   pub rest : left ≡ Some (drop n text)
   pub ended : n ≡ 0 → text ≡ []
@@ -91,7 +97,8 @@ pub record IsInputOf (format : Format) (text : List ℕ) (input : Input) : Type 
 
 -- a fault that is due for this text, whatever command reads it
 abbrev pub IsTextDue : Format → List ℕ → Fault → Type 0
-IsTextDue format text fault = (command : Command) → works_on command ≡ format → IsDueForText command text (Some fault)
+IsTextDue format text fault =
+    (command : Command) → works_on command ≡ format → IsDueForText command text (Some fault)
 
 -- why bytes are nothing on which a command works
 abbrev pub IsLineFault : Fault → Type 0
@@ -125,7 +132,8 @@ IsDueInput command left input = IfSome left (λ text. IsInputOf (works_on comman
 
 -- why a file has no report; want of memory is an answer only where each item is right by itself
 abbrev pub IsAssemblyFault : Command → File → Fault → Type 0
-IsAssemblyFault command file (faults.Assembly error) = (assembly_fault command (contents_of file) ≡ Some error) × (error ≢ errors.OutOfMemory)
+IsAssemblyFault command file (faults.Assembly error) =
+    (assembly_fault command (contents_of file) ≡ Some error) × (error ≢ errors.OutOfMemory)
 IsAssemblyFault command file faults.Memory = HasRightItems file
 IsAssemblyFault command file _ = ⊥
 
@@ -148,22 +156,30 @@ text_of input (Summary items code) = summary_of items code
 text_of input (Listing text) = string_bytes text
 text_of input (Words bytes) = words_text (words_in bytes.items)
 text_of input Clean = codes "clean\n"
-text_of input (Linked linked) = linked_text linked.starts.items linked.symbols.items linked.thunks.items linked.words.items
+text_of input (Linked linked) =
+    linked_text linked.starts.items linked.symbols.items linked.thunks.items linked.words.items
 text_of input (Stubs stubs) = stubs_text (addresses_in input) stubs.places.items stubs.words.items
 
--- why a command makes nothing of what it works on; want of memory is an answer only where it finds no fault in one item alone
+-- why a command makes nothing of what it works on; want of memory is an answer only where it finds
+-- no fault in one item alone
 abbrev pub IsMakingFault : Command → Input → Fault → Type 0
 IsMakingFault command input faults.Memory = HasNoItemFault command input
-IsMakingFault command input (faults.Assembly error) = IsFaultOf command input (faults.Assembly error) × (error ≢ errors.OutOfMemory)
+IsMakingFault command input (faults.Assembly error) =
+    IsFaultOf command input (faults.Assembly error) × (error ≢ errors.OutOfMemory)
 IsMakingFault command input (faults.Audit verdict) = IsFaultOf command input (faults.Audit verdict)
-IsMakingFault command input (faults.Link error) = IsFaultOf command input (faults.Link error) × (error ≢ link_errors.OutOfMemory)
+IsMakingFault command input (faults.Link error) =
+    IsFaultOf command input (faults.Link error) × (error ≢ link_errors.OutOfMemory)
 IsMakingFault command input _ = ⊥
 
 -- how the writing of what was made ends: what the sink has taken, and what is kept of that
-abbrev pub EndsWriting : Option (List ℕ) → Option (List ℕ) → Input → Made → Option Fault → Option Product → Type 0
-EndsWriting taken taken' input made None product = Takes taken taken' (text_of input made) × (product ≡ kept_of made)
-EndsWriting taken taken' input made (Some faults.Write) product = TakesPart taken taken' (text_of input made) × (product ≡ kept_of made)
-EndsWriting taken taken' input made (Some faults.Memory) product = (taken' ≡ taken) × (product ≡ None)
+abbrev pub EndsWriting : Option (List ℕ) → Option (List ℕ) → Input → Made → Option Fault
+    → Option Product → Type 0
+EndsWriting taken taken' input made None product =
+    Takes taken taken' (text_of input made) × (product ≡ kept_of made)
+EndsWriting taken taken' input made (Some faults.Write) product =
+    TakesPart taken taken' (text_of input made) × (product ≡ kept_of made)
+EndsWriting taken taken' input made (Some faults.Memory) product =
+    (taken' ≡ taken) × (product ≡ None)
 EndsWriting taken taken' input made (Some _) product = ⊥
 
 module _ (command : Command) (taken taken' : Option (List ℕ)) (input : Input) where
@@ -183,7 +199,8 @@ module _ (command : Command) (taken taken' : Option (List ℕ)) (input : Input) 
   abbrev pub Ends : Option Fault → Option Product → Type 0
   Ends None product = IsWritten product
   Ends (Some faults.Write) product = IsPartWritten product
-  Ends (Some fault) product = IsMakingFault command input fault × (product ≡ None) × (taken' ≡ taken)
+  Ends (Some fault) product =
+      IsMakingFault command input fault × (product ≡ None) × (taken' ≡ taken)
 
 -- a text, a number, a text, and another number
 abbrev pub paired_text : List ℕ → ℕ → List ℕ → ℕ → List ℕ

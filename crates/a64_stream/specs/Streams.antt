@@ -1,5 +1,6 @@
 -- What streams and their code are.
-use Rattle.std.specs.Prelude.{ℕ, ◌+◌, ◌*◌, ◌/◌, ◌%◌, ◌^◌, ◌<◌, List, length, slice_index, map, sum, None}
+use Rattle.std.specs.Prelude.{ℕ, ◌+◌, ◌*◌, ◌/◌, ◌%◌, ◌^◌, ◌<◌, List, length, slice_index, map, sum}
+use Rattle.std.specs.Prelude.{None}
 use Rattle.std.specs.List.{range_with_len}
 use Rattle.a64_inst.specs.declared.item.Item.{Item}
 use Rattle.a64_inst.specs.declared.item.Item.TheVariants as items
@@ -27,7 +28,9 @@ IsSmall (Uses count) = count < 2 ^ 25
 
 -- the word of this index, whose least byte stands first
 abbrev pub word_at : List ℕ → ℕ → ℕ
-word_at bytes i = slice_index bytes (4 * i) + slice_index bytes (4 * i + 1) * 2 ^ 8 + slice_index bytes (4 * i + 2) * 2 ^ 16 + slice_index bytes (4 * i + 3) * 2 ^ 24
+word_at bytes i =
+    slice_index bytes (4 * i) + slice_index bytes (4 * i + 1) * 2 ^ 8 + slice_index bytes
+    (4 * i + 2) * 2 ^ 16 + slice_index bytes (4 * i + 3) * 2 ^ 24
 
 -- the sum of the whole words of some bytes, as 32 bits
 abbrev pub word_sum : List ℕ → ℕ

@@ -9,5 +9,7 @@ abbrev pub frame_with : FrameField → ℕ → FrameLayout → FrameLayout
 frame_with frame_fields.SetupAreaSize bytes frame = record frame { setup_area_size = bytes }
 frame_with frame_fields.TailArgsSize bytes frame = record frame { tail_args_size = bytes }
 frame_with frame_fields.ClobberSize bytes frame = record frame { clobber_size = bytes }
-frame_with frame_fields.FixedFrameStorageSize bytes frame = record frame { fixed_frame_storage_size = bytes }
+frame_with frame_fields.FixedFrameStorageSize bytes frame = record frame {
+  fixed_frame_storage_size = bytes;
+}
 frame_with frame_fields.OutgoingArgsSize bytes frame = record frame { outgoing_args_size = bytes }

@@ -1,5 +1,6 @@
 -- Written by `python3 tools/instructions.py` from tables/instructions.txt.
--- The names of instructions as texts, and their headings: each with the kinds of the fields behind it.
+-- The names of instructions as texts, and their headings: each with the kinds of the fields behind
+-- it.
 use Rattle.std.specs.Prelude.{ℕ, List, [], ◌∷◌, codes}
 use Rattle.a64_read.specs.Heading.{Heading}
 use Rattle.a64_tokens.specs.declared.value.Kind.TheVariants as kinds
@@ -27,7 +28,8 @@ use Rattle.a64_text.specs.declared.name.MemoryName.{MemoryName}
 use Rattle.a64_text.specs.declared.name.MemoryName.TheVariants as memory
 use Rattle.a64_ops.specs.declared.access.AccessOp.{AccessOp}
 use Rattle.a64_ops.specs.declared.access.AccessOp.TheVariants as ops
-use Rattle.a64_text.specs.NameInsts.{float_of, immediate_of, register_of, system_of, vector_move_of, vector_of}
+use Rattle.a64_text.specs.NameInsts.{float_of, immediate_of, register_of, system_of}
+use Rattle.a64_text.specs.NameInsts.{vector_move_of, vector_of}
 use Rattle.a64_text.specs.PlainFields.{plain_heading}
 
 abbrev pub immediate_text : ImmediateName → List ℕ

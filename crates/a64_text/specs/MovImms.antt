@@ -11,7 +11,8 @@ written_mov imm = record { imm = imm.imm; shift = imm.shift; ones = imm.shift_on
 
 -- an immediate that the constructor gives for some value, at 64 bits or at fewer
 abbrev pub IsGiven : Bool → ASIMDMovModImm → Type 0
-IsGiven is_64bit imm = (size : ScalarSize) × (is_64 size ≡ is_64bit) × (value : ℕ) × IsMovImm size value imm
+IsGiven is_64bit imm =
+    (size : ScalarSize) × (is_64 size ≡ is_64bit) × (value : ℕ) × IsMovImm size value imm
 
 -- one for lanes of this size: at 64 bits for those of 64 bits, and at fewer for others
 abbrev pub IsMovAt : ScalarSize → ASIMDMovModImm → Type 0
@@ -19,8 +20,8 @@ IsMovAt lane imm = IsGiven (is_64 lane) imm
 
 -- ---- which these are
 
--- at 64 bits nothing is shifted. At fewer a value has the first of its forms: so 0 is not shifted, and 255 with ones behind
--- it is 0 with more ones behind it
+-- at 64 bits nothing is shifted. At fewer a value has the first of its forms: so 0 is not shifted,
+-- and 255 with ones behind it is 0 with more ones behind it
 abbrev pub is_given : Bool → WrittenMovImm → Bool
 is_given true w = w.shift == 0 && not w.ones
 is_given false w =

@@ -1,6 +1,7 @@
 -- Written by `python3 tools/instructions.py` from tables/instructions.txt.
--- The instruction that each name makes of the fields at their places. A name whose fields are not all that its instruction is
--- made of has no equation of its own here, but one in what makes it (Makes).
+-- The instruction that each name makes of the fields at their places. A name whose fields are not
+-- all that its instruction is made of has no equation of its own here, but one in what makes it
+-- (Makes).
 use Rattle.std.specs.Prelude.{List, Option}
 use Rattle.a64_base.specs.declared.entity.TrapCode.{TrapCode}
 use Rattle.a64_base.specs.declared.reg.Reg.{Reg}
@@ -28,8 +29,20 @@ use Rattle.a64_text.specs.declared.name.MemoryName.TheVariants as memory
 use Rattle.a64_text.specs.declared.name.PairName.{PairName}
 use Rattle.a64_text.specs.declared.name.PairName.TheVariants as pair
 use Rattle.a64_tokens.specs.declared.value.Value.{Value}
-use Rattle.a64_read.specs.At.{alu_op3_at, alu_op_at, api_key_at, atomic_rmw_loop_op_at, atomic_rmw_op_at, bfm_op_at, bit_op_at, branch_target_type_at, cond_at, cond_br_kind_at, extend_at, flags_at, fpu_op1_at, fpu_op2_at, fpu_op3_at, fpu_op_ri_at, fpu_op_ri_mod_at, fpu_round_mode_at, fpu_to_int_op_at, i32_at, i64_at, imm12_at, imm_shift_at, int_to_fpu_op_at, label_at, mode_at, move_wide_op_at, nzcv_at, preg_at, reg_at, scalar_size_at, shift_at, size_at, target_at, test_bit_kind_at, truth_at, type_at, u32_at, u64_at, u8_at, uimm5_at, uimm6_at, vector_size_at, wide_at}
-use Rattle.a64_read.specs.VecAt.{vec_alu_mod_op_at, vec_alu_op_at, vec_extend_op_at, vec_lanes_op_at, vec_misc2_at, vec_pair_op_at, vec_rr_long_op_at, vec_rr_narrow_op_at, vec_rr_pair_long_op_at, vec_rrr_long_mod_op_at, vec_rrr_long_op_at, vec_shift_imm_mod_op_at, vec_shift_imm_op_at}
+use Rattle.a64_read.specs.At.{alu_op3_at, alu_op_at, api_key_at, atomic_rmw_loop_op_at}
+use Rattle.a64_read.specs.At.{atomic_rmw_op_at, bfm_op_at, bit_op_at, branch_target_type_at}
+use Rattle.a64_read.specs.At.{cond_at, cond_br_kind_at, extend_at, flags_at, fpu_op1_at}
+use Rattle.a64_read.specs.At.{fpu_op2_at, fpu_op3_at, fpu_op_ri_at, fpu_op_ri_mod_at}
+use Rattle.a64_read.specs.At.{fpu_round_mode_at, fpu_to_int_op_at, i32_at, i64_at, imm12_at}
+use Rattle.a64_read.specs.At.{imm_shift_at, int_to_fpu_op_at, label_at, mode_at, move_wide_op_at}
+use Rattle.a64_read.specs.At.{nzcv_at, preg_at, reg_at, scalar_size_at, shift_at, size_at}
+use Rattle.a64_read.specs.At.{target_at, test_bit_kind_at, truth_at, type_at, u32_at, u64_at}
+use Rattle.a64_read.specs.At.{u8_at, uimm5_at, uimm6_at, vector_size_at, wide_at}
+use Rattle.a64_read.specs.VecAt.{vec_alu_mod_op_at, vec_alu_op_at, vec_extend_op_at}
+use Rattle.a64_read.specs.VecAt.{vec_lanes_op_at, vec_misc2_at, vec_pair_op_at, vec_rr_long_op_at}
+use Rattle.a64_read.specs.VecAt.{vec_rr_narrow_op_at, vec_rr_pair_long_op_at}
+use Rattle.a64_read.specs.VecAt.{vec_rrr_long_mod_op_at, vec_rrr_long_op_at}
+use Rattle.a64_read.specs.VecAt.{vec_shift_imm_mod_op_at, vec_shift_imm_op_at}
 
 abbrev pub immediate_of : ImmediateName → List Value → Inst
 immediate_of immediate.Adr values = insts.Adr (reg_at values 0) (i32_at values 1)

@@ -1,7 +1,10 @@
 -- The names of each class of the table. There are 8 numbers of classes.
 use Rattle.std.specs.Prelude.{ℕ, List, map, ◌==◌, ◌%◌, if◌then◌else◌}
 use Rattle.a64_text.specs.declared.name.Name.{Name}
-use Rattle.a64_text.specs.declared.name_table.TheConstants.{INTEGER_NAMES, FLOAT_NAMES, VECTOR_NAMES, VECTOR_MOVE_NAMES, CONTROL_NAMES, SEQUENCE_NAMES, ACCESS_NAMES, OTHER_NAMES}
+use Rattle.a64_text.specs.declared.name_table.TheConstants.{INTEGER_NAMES, FLOAT_NAMES}
+use Rattle.a64_text.specs.declared.name_table.TheConstants.{VECTOR_NAMES, VECTOR_MOVE_NAMES}
+use Rattle.a64_text.specs.declared.name_table.TheConstants.{CONTROL_NAMES, SEQUENCE_NAMES}
+use Rattle.a64_text.specs.declared.name_table.TheConstants.{ACCESS_NAMES, OTHER_NAMES}
 
 abbrev pub name_rows : ℕ → List Name
 name_rows class =

@@ -4,13 +4,20 @@ use Rattle.a64_text.specs.declared.name.ImmediateName.TheVariants as immediate
 use Rattle.a64_text.specs.declared.name.FloatName.TheVariants as float
 use Rattle.a64_text.specs.declared.name.VectorMoveName.TheVariants as vector_move
 use Rattle.a64_text.specs.declared.name.Name.{Name}
-use Rattle.a64_text.specs.declared.name.Name.TheVariants.{Immediate, Register, Float, Vector, VectorMove, System, Control, Sequence, Call, Pair, Memory, Access, Bind, Const, Frame, Flag}
-use Rattle.a64_text.specs.Headings.{access_heading, call_heading, control_heading, float_heading, immediate_heading, memory_heading, pair_heading, register_heading, sequence_heading, system_heading, vector_heading, vector_move_heading}
+use Rattle.a64_text.specs.declared.name.Name.TheVariants.{Immediate, Register, Float, Vector}
+use Rattle.a64_text.specs.declared.name.Name.TheVariants.{VectorMove, System, Control, Sequence}
+use Rattle.a64_text.specs.declared.name.Name.TheVariants.{Call, Pair, Memory, Access, Bind, Const}
+use Rattle.a64_text.specs.declared.name.Name.TheVariants.{Frame, Flag}
+use Rattle.a64_text.specs.Headings.{access_heading, call_heading, control_heading, float_heading}
+use Rattle.a64_text.specs.Headings.{immediate_heading, memory_heading, pair_heading}
+use Rattle.a64_text.specs.Headings.{register_heading, sequence_heading, system_heading}
+use Rattle.a64_text.specs.Headings.{vector_heading, vector_move_heading}
 use Rattle.a64_read.specs.Heading.{Heading}
 use Rattle.a64_tokens.specs.declared.value.Kind.{Kind}
 use Rattle.a64_tokens.specs.declared.value.Kind.TheVariants as kinds
 
--- the operation with a bitmask immediate, and the moves of floats and to lanes, whose immediates their constructors give
+-- the operation with a bitmask immediate, and the moves of floats and to lanes, whose immediates
+-- their constructors give
 abbrev pub logic_name : Name
 logic_name = Immediate immediate.AluRRImmLogic
 

@@ -13,8 +13,9 @@ use Rattle.a64_tokens.specs.declared.value.Value.{Value}
 use Rattle.a64_tokens.specs.declared.value.Value.TheVariants as values
 use Rattle.a64_text.specs.MovImms.{written_mov}
 
--- what stands in a file for an operand: for a bitmask immediate its value, for that of a float its eight bits, and for that of
--- a move to lanes its bits, their shift, and whether ones are shifted in
+-- what stands in a file for an operand: for a bitmask immediate its value, for that of a float its
+-- eight bits, and for that of a move to lanes its bits, their shift, and whether ones are shifted
+-- in
 abbrev pub operand_value : Operand → Value
 operand_value (fields.AluOp x) = values.AluOp x
 operand_value (fields.AluOp3 x) = values.AluOp3 x

@@ -29,5 +29,6 @@ GivesBad n (Err OutOfMemory) = Unit {0}
 pub record Answers (bytes : List ℕ) (result : Result File FileError) : Type 0 where
   pub ok : IfOk result (λ file. IsFile bytes file)
   pub bad : IfErr result (IfBadLine (IsFirstBad bytes))
-  pub only_ok : (es : List Entry) (state : State) → AreEntries (lines_of bytes) es → Chain start es state → Gives state result
+  pub only_ok : (es : List Entry) (state : State) → AreEntries (lines_of bytes) es
+      → Chain start es state → Gives state result
   pub only_bad : (n : ℕ) → IsFirstBad bytes n → GivesBad n result

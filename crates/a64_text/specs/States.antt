@@ -23,7 +23,12 @@ pub record Contents : Type 0 where
   pub flags : EmitFlags
 
 abbrev pub contents_of : File → Contents
-contents_of file = record { items = file.items.items; constants = file.constants; frame = file.frame; flags = file.info }
+contents_of file = record {
+  items = file.items.items;
+  constants = file.constants;
+  frame = file.frame;
+  flags = file.info;
+}
 
 -- the frame and the settings of a file that names none
 abbrev pub default_frame : FrameLayout
@@ -44,10 +49,15 @@ default_flags = record {
 }
 
 abbrev pub default_contents : Contents
-default_contents = record { items = []; constants = empty; frame = default_frame; flags = default_flags }
+default_contents = record {
+  items = [];
+  constants = empty;
+  frame = default_frame;
+  flags = default_flags;
+}
 
--- what was said so far: what the file says, and the names that were given, of those that a file gives
--- at most once
+-- what was said so far: what the file says, and the names that were given, of those that a file
+-- gives at most once
 pub record State : Type 0 where
   pub file : Contents
   pub given : List OnceName
@@ -68,10 +78,14 @@ once_name (entries.Restore inst) = None
 -- what the file says with the entry too
 abbrev pub said : Entry → Contents → Contents
 said (entries.Item item) file = record file { items = file.items ++ item ∷ [] }
-said (entries.Constant addr bytes) file = record file { constants = inserted file.constants addr.0 bytes }
+said (entries.Constant addr bytes) file = record file {
+  constants = inserted file.constants addr.0 bytes;
+}
 said (entries.Frame field bytes) file = record file { frame = frame_with field bytes file.frame }
 said (entries.Flag flag) file = record file { flags = flags_with flag file.flags }
-said (entries.Restore inst) file = record file { frame = record file.frame { restore = file.frame.restore ++ inst ∷ [] } }
+said (entries.Restore inst) file = record file {
+  frame = record file.frame { restore = file.frame.restore ++ inst ∷ [] };
+}
 
 -- a constant has as many bytes as constants have
 abbrev pub IsSized : Entry → Type 0
@@ -84,7 +98,10 @@ MayStand state entry = IfSome (once_name entry) (λ name. ¬ Contains state.give
 
 -- the state behind an entry
 abbrev pub state_after : State → Entry → State
-state_after state entry = record { file = said entry state.file; given = cons_option (once_name entry) state.given }
+state_after state entry = record {
+  file = said entry state.file;
+  given = cons_option (once_name entry) state.given;
+}
 
 -- the entries may stand there one after another, and lead from the one state to the other
 abbrev pub Chain : State → List Entry → State → Type 0

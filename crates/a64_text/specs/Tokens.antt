@@ -37,12 +37,21 @@ map_fields inst map = []
 
 abbrev pub item_parts : Item → Parts
 item_parts (Bind label) = record { name = names.Bind; fields = values.Label label ∷ [] }
-item_parts (Emit inst map) = record { name = (inst_parts inst).name; fields = (inst_parts inst).fields ++ map_fields inst map }
+item_parts (Emit inst map) = record {
+  name = (inst_parts inst).name;
+  fields = (inst_parts inst).fields ++ map_fields inst map;
+}
 
 abbrev pub parts : Entry → Parts
 parts (entries.Item item) = item_parts item
-parts (entries.Constant addr bytes) = record { name = names.Const; fields = values.U32 addr.0 ∷ values.List (hex_text bytes) ∷ [] }
-parts (entries.Frame field bytes) = record { name = names.Frame; fields = values.FrameField field ∷ values.U32 bytes ∷ [] }
+parts (entries.Constant addr bytes) = record {
+  name = names.Const;
+  fields = values.U32 addr.0 ∷ values.List (hex_text bytes) ∷ [];
+}
+parts (entries.Frame field bytes) = record {
+  name = names.Frame;
+  fields = values.FrameField field ∷ values.U32 bytes ∷ [];
+}
 parts (entries.Flag flag) = record { name = names.Flag; fields = values.EmitFlag flag ∷ [] }
 parts (entries.Restore inst) = item_parts (Emit inst None)
 
@@ -103,8 +112,8 @@ tokens_of entry = name_text (name_of entry) ∷ map value_text (fields_of entry)
 abbrev pub plain_line : Entry → List ℕ
 plain_line entry = join_with_byte 32 (tokens_of entry)
 
--- an entry that has a line. An instruction that is restored has the line of the item that is the instruction
--- without a map, behind a word
+-- an entry that has a line. An instruction that is restored has the line of the item that is the
+-- instruction without a map, behind a word
 abbrev pub IsEntry : Entry → Type 0
 IsEntry (entries.Restore inst) = IsPlain (entries.Item (Emit inst None))
 IsEntry entry = IsPlain entry

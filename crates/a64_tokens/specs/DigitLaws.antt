@@ -13,7 +13,8 @@ use Rattle.a64_tokens.specs.Reads.{IsU64}
 abbrev pub IsNoDigit : ℕ → Type 0
 IsNoDigit byte = (byte < 48) ⊎ (57 < byte)
 
-digits_apart : (byte : ℕ) (digits : List ℕ) → IsNoDigit byte → AllDigits 10 digits → HasNo byte digits
+digits_apart : (byte : ℕ) (digits : List ℕ) → IsNoDigit byte → AllDigits 10 digits
+    → HasNo byte digits
 digits_apart byte [] other h = refl
 digits_apart byte (d ∷ digits) (inl before) h =
     let value = digit_from_value d h.0 in
@@ -24,4 +25,5 @@ digits_apart byte (d ∷ digits) (inr behind) h =
 
 -- such a byte stands in no decimal
 pub decimal_apart : (byte n : ℕ) → IsNoDigit byte → IsU64 n → HasNo byte (decimal n)
-decimal_apart byte n other fits = digits_apart byte (decimal n) other (decimal_is_IsNumeral n (omega arith)).0.1
+decimal_apart byte n other fits =
+    digits_apart byte (decimal n) other (decimal_is_IsNumeral n (omega arith)).0.1

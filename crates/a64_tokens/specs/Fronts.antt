@@ -1,5 +1,6 @@
 -- Where the first token of a text ends.
-use Rattle.std.specs.Prelude.{ℕ, ◌≡◌, ◌==◌, ◌<◌, ◌≤◌, ◌⊎◌, if◌then◌else◌, List, length, slice_index, take}
+use Rattle.std.specs.Prelude.{ℕ, ◌≡◌, ◌==◌, ◌<◌, ◌≤◌, ◌⊎◌, if◌then◌else◌, List, length, slice_index}
+use Rattle.std.specs.Prelude.{take}
 use Rattle.std.specs.Int.{w64, trailing_zeros}
 use Rattle.a64_tokens.specs.Fields.{HasNo}
 

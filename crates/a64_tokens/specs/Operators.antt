@@ -156,7 +156,8 @@ frame_field_text frame_fields.OutgoingArgsSize = codes "outgoing_args_size"
 
 abbrev pub emit_flag_text : EmitFlag → List ℕ
 emit_flag_text emit_flags.EnableProbestack = codes "enable_probestack"
-emit_flag_text emit_flags.EnableTableAccessSpectreMitigation = codes "enable_table_access_spectre_mitigation"
+emit_flag_text emit_flags.EnableTableAccessSpectreMitigation =
+    codes "enable_table_access_spectre_mitigation"
 emit_flag_text emit_flags.UseCsdb = codes "use_csdb"
 
 abbrev pub mem_label_name_text : MemLabelName → List ℕ

@@ -1,9 +1,11 @@
 -- What a reader answers.
-use Rattle.std.specs.Prelude.{◌≡◌, ℕ, suc, ◌<◌, ◌^◌, ℤ, pos, negsuc, FitsSigned, Option, Some, None, IfSome}
+use Rattle.std.specs.Prelude.{◌≡◌, ℕ, suc, ◌<◌, ◌^◌, ℤ, pos, negsuc, FitsSigned, Option, Some, None}
+use Rattle.std.specs.Prelude.{IfSome}
 use Rattle.std.specs.Int.{w32, w64}
 
 -- a reader answers Some x exactly where the text is that of x; `fits` says which x have a text
-pub record Reads {X T : Type 0} (fits : X → Type 0) (text : X → T) (token : T) (result : Option X) : Type 0 where
+pub record Reads {X T : Type 0} (fits : X → Type 0) (text : X
+    → T) (token : T) (result : Option X) : Type 0 where
   pub some : IfSome result (λ x. fits x × (token ≡ text x))
   pub only : (x : X) → fits x → token ≡ text x → result ≡ Some x
 

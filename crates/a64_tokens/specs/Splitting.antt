@@ -52,11 +52,13 @@ of_text part None = []
 of_text part (Some text) = part text.now
 
 -- the lines behind those of which some text is left, or else these
-abbrev pub behind_text : (List ℕ → List (List ℕ)) → Option (Bor (List ℕ)) → Option (Bor (List ℕ)) → List (List ℕ)
+abbrev pub behind_text : (List ℕ → List (List ℕ)) → Option (Bor (List ℕ)) → Option (Bor (List ℕ))
+    → List (List ℕ)
 behind_text behind None lines = of_text lines_of lines
 behind_text behind (Some text) lines = behind text.now
 
 -- a token was cut from the text; what is left has the other tokens, and the lines behind them
-pub record IsCut (tokens behind : List ℕ → List (List ℕ)) (text token : List ℕ) (more lines : Option (Bor (List ℕ))) : Type 0 where
+pub record IsCut (tokens behind : List ℕ
+    → List (List ℕ)) (text token : List ℕ) (more lines : Option (Bor (List ℕ))) : Type 0 where
   pub token_first : tokens text ≡ token ∷ of_text tokens more
   pub same_lines : behind text ≡ behind_text behind more lines

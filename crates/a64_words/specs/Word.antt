@@ -1,5 +1,6 @@
 -- Words of 32 bits, the fields in them, and signed numbers in those.
-use Rattle.std.specs.Prelude.{ℕ, ℤ, pos, negsuc, suc, ◌+◌, ◌-◌, ◌/◌, ◌%◌, ◌^◌, nat_lt, if◌then◌else◌, bit_and, ◌≡◌, List, [], ◌∷◌, take, drop}
+use Rattle.std.specs.Prelude.{ℕ, ℤ, pos, negsuc, suc, ◌+◌, ◌-◌, ◌/◌, ◌%◌, ◌^◌, nat_lt}
+use Rattle.std.specs.Prelude.{if◌then◌else◌, bit_and, ◌≡◌, List, [], ◌∷◌, take, drop}
 use Rattle.std.specs.Int.{w32, from_le_bytes}
 
 -- the number that n says as two's complement of so many bits
