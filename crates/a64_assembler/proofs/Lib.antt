@@ -1,3 +1,4 @@
 pub mod Fresh
 pub mod Marks
 pub mod MadeRooms
+pub mod Emitted

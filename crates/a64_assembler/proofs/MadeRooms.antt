@@ -24,8 +24,8 @@ module _ (frame : FrameLayout) (flags : EmitFlags) (inst : Inst) where
   labels_stay b b' h = elim h [
     | inl same ↦ (cc)
     | inr islands ↦ elim islands [
-      | inl one ↦ one.2.labels
-      | inr two ↦ two.2.2.labels ∙ two.1.2.labels
+      | inl one ↦ one.1.labels
+      | inr two ↦ two.2.1.labels ∙ two.1.1.labels
     ]
   ]
 
@@ -34,8 +34,8 @@ module _ (frame : FrameLayout) (flags : EmitFlags) (inst : Inst) where
   constants_stay b b' h = elim h [
     | inl same ↦ (cc)
     | inr islands ↦ elim islands [
-      | inl one ↦ one.2.later.constants
-      | inr two ↦ two.2.2.later.constants ∙ two.1.2.later.constants
+      | inl one ↦ one.1.later.constants
+      | inr two ↦ two.2.1.later.constants ∙ two.1.1.later.constants
     ]
   ]
 

@@ -12,6 +12,7 @@ use Rattle.std.specs.Prelude.{
   ◌++◌,
   length,
   false,
+  Option,
   None,
   OnOk,
   OnErr,
@@ -36,6 +37,8 @@ use Rattle.a64_inst.specs.declared.inst.Inst.{Inst}
 use Rattle.a64_inst.specs.declared.inst.Inst.TheVariants.{CondBr}
 use Rattle.a64_inst.specs.declared.item.Item.{Item}
 use Rattle.a64_inst.specs.declared.item.Item.TheVariants.{Bind, Emit}
+use Rattle.a64_emit.specs.declared.error.EmitError.{EmitError}
+use Rattle.a64_emit.specs.ShownFaults.{first_shown_fault}
 use Rattle.a64_assembler.specs.declared.error.AddError.{AddError}
 use Rattle.a64_assembler.specs.declared.error.AddError.TheVariants.{TooMany, BadLength, OutOfMemory}
 
@@ -85,6 +88,10 @@ nothing = record {
 -- the same with some items more
 abbrev pub with_items : Assembly → List Item → Assembly
 with_items a more = record a { items = a.items ++ more }
+
+-- why the items are not listed, where one of them cannot be shown
+abbrev pub shown_fault_in : Assembly → Option EmitError
+shown_fault_in a = first_shown_fault a.frame a.flags a.constants a.items
 
 -- instructions as items without maps of the stack
 abbrev pub emitted : Inst → Item

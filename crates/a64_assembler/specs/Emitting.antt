@@ -13,6 +13,9 @@ use Rattle.std.specs.Prelude.{
   false,
   All,
   List,
+  [],
+  ◌∷◌,
+  ◌++◌,
   None,
   Some,
   Result,
@@ -137,19 +140,42 @@ IsEmitCause inst e e' TooLarge =
 IsEmitCause inst e e' OutOfMemory = IsFaultless inst e
 IsEmitCause inst e e' _ = ⊥
 
--- an instruction's words stand behind the room that was made for it
-pub record IsEmitted (inst : Inst) (e : Emission) (b : Buffer LabelUse) : Type 0 where
+-- an instruction's words stand behind the room that was made for it; a map of the stack that was
+-- kept for it is gone
+pub record IsEmitted (inst : Inst) (e e' : Emission) : Type 0 where
   pub between : Buffer LabelUse
   pub made : MakesRoom e.state.frame e.flags inst e.code between
   pub room : HasRoomFor e.state.frame e.flags between inst
-  pub emits : Emits e.flags e.state inst between b
+  pub emits : Emits e.flags e.state inst between e'.code
+  pub rest : e' ≡ record e { code = e'.code; state = record e.state { map = None } }
 
 -- what emitting an instruction leaves
 pub record EmitsOne {T : Type 0} (inst : Inst) (result : Result T EmitterError) (e e' : Emission) :
     Type 0 where
-  pub ok : OnOk result (IsEmitted inst e e'.code)
-  pub rest : OnOk result (e' ≡ record e { code = e'.code; state = record e.state { map = None } })
+  pub ok : OnOk result (IsEmitted inst e e')
   pub cause : IfErr result (IsEmitCause inst e e')
+
+-- instructions were emitted one after another
+abbrev pub AreEmitted : List Inst → Emission → Emission → Type 0
+AreEmitted [] e e' = e' ≡ e
+AreEmitted (inst ∷ insts) e e' =
+    (between : Emission) × IsEmitted inst e between × AreEmitted insts between e'
+
+-- why not all of some instructions were emitted: some first ones were, and the next one was not
+pub record IsStopped (insts : List Inst) (e e' : Emission) (error : EmitterError) : Type 0 where
+  pub first' : List Inst
+  pub inst : Inst
+  pub rest : List Inst
+  pub between : Emission
+  pub split : insts ≡ first' ++ inst ∷ rest
+  pub emitted : AreEmitted first' e between
+  pub cause : IsEmitCause inst between e' error
+
+-- what emitting instructions one after another leaves
+pub record EmitsAll {T : Type 0} (insts : List Inst) (result : Result T EmitterError)
+    (e e' : Emission) : Type 0 where
+  pub ok : OnOk result (AreEmitted insts e e')
+  pub cause : IfErr result (IsStopped insts e e')
 
 -- why a label was not bound
 abbrev pub IsBindCause : MachLabel → Emission → EmitterError → Type 0

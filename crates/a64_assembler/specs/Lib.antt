@@ -1,3 +1,4 @@
 pub mod Assembly
 pub mod Emitting
 pub mod Forms
+pub mod Numbers

@@ -1,7 +1,8 @@
 //! The assembler.
 
-ghost use Rattle.std.specs.Prelude.{◌≡◌, ◌+◌, ◌^◌, ◌<◌, ◌≤◌, true, map, length, [], ◌∷◌, ◌++◌, None, Err, IfOk, IfErr, OnOk, OnErr};
+ghost use Rattle.std.specs.Prelude.{◌≡◌, ◌⊎◌, ◌+◌, ◌^◌, ◌<◌, ◌≤◌, true, map, length, [], ◌∷◌, ◌++◌, None, Some, Err, IfOk, IfErr, OnOk, OnErr};
 ghost use Rattle.std.specs.FinMap.{insert};
+ghost use Rattle.std.specs.String.{string_bytes};
 ghost use Rattle.std.specs.Vec.{vec_len, vec_capacity};
 ghost use Rattle.a64_base.specs.declared.cond.CondBrKind.TheVariants as kinds;
 ghost use Rattle.a64_base.specs.declared.target.BranchTarget.TheVariants.{Label};
@@ -13,25 +14,30 @@ ghost use Rattle.a64_inst.specs.Constants.{step_into};
 ghost use Rattle.a64_inst.specs.declared.inst.Inst.TheVariants as insts;
 ghost use Rattle.a64_inst.specs.declared.item.Item.TheVariants.{Bind};
 ghost use Rattle.a64_assemble.specs.Assembled.{IsAssembled, IsRefusal};
+ghost use Rattle.a64_emit.specs.declared.error.EmitError.TheVariants.{OutOfMemory};
+ghost use Rattle.a64_print.specs.InstTexts.{listing_of};
 ghost use Rattle.a64_assembler.specs.declared.error.AddError.TheVariants.{TooMany, BadLength};
 ghost use Rattle.a64_buffer.specs.Constants.{IsConstant};
 ghost use Rattle.a64_assembler.specs.Forms.{pushed_pair, popped_pair, saved_frame, frame_set, restored_frame};
 ghost use Rattle.a64_base.specs.Registers.{integer_register};
 ghost use Rattle.a64_ops.specs.declared.operator.ALUOp.TheVariants as ops;
-ghost use Rattle.a64_assembler.specs.Assembly.{nothing, with_items, emitted, label_at, Adds, AddsBranch, AddsCall, IsCause, IsFull};
+ghost use Rattle.a64_assembler.specs.Assembly.{nothing, with_items, emitted, label_at, shown_fault_in, Adds, AddsBranch, AddsCall, IsCause, IsFull};
+ghost use Rattle.a64_assembler.specs.Numbers.{insts_of, AddsWithNumber};
 
 use crate::constants::VCodeConstants;
 use crate::error::AddError;
-use crate::insts;
+use crate::numbers::WithNumber;
+use crate::{insts, numbers};
 use a64_assemble::assemble;
 use a64_base::{
     Cond, CondBrKind, ExternalName, MachLabel, OperandSize, Reg, VCodeConstant, Writable,
 };
 use a64_buffer::ForceVeneers;
-use a64_emit::{Code, EmitError};
+use a64_emit::{Code, EmitError, first_shown_fault};
 use a64_imms::Imm12;
 use a64_inst::{AMode, AccessOp, EmitFlags, EmitInfo, FrameLayout, Inst, Item};
 use a64_list::ListVec;
+use a64_print::listing;
 use smallvec::SmallVec;
 use std::alloc::Global;
 use std::marker::Model;
@@ -250,26 +256,97 @@ impl Assembler {
         self.emit(insts::access(op, reg, mem))
     }
 
+    /// Adds instructions, or none of them.
+    ///
+    /// # Errors
+    ///
+    /// [`AddError::TooMany`], where not all have room, or want of memory. Then nothing has changed.
+    pub fn emit_all(&mut self, insts: SmallVec<Inst, 4>) -> Result<(), AddError>
+        ensures { Adds (map emitted insts.items) result self.old self.new }
+    {
+        if self.items.len().saturating_add(insts.len()) > MOST as usize {
+            return Err(AddError::TooMany);
+        }
+        self.items.reserve(insts.len())?;
+        push_all(&mut self.items, insts);
+        Ok(())
+    }
+
     /// Adds the moves that put a value into a register from x0 to x30: the shortest ones, of which there are at most
     /// four.
     ///
     /// # Errors
     ///
-    /// [`AddError::TooMany`], where not four more items have room, or want of memory. Then nothing has changed.
+    /// As of [`Assembler::emit_all`].
     pub fn load_constant(&mut self, rd: Writable<Reg>, value: u64) -> Result<(), AddError>
         requires { is_register Refused rd ≡ true }
-        ensures ok { OnOk result (self.new
-            ≡ with_items self.old (map emitted (map (step_into rd) (plan_of value)))) }
-        ensures err { OnErr result (self.new ≡ self.old) }
-        ensures cause { IfErr result (IsCause (length self.old.items) 4) }
+        ensures { Adds (map emitted (map (step_into rd) (plan_of value))) result
+            self.old self.new }
     {
-        if self.items.len() > MOST as usize - 4 {
-            return Err(AddError::TooMany);
-        }
-        self.items.reserve(4)?;
         let insts = Inst::load_constant(self.alloc, rd, value)?;
-        push_all(&mut self.items, insts);
-        Ok(())
+        self.emit_all(insts)
+    }
+
+    /// Adds an operation with its moves before it, or none of them.
+    ///
+    /// # Errors
+    ///
+    /// As of [`Assembler::emit_all`].
+    fn emit_with_number(&mut self, insts: WithNumber) -> Result<(), AddError>
+        ensures { Adds (map emitted (insts_of insts)) result self.old self.new }
+    {
+        let WithNumber {
+            mut moves,
+            operation,
+        } = insts;
+        moves.push(operation)?;
+        self.emit_all(moves)
+    }
+
+    /// Adds an addition of a number of any size to a register, as [`numbers::add_number`] does it.
+    ///
+    /// # Errors
+    ///
+    /// As of [`Assembler::emit_all`].
+    pub fn add_number(
+        &mut self,
+        size: OperandSize,
+        rd: Writable<Reg>,
+        rn: Reg,
+        number: u64,
+    ) -> Result<(), AddError>
+        ensures { AddsWithNumber ops.Add ops.Sub size rd rn number result self.old self.new }
+    {
+        self.emit_with_number(numbers::add_number(self.alloc, size, rd, rn, number))
+    }
+
+    /// Adds a subtraction of a number of any size from a register, as [`numbers::sub_number`] does it.
+    ///
+    /// # Errors
+    ///
+    /// As of [`Assembler::emit_all`].
+    pub fn sub_number(
+        &mut self,
+        size: OperandSize,
+        rd: Writable<Reg>,
+        rn: Reg,
+        number: u64,
+    ) -> Result<(), AddError>
+        ensures { AddsWithNumber ops.Sub ops.Add size rd rn number result self.old self.new }
+    {
+        self.emit_with_number(numbers::sub_number(self.alloc, size, rd, rn, number))
+    }
+
+    /// Adds a comparison of a register with a number of any size, as [`numbers::cmp_number`] does it.
+    ///
+    /// # Errors
+    ///
+    /// As of [`Assembler::emit_all`].
+    pub fn cmp_number(&mut self, size: OperandSize, rn: Reg, number: u64) -> Result<(), AddError>
+        ensures { AddsWithNumber ops.SubS ops.AddS size (integer_register 31) rn number result
+            self.old self.new }
+    {
+        self.emit_with_number(numbers::cmp_number(self.alloc, size, rn, number))
     }
 
     /// Adds a constant of 4, 8 or 16 bytes that items may load, and gives its number.
@@ -517,6 +594,25 @@ impl Assembler {
         ensures { result ≡ length self.now.items }
     {
         self.items.len()
+    }
+
+    /// The listing of the items: a line for each, ended by a line feed (a64_print).
+    ///
+    /// # Errors
+    ///
+    /// What is wrong with the first item that cannot be shown, or want of memory.
+    pub fn listing(&self) -> Result<String, EmitError>
+        ensures text { IfOk result (λ text.
+            string_bytes text ≡ listing_of self.now.frame self.now.items) }
+        ensures shown { OnOk result (shown_fault_in self.now ≡ None) }
+        ensures err { IfErr result (λ error. (shown_fault_in self.now ≡ Some error)
+            ⊎ ((error ≡ OutOfMemory) × (shown_fault_in self.now ≡ None))) }
+    {
+        let constants = self.constants.constants();
+        match first_shown_fault(&self.items, constants, &self.info, &self.frame) {
+            Some(error) => Err(error),
+            None => Ok(listing(self.alloc, &self.items, &self.frame)?),
+        }
     }
 
     /// The code of the items: what `assemble` gives for them (a64_assemble).

@@ -1,6 +1,6 @@
 //! Emission of one instruction at a time.
 
-ghost use Rattle.std.specs.Prelude.{◌≡◌, ◌+◌, ◌^◌, ◌<◌, ◌≤◌, All, MatchBool, None, OnOk, OnErr, IfOk, IfErr};
+ghost use Rattle.std.specs.Prelude.{◌≡◌, ◌+◌, ◌^◌, ◌<◌, ◌≤◌, All, MatchBool, map, true, None, OnOk, OnErr, IfOk, IfErr};
 ghost use Rattle.a64_buffer.specs.Buffer.{end_of, IsBound, IsDirect};
 ghost use Rattle.a64_buffer.specs.Classes.{owed};
 ghost use Rattle.a64_buffer.specs.Finished.{IsFinished};
@@ -9,12 +9,17 @@ ghost use Rattle.a64_emit.specs.Rooms.{most_added, HasRoomFor};
 ghost use Rattle.a64_inst.specs.Faults.{inst_fault};
 ghost use Rattle.a64_label_use.specs.LabelUses.{label_kinds};
 ghost use Rattle.a64_operand.specs.declared.virtuals.VirtualRegisters.TheVariants.{Refused};
+ghost use Rattle.a64_operand.specs.Operands.{is_register};
+ghost use Rattle.a64_plan.specs.Plans.{plan_of};
+ghost use Rattle.a64_inst.specs.Constants.{step_into};
 ghost use Rattle.a64_assembler.specs.Assembly.{label_at};
-ghost use Rattle.a64_assembler.specs.Emitting.{begun, EmitsOne, IsBindCause, IsFinishCause, IsIslandCause, IsLabelCause, IsRoomCause, MakesRoom, WritesIsland};
+ghost use Rattle.a64_assembler.specs.Numbers.{insts_of};
+ghost use Rattle.a64_assembler.specs.Emitting.{begun, EmitsOne, EmitsAll, IsBindCause, IsFinishCause, IsIslandCause, IsLabelCause, IsRoomCause, MakesRoom, WritesIsland};
 
 use crate::constants::VCodeConstants;
 use crate::error::EmitterError;
-use a64_base::{MachLabel, UserStackMap};
+use crate::numbers::WithNumber;
+use a64_base::{MachLabel, Reg, UserStackMap, Writable};
 use a64_buffer::{Constants, Finished, ForceVeneers, MachBuffer};
 use a64_emit::{LabelUse, MachInstEmit, constant_size, room_for};
 use a64_inst::{EmitFlags, EmitInfo, EmitState, FrameLayout, Inst};
@@ -253,6 +258,46 @@ impl<'c> Emitter<'c> {
         make_room(&mut self.buffer, inst, &self.info, &self.state)?;
         inst.emit(&mut self.buffer, &self.info, &mut self.state)?;
         Ok(())
+    }
+
+    /// Puts instructions at the end, one after another, as [`Emitter::emit`] does.
+    ///
+    /// # Errors
+    ///
+    /// As of [`Emitter::emit`], of the first that is refused. Those before it stand.
+    pub fn emit_all(&mut self, insts: &[Inst]) -> Result<(), EmitterError>
+        ensures { EmitsAll insts.now result self.old self.new }
+    {
+        for inst in insts {
+            self.emit(inst)?;
+        }
+        Ok(())
+    }
+
+    /// Puts the moves at the end that give a value to a register from x0 to x30: the shortest ones, of which there are
+    /// at most four.
+    ///
+    /// # Errors
+    ///
+    /// As of [`Emitter::emit_all`].
+    pub fn load_constant(&mut self, rd: Writable<Reg>, value: u64) -> Result<(), EmitterError>
+        requires { is_register Refused rd ≡ true }
+        ensures { EmitsAll (map (step_into rd) (plan_of value)) result self.old self.new }
+    {
+        let insts = Inst::load_constant(*self.bound.allocator(), rd, value)?;
+        self.emit_all(insts.as_slice())
+    }
+
+    /// Puts an operation with its moves at the end.
+    ///
+    /// # Errors
+    ///
+    /// As of [`Emitter::emit_all`].
+    pub fn emit_with_number(&mut self, insts: &WithNumber) -> Result<(), EmitterError>
+        ensures { EmitsAll (insts_of insts.now) result self.old self.new }
+    {
+        self.emit_all(insts.moves.as_slice())?;
+        self.emit(&insts.operation)
     }
 
     /// Where the next word will stand, in bytes from the start of the code.

@@ -31,7 +31,7 @@ pub fn mov(size: OperandSize, rd: Writable<Reg>, rm: Reg) -> Inst
 }
 
 /// An operation on two registers.
-fn alu_rrr(alu_op: ALUOp, size: OperandSize, rd: Writable<Reg>, rn: Reg, rm: Reg) -> Inst
+pub(crate) fn alu_rrr(alu_op: ALUOp, size: OperandSize, rd: Writable<Reg>, rn: Reg, rm: Reg) -> Inst
     ensures { result ≡ variants.AluRRR alu_op size rd rn rm }
 {
     Inst::AluRRR {
@@ -44,7 +44,13 @@ fn alu_rrr(alu_op: ALUOp, size: OperandSize, rd: Writable<Reg>, rn: Reg, rm: Reg
 }
 
 /// An operation on a register and an immediate.
-fn alu_rr_imm12(alu_op: ALUOp, size: OperandSize, rd: Writable<Reg>, rn: Reg, imm12: Imm12) -> Inst
+pub(crate) fn alu_rr_imm12(
+    alu_op: ALUOp,
+    size: OperandSize,
+    rd: Writable<Reg>,
+    rn: Reg,
+    imm12: Imm12,
+) -> Inst
     ensures { result ≡ variants.AluRRImm12 alu_op size rd rn imm12 }
 {
     Inst::AluRRImm12 {

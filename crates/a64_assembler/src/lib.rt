@@ -7,6 +7,7 @@ mod constants;
 mod emitter;
 mod error;
 pub mod insts;
+pub mod numbers;
 
 pub use a64_base::APIKey;
 pub use a64_base::BranchTarget;

@@ -1,0 +1,171 @@
+//! Operations on a register and a number of any size.
+
+ghost use Rattle.std.specs.Prelude.{ℕ, ◌≡◌, map};
+ghost use Rattle.a64_base.specs.Registers.{integer_register};
+ghost use Rattle.a64_imms.specs.Imm12s.{HasImm12};
+ghost use Rattle.a64_inst.specs.Constants.{step_into};
+ghost use Rattle.a64_plan.specs.Plans.{plan_of};
+ghost use Rattle.a64_ops.specs.declared.operator.ALUOp.TheVariants as ops;
+ghost use Rattle.a64_assembler.specs.Numbers as numbers;
+ghost use Rattle.a64_assembler.specs.Numbers.{IsOnImmediate, IsOnScratch, IsWithNumber};
+
+use crate::insts::{alu_rr_imm12, alu_rrr};
+use a64_base::{
+    OperandSize, Reg, Writable, spilltmp_reg, writable_spilltmp_reg, writable_zero_reg,
+};
+use a64_imms::Imm12;
+use a64_inst::Inst;
+use a64_ops::ALUOp;
+use smallvec::SmallVec;
+use std::alloc::Global;
+
+/// An operation with the moves that stand before it.
+#[derive(Drop)]
+pub struct WithNumber {
+    /// The moves that put a number into x16, the first scratch register: none where an immediate has the number.
+    pub moves: SmallVec<Inst, 4>,
+    /// The operation.
+    pub operation: Inst,
+}
+
+/// An operation on two numbers, and the one that does the same with what the second lacks to 0.
+#[derive(Clone, Copy)]
+struct Sum {
+    op: ALUOp,
+    inverse: ALUOp,
+}
+
+/// The bits of a number that count at a size.
+fn at_size(size: OperandSize, number: u64) -> u64
+    ensures { result ≡ numbers.at_size size number }
+{
+    match size {
+        OperandSize::Size32 => number % (1 << 32),
+        OperandSize::Size64 => number,
+    }
+}
+
+/// What a number lacks to 0 at a size.
+fn lacking(size: OperandSize, number: u64) -> u64
+    ensures { result ≡ numbers.lacking size number }
+{
+    match at_size(size, number) {
+        0 => 0,
+        number => match size {
+            OperandSize::Size32 => (1 << 32) - number,
+            OperandSize::Size64 => u64::MAX - number + 1,
+        },
+    }
+}
+
+/// An operation on an immediate.
+fn on_immediate(
+    alloc: Global,
+    alu_op: ALUOp,
+    size: OperandSize,
+    rd: Writable<Reg>,
+    rn: Reg,
+    imm12: Imm12,
+) -> WithNumber
+    ensures { (value : ℕ) → HasImm12 value imm12
+        → IsOnImmediate size rd rn alu_op value result }
+{
+    WithNumber {
+        moves: SmallVec::new(alloc),
+        operation: alu_rr_imm12(alu_op, size, rd, rn, imm12),
+    }
+}
+
+/// The moves that put a number into x16. They have room in the answer itself, so that no memory is asked for.
+fn moves_of(alloc: Global, number: u64) -> SmallVec<Inst, 4>
+    ensures { result.items ≡ map (step_into (integer_register 16)) (plan_of number) }
+{
+    match Inst::load_constant(alloc, writable_spilltmp_reg(), number) {
+        Ok(moves) => moves,
+        Err(_) => unreachable!(),
+    }
+}
+
+/// An operation on x16, to which moves give a number.
+fn on_scratch(
+    alloc: Global,
+    op: ALUOp,
+    size: OperandSize,
+    rd: Writable<Reg>,
+    rn: Reg,
+    number: u64,
+) -> WithNumber
+    ensures { IsOnScratch size rd rn op number result }
+{
+    WithNumber {
+        moves: moves_of(alloc, at_size(size, number)),
+        operation: alu_rrr(op, size, rd, rn, spilltmp_reg()),
+    }
+}
+
+/// An operation on a register and a number.
+fn with_number(
+    alloc: Global,
+    sum: Sum,
+    size: OperandSize,
+    rd: Writable<Reg>,
+    rn: Reg,
+    number: u64,
+) -> WithNumber
+    ensures { IsWithNumber sum.op sum.inverse size rd rn number result }
+{
+    if let Some(imm12) = Imm12::maybe_from_u64(at_size(size, number)) {
+        return on_immediate(alloc, sum.op, size, rd, rn, imm12);
+    }
+    if let Some(imm12) = Imm12::maybe_from_u64(lacking(size, number)) {
+        return on_immediate(alloc, sum.inverse, size, rd, rn, imm12);
+    }
+    on_scratch(alloc, sum.op, size, rd, rn, number)
+}
+
+/// `add` of a register and a number, of which the low 32 bits count at a size of 32: of the stack pointer too, where an
+/// immediate has the number or what it lacks to 0. A number that none has goes by x16.
+pub fn add_number(
+    alloc: Global,
+    size: OperandSize,
+    rd: Writable<Reg>,
+    rn: Reg,
+    number: u64,
+) -> WithNumber
+    ensures { IsWithNumber ops.Add ops.Sub size rd rn number result }
+{
+    let sum = Sum {
+        op: ALUOp::Add,
+        inverse: ALUOp::Sub,
+    };
+    with_number(alloc, sum, size, rd, rn, number)
+}
+
+/// `sub` of a number from a register, as [`add_number`].
+pub fn sub_number(
+    alloc: Global,
+    size: OperandSize,
+    rd: Writable<Reg>,
+    rn: Reg,
+    number: u64,
+) -> WithNumber
+    ensures { IsWithNumber ops.Sub ops.Add size rd rn number result }
+{
+    let sum = Sum {
+        op: ALUOp::Sub,
+        inverse: ALUOp::Add,
+    };
+    with_number(alloc, sum, size, rd, rn, number)
+}
+
+/// `cmp` of a register and a number: the flags of their difference, as [`add_number`]. They are the flags of the sum with
+/// what the number lacks to 0 too, since 0 has an immediate itself.
+pub fn cmp_number(alloc: Global, size: OperandSize, rn: Reg, number: u64) -> WithNumber
+    ensures { IsWithNumber ops.SubS ops.AddS size (integer_register 31) rn number result }
+{
+    let sum = Sum {
+        op: ALUOp::SubS,
+        inverse: ALUOp::AddS,
+    };
+    with_number(alloc, sum, size, writable_zero_reg(), rn, number)
+}
