@@ -37,14 +37,15 @@ class Call:
     owner: str
     name: str
     of_trait: str
+    shape: str
     said: str
     uses: dict[str, str]
     clauses: list[Clause] = field(default_factory=list)
 
     @property
     def title(self) -> str:
-        """How a client names it."""
-        return f"{self.owner}::{self.name}" if self.owner else self.name
+        """How a client names it, with what it takes and answers."""
+        return f"{self.owner}::{self.shape}" if self.owner else self.shape
 
     def named(self, promises: bool) -> list[Clause]:
         """Its promises, or its conditions."""
@@ -86,11 +87,25 @@ def end_of(lines: list[str], at: int) -> int:
 
 def head_of(lines: list[str], at: int, indent: str) -> list[str]:
     """The lines of a call from its name on, up to its body or to the end of its clauses."""
+    depth = 0
     for number in range(at, len(lines)):
-        line = lines[number]
-        if line == indent + "{" or line.rstrip().endswith(";") or re.search(r"^ *(pub |fn |const ).*\{$|^ *\) .*\{$", line):
+        line = lines[number].rstrip()
+        begins = line == indent + "{" or bool(re.search(r"^ *(pub |fn |const ).*\{$|^ *\) .*\{$", line))
+        depth += line.count("{") - line.count("}")
+        if begins or (line.endswith(";") and depth == 0):
             return lines[at : number + 1]
     return lines[at:]
+
+
+def shape_of(head: list[str]) -> str:
+    """The name of a call, what it takes and what it answers, of its lines from the name on."""
+    front = []
+    for line in head:
+        if re.match(r" *(requires|ensures|where|//|\{)", line):
+            break
+        front.append(line.strip())
+    text = " ".join(front).partition("fn ")[2].rstrip("{; ")
+    return text.replace("( ", "(").replace(", )", ")").replace(",)", ")")
 
 
 def docs_of(lines: list[str], at: int) -> str:
@@ -117,8 +132,9 @@ def calls_of_file(crate: str, path: Path) -> Iterator[Call]:
         head = HEAD.match(line)
         if head:
             inside = owner[0] if head["indent"] else ""
-            call = Call(crate, path, inside, head["name"], owner[1], docs_of(lines, at), uses)
-            call.clauses = list(clauses_of(head_of(lines, at, head["indent"])[1:]))
+            whole = head_of(lines, at, head["indent"])
+            call = Call(crate, path, inside, head["name"], owner[1], shape_of(whole), docs_of(lines, at), uses)
+            call.clauses = list(clauses_of(whole[1:]))
             if is_public(lines, at, inside) and call.named(True):
                 yield call
 

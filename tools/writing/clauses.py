@@ -58,9 +58,9 @@ def shown(call: Call, clause: Clause) -> str:
 
 def row_of(call: Call) -> str:
     """The row of a call."""
-    promises = "<br>".join(cell(shown(call, clause)) for clause in call.named(True))
+    asks, gives = ("<br>".join(cell(shown(call, clause)) for clause in call.named(kind)) for kind in (False, True))
     place = call.path.relative_to(CRATES / call.crate / "src")
-    return f"| `{call.title}` | {place} | {cell(call.said)} | {promises} |"
+    return f"| `{cell(call.title)}` | {place} | {cell(call.said)} | {asks} | {gives} |"
 
 
 def inner(one: Definition) -> Iterator[Key]:
@@ -108,7 +108,7 @@ def part_of(crate: str) -> list[str]:
     definitions = [row for key, one in named().items() if key[0].split(".")[0] == crate for row in rows_of(one)]
     found = ["", f"## {crate}"] if calls or definitions else []
     if calls:
-        found += ["", "| call | file | what it does | promises |", "|---|---|---|---|", *calls]
+        found += ["", "| call | file | what it does | conditions | promises |", "|---|---|---|---|---|", *calls]
     if definitions:
         found += ["", "| definition | file | what it says |", "|---|---|---|", *definitions]
     return found
