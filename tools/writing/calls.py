@@ -47,13 +47,19 @@ class Call:
         """How a client names it, with what it takes and answers."""
         return f"{self.owner}::{self.shape}" if self.owner else self.shape
 
-    def named(self, promises: bool) -> list[Clause]:
-        """Its promises, or its conditions."""
-        return [clause for clause in self.clauses if clause.promises == promises]
+    @property
+    def promises(self) -> list[Clause]:
+        """What it promises."""
+        return [clause for clause in self.clauses if clause.promises]
+
+    @property
+    def conditions(self) -> list[Clause]:
+        """What it asks for."""
+        return [clause for clause in self.clauses if not clause.promises]
 
     def cited(self) -> Iterator[Key]:
         """The definitions that its promises name, each as its module and its name."""
-        for clause in self.named(True):
+        for clause in self.promises:
             yield from self.cited_by(clause)
 
     def cited_by(self, clause: Clause) -> Iterator[Key]:
@@ -135,7 +141,7 @@ def calls_of_file(crate: str, path: Path) -> Iterator[Call]:
             whole = head_of(lines, at, head["indent"])
             call = Call(crate, path, inside, head["name"], owner[1], shape_of(whole), docs_of(lines, at), uses)
             call.clauses = list(clauses_of(whole[1:]))
-            if is_public(lines, at, inside) and call.named(True):
+            if is_public(lines, at, inside) and call.promises:
                 yield call
 
 

@@ -53,14 +53,21 @@ def shown(call: Call, clause: Clause) -> str:
     """A promise in a cell: its name, and what it says."""
     body = re.sub(r"^\w+(?: \w+)? \{ ?| ?\},?;?$", "", clause.text)
     said = as_code(body, call.cited_by(clause), SHOWN)
-    return f"{clause.name}: {said}" if clause.name else said
+    said = f"{clause.name}: {said}" if clause.name else said
+    return f"{said}: {sentence_of([clause.comment])}" if clause.comment else said
+
+
+def sentence_for(call: Call) -> str:
+    """What a call does: what is said of it, or of the call of the trait of which it is one."""
+    of_trait = (one.said for calls in all_calls().values() for one in calls if (one.owner, one.name) == (call.of_trait, call.name))
+    return call.said or next(of_trait, "")
 
 
 def row_of(call: Call) -> str:
     """The row of a call."""
-    asks, gives = ("<br>".join(cell(shown(call, clause)) for clause in call.named(kind)) for kind in (False, True))
+    asks, gives = ("<br>".join(cell(shown(call, one)) for one in clauses) for clauses in (call.conditions, call.promises))
     place = call.path.relative_to(CRATES / call.crate / "src")
-    return f"| `{cell(call.title)}` | {place} | {cell(call.said)} | {asks} | {gives} |"
+    return f"| `{cell(call.title)}` | {place} | {cell(sentence_for(call))} | {asks} | {gives} |"
 
 
 def inner(one: Definition) -> Iterator[Key]:
@@ -124,7 +131,7 @@ def page() -> list[str]:
 def faults() -> Iterator[str]:
     """The calls that have promises and no sentence, and the records of many promises of which nothing is said."""
     for call in (call for calls in all_calls().values() for call in calls):
-        if not call.said and not call.of_trait:
+        if not sentence_for(call):
             yield f"crates/{call.crate}: `{call.title}` has promises, and no sentence"
     for one in named().values():
         promises = [field for field in one.fields if RELATION.search(field.type)]
