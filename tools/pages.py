@@ -3,18 +3,19 @@
 
 Usage: tools/pages.py [--check | --write]
 
-Without a word it prints how many words each page has beside its tables. With --write the parts between `<!-- made: NAME -->`
-and `<!-- end -->` are written anew. With --check, as the gate runs it, nothing is written, and the status is 1 where
+Without a word it prints how many words each page has beside its tables. With --write the parts between
+`<!-- made: NAME -->` and `<!-- end -->` are written anew. With --check, as the gate runs it, nothing is written, and
+the status is 1 where
 
 - the pages of docs/ have more words together, or a crate's page has more, than their bounds;
 - a sentence or a paragraph is too long, or the first line of a page does not say for whom it is;
 - a link leads to no file or heading, or a name in backticks or a file of a crate is gone;
 - a part is not what is made;
-- a public call with promises has no sentence, or a record of five promises or more, which a promise names, has none and no field
-  of it has one.
+- a public call with promises has no sentence, or a record of five promises or more, which a promise names, has none and
+  no field of it has one.
 
-Words, sentences and paragraphs of tables and of code are not counted. A smaller definition may have no sentence: its name and
-its equation say it. What macros make is not seen.
+Words, sentences and paragraphs of tables and of code are not counted. A smaller definition may have no sentence: its
+name and its equation say it. What macros make is not seen.
 """
 import sys
 

@@ -1,4 +1,4 @@
-"""The public calls of a crate, with the names of their clauses and what is said of them, as its sources have them.
+"""The public calls of a crate, with their clauses and what is said of them, as its sources have them.
 
 What a macro makes is not seen, nor what a crate hands on of another one: that stands with the crate that has it.
 """
@@ -15,7 +15,7 @@ from .repository import CRATES, sentence_of
 HEAD = re.compile(r'^(?P<indent> *)(?:pub )?(?:const )?(?:extern "C" )?fn (?P<name>\w+)')
 OWNER = re.compile(r"^(?:impl(?:<[^{]*?>)? (?:(?P<of>[\w:]+)(?:<[^{]*?>)? for )?|pub trait )(?P<type>\w+)")
 CLAUSE = re.compile(r"^ *(?P<kind>requires|ensures)(?: (?P<name>\w+))? \{")
-EXPORT = re.compile(r"^pub use (?:crate::)?(?P<path>[a-z]\w*(?:::\w+)*?)::(?:\{(?P<names>[^}]*)\}|(?P<name>\w+));", re.MULTILINE)
+EXPORT = re.compile(r"^pub use (?:crate::)?(?P<path>[a-z]\w*(?:::\w+)*?)::(?:\{(?P<list>[^}]*)\}|(?P<name>\w+));", re.M)
 
 
 @dataclass
@@ -158,7 +158,7 @@ def exports_of(source: Path) -> tuple[set[str], set[str]]:
     names: set[str] = set()
     for found in EXPORT.finditer(text):
         if not found["path"].startswith("a64_"):
-            names |= set(re.split(r",\s*", found["names"].strip().rstrip(","))) if found["names"] else {found["name"]}
+            names |= set(re.split(r",\s*", found["list"].strip().rstrip(","))) if found["list"] else {found["name"]}
     return names, set(re.findall(r"^pub mod (\w+);", text, re.MULTILINE))
 
 

@@ -1,5 +1,5 @@
-"""The page of clauses, docs/CLAUSES.md: of each crate the public calls and what they promise, and what the definitions say
-that the promises name.
+"""The page of clauses, docs/CLAUSES.md: of each crate the public calls and what they promise, and what the definitions
+say that the promises name.
 """
 from __future__ import annotations
 
@@ -59,13 +59,15 @@ def shown(call: Call, clause: Clause) -> str:
 
 def sentence_for(call: Call) -> str:
     """What a call does: what is said of it, or of the call of the trait of which it is one."""
-    of_trait = (one.said for calls in all_calls().values() for one in calls if (one.owner, one.name) == (call.of_trait, call.name))
+    others = (one for calls in all_calls().values() for one in calls)
+    of_trait = (one.said for one in others if (one.owner, one.name) == (call.of_trait, call.name))
     return call.said or next(of_trait, "")
 
 
 def row_of(call: Call) -> str:
     """The row of a call."""
-    asks, gives = ("<br>".join(cell(shown(call, one)) for one in clauses) for clauses in (call.conditions, call.promises))
+    both = (call.conditions, call.promises)
+    asks, gives = ("<br>".join(cell(shown(call, one)) for one in clauses) for clauses in both)
     place = call.path.relative_to(CRATES / call.crate / "src")
     return f"| `{cell(call.title)}` | {place} | {cell(sentence_for(call))} | {asks} | {gives} |"
 

@@ -18,7 +18,9 @@ def instruction_table() -> InstructionTable:
 def groups() -> list[str]:
     """The instructions by their groups."""
     table = instruction_table()
-    names = {group: [f"`{one.name}`" for one in table.instructions if one.group.name == group] for group in table.groups}
+    names: dict[str, list[str]] = {group: [] for group in table.groups}
+    for one in table.instructions:
+        names[one.group.name].append(f"`{one.name}`")
     rows = (f"| {group} | {len(inside)} | {', '.join(inside)} |" for group, inside in names.items())
     return ["| group | how many | instructions |", "|---|---|---|", *rows]
 

@@ -47,9 +47,11 @@ def direct(crate: Crate, known: dict[str, Crate]) -> list[str]:
 def table() -> list[str]:
     """The table of crates: each with what it has, and the crates on which it stands directly."""
     known = {crate.name: crate for crate in crates()}
-    rows = [(crate, ", ".join(direct(crate, known)) or "nothing") for crate in known.values()]
-    return ["| crate | what it is for | stands directly on |", "|---|---|---|",
-            *(f"| [{crate.name}](../crates/{crate.name}/README.md) | {crate.said} | {below} |" for crate, below in rows)]
+    rows = ["| crate | what it is for | stands directly on |", "|---|---|---|"]
+    for crate in known.values():
+        below = ", ".join(direct(crate, known)) or "nothing"
+        rows.append(f"| [{crate.name}](../crates/{crate.name}/README.md) | {crate.said} | {below} |")
+    return rows
 
 
 def layers() -> list[list[str]]:

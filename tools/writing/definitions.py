@@ -15,7 +15,7 @@ USE = re.compile(r"use Rattle\.([\w.]+?)(?:\.\{([^}]*)\}| as (\w+))")
 
 
 def uses_of(text: str) -> dict[str, str]:
-    """The definitions that a file imports by name, and the module of each; of a module with another name, that module."""
+    """The names that a file imports, and the module of each; of a module that has another name, that module."""
     found = {}
     for module, names, alias in USE.findall(text):
         if alias:

@@ -41,4 +41,5 @@ def faults_of(page: Path) -> Iterator[str]:
         if str(name) != OTHERS:
             gone = [word for word in NAME.findall(text) if word not in words()]
             yield from (f"{name}:{block.number}: no source has `{word}`" for word in gone)
-        yield from (f"{name}:{block.number}: no crate has {file}" for file, _ in FILE.findall(text) if file not in files())
+        lost = [file for file, _ in FILE.findall(text) if file not in files()]
+        yield from (f"{name}:{block.number}: no crate has {file}" for file in lost)

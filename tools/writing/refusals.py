@@ -6,7 +6,7 @@ import re
 from .repository import CRATES
 
 VARIANT = re.compile(r"((?:^    ///[^\n]*\n)+)^    (\w+)[,({]", re.MULTILINE)
-SHOWN = re.compile(r'::(\w+)(?:\(([^)]*)\))? => (?:\{\s*)?(?:write!\(f, "([^"]*)"(?:, [^)]*)?\)|f\.write_str\("([^"]*)"\))')
+SHOWN = re.compile(r'::(\w+)(?:\([^)]*\))? => (?:\{\s*)?(?:write!\(f, |f\.write_str\()"([^"]*)"')
 COMPOSED = re.compile(r'::(\w+)(?:\(\w+\))? =>\s*(?:\{\s*)?(?:numbered|plain)\(\s*b"([^"]*)"(?:,[^,]*, b"([^"]*)")?')
 
 
@@ -31,7 +31,7 @@ def lettered(line: str) -> str:
 def printed(path: str, enum: str) -> list[str]:
     """The refusals that an enum is printed as."""
     text = (CRATES / path).read_text(encoding="utf-8")
-    lines = {name: lettered(line or plain) for name, _, line, plain in SHOWN.findall(text)}
+    lines = {name: lettered(line) for name, line in SHOWN.findall(text)}
     return table(causes(path, enum), lines)
 
 
@@ -48,5 +48,6 @@ def of_units() -> list[str]:
 def of_words() -> list[str]:
     """The verdicts of an audit."""
     text = (CRATES / "a64_run/src/fault_lines.rt").read_text(encoding="utf-8").partition("fn text_of_verdict")[2]
-    lines = {name: f"{front}{'I' if front == 'range ' else 'P'}{back}" if back else front for name, front, back in COMPOSED.findall(text)}
+    numbers = {"range ": "I", "place ": "P"}
+    lines = {name: front + numbers.get(front, "") + back for name, front, back in COMPOSED.findall(text)}
     return table(causes("a64_audit/src/verdict.rt", "Verdict"), lines)
