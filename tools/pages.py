@@ -9,7 +9,8 @@ the status is 1 where
 
 - the pages of docs/ have more words together, or a crate's page has more, than their bounds;
 - a sentence or a paragraph is too long, or the first line of a page does not say for whom it is;
-- a link leads to no file or heading, or a name in backticks or a file of a crate is gone;
+- a link leads to no file or heading, a name in backticks or a file of a crate is gone, or a name is not in the file
+  that stands behind it in parentheses;
 - a part is not what is made;
 - a public call with promises has no sentence, or a record of five promises or more, which a promise names, has none and
   no field of it has one.
