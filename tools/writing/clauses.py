@@ -20,7 +20,7 @@ SHOWN_FIELD = 110
 MANY = 5
 
 # What stands in a promise that is more than a definition of some values.
-RELATION = re.compile("[≡≢→↔<≤×⊎¬]")
+RELATION = re.compile("[≡≢→↔<≤¬]")
 
 
 @cache
