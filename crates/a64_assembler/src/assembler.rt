@@ -1,6 +1,6 @@
 //! The assembler.
 
-ghost use Rattle.std.specs.Prelude.{◌≡◌, ◌⊎◌, ◌+◌, ◌^◌, ◌<◌, ◌≤◌, true, map, length, [], ◌∷◌, ◌++◌, None, Some, Err, IfOk, IfErr, OnOk, OnErr};
+ghost use Rattle.std.specs.Prelude.{◌≡◌, ◌⊎◌, ◌+◌, ◌^◌, ◌<◌, ◌≤◌, true, false, map, length, [], ◌∷◌, ◌++◌, None, Some, Err, IfOk, IfErr, OnOk, OnErr};
 ghost use Rattle.std.specs.FinMap.{insert};
 ghost use Rattle.std.specs.String.{string_bytes};
 ghost use Rattle.std.specs.Vec.{vec_len, vec_capacity};
@@ -287,7 +287,7 @@ impl Assembler {
         self.emit_all(insts)
     }
 
-    /// Adds an operation with its moves before it, or none of them.
+    /// Adds an operation with what stands before it, or none of them.
     ///
     /// # Errors
     ///
@@ -296,11 +296,11 @@ impl Assembler {
         ensures { Adds (map emitted (insts_of insts)) result self.old self.new }
     {
         let WithNumber {
-            mut moves,
+            mut before,
             operation,
         } = insts;
-        moves.push(operation)?;
-        self.emit_all(moves)
+        before.push(operation)?;
+        self.emit_all(before)
     }
 
     /// Adds an addition of a number of any size to a register, as [`numbers::add_number`] does it.
@@ -315,7 +315,7 @@ impl Assembler {
         rn: Reg,
         number: u64,
     ) -> Result<(), AddError>
-        ensures { AddsWithNumber ops.Add ops.Sub size rd rn number result self.old self.new }
+        ensures { AddsWithNumber ops.Add ops.Sub true size rd rn number result self.old self.new }
     {
         self.emit_with_number(numbers::add_number(self.alloc, size, rd, rn, number))
     }
@@ -332,7 +332,7 @@ impl Assembler {
         rn: Reg,
         number: u64,
     ) -> Result<(), AddError>
-        ensures { AddsWithNumber ops.Sub ops.Add size rd rn number result self.old self.new }
+        ensures { AddsWithNumber ops.Sub ops.Add true size rd rn number result self.old self.new }
     {
         self.emit_with_number(numbers::sub_number(self.alloc, size, rd, rn, number))
     }
@@ -343,8 +343,8 @@ impl Assembler {
     ///
     /// As of [`Assembler::emit_all`].
     pub fn cmp_number(&mut self, size: OperandSize, rn: Reg, number: u64) -> Result<(), AddError>
-        ensures { AddsWithNumber ops.SubS ops.AddS size (integer_register 31) rn number result
-            self.old self.new }
+        ensures { AddsWithNumber ops.SubS ops.AddS false size (integer_register 31) rn number
+            result self.old self.new }
     {
         self.emit_with_number(numbers::cmp_number(self.alloc, size, rn, number))
     }

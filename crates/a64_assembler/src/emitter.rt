@@ -288,7 +288,7 @@ impl<'c> Emitter<'c> {
         self.emit_all(insts.as_slice())
     }
 
-    /// Puts an operation with its moves at the end.
+    /// Puts an operation at the end, with what stands before it.
     ///
     /// # Errors
     ///
@@ -296,7 +296,7 @@ impl<'c> Emitter<'c> {
     pub fn emit_with_number(&mut self, insts: &WithNumber) -> Result<(), EmitterError>
         ensures { EmitsAll (insts_of insts.now) result self.old self.new }
     {
-        self.emit_all(insts.moves.as_slice())?;
+        self.emit_all(insts.before.as_slice())?;
         self.emit(&insts.operation)
     }
 

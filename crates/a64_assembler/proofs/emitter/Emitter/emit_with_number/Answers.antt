@@ -8,7 +8,7 @@ pub returns-in_err-emit_all : goal.returns-in_err-emit_all
 returns-in_err-emit_all c =
     let p = err_from_is_err_and c.from_residual.result c.from_residual.ensures.1 in
     let stopped = subst (λ xs. IsStopped xs c.args.self.now c.emit_all.new.self p.0) c.as_slice.ensures (rw p.2 c.in_err-emit_all.ensures.cause) in
-    rw (p.1) (record { ok = tt; cause = stopped_before c.args.insts.now.moves.items (c.args.insts.now.operation ∷ []) _ _ _ stopped })
+    rw (p.1) (record { ok = tt; cause = stopped_before c.args.insts.now.before.items (c.args.insts.now.operation ∷ []) _ _ _ stopped })
 
 pub returns : goal.returns
 returns c =
