@@ -275,7 +275,7 @@ module _ {K : Type 0} (r : Kinds K) (law : IsLawful r) (distance : ℕ) (force :
   gives : All (λ u. is_jump_at jump (end_of b) u ≡ true → (u.stop ≡ None) × IsStop r closed (open_areas r law b) u.target u.kind u.offset (end_of m)) m.uses
   gives k d h e = subst (λ (v : Use K). (v.stop ≡ None) × IsStop r closed (open_areas r law b) v.target v.kind v.offset (end_of m)) (sym (is_over k d h e)) (
     refl,
-    record { aligned = omega arith; within = record { ahead = omega (arith, ends, front_short r jump, jump_reach r law b whole); behind = omega (arith, starts, last.part.later.end) }; leads = omega arith },
+    record { aligned = omega arith; within = record { ahead = omega (arith, ends, front_short r jump, jump_reach r law b whole); behind = omega (arith, starts, last.part.later.end) }; ahead = inl (omega (arith, starts, last.part.later.end, ap front_size (tested k d e).0)); leads = omega arith },
   )
 
   closed_later : IsLater m closed

@@ -9,29 +9,34 @@ use Rattle.a64_buffer.specs.declared.site.Use.{Use}
 use Rattle.a64_buffer.specs.declared.site.Target.{Target}
 use Rattle.a64_buffer.specs.declared.site.Target.TheVariants.{Label, Constant, Trap, IslandEnd}
 use Rattle.a64_buffer.specs.declared.finish.Finished.{Finished}
+use Rattle.a64_buffer.specs.declared.force.ForceVeneers.{ForceVeneers}
 use Rattle.a64_buffer.specs.Kinds.{Kinds, IsLawful, IsWithin, GoesTo}
 use Rattle.a64_buffer.specs.Buffer.{Buffer, end_of, label_of, goal_of, is_within, IsFree, IsBound, IsReached}
 use Rattle.a64_buffer.specs.Areas.{InArea, Stands}
 use Rattle.a64_buffer.specs.Classes.{wants, label_class, class, class_of, is_open, owed}
 use Rattle.a64_buffer.specs.Later.{IsSameUse, IsLater}
 use Rattle.a64_buffer.specs.Sound.{IsPlaced, AreApart, IsJump, IsFar, IsCopy, IsStop, IsRightlyOpen, HasJump, IsSound, IsWhole, IsOver, IsIsland}
-use Rattle.a64_buffer.specs.Islands.{IsVeneerUse}
+use Rattle.a64_buffer.specs.Islands.{IsVeneerUse, HasIsland}
+use Rattle.a64_buffer.specs.Pieces.{begun, front_size}
+use Rattle.a64_buffer.specs.Held.{HoldsArea}
 use Rattle.a64_buffer.specs.Steps.{Writes, MayWrite, everywhere}
 use Rattle.a64_buffer.specs.Leads.{FarAt, Arrives, JumpAt, LabelLeads, TargetLeads}
 use Rattle.a64_buffer.specs.Settled.{IsCodeOf, Reaches, MayLead, IsLed, AreSettled, Lists, IsCode}
 use Rattle.a64_buffer.specs.Finished.{JumpsOver, IsSettled, IsFinished}
 use Rattle.a64_buffer.proofs.ByPlace.{recorded_later}
+use Rattle.a64_buffer.proofs.Growth.{stands_there}
 use Rattle.a64_buffer.proofs.Rooms.{label_wants}
 use Rattle.a64_buffer.proofs.OwnStops.{own_later}
-use Rattle.a64_buffer.proofs.Islands.{sound_beside, in_everywhere, open_areas, open_hold, more_areas, close_areas, Keeps, later_keeps, begins_stay, island_stays}
+use Rattle.a64_buffer.proofs.Islands.{sound_beside, in_everywhere, open_areas, open_hold, more_areas, close_areas, begun_end, Keeps, later_keeps, begins_stay, island_stays}
 use Rattle.a64_buffer.proofs.Emitting.{all_closed, stops_below}
 use Rattle.a64_buffer.proofs.Fronts.{within_is}
+use Rattle.a64_buffer.proofs.Held.{holds_area, island_written, pool_written}
 
 one_place : (o : Option ℕ) (g h : ℕ) → o ≡ Some g → o ≡ Some h → g ≡ h
 one_place o g h p q = cc
 
 -- words that stand one behind another in bytes
-stand_at : (bytes fixed : List ℕ) (place : ℕ) → ((i : ℕ) → i < length fixed → word_at bytes (place + 4 * i) ≡ get_or fixed i 0) → StandAt bytes place fixed
+pub stand_at : (bytes fixed : List ℕ) (place : ℕ) → ((i : ℕ) → i < length fixed → word_at bytes (place + 4 * i) ≡ get_or fixed i 0) → StandAt bytes place fixed
 stand_at bytes [] place h = tt
 stand_at bytes (w ∷ ws) place h =
     let e : place + 4 * 0 ≡ place = omega arith in (
@@ -165,7 +170,7 @@ module _ {K : Type 0} (r : Kinds K) (law : IsLawful r) (b m : Buffer K) (whole :
     goes k d stop h e = subst (λ o. IfSome o (GoesTo r (get_or m.uses k d).kind (get_or m.words ((get_or m.uses k d).offset / 4) 0) (word_at bytes (get_or m.uses k d).offset) (get_or m.uses k d).offset)) e (led k d h).leads
 
     stop_is : (k : ℕ) (d : Use K) (stop : ℕ) → k < length m.uses → (get_or m.uses k d).stop ≡ Some stop → IsStop r m (open_areas r law b) (get_or m.uses k d).target (get_or m.uses k d).kind (get_or m.uses k d).offset stop
-    stop_is k d stop h e = subst (λ o. MatchOption o (IsRightlyOpen r m (open_areas r law b) (get_or m.uses k d).target (get_or m.uses k d).kind (get_or m.uses k d).offset) (IsStop r m (open_areas r law b) (get_or m.uses k d).target (get_or m.uses k d).kind (get_or m.uses k d).offset)) e (sound.stops k d h)
+    stop_is k d stop h e = stands_there r m (open_areas r law b) sound.stops k stop d h e
 
     abbrev areas : List (ℕ × ℕ)
     areas = b.islands ++ (end_of b, end_of m) ∷ []
@@ -318,6 +323,22 @@ module _ {K : Type 0} (r : Kinds K) (law : IsLawful r) (b m : Buffer K) (whole :
               (subst (λ q. GoesTo r (get_or m.uses index e).kind q (word_at bytes (get_or m.uses index e).offset) (get_or m.uses index e).offset (get_or b.islands k d).1) put (goes index e (get_or b.islands k d).1 inside (over.stop))));
         }
 
+    -- ---- what stands in the pool and in the islands
+
+    all_settled : All (λ u. IsSettled r (get_or m.words (u.offset / 4) 0) u (word_at bytes u.offset)) m.uses
+    all_settled k d h = record { rest = (led k d h).rest; stops = (led k d h).leads }
+
+    pool_held : HoldsArea r bytes b.constants m.uses b.labels b.labels (end_of b) (end_of b) (end_of m)
+    pool_held =
+        subst (λ ls. HoldsArea r bytes b.constants m.uses b.labels ls (end_of b) (end_of b) (end_of m)) labels_are
+        (holds_area r b.constants bytes (open_areas r law b) b b m m w.writing.served (pool_written r b m w.writing.served whole.sound sound.placed later w.writing.serves (λ k d ge h. (w.writing.given k d ge h).labelled)) sound word_free all_settled)
+
+    island_held : (distance : ℕ) (force : ForceVeneers) (jump : Bool) (n v : Buffer K) → IsWhole r n → HasIsland r distance force jump n v → IsLater v b → HoldsArea r bytes b.constants m.uses n.labels b.labels (end_of n) (end_of n + front_size jump) (end_of v)
+    island_held distance force jump n v whole' has since =
+        subst (λ ls. HoldsArea r bytes b.constants m.uses n.labels ls (end_of n) (end_of n + front_size jump) (end_of v)) labels_are
+        (subst (λ from. HoldsArea r bytes b.constants m.uses n.labels m.labels (end_of n) from (end_of v)) (begun_end r jump n)
+        (holds_area r b.constants bytes (open_areas r law b) n (begun r jump n) v m has.served (island_written r distance force jump n v b m whole' has since later) sound word_free all_settled))
+
     pub finished : (code : Finished) → code.bytes.items ≡ bytes → Lists b.labels code.labels.items → code.pool ≡ end_of b → code.islands.items ≡ b.islands → code.traps.items ≡ m.traps → code.relocs.items ≡ b.records.relocs → code.calls.items ≡ b.records.calls → code.patchable.items ≡ b.records.patchable → code.maps.items ≡ b.records.maps → IsFinished r b code
     finished code bytes_are labels pool islands traps relocs calls patchable maps = record {
       final = m;
@@ -329,7 +350,7 @@ module _ {K : Type 0} (r : Kinds K) (law : IsLawful r) (b m : Buffer K) (whole :
       few_traps = omega (arith, w.writing.traps);
       same_length = ap length bytes_are ∙ (c.same_length ∙ ap (λ n. 4 * n) t.same_length);
       free = λ i h f. ap (λ bs. word_at bs (4 * i)) bytes_are ∙ word_free i h f;
-      settled = λ k d h. subst (λ bs. IsSettled r (get_or m.words ((get_or m.uses k d).offset / 4) 0) (get_or m.uses k d) (word_at bs (get_or m.uses k d).offset)) (sym bytes_are) (record { rest = (led k d h).rest; stops = (led k d h).leads });
+      settled = λ k d h. subst (λ bs. IsSettled r (get_or m.words ((get_or m.uses k d).offset / 4) 0) (get_or m.uses k d) (word_at bs (get_or m.uses k d).offset)) (sym bytes_are) (all_settled k d h);
       leads = subst (λ ts. All (λ u. MatchOption u.stop (u.target ≡ IslandEnd) (TargetLeads r code.bytes.items areas b.labels b.constants ts u.kind u.target)) m.uses) (sym traps)
           (subst (λ bs. All (λ u. MatchOption u.stop (u.target ≡ IslandEnd) (TargetLeads r bs areas b.labels b.constants m.traps u.kind u.target)) m.uses) (sym bytes_are) all_targets);
       given = w.writing.given;
@@ -342,6 +363,8 @@ module _ {K : Type 0} (r : Kinds K) (law : IsLawful r) (b m : Buffer K) (whole :
       begins = λ k d h.
           let i : IsIsland r b (get_or b.islands k d) = whole.islands.each k d h in
           elim i.begins [ inl jump ↦ inl jump | inr piece ↦ inr (begins_stay r b m k d h keeps i.inside piece) ];
+      pool_holds = subst (λ bs. HoldsArea r bs b.constants m.uses b.labels b.labels (end_of b) (end_of b) (end_of m)) (sym bytes_are) pool_held;
+      islands_hold = λ distance force jump n v whole' has since. subst (λ bs. HoldsArea r bs b.constants m.uses n.labels b.labels (end_of n) (end_of n + front_size jump) (end_of v)) (sym bytes_are) (island_held distance force jump n v whole' has since);
       labels = labels;
       islands = islands;
       pool = pool;

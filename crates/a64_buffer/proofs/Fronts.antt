@@ -17,7 +17,8 @@ use Rattle.a64_buffer.specs.Classes.{class}
 use Rattle.a64_buffer.specs.Later.{IsLater}
 use Rattle.a64_buffer.specs.Sound.{IsPlaced, IsStop, IsSound}
 use Rattle.a64_buffer.specs.Pieces.{padding, content_of, site_of, words_for, stop_for, sites_for, piece_words, piece_sites, pieces, BeginsWith, Serves}
-use Rattle.a64_buffer.proofs.OwnStops.{served_place, stop_is}
+use Rattle.a64_buffer.proofs.Growth.{stands_there}
+use Rattle.a64_buffer.proofs.OwnStops.{served_place}
 
 module _ {K : Type 0} (r : Kinds K) where
   pub within_is : (kind : K) (offset g : ℕ) → IsWithin (r.forward kind) (r.backward kind) offset g → is_within r kind offset g ≡ true
@@ -107,7 +108,7 @@ module _ {K : Type 0} (r : Kinds K) where
         let stop : ℕ = stop_for r b.constants (class r u) u.target (end_of b) in
         let stops : u.stop ≡ Some stop = s.stops 0 (end_of b, u) (omega arith) in
         let is : get_or b'.uses q.index u ≡ u = q.is u in
-        let here : IsStop r b' areas u.target u.kind u.offset stop = subst (λ (v : Use K). IsStop r b' areas v.target v.kind v.offset stop) is (stop_is r areas (u ∷ us) b b' s later labels_are sound q.index stop u q.within (ap (λ (v : Use K). v.stop) is ∙ stops)) in (
+        let here : IsStop r b' areas u.target u.kind u.offset stop = subst (λ (v : Use K). IsStop r b' areas v.target v.kind v.offset stop) is (stands_there r b' areas sound.stops q.index stop u q.within (ap (λ (v : Use K). v.stop) is ∙ stops)) in (
           q.index,
           u,
           q.within,

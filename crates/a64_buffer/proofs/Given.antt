@@ -2,7 +2,7 @@
 use Rattle.std.proofs.Common.{ℕ, ◌≡◌, ◌≢◌, ◌⊎◌, ◌+◌, ◌-◌, ◌*◌, ◌/◌, ◌%◌, ◌^◌, ◌<◌, ◌≤◌, Bool, true, false, cond, List, [], ◌∷◌, ◌++◌, All, length, get_or, replicate, Option, None, Some, refl, sym, ap, ◌∙◌, subst, arith, inl, inr, nat_cmp}
 use Rattle.std.specs.Prelude.{◌&&◌, is_none, IsSome, IsSomeAnd}
 use Rattle.std.specs.FinMap.{FinMap, get}
-use Rattle.std.proofs.lemmas.Bool.{eqb-true, eq-eqb}
+use Rattle.std.proofs.lemmas.Bool.{eqb-true, eq-eqb, and_parts}
 use Rattle.std.proofs.lemmas.List.{length-append, length-replicate, get_or_append_left, get_or-append_right, get_or_push}
 use Rattle.std.proofs.lemmas.List.Elements.{All-cons}
 use Rattle.std.proofs.lemmas.List.Sums.{get_or-le-sum_by}
@@ -71,7 +71,7 @@ module _ {K : Type 0} (r : Kinds K) (law : IsLawful r) (b b' : Buffer K) (areas 
   stops_there stop e leads k d h here =
       subst (λ (v : Use K). (v.stop ≡ None) × IsStop r b' areas v.target v.kind v.offset stop) (sym (only_here r law b b' areas s index u within is open' room lowest k d h here)) (
         open_stop r u open',
-        record { aligned = omega arith; within = record { ahead = omega (arith, reach); behind = omega (arith, placed.inside) }; leads = leads },
+        record { aligned = omega arith; within = record { ahead = omega (arith, reach); behind = omega (arith, placed.inside) }; ahead = inl (omega (arith, placed.inside)); leads = leads },
       )
 
   itself : stands_at u.offset u ≡ true
@@ -333,6 +333,7 @@ module _ {K : Type 0} (r : Kinds K) (law : IsLawful r) (b b' : Buffer K) (areas 
         record {
           aligned = omega (arith);
           within = record { ahead = omega (arith, x, some_burden, wanting_range r law (Constant c) kind k refl, aligned.1); behind = omega arith };
+          ahead = inl (omega (arith, p));
           leads = subst (λ o. IsSomeAnd o (λ q. IsCopy r b' areas q (end_of b + 4 * pad))) (sym there) is_copy;
         }
     copy_stop (Trap code) kind offset e k p h = absurd (let z : false ≡ true = e in cc)
@@ -344,14 +345,10 @@ module _ {K : Type 0} (r : Kinds K) (law : IsLawful r) (b b' : Buffer K) (areas 
     load_open (Trap code) kind stop e n = absurd (let z : false ≡ true = e in cc)
     load_open IslandEnd kind stop e n = absurd (let z : false ≡ true = e in cc)
 
-    both : (x y : Bool) → (x && y) ≡ true → (x ≡ true) × (y ≡ true)
-    both true y e = (refl, e)
-    both false y e = absurd (let z : false ≡ true = e in cc)
-
     copy_stops : (k : ℕ) (d : Use K) → k < length b.uses → waits_for constant.0 (get_or b.uses k d) ≡ true → ((get_or b.uses k d).stop ≡ None) × IsStop r b' areas (get_or b.uses k d).target (get_or b.uses k d).kind (get_or b.uses k d).offset (end_of b + 4 * pad)
     copy_stops k d h e =
         let v : Use K = get_or b.uses k d in
-        let t = both (is_load_of constant.0 v.target) (is_none v.stop) e in
+        let t = and_parts (is_load_of constant.0 v.target) (is_none v.stop) e in
         let o : is_open r v ≡ true = load_open v.target v.kind v.stop t.0 t.1 in (
           open_stop r v o,
           copy_stop v.target v.kind v.offset t.0 (s.kinded k d h) (s.placed k d h).inside (λ w. room.rooms k d h o),
@@ -366,7 +363,7 @@ module _ {K : Type 0} (r : Kinds K) (law : IsLawful r) (b b' : Buffer K) (areas 
     copy_class : (k : ℕ) (d : Use K) → k < length b.uses → waits_for constant.0 (get_or b.uses k d) ≡ true → class r (get_or b.uses k d) ≡ class r u
     copy_class k d h e =
         let v : Use K = get_or b.uses k d in
-        load_target v.target v.kind (both (is_load_of constant.0 v.target) (is_none v.stop) e).0 ∙ sym load_class
+        load_target v.target v.kind (and_parts (is_load_of constant.0 v.target) (is_none v.stop) e).0 ∙ sym load_class
       where
         load_target : (target : Target) (kind : K) → is_load_of constant.0 target ≡ true → class_of r target kind ≡ Load
         load_target (Label l) kind e = absurd (let z : false ≡ true = e in cc)

@@ -3,7 +3,7 @@ use Rattle.std.proofs.Common.{ℕ, ◌≡◌, ◌⊎◌, ◌+◌, ◌-◌, ◌*�
 use Rattle.std.specs.Prelude.{◌&&◌, is_none, sum_by, nat_le, MatchOption, IfSome}
 use Rattle.std.specs.Option.{option_and_then}
 use Rattle.std.specs.FinMap.{FinMap, get}
-use Rattle.std.proofs.lemmas.Bool.{cases_lt, cases_eq, eqb-true, leb-true}
+use Rattle.std.proofs.lemmas.Bool.{cases_lt, cases_eq, eqb-true, leb-true, and_parts}
 use Rattle.std.proofs.lemmas.List.{length-append, get_or_default}
 use Rattle.a64_base.specs.declared.entity.TrapCode.{TrapCode}
 use Rattle.a64_buffer.specs.declared.site.Use.{Use}
@@ -28,16 +28,13 @@ use Rattle.a64_buffer.proofs.Adding.{added_end, added_count, old_use, new_use, a
 pub made_stop : {K : Type 0} (r : Kinds K) (b : Buffer K) (areas : List (ℕ × ℕ)) → ((label : ℕ) → IfSome (get b.labels label) (λ p. p % 4 ≡ 0)) → (offset : ℕ) (target : Target) (kind : K) → IsStoppedOrOpen r b areas (made_use r b.labels offset target kind)
 made_stop {K} r b areas bound offset (Label label) kind = go (get b.labels label.0) refl (bound label.0)
   where
-    is_within_both : (x y : Bool) → (x && y) ≡ true → (x ≡ true) × (y ≡ true)
-    is_within_both true y e = (refl, e)
-    is_within_both false y e = absurd (let z : false ≡ true = e in cc)
-
     there : (p : ℕ) → get b.labels label.0 ≡ Some p → (p % 4 ≡ 0) → (t : Bool) → is_within r kind offset p ≡ t → MatchOption (cond t (Some p) None) (IfSome (Some p) (λ q. is_within r kind offset q ≡ false)) (IsStop r b areas (Label label) kind offset)
     there p e al true w =
-        let both = is_within_both (nat_le p (offset + r.forward kind)) (nat_le offset (p + r.backward kind)) w in
+        let both = and_parts (nat_le p (offset + r.forward kind)) (nat_le offset (p + r.backward kind)) w in
         record {
           aligned = al;
           within = record { ahead = leb-true p (offset + r.forward kind) both.0; behind = leb-true offset (p + r.backward kind) both.1 };
+          ahead = inr e;
           leads = inl e;
         }
     there p e al false w = w

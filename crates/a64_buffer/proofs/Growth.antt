@@ -1,16 +1,27 @@
 -- Stops stay stops as a buffer grows.
-use Rattle.std.proofs.Common.{ℕ, ◌≡◌, ◌+◌, ◌*◌, ◌/◌, ◌%◌, ◌<◌, ◌≤◌, List, length, get_or, Option, None, Some, All, ◌∙◌, subst, sym, arith, inl, inr}
-use Rattle.std.specs.Option.{IsSomeAnd}
+use Rattle.std.proofs.Common.{ℕ, ◌≡◌, ◌+◌, ◌*◌, ◌/◌, ◌%◌, ◌<◌, ◌≤◌, List, length, get_or, Option, None, Some, All, ◌∙◌, subst, sym, arith, inl, inr, nat_cmp}
+use Rattle.std.specs.Option.{IsSomeAnd, MatchOption}
 use Rattle.std.specs.List.{Contains}
-use Rattle.std.specs.FinMap.{get}
+use Rattle.std.specs.FinMap.{FinMap, get}
 use Rattle.a64_base.specs.declared.entity.TrapCode.{TrapCode}
 use Rattle.a64_buffer.specs.declared.site.Use.{Use}
 use Rattle.a64_buffer.specs.declared.site.Target.{Target}
 use Rattle.a64_buffer.specs.declared.site.Target.TheVariants.{Label, Constant, Trap, IslandEnd}
 use Rattle.a64_buffer.specs.Kinds.{Kinds}
-use Rattle.a64_buffer.specs.Buffer.{Buffer, end_of, IsFree}
+use Rattle.a64_buffer.specs.Buffer.{Buffer, end_of, goal_of, IsFree}
 use Rattle.a64_buffer.specs.Areas.{InArea, HasUse, Stands}
-use Rattle.a64_buffer.specs.Sound.{IsPlaced, IsJump, IsFar, IsCopy, LeadsOn, IsStop}
+use Rattle.a64_buffer.specs.Sound.{IsPlaced, IsJump, IsFar, IsCopy, LeadsOn, IsStop, IsRightlyOpen, IsStoppedOrOpen}
+
+-- the goals of before are goals still
+pub goal_stays : (labels labels' : FinMap nat_cmp ℕ) → ((label place : ℕ) → get labels label ≡ Some place → get labels' label ≡ Some place) → (t : Target) (place : ℕ) → goal_of labels t ≡ Some place → goal_of labels' t ≡ Some place
+goal_stays labels labels' stays (Label l) place e = stays l.0 place e
+goal_stays labels labels' stays (Constant n) place e = absurd (let z : None ≡ Some place = e in cc)
+goal_stays labels labels' stays (Trap c) place e = absurd (let z : None ≡ Some place = e in cc)
+goal_stays labels labels' stays IslandEnd place e = absurd (let z : None ≡ Some place = e in cc)
+
+-- a use that has a stop rightly stops there
+pub stands_there : {K : Type 0} (r : Kinds K) (b : Buffer K) (areas : List (ℕ × ℕ)) → All (IsStoppedOrOpen r b areas) b.uses → (k stop : ℕ) (d : Use K) → k < length b.uses → (get_or b.uses k d).stop ≡ Some stop → IsStop r b areas (get_or b.uses k d).target (get_or b.uses k d).kind (get_or b.uses k d).offset stop
+stands_there r b areas stops k stop d h e = subst (λ o. MatchOption o (IsRightlyOpen r b areas (get_or b.uses k d).target (get_or b.uses k d).kind (get_or b.uses k d).offset) (IsStop r b areas (get_or b.uses k d).target (get_or b.uses k d).kind (get_or b.uses k d).offset)) e (stops k d h)
 
 -- the second buffer has all that the first has, and its areas hold what lay in those of the first
 pub record Grows {K : Type 0} (b b' : Buffer K) (areas areas' : List (ℕ × ℕ)) : Type 0 where
@@ -73,4 +84,4 @@ module _ {K : Type 0} (r : Kinds K) (b b' : Buffer K) (areas areas' : List (ℕ 
   leads_stay d IslandEnd kind stop al h = omega (arith, grows.end)
 
   pub stop_stays : (d : Use K) (target : Target) (kind : K) (offset stop : ℕ) → IsStop r b areas target kind offset stop → IsStop r b' areas' target kind offset stop
-  stop_stays d target kind offset stop s = record { aligned = s.aligned; within = s.within; leads = leads_stay d target kind stop s.aligned s.leads }
+  stop_stays d target kind offset stop s = record { aligned = s.aligned; within = s.within; ahead = elim s.ahead [ inl lt ↦ inl lt | inr goal ↦ inr (goal_stays b.labels b'.labels grows.labels target stop goal) ]; leads = leads_stay d target kind stop s.aligned s.leads }

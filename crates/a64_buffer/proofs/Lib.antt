@@ -32,6 +32,7 @@ pub mod Loads
 pub mod Unbound
 pub mod Unreached
 pub mod Listed
+pub mod Held
 pub mod Final
 pub mod Known
 pub mod Clients

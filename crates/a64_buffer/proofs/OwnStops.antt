@@ -1,10 +1,12 @@
 -- No two uses share a stop, but for loads of one constant and what stops at the place of its label.
 use Rattle.std.proofs.Common.{ℕ, zero, suc, ◌≡◌, ◌≢◌, ◌⊎◌, ◌+◌, ◌*◌, ◌<◌, ◌≤◌, Bool, true, false, cond, List, [], ◌∷◌, All, Any, length, get_or, replicate, Option, None, Some, refl, sym, ap, ◌∙◌, subst, arith, inl, inr, nat_cmp}
-use Rattle.std.specs.Prelude.{IsSome, IfSome, IsSomeAnd, MatchOption, ◌&&◌, is_none, nat_eq}
+use Rattle.std.specs.Prelude.{IsSome, IfSome, IsSomeAnd, ◌&&◌, is_none, nat_eq}
+use Rattle.std.specs.List.{flat_map}
 use Rattle.std.specs.Option.{unwrap_or}
 use Rattle.std.specs.FinMap.{FinMap, get}
 use Rattle.std.proofs.lemmas.Bool.{cases_lt, cases_eq, false≢true}
 use Rattle.std.proofs.lemmas.List.{get_or_default, length-append, length-replicate}
+use Rattle.std.proofs.lemmas.List.Concat.{flat_map-cons}
 use Rattle.a64_buffer.specs.declared.site.Use.{Use}
 use Rattle.a64_buffer.specs.declared.site.Target.{Target}
 use Rattle.a64_buffer.specs.declared.site.Target.TheVariants.{Label, Constant, Trap, IslandEnd}
@@ -16,9 +18,10 @@ use Rattle.a64_words.specs.Word.{words_of}
 use Rattle.a64_buffer.specs.Buffer.{Buffer, end_of, goal_of}
 use Rattle.a64_buffer.specs.Classes.{class, class_of, label_class, wants, is_open}
 use Rattle.a64_buffer.specs.Later.{IsLater, HasStopBelow}
-use Rattle.a64_buffer.specs.Sound.{IsTrap, IsShared, MayShare, HaveOwnStops, IsKnown, IsStop, IsRightlyOpen, IsSound}
+use Rattle.a64_buffer.specs.Sound.{IsTrap, IsShared, MayShare, HaveOwnStops, IsKnown, IsStop, IsSound}
 use Rattle.a64_buffer.specs.Chain.{constant_of}
-use Rattle.a64_buffer.specs.Pieces.{padding, copy_words, words_for, stop_for, piece_words, pieces, StopsWith, Serves}
+use Rattle.a64_buffer.specs.Pieces.{padding, copy_words, words_for, stop_for, piece_words, pieces, StopsAtPiece, StopsWith, Serves}
+use Rattle.a64_buffer.proofs.Growth.{stands_there}
 use Rattle.a64_buffer.proofs.Rooms.{label_wants}
 use Rattle.a64_buffer.proofs.Serving.{same_class}
 use Rattle.a64_words.proofs.WordLists.{words_long}
@@ -74,6 +77,16 @@ module _ {K : Type 0} (r : Kinds K) (constants : FinMap nat_cmp (List ℕ)) wher
   piece_behind place (u ∷ us) zero d h = omega arith
   piece_behind place (u ∷ us) (suc k) d h = let x = piece_behind (place + 4 * length (words_for r constants (class r u) u.target place)) us k d (omega arith) in omega (arith, x)
 
+  flat_long : (place : ℕ) (u : Use K) (us : List (Use K)) → length (flat_map (piece_words r constants) (pieces r constants place (u ∷ us))) ≡ length (words_for r constants (class r u) u.target place) + length (flat_map (piece_words r constants) (pieces r constants (place + 4 * length (words_for r constants (class r u) u.target place)) us))
+  flat_long place u us =
+      let next : ℕ = place + 4 * length (words_for r constants (class r u) u.target place) in
+      ap length (flat_map-cons (piece_words r constants) (place, u) (pieces r constants next us)) ∙ length-append (words_for r constants (class r u) u.target place) (flat_map (piece_words r constants) (pieces r constants next us))
+
+  piece_ends : (place : ℕ) (us : List (Use K)) (k : ℕ) (d : ℕ × Use K) → k < length us → (get_or (pieces r constants place us) k d).0 + 4 * length (piece_words r constants (get_or (pieces r constants place us) k d)) ≤ place + 4 * length (flat_map (piece_words r constants) (pieces r constants place us))
+  piece_ends place [] k d h = absurd (omega arith)
+  piece_ends place (u ∷ us) zero d h = omega (arith, flat_long place u us)
+  piece_ends place (u ∷ us) (suc k) d h = let x = piece_ends (place + 4 * length (words_for r constants (class r u) u.target place)) us k d (omega arith) in omega (arith, x, flat_long place u us)
+
   -- pieces stand one behind another
   pub pieces_apart : (place : ℕ) (us : List (Use K)) (j k : ℕ) (d : ℕ × Use K) → j < k → k < length us → (get_or (pieces r constants place us) j d).0 + 4 * length (piece_words r constants (get_or (pieces r constants place us) j d)) ≤ (get_or (pieces r constants place us) k d).0
   pieces_apart place [] j k d lt h = absurd (omega arith)
@@ -106,6 +119,24 @@ module _ {K : Type 0} (r : Kinds K) (constants : FinMap nat_cmp (List ℕ)) wher
   piece_holds (Trap code) kind place known w = class_holds Trapping (Trap code) place w (λ e. let z : Trapping ≡ Load = e in cc)
   piece_holds IslandEnd kind place known w = absurd (false≢true w)
 
+  -- so it does where the use of each stops at it
+  module _ (place : ℕ) (us : List (Use K)) (stops : All (StopsAtPiece r constants) (pieces r constants place us)) (i stop : ℕ) (d : Use K) (h : i < length us) (known : IsKnown constants (get_or us i d).target) (want : wants (class r (get_or us i d)) ≡ true) (e : (get_or us i d).stop ≡ Some stop) where
+    abbrev piece_at : ℕ × Use K
+    piece_at = get_or (pieces r constants place us) i (0, d)
+
+    pub piece_place : (piece_at.0 ≤ stop) × (stop < piece_at.0 + 4 * length (piece_words r constants piece_at))
+    piece_place =
+        let p : ℕ × Use K = get_or (pieces r constants place us) i (0, d) in
+        let is : p.1 ≡ get_or us i d = piece_use place us i (0, d) h in
+        let holds = piece_holds p.1.target p.1.kind p.0 (subst (λ (u : Use K). IsKnown constants u.target) (sym is) known) (ap (λ (u : Use K). wants (class r u)) is ∙ want) in
+        let at : p.1.stop ≡ Some (stop_for r constants (class r p.1) p.1.target p.0) = stops i (0, d) (omega (arith, h, pieces_count place us)) in
+        let z : Some (stop_for r constants (class r p.1) p.1.target p.0) ≡ Some stop = sym at ∙ (ap (λ (u : Use K). u.stop) is ∙ e) in
+        subst (λ n. (p.0 ≤ n) × (n < p.0 + 4 * length (piece_words r constants p))) (cc z) holds
+
+    -- and so it stops among their words
+    pub piece_inside : (place ≤ stop) × (stop < place + 4 * length (flat_map (piece_words r constants) (pieces r constants place us)))
+    piece_inside = (omega (arith, piece_place.0, piece_behind place us i (0, d) h), omega (arith, piece_place.1, piece_ends place us i (0, d) h))
+
 -- a use that has its stop by the piece of another has that one's stop
 same_stop : {K : Type 0} (v u : Use K) → StopsWith v u → v.stop ≡ u.stop
 same_stop {K = K} v u h = elim h [ inl e ↦ ap (λ (x : Use K). x.stop) e | inr load ↦ load.2 ]
@@ -120,14 +151,8 @@ module _ {K : Type 0} (r : Kinds K) (areas : List (ℕ × ℕ)) (served : List (
   -- the piece of a served use holds its stop
   pub served_place : (i stop : ℕ) (d : Use K) → i < length served → (get_or served i d).stop ≡ Some stop → ((piece i d).0 ≤ stop) × (stop < (piece i d).0 + 4 * length (piece_words r b.constants (piece i d)))
   served_place i stop d h e =
-      let p : ℕ × Use K = piece i d in
-      let is : p.1 ≡ get_or served i d = piece_use r b.constants (end_of b) served i (0, d) h in
       let q = s.waited i d h in
-      let known : IsKnown b.constants p.1.target = subst (λ (u : Use K). IsKnown b.constants u.target) (q.is d ∙ sym is) (subst (λ cs. IsKnown cs (get_or b'.uses q.index d).target) later.constants (sound.known q.index d q.within)) in
-      let holds = piece_holds r b.constants p.1.target p.1.kind p.0 known (ap (λ (u : Use K). wants (class r u)) is ∙ q.wants_one) in
-      let at : p.1.stop ≡ Some (stop_for r b.constants (class r p.1) p.1.target p.0) = s.stops i (0, d) (omega (arith, h, pieces_count r b.constants (end_of b) served)) in
-      let z : Some (stop_for r b.constants (class r p.1) p.1.target p.0) ≡ Some stop = sym at ∙ (ap (λ (u : Use K). u.stop) is ∙ e) in
-      subst (λ n. (p.0 ≤ n) × (n < p.0 + 4 * length (piece_words r b.constants p))) (cc z) holds
+      piece_place r b.constants (end_of b) served s.stops i stop d h (subst (λ (u : Use K). IsKnown b.constants u.target) (q.is d) (subst (λ cs. IsKnown cs (get_or b'.uses q.index d).target) later.constants (sound.known q.index d q.within))) q.wants_one e
 
   -- two pieces do not hold one stop
   served_two : (i j stop : ℕ) (d : Use K) → i < j → j < length served → (get_or served i d).stop ≡ Some stop → (get_or served j d).stop ≡ Some stop → ⊥
@@ -179,9 +204,6 @@ module _ {K : Type 0} (r : Kinds K) (areas : List (ℕ × ℕ)) (served : List (
   direct_shares (Trap code) kind offset stop n h = absurd (false≢true (sym n))
   direct_shares IslandEnd kind offset stop n h = inr refl
 
-  pub stop_is : (k stop : ℕ) (d : Use K) → k < length b'.uses → (get_or b'.uses k d).stop ≡ Some stop → IsStop r b' areas (get_or b'.uses k d).target (get_or b'.uses k d).kind (get_or b'.uses k d).offset stop
-  stop_is k stop d h e = subst (λ o. MatchOption o (IsRightlyOpen r b' areas (get_or b'.uses k d).target (get_or b'.uses k d).kind (get_or b'.uses k d).offset) (IsStop r b' areas (get_or b'.uses k d).target (get_or b'.uses k d).kind (get_or b'.uses k d).offset)) e (sound.stops k d h)
-
   -- a stop is one that others may share, was there before, or came by a piece
   abbrev Comes : ℕ → ℕ → Use K → Type 0
   Comes k stop d = IsShared b.labels (get_or b'.uses k d).target stop ⊎ ((k < length b.uses) × ((get_or b.uses k d).stop ≡ Some stop) × (stop < end_of b)) ⊎ Any (StopsWith (get_or b'.uses k d)) served
@@ -205,7 +227,7 @@ module _ {K : Type 0} (r : Kinds K) (areas : List (ℕ × ℕ)) (served : List (
         by true w =
             let o : is_open r (get_or b.uses k d) ≡ true = ap (λ s. wants (class r (get_or b.uses k d)) && is_none s) none ∙ ap (λ w. w && true) w in
             inr (inr (s.answered k d h o (subst IsSome (sym e) refl)))
-        by false n = inl (direct_shares (get_or b'.uses k d).target (get_or b'.uses k d).kind (get_or b'.uses k d).offset stop (ap wants (same_class r (end_of b) (get_or b.uses k d) (get_or b'.uses k d) (later.uses k d h)) ∙ n) (stop_is k stop d inside e))
+        by false n = inl (direct_shares (get_or b'.uses k d).target (get_or b'.uses k d).kind (get_or b'.uses k d).offset stop (ap wants (same_class r (end_of b) (get_or b.uses k d) (get_or b'.uses k d) (later.uses k d h)) ∙ n) (stands_there r b' areas sound.stops k stop d inside e))
 
     comes : (k stop : ℕ) (d : Use K) → k < length b'.uses → (get_or b'.uses k d).stop ≡ Some stop → Comes k stop d
     comes k stop d h e = elim (cases_lt k (length b.uses)) [

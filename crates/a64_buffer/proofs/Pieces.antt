@@ -3,7 +3,7 @@ use Rattle.std.proofs.Common.{ℕ, ◌≡◌, ◌⊎◌, ◌+◌, ◌-◌, ◌*�
 use Rattle.std.specs.Prelude.{IsSome, MatchOption, ◌&&◌, is_none}
 use Rattle.std.specs.Option.{unwrap_or}
 use Rattle.std.specs.FinMap.{get}
-use Rattle.std.proofs.lemmas.Bool.{cases_lt, false≢true, eqb-true, eq-eqb}
+use Rattle.std.proofs.lemmas.Bool.{cases_lt, false≢true, eqb-true, eq-eqb, and_parts}
 use Rattle.std.proofs.lemmas.List.{get_or_default, map-append}
 use Rattle.std.proofs.lemmas.List.Elements.{All-cons}
 use Rattle.a64_base.specs.declared.entity.TrapCode.{TrapCode}
@@ -23,7 +23,7 @@ use Rattle.a64_buffer.proofs.Rooms.{open_wants, open_stop}
 use Rattle.a64_buffer.proofs.Adding.{added_count, old_use, new_use}
 use Rattle.a64_buffer.proofs.Giving.{made_goal, only_here}
 use Rattle.a64_buffer.proofs.Pays.{label_is}
-use Rattle.a64_buffer.proofs.Serving.{flat_one, label_no_constant, sites_stopped}
+use Rattle.a64_buffer.proofs.Serving.{flat_one, label_no_constant, load_class, sites_stopped}
 
 -- a label is no constant, and no trap
 label_constant : (target : Target) (label : ℕ) → label_of target ≡ Some label → IsSome (constant_of target) → ⊥
@@ -41,10 +41,6 @@ load_of constant (Label l) e = absurd (let z : false ≡ true = e in cc)
 load_of constant (Constant c) e = let same : c.0 ≡ constant.0 = eqb-true c.0 constant.0 e in ap (λ n. Constant (record { 0 = n })) same
 load_of constant (Trap code) e = absurd (let z : false ≡ true = e in cc)
 load_of constant IslandEnd e = absurd (let z : false ≡ true = e in cc)
-
-both : (x y : Bool) → (x && y) ≡ true → (x ≡ true) × (y ≡ true)
-both true y e = (refl, e)
-both false y e = absurd (let z : false ≡ true = e in cc)
 
 module _ {K : Type 0} (r : Kinds K) (law : IsLawful r) (b b' : Buffer K) (areas : List (ℕ × ℕ)) (s : IsSound r b areas) (index : ℕ) (u : Use K) (within : index < length b.uses) (is : u ≡ get_or b.uses index u) (open' : is_open r u ≡ true) (least : All (λ v. is_open r v ≡ true → key_of r u ≤ key_of r v) b.uses) where
   at_index : (d : Use K) → get_or b.uses index d ≡ u
@@ -98,17 +94,11 @@ module _ {K : Type 0} (r : Kinds K) (law : IsLawful r) (b b' : Buffer K) (areas 
         tested false o e h = absurd (false≢true (subst IsSome e h))
 
     -- all loads of constants are of one class, so the first of all open uses is the first of its constant
-    load_class : (t : Target) (kind : K) → IsSome (constant_of t) → class_of r t kind ≡ Load
-    load_class (Label l) kind h = absurd (false≢true h)
-    load_class (Constant c) kind h = refl
-    load_class (Trap code) kind h = absurd (false≢true h)
-    load_class IslandEnd kind h = absurd (false≢true h)
-
     is_first : IsFirst r b.uses served
     is_first is_constant k d h o same =
         let v : Use K = get_or b.uses k d in
-        let mine : class r u ≡ Load = load_class u.target u.kind is_constant in
-        let other : class r v ≡ Load = load_class v.target v.kind (subst (λ t. IsSome (constant_of t)) (sym same) is_constant) in
+        let mine : class r u ≡ Load = load_class r u.target u.kind is_constant in
+        let other : class r v ≡ Load = load_class r v.target v.kind (subst (λ t. IsSome (constant_of t)) (sym same) is_constant) in
         let less : key_of r u ≤ key_of r v = least k d h o in
         omega (arith, less, ap rank_of mine, ap rank_of other)
 
@@ -199,7 +189,7 @@ module _ {K : Type 0} (r : Kinds K) (law : IsLawful r) (b b' : Buffer K) (areas 
       (ap (λ t. words_for r b.constants (class_of r t u.kind) t (end_of b)) e ∙ ap (λ o. copy_words (unwrap_or o []) (end_of b)) known)
       (ap (λ t. trap_at t (end_of b)) e)
       (ap (λ t. stop_for r b.constants (class_of r t u.kind) t (end_of b)) e ∙ ap (λ o. end_of b + 4 * padding (end_of b) (length (unwrap_or o []))) known)
-      (λ k d h t. inr (subst (λ t. IsSome (constant_of t)) (sym e) refl, load_of constant (get_or b.uses k d).target (both (is_load_of constant.0 (get_or b.uses k d).target) (is_none (get_or b.uses k d).stop) t).0 ∙ sym e))
+      (λ k d h t. inr (subst (λ t. IsSome (constant_of t)) (sym e) refl, load_of constant (get_or b.uses k d).target (and_parts (is_load_of constant.0 (get_or b.uses k d).target) (is_none (get_or b.uses k d).stop) t).0 ∙ sym e))
       (λ v is_constant same. stops (end_of b + 4 * padding (end_of b) (length content)) v.target v.stop (same ∙ e))
       (λ k d h. absurd (omega arith))
       (ap (λ t. sites_for r (class_of r t u.kind) t (end_of b)) e)

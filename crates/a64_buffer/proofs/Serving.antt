@@ -10,6 +10,7 @@ use Rattle.std.proofs.lemmas.List.Elements.{All-append, All-same}
 use Rattle.a64_buffer.specs.declared.site.Use.{Use}
 use Rattle.a64_buffer.specs.declared.site.Target.{Target}
 use Rattle.a64_buffer.specs.declared.site.Target.TheVariants.{Label, Constant, Trap, IslandEnd}
+use Rattle.a64_buffer.specs.declared.class.Class.TheVariants.{Load}
 use Rattle.a64_buffer.specs.Kinds.{Kinds}
 use Rattle.a64_buffer.specs.Buffer.{Buffer, end_of, label_of, goal_of}
 use Rattle.a64_buffer.specs.Classes.{class, class_of, wants, rank_of, is_open}
@@ -47,6 +48,13 @@ any_right P xs ys (k, x, h, e, p) =
     (length xs + k, x, omega (arith, h, length-append xs ys), get_or-append_right xs ys (length xs) (length xs + k) x refl (omega arith) ∙ (ap (λ i. get_or ys i x) n ∙ e), p)
 
 -- ---- targets
+
+-- all loads of constants are of one class
+pub load_class : {K : Type 0} (r : Kinds K) (t : Target) (kind : K) → IsSome (constant_of t) → class_of r t kind ≡ Load
+load_class r (Label l) kind h = absurd (false≢true h)
+load_class r (Constant c) kind h = refl
+load_class r (Trap code) kind h = absurd (false≢true h)
+load_class r IslandEnd kind h = absurd (false≢true h)
 
 pub label_no_constant : (target : Target) → IsSome (label_of target) → IsSome (constant_of target) → ⊥
 label_no_constant (Label l) h c = false≢true c

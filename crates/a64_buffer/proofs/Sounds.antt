@@ -3,7 +3,7 @@ use Rattle.std.proofs.Common.{ℕ, ◌≡◌, ◌≢◌, ◌⊎◌, ◌+◌, ◌
 use Rattle.std.specs.Prelude.{MatchOption}
 use Rattle.std.specs.Option.{option_and_then}
 use Rattle.std.specs.FinMap.{FinMap, get, insert, get-empty}
-use Rattle.std.proofs.lemmas.Bool.{cases_eq, cases_lt, false≢true, leb-true}
+use Rattle.std.proofs.lemmas.Bool.{cases_eq, cases_lt, false≢true, leb-true, and_parts}
 use Rattle.std.proofs.lemmas.List.{length_push, length-append, length-map, append-nil, get_or_append_left, get_or_push, get_or-map}
 use Rattle.std.proofs.lemmas.List.Elements.{All-push, All-map}
 use Rattle.std.proofs.lemmas.List.Sums.{sum_by-cons}
@@ -300,10 +300,6 @@ module _ {K : Type 0} (r : Kinds K) where
       }
 
       -- where a use stops once the label is bound
-      both : (x y : Bool) → (x && y) ≡ true → (x ≡ true) × (y ≡ true)
-      both true y e = (refl, e)
-      both false y e = absurd (false≢true e)
-
       here : (target : Target) (kind : K) (offset : ℕ) → label_of target ≡ Some label → offset < end_of b → MatchOption (reached r kind offset (end_of b)) (IsRightlyOpen r bound' b.islands target kind offset) (IsStop r bound' b.islands target kind offset)
       here (Label l) kind offset e lt = go (is_within r kind offset (end_of b)) refl
         where
@@ -315,10 +311,11 @@ module _ {K : Type 0} (r : Kinds K) where
 
           go : (t : Bool) → is_within r kind offset (end_of b) ≡ t → MatchOption (cond t (Some (end_of b)) None) (IsRightlyOpen r bound' b.islands (Label l) kind offset) (IsStop r bound' b.islands (Label l) kind offset)
           go true w =
-              let q = both (nat_le (end_of b) (offset + r.forward kind)) (nat_le offset (end_of b + r.backward kind)) w in
+              let q = and_parts (nat_le (end_of b) (offset + r.forward kind)) (nat_le offset (end_of b + r.backward kind)) w in
               record {
                 aligned = omega arith;
                 within = record { ahead = leb-true (end_of b) (offset + r.forward kind) q.0; behind = leb-true offset (end_of b + r.backward kind) q.1 };
+                ahead = inr at;
                 leads = inl at;
               }
           go false w = subst (λ o. IfSome o (λ p. is_within r kind offset p ≡ false)) (sym at) w

@@ -1,5 +1,6 @@
 -- Parts of code that the buffer itself writes.
-use Rattle.std.specs.Prelude.{ℕ, ◌≡◌, ◌+◌, ◌*◌, ◌/◌, ◌<◌, ◌≤◌, List, length, slice_index, slice_index_or}
+use Rattle.std.specs.Prelude.{ℕ, ◌≡◌, ◌+◌, ◌*◌, ◌/◌, ◌<◌, ◌≤◌, List, length, slice_index}
+use Rattle.std.specs.Prelude.{slice_index_or}
 use Rattle.a64_buffer.specs.declared.site.Use.{Use}
 use Rattle.a64_buffer.specs.declared.site.Target.{Target}
 use Rattle.a64_buffer.specs.Buffer.{Buffer, end_of, IsFree}
@@ -22,7 +23,8 @@ module _ {K : Type 0} where
 
   -- these words stand from a place on, no use is made on them, and they are the first of so many
   -- bytes of an area
-  pub record Stands (b : Buffer K) (areas : List (ℕ × ℕ)) (place : ℕ) (words : List ℕ) (size : ℕ) : Type 0 where
+  pub record Stands (b : Buffer K) (areas : List (ℕ
+      × ℕ)) (place : ℕ) (words : List ℕ) (size : ℕ) : Type 0 where
     pub at : (i : ℕ) → i < length words → slice_index b.words (place / 4 + i) ≡ slice_index words i
     pub free : (i : ℕ) → i < length words → IsFree b.uses (place + 4 * i)
     pub area : InArea areas place size

@@ -11,7 +11,8 @@ pub record AreByPlace {A : Type 0} (place_of : A → ℕ) (from to : ℕ) (items
   pub in_order : AllPairs (λ x y. place_of x ≤ place_of y) items
 
 -- some traps, and what else is recorded of code that ends at a place, are by place
-pub record AreRecordedByPlace (end : ℕ) (listed : List (ℕ × TrapCode)) (records : Records) : Type 0 where
+pub record AreRecordedByPlace (end : ℕ) (listed : List (ℕ
+    × TrapCode)) (records : Records) : Type 0 where
   pub traps : AreByPlace (λ t. t.0) 0 end listed
   pub relocs : AreByPlace (λ r. r.0) 0 end records.relocs
   pub calls : AreByPlace (λ place. place) 0 end records.calls

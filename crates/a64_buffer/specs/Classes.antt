@@ -1,8 +1,10 @@
 -- What uses want of islands, and what that costs other uses.
-use Rattle.std.specs.Prelude.{ℕ, ◌≡◌, ◌+◌, ◌≤◌, Bool, true, false, ◌&&◌, nat_eq, if◌then◌else◌, List, All, sum_by, None, Some, is_none}
+use Rattle.std.specs.Prelude.{ℕ, ◌≡◌, ◌+◌, ◌≤◌, Bool, true, false, ◌&&◌, nat_eq, if◌then◌else◌}
+use Rattle.std.specs.Prelude.{List, All, sum_by, None, Some, is_none}
 use Rattle.a64_buffer.specs.declared.site.Use.{Use}
 use Rattle.a64_buffer.specs.declared.class.Class.{Class}
-use Rattle.a64_buffer.specs.declared.class.Class.TheVariants.{Near, Middle, Load, Trapping, Far, Direct}
+use Rattle.a64_buffer.specs.declared.class.Class.TheVariants.{Near, Middle, Load, Trapping, Far}
+use Rattle.a64_buffer.specs.declared.class.Class.TheVariants.{Direct}
 use Rattle.a64_buffer.specs.declared.site.Target.{Target}
 use Rattle.a64_buffer.specs.declared.site.Target.TheVariants.{Label, Constant, Trap, IslandEnd}
 use Rattle.a64_buffer.specs.Kinds.{Kinds}
@@ -79,7 +81,9 @@ trap_words Direct = 0
 
 -- the class of a use of a label, by whether its kind may have a veneer, and its urgency
 abbrev pub label_class : Bool → ℕ → Class
-label_class veneers urgency = if veneers then (if nat_eq urgency 1 then Near else if nat_eq urgency 2 then Middle else Far) else Direct
+label_class veneers urgency =
+    if veneers then (if nat_eq urgency 1 then Near else if nat_eq urgency 2 then Middle else Far)
+    else Direct
 
 module _ {K : Type 0} (r : Kinds K) where
   abbrev pub class_of : Target → K → Class
@@ -116,14 +120,21 @@ module _ {K : Type 0} (r : Kinds K) where
 
   -- the same, of uses of labels that pass a test
   abbrev pub weigh_label : (ℕ → Bool) → Use K → ℕ
-  weigh_label test u = elim (label_of u.target) [ None ↦ 0 | Some label ↦ if test label then weigh (cost third) u else 0 ]
+  weigh_label test u =
+      elim (label_of u.target) [
+        | None ↦ 0
+        | Some label ↦ if test label then weigh (cost third) u else 0
+      ]
 
   abbrev pub owed_to : (ℕ → Bool) → Buffer K → ℕ
   owed_to test b = sum_by (weigh_label test) b.uses
 
-  -- each open use reaches what it gets in the worst island, if that begins so many bytes behind the end
+  -- each open use reaches what it gets in the worst island, if that begins so many bytes behind the
+  -- end
   pub record HasRoom (end : ℕ) (uses : List (Use K)) (more : ℕ) : Type 0 where
-    pub rooms : All (λ u. is_open u ≡ true → end + more + 4 + burden (level_of (class u)) uses ≤ u.offset + range_of (level_of (class u))) uses
+    pub rooms : All (λ u. is_open u ≡ true
+        → end + more + 4 + burden (level_of (class u)) uses
+        ≤ u.offset + range_of (level_of (class u))) uses
 
   abbrev pub Fits : Buffer K → ℕ → Type 0
   Fits b more = HasRoom (end_of b) b.uses more

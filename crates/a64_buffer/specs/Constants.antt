@@ -21,4 +21,5 @@ contents_bytes contents = from_entries (map (λ e. (e.0, content_bytes e.1)) (en
 
 -- constants with one more, where its number has none
 abbrev pub inserted : FinMap nat_cmp (List ℕ) → ℕ → List ℕ → FinMap nat_cmp (List ℕ)
-inserted constants number content = if is_some (get constants number) then constants else insert constants number content
+inserted constants number content =
+    if is_some (get constants number) then constants else insert constants number content

@@ -1,5 +1,6 @@
 -- What an island leaves.
-use Rattle.std.specs.Prelude.{ℕ, ◌≡◌, ◌⊎◌, ◌+◌, ◌≤◌, ◌<◌, Bool, true, false, List, ◌++◌, All, length, slice_index_or, Some, IfSome, IsSome}
+use Rattle.std.specs.Prelude.{ℕ, ◌≡◌, ◌⊎◌, ◌+◌, ◌≤◌, ◌<◌, Bool, true, false, List, ◌++◌, All}
+use Rattle.std.specs.Prelude.{length, slice_index_or, Some, IfSome, IsSome}
 use Rattle.std.specs.Ordering.{nat_cmp}
 use Rattle.std.specs.FinMap.{FinMap}
 use Rattle.a64_buffer.specs.declared.site.Use.{Use}
@@ -30,10 +31,11 @@ module _ {K : Type 0} (r : Kinds K) where
 
   -- a use of the longest range has no stop from an end on yet, but for its label's place
   abbrev pub FarWaits : ℕ → FinMap nat_cmp ℕ → Use K → Type 0
-  FarWaits end labels u = class r u ≡ Far → IfSome u.stop (λ stop. (stop < end) ⊎ (goal_of labels u.target ≡ Some stop))
+  FarWaits end labels u =
+      class r u ≡ Far → IfSome u.stop (λ stop. (stop < end) ⊎ (goal_of labels u.target ≡ Some stop))
 
-  -- an island before its last part: whatever was open with another urgency, and each constant and trap,
-  -- has its stop, and only uses of the longest range are left open
+  -- an island before its last part: whatever was open with another urgency, and each constant and
+  -- trap, has its stop, and only uses of the longest range are left open
   pub record IsBeforePromotion (jump : Bool) (b w : Buffer K) : Type 0 where
     pub long : end_of b + front_size jump ≤ end_of w
     pub later : IsLater b w
@@ -41,11 +43,12 @@ module _ {K : Type 0} (r : Kinds K) where
     pub far_waits : All (FarWaits (end_of b) b.labels) w.uses
     pub owed : end_of w + owed r w ≤ end_of b + owed r b + front_size jump
 
-  -- the last part gives each open use of the longest range a veneer, where that is forced, or some would
-  -- be out of reach without
+  -- the last part gives each open use of the longest range a veneer, where that is forced, or some
+  -- would be out of reach without
   pub record Promotes (distance : ℕ) (force : ForceVeneers) (w b' : Buffer K) : Type 0 where
     pub closed : All (λ u. is_open r u ≡ false) b'.uses
-    pub none_new : (k : ℕ) (d : Use K) → length w.uses ≤ k → k < length b'.uses → wants (class r (slice_index_or b'.uses k d)) ≡ false
+    pub none_new : (k : ℕ) (d : Use K) → length w.uses ≤ k → k < length b'.uses
+        → wants (class r (slice_index_or b'.uses k d)) ≡ false
     pub cause : (force ≡ Yes) ⊎ (Fits r w distance → ⊥)
 
   -- no use is given a veneer in the last part, and none would be out of reach
@@ -56,15 +59,17 @@ module _ {K : Type 0} (r : Kinds K) where
     pub count : length b'.uses ≡ length w.uses
 
   -- uses of the longest range are all given veneers, or none is
-  pub record IsPromotion (distance : ℕ) (force : ForceVeneers) (jump : Bool) (b b' : Buffer K) : Type 0 where
+  pub record IsPromotion (distance : ℕ) (force : ForceVeneers) (jump : Bool) (b b' : Buffer K) :
+      Type 0 where
     pub before : Buffer K
     pub is : IsBeforePromotion jump b before
     pub then' : IsLater before b'
     pub outcome : LeavesFar distance force before b' ⊎ Promotes distance force before b'
 
-  -- an island was written at the end, with a jump at its start where one was asked for; else nothing
-  -- stands before its contents (`serves`), and where nothing was open nothing was written
-  pub record HasIsland (distance : ℕ) (force : ForceVeneers) (jump : Bool) (b b' : Buffer K) : Type 0 where
+  -- an island was written at the end, with a jump at its start where one was asked for; else
+  -- nothing stands before its contents (`serves`), and where nothing was open nothing was written
+  pub record HasIsland (distance : ℕ) (force : ForceVeneers) (jump : Bool) (b b' : Buffer K) : Type
+      0 where
     pub long : end_of b + front_size jump ≤ end_of b'
     pub islands : b'.islands ≡ b.islands ++ listed jump (end_of b) (end_of b')
     pub front : jump ≡ true → HasJump b'.uses (end_of b, end_of b')

@@ -1,5 +1,6 @@
 -- What the kinds of label uses of a machine mean.
-use Rattle.std.specs.Prelude.{ℕ, ℤ, pos, ◌+ℤ◌, Bool, IsTrue, ◌≡◌, ◌+◌, ◌-◌, ◌*◌, ◌%◌, ◌^◌, ◌<◌, ◌≤◌, nat_eq, if◌then◌else◌, MatchBool, List, length, Option}
+use Rattle.std.specs.Prelude.{ℕ, ℤ, pos, ◌+ℤ◌, Bool, IsTrue, ◌≡◌, ◌+◌, ◌-◌, ◌*◌, ◌%◌, ◌^◌, ◌<◌}
+use Rattle.std.specs.Prelude.{◌≤◌, nat_eq, if◌then◌else◌, MatchBool, List, length, Option}
 use Rattle.a64_base.specs.declared.entity.Reloc.{Reloc}
 use Rattle.a64_words.specs.Word.{signed, word_at, StandAt}
 
@@ -71,13 +72,16 @@ module _ {K : Type 0} (r : Kinds K) where
 
   abbrev pub IsVeneer : K → ℕ → List ℕ → List ℕ → ℕ × K → Type 0
   IsVeneer kind offset old new use' =
-      MatchBool (nat_eq (r.urgency kind) 3) (IsFarVeneer offset old new use') (IsJumpVeneer offset new use')
+      MatchBool (nat_eq (r.urgency kind) 3) (IsFarVeneer offset old new use')
+      (IsJumpVeneer offset new use')
 
   -- the laws of the kinds
   pub record IsLawful : Type 0 where
-    -- a kind that adds has the whole word as its mask, and the whole word as a signed number is what it says
+    -- a kind that adds has the whole word as its mask, and the whole word as a signed number is
+    -- what it says
     pub whole_mask : (kind : K) → IsTrue (r.adds kind) → r.mask kind ≡ 2 ^ 32 - 1
-    pub whole_field : (kind : K) → IsTrue (r.adds kind) → (word : ℕ) → word < 2 ^ 32 → r.field kind word ≡ signed 32 word
+    pub whole_field : (kind : K) → IsTrue (r.adds kind) → (word : ℕ) → word < 2 ^ 32
+        → r.field kind word ≡ signed 32 word
     -- urgency and veneers agree
     pub urgency_most : (kind : K) → r.urgency kind ≤ 3
     pub veneer_urgency : (kind : K) → IsTrue (r.veneers kind) → 1 ≤ r.urgency kind

@@ -12,6 +12,7 @@ pub mod Space
 pub mod Pieces
 pub mod Steps
 pub mod Settled
+pub mod Held
 pub mod Leads
 pub mod Islands
 pub mod Finished

@@ -1,5 +1,8 @@
 -- What stands in islands and in the pool, and in which order.
-use Rattle.std.specs.Prelude.{ℕ, ◌≡◌, ◌≢◌, ◌⊎◌, ◌+◌, ◌*◌, ◌-◌, ◌/◌, ◌%◌, ◌^◌, ◌<◌, ◌≤◌, Bool, true, false, ◌||◌, nat_lt, if◌then◌else◌, List, [], ◌∷◌, ◌++◌, All, Any, map, length, slice_index, slice_index_or, replicate, None, Some, IfSome, IsSome}
+use Rattle.std.specs.Prelude.{ℕ, ◌≡◌, ◌≢◌, ◌⊎◌, ◌+◌, ◌*◌, ◌-◌, ◌/◌, ◌%◌, ◌^◌, ◌<◌, ◌≤◌, Bool, true}
+use Rattle.std.specs.Prelude.{false, ◌||◌, nat_lt, if◌then◌else◌, List, [], ◌∷◌, ◌++◌, All, Any}
+use Rattle.std.specs.Prelude.{map, length, slice_index, slice_index_or, replicate, None, Some}
+use Rattle.std.specs.Prelude.{IfSome, IsSome}
 use Rattle.std.specs.Option.{unwrap_or}
 use Rattle.std.specs.List.{AllPairs, flat_map}
 use Rattle.std.specs.Ordering.{nat_cmp}
@@ -9,7 +12,8 @@ use Rattle.a64_buffer.specs.declared.site.Use.{Use}
 use Rattle.a64_buffer.specs.declared.site.Target.{Target}
 use Rattle.a64_buffer.specs.declared.site.Target.TheVariants.{Label, Constant, Trap, IslandEnd}
 use Rattle.a64_buffer.specs.declared.class.Class.{Class}
-use Rattle.a64_buffer.specs.declared.class.Class.TheVariants.{Near, Middle, Load, Trapping, Far, Direct}
+use Rattle.a64_buffer.specs.declared.class.Class.TheVariants.{Near, Middle, Load, Trapping, Far}
+use Rattle.a64_buffer.specs.declared.class.Class.TheVariants.{Direct}
 use Rattle.a64_words.specs.Word.{words_of}
 use Rattle.a64_buffer.specs.Kinds.{Kinds}
 use Rattle.a64_buffer.specs.Buffer.{Buffer, end_of, goal_of, is_within, IsFree}
@@ -34,14 +38,15 @@ trap_at (Constant constant) place = []
 trap_at (Trap code) place = (place, code) ∷ []
 trap_at IslandEnd place = []
 
--- the words of a copy of some bytes, from a place on: zero words up to a multiple of their number, and
--- the bytes
+-- the words of a copy of some bytes, from a place on: zero words up to a multiple of their number,
+-- and the bytes
 abbrev pub copy_words : List ℕ → ℕ → List ℕ
 copy_words content place = replicate (padding place (length content)) 0 ++ words_of content
 
 -- a use has its stop by the piece of a served use: its own, or the copy of its constant
 abbrev pub StopsWith : {K : Type 0} → Use K → Use K → Type 0
-StopsWith v u = (v ≡ u) ⊎ (IsSome (constant_of u.target) × (v.target ≡ u.target) × (v.stop ≡ u.stop))
+StopsWith v u =
+    (v ≡ u) ⊎ (IsSome (constant_of u.target) × (v.target ≡ u.target) × (v.stop ≡ u.stop))
 
 -- a use that stops at its label, if anywhere
 abbrev pub AtGoal : {K : Type 0} → FinMap nat_cmp ℕ → Use K → Type 0
@@ -91,7 +96,8 @@ module _ {K : Type 0} (r : Kinds K) where
   abbrev pub ComesBefore : Use K → Use K → Type 0
   ComesBefore u v = (key_of u < key_of v) × (IsSome (constant_of u.target) → u.target ≢ v.target)
 
-  -- the uses that the words are which a use of a class gets: a jump word, and the last word of a far veneer
+  -- the uses that the words are which a use of a class gets: a jump word, and the last word of a
+  -- far veneer
   abbrev pub sites_for : Class → Target → ℕ → List (ℕ × Target × K)
   sites_for Near target place = (place, target, r.jump) ∷ []
   sites_for Middle target place = (place, target, r.jump) ∷ []
@@ -136,10 +142,11 @@ module _ {K : Type 0} (r : Kinds K) where
     -- pieces for some uses, one behind another from a place on, with nothing between
     abbrev pub pieces : ℕ → List (Use K) → List (ℕ × Use K)
     pieces place [] = []
-    pieces place (u ∷ us) = (place, u) ∷ pieces (place + 4 * length (words_for (class r u) u.target place)) us
+    pieces place (u ∷ us) =
+        (place, u) ∷ pieces (place + 4 * length (words_for (class r u) u.target place)) us
 
-  -- an island begins with the piece of a use, which stops there, while its label stands elsewhere: what
-  -- stands in front of a copy are zero words, which are no uses
+  -- an island begins with the piece of a use, which stops there, while its label stands elsewhere:
+  -- what stands in front of a copy are zero words, which are no uses
   pub record BeginsWith (b : Buffer K) (island : ℕ × ℕ) (u : Use K) : Type 0 where
     pub wanted : wants (class r u) ≡ true
     pub stop : ℕ
@@ -151,35 +158,48 @@ module _ {K : Type 0} (r : Kinds K) where
         (i : ℕ) → island.0 ≤ 4 * i → 4 * i < stop
         → (slice_index b.words i ≡ 0) × IsFree b.uses (4 * i)
 
-  -- a use that has got a piece: it was open before, or was made since, and its label is unbound or out
-  -- of its range
+  -- a use that has got a piece: it was open before, or was made since, and its label is unbound or
+  -- out of its range
   pub record IsServed (labels : FinMap nat_cmp ℕ) (b b' : Buffer K) (u : Use K) : Type 0 where
     pub index : ℕ
     pub within : index < length b'.uses
     pub is : (d : Use K) → slice_index_or b'.uses index d ≡ u
-    pub waited : (d : Use K) → index < length b.uses → is_open r (slice_index_or b.uses index d) ≡ true
+    pub waited : (d : Use K) → index < length b.uses
+        → is_open r (slice_index_or b.uses index d) ≡ true
     pub wants_one : wants (class r u) ≡ true
-    pub far_off : IfSome (goal_of labels u.target) (λ place. is_within r u.kind u.offset place ≡ false)
+    pub far_off : IfSome (goal_of labels u.target) (λ place. is_within r u.kind u.offset place
+        ≡ false)
     pub stops : IsSome u.stop
 
   -- no use of the same constant that waited stands before a use
   abbrev pub IsFirst : List (Use K) → Use K → Type 0
-  IsFirst uses u = IsSome (constant_of u.target) → All (λ v. is_open r v ≡ true → v.target ≡ u.target → u.offset ≤ v.offset) uses
+  IsFirst uses u =
+      IsSome (constant_of u.target)
+      → All (λ v. is_open r v ≡ true → v.target ≡ u.target → u.offset ≤ v.offset) uses
 
-  -- the words that were added are the pieces of some uses, in the order of islands, and nothing else:
-  -- each of these uses had waited and stops at its piece, the new uses are those of these words, each
-  -- trap word is recorded, each constant has one copy, at its first use, what had waited and has a
-  -- stop now has it by one of these pieces, and a new use has it so or at its label's place
-  pub record Serves (labels : FinMap nat_cmp ℕ) (constants : FinMap nat_cmp (List ℕ)) (served : List (Use K)) (b b' : Buffer K) : Type 0 where
-    pub words : b'.words ≡ b.words ++ flat_map (piece_words constants) (pieces constants (end_of b) served)
-    pub traps_are : b'.traps ≡ b.traps ++ flat_map (piece_traps constants) (pieces constants (end_of b) served)
-    pub uses_are : map site_of b'.uses ≡ map site_of b.uses ++ flat_map (piece_sites constants) (pieces constants (end_of b) served)
+  -- the words that were added are the pieces of some uses, in the order of islands, and nothing
+  -- else: each of these uses had waited and stops at its piece, the new uses are those of these
+  -- words, each trap word is recorded, each constant has one copy, at its first use, what had
+  -- waited and has a stop now has it by one of these pieces, and a new use has it so or at its
+  -- label's place
+  pub record Serves (labels : FinMap nat_cmp ℕ) (constants : FinMap nat_cmp (List ℕ))
+      (served : List (Use K)) (b b' : Buffer K) : Type 0 where
+    pub words : b'.words
+        ≡ b.words ++ flat_map (piece_words constants) (pieces constants (end_of b) served)
+    pub traps_are : b'.traps
+        ≡ b.traps ++ flat_map (piece_traps constants) (pieces constants (end_of b) served)
+    pub uses_are : map site_of b'.uses
+        ≡ map site_of b.uses
+        ++ flat_map (piece_sites constants) (pieces constants (end_of b) served)
     pub stops : All (StopsAtPiece constants) (pieces constants (end_of b) served)
     pub in_order : AllPairs ComesBefore served
     pub first' : All (IsFirst b.uses) served
     pub waited : All (IsServed labels b b') served
-    pub copied : All (λ u. IsSome (constant_of u.target) → All (λ v. v.target ≡ u.target → IsSome v.stop) b'.uses) served
-    pub answered : (k : ℕ) (d : Use K) → k < length b.uses → is_open r (slice_index_or b.uses k d) ≡ true → IsSome (slice_index_or b'.uses k d).stop → Any (StopsWith (slice_index_or b'.uses k d)) served
+    pub copied : All (λ u. IsSome (constant_of u.target)
+        → All (λ v. v.target ≡ u.target → IsSome v.stop) b'.uses) served
+    pub answered : (k : ℕ) (d : Use K) → k < length b.uses
+        → is_open r (slice_index_or b.uses k d) ≡ true → IsSome (slice_index_or b'.uses k d).stop
+        → Any (StopsWith (slice_index_or b'.uses k d)) served
     pub new_answered :
         (k : ℕ) (d : Use K) → length b.uses ≤ k → k < length b'.uses
         → IsAnswered labels served (slice_index_or b'.uses k d)

@@ -1,5 +1,7 @@
 -- What is true of every buffer of code.
-use Rattle.std.specs.Prelude.{ℕ, ◌≡◌, ◌≢◌, ◌⊎◌, ◌+◌, ◌*◌, ◌/◌, ◌%◌, ◌^◌, ◌<◌, ◌≤◌, false, IsTrue, List, [], ◌∷◌, All, Any, Contains, length, slice_index, slice_index_or, Some, IfSome, IsSome, IsSomeAnd, MatchOption}
+use Rattle.std.specs.Prelude.{ℕ, ◌≡◌, ◌≢◌, ◌⊎◌, ◌+◌, ◌*◌, ◌/◌, ◌%◌, ◌^◌, ◌<◌, ◌≤◌, false, IsTrue}
+use Rattle.std.specs.Prelude.{List, [], ◌∷◌, All, Any, Contains, length, slice_index}
+use Rattle.std.specs.Prelude.{slice_index_or, Some, IfSome, IsSome, IsSomeAnd, MatchOption}
 use Rattle.std.specs.Ordering.{nat_cmp}
 use Rattle.std.specs.FinMap.{FinMap, get}
 use Rattle.a64_base.specs.declared.entity.TrapCode.{TrapCode}
@@ -20,7 +22,20 @@ use Rattle.a64_buffer.specs.Queues.{AreWaiting}
 
 -- what the parts of a buffer are to its callers
 abbrev pub seen : {K : Type 0} → Parts K → Buffer K
-seen p = record { words = p.words.items; uses = p.uses.items; labels = p.labels; islands = p.islands.items; traps = p.traps.items; constants = p.constants.now; records = record { relocs = p.records.relocs.items; calls = p.records.calls.items; patchable = p.records.patchable.items; maps = p.records.maps.items } }
+seen p = record {
+  words = p.words.items;
+  uses = p.uses.items;
+  labels = p.labels;
+  islands = p.islands.items;
+  traps = p.traps.items;
+  constants = p.constants.now;
+  records = record {
+    relocs = p.records.relocs.items;
+    calls = p.records.calls.items;
+    patchable = p.records.patchable.items;
+    maps = p.records.maps.items;
+  };
+}
 
 -- the uses of a buffer are in chains
 abbrev pub HasChains : {K : Type 0} → Parts K → Type 0
@@ -128,6 +143,7 @@ module _ {K : Type 0} (r : Kinds K) where
     pub record IsStop (target : Target) (kind : K) (offset stop : ℕ) : Type 0 where
       pub aligned : stop % 4 ≡ 0
       pub within : IsWithin (r.forward kind) (r.backward kind) offset stop
+      pub ahead : (offset < stop) ⊎ (goal_of b.labels target ≡ Some stop)
       pub leads : LeadsOn kind target stop
 
     -- a use without a stop does not reach its label, if that is bound

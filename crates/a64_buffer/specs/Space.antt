@@ -32,7 +32,8 @@ abbrev pub HasVeneerRoom : {K : Type 0} → Kinds K → Parts K → ℕ → Type
 HasVeneerRoom r p more = HaveRoomFor (weight_of r veneer_uses p.uses.items + more) p.queues
 
 -- uses are in chains, and the sums are those of the open ones
-pub record AreTracked {K : Type 0} (r : Kinds K) (uses : List (Use K)) (earlier : List ℕ) (heads loads : FinMap nat_cmp ℕ) (sums : Burdens) : Type 0 where
+pub record AreTracked {K : Type 0} (r : Kinds K) (uses : List (Use K)) (earlier : List ℕ)
+    (heads loads : FinMap nat_cmp ℕ) (sums : Burdens) : Type 0 where
   pub chained : AreChained uses earlier heads loads
   pub burdens : AreBurdens r uses sums
 
@@ -45,8 +46,8 @@ pub record KeepsQueues {K : Type 0} (r : Kinds K) (p p' : Parts K) : Type 0 wher
   pub queues : p'.queues ≡ p.queues
   pub room : SameRoom p p'
 
--- what waits is kept: in chains, sums and queues, with room in that of the longest range for all that
--- islands add to it, and for so many uses more
+-- what waits is kept: in chains, sums and queues, with room in that of the longest range for all
+-- that islands add to it, and for so many uses more
 pub record IsKept {K : Type 0} (r : Kinds K) (p : Parts K) (more : ℕ) : Type 0 where
   pub tracked : IsTracked r p
   pub hold : AllHold r p.uses.items p.queues
@@ -62,6 +63,7 @@ pub record Keeps {K : Type 0} (r : Kinds K) (p p' : Parts K) : Type 0 where
 pub record HasSpaceForMore {K : Type 0} (r : Kinds K) (p : Parts K) : Type 0 where
   pub words : end_of (seen p) + owed r (seen p) + 4 ≤ 4 * p.words.capacity
   pub uses : length p.uses.items + weight_of r veneer_uses p.uses.items + 1 ≤ vec_capacity p.uses
-  pub earlier : length p.uses.items + weight_of r veneer_uses p.uses.items + 1 ≤ vec_capacity p.earlier
+  pub earlier : length p.uses.items + weight_of r veneer_uses p.uses.items + 1
+      ≤ vec_capacity p.earlier
   pub traps : length p.traps.items + weight_of r trap_words p.uses.items ≤ vec_capacity p.traps
   pub islands : length p.islands.items + 1 ≤ vec_capacity p.islands
