@@ -71,6 +71,7 @@ static void compile_call(items *made, const expression *call, int depth) {
     }
     ITEM(made, "Call %" PRId64 " x0=x0,x1=x1 x0=reg(x0,i64) x30 SystemV SystemV 0 false -",
          FIRST_FUNCTION_SYMBOL + call->number);
+    made->calls++;
     ITEM(made, "Mov 64 x%d x0", first);
 }
 

@@ -14,7 +14,7 @@ typedef struct {
 typedef struct {
     char *text;
     size_t length, room;
-    size_t items, labels, constants;
+    size_t items, labels, constants, calls;
     test *tests;
     size_t test_count, test_room;
 } items;
@@ -48,6 +48,7 @@ void unload(code *loaded);
 /* Runs code. Its variables are those that it was loaded with; `left` gets what it prints, and its error. */
 void run(const code *loaded, outcome *left);
 
+/* The processor time that this program has taken, in seconds. */
 double seconds(void);
 
 #endif

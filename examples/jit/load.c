@@ -13,7 +13,7 @@
 
 double seconds(void) {
     struct timespec now;
-    clock_gettime(CLOCK_MONOTONIC, &now);
+    clock_gettime(CLOCK_PROCESS_CPUTIME_ID, &now);
     return (double)now.tv_sec + 1e-9 * (double)now.tv_nsec;
 }
 
@@ -47,10 +47,11 @@ static void reserve_all(assembled *to, a64_counts room) {
     to->traps = reserve(to->traps, room.traps * sizeof *to->traps);
 }
 
-/* Assembles items, with room that is guessed first, and again where it was too little. */
+/* Assembles items. The room for bytes is a guess, and where it was too little they are assembled again; of the rest
+ * the number is known: the relocations are those of the calls, and of the address of the variables. */
 static bool assemble(const items *made, bool force, assembled *to) {
     *to = (assembled){.bytes = NULL};
-    a64_counts room = {.bytes = 12 * made->items + 1024, .items = made->items, .relocations = 64,
+    a64_counts room = {.bytes = 12 * made->items + 1024, .items = made->items, .relocations = made->calls + 1,
                        .traps = made->test_count};
     for (;;) {
         reserve_all(to, room);
@@ -59,8 +60,8 @@ static bool assemble(const items *made, bool force, assembled *to) {
             fprintf(stderr, "refused: status %d, %llu\n", to->counts.status, (unsigned long long)to->counts.subject);
             return false;
         }
-        if (to->counts.bytes <= room.bytes && to->counts.relocations <= room.relocations) return true;
-        room = to->counts;
+        if (to->counts.bytes <= room.bytes) return true;
+        room.bytes = to->counts.bytes;
     }
 }
 
@@ -114,16 +115,28 @@ static bool relocate(const code *loaded, a64_relocation relocation, int64_t *var
     return true;
 }
 
-/* Where the code may trap, with the line: the branch of each test leads to a trap word of its own. */
+/* The reason of the trap at a place. The library gives traps by place. */
+static error_code reason_at(const assembled *from, uint32_t place) {
+    size_t low = 0, high = from->counts.traps;
+    while (low < high) {
+        size_t middle = low + (high - low) / 2;
+        if (from->traps[middle].place == place) return (error_code)from->traps[middle].code;
+        if (from->traps[middle].place < place) low = middle + 1;
+        else high = middle;
+    }
+    return NO_ERROR;
+}
+
+/* Where the code traps, with the line: the branch of each test leads to a trap word of its own. */
 static void find_places(const items *made, const assembled *from, code *loaded) {
     loaded->places = reserve(NULL, made->test_count * sizeof *loaded->places);
     for (size_t i = 0; i < made->test_count; i++) {
         uint32_t place = from->places[made->tests[i].item];
-        int64_t words = (int32_t)(word_at(from->bytes + place) << 8) >> 13; /* bits 5 to 23, with their sign */
-        loaded->places[i].place = (uintptr_t)loaded->memory + place + (uintptr_t)(4 * words);
+        int32_t words = (int32_t)(word_at(from->bytes + place) << 8) >> 13; /* bits 5 to 23, with their sign */
+        uint32_t trap = place + 4 * (uint32_t)words;
+        loaded->places[i].place = (uintptr_t)loaded->memory + trap;
+        loaded->places[i].error = reason_at(from, trap);
         loaded->places[i].line = made->tests[i].line;
-        for (size_t k = 0; k < from->counts.traps; k++)
-            if (from->traps[k].place == place + 4 * words) loaded->places[i].error = (error_code)from->traps[k].code;
     }
 }
 

@@ -14,7 +14,7 @@
 #include <stdlib.h>
 #include <string.h>
 
-/* What all programs together have, and how long each step took, in seconds. */
+/* What all programs together have, and the processor time of each step, in seconds. */
 typedef struct {
     size_t programs, differ, bytes, with_islands[2], with_constants, stopped; /* islands as needed, and forced */
     double compiling, assembling, placing, running, interpreting;
@@ -84,8 +84,8 @@ static bool run_program(const char *name, const char *text, bool shows, totals *
     interpret(&read, &wanted);
     double middle = seconds();
     compile(&read, &made);
-    of->compiling += 2 * (seconds() - middle);
-    of->interpreting += 2 * (middle - begin); /* as for both runs below */
+    of->compiling += seconds() - middle;
+    of->interpreting += 2 * (middle - begin); /* twice, as the code is run */
     of->programs++;
     if (shows) show(name, &wanted);
     bool is_good = true;

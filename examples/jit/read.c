@@ -135,31 +135,38 @@ static expression *read_operand(reader *reader) {
     return expression_of(reader, VARIABLE, variable_of(reader, begin, length));
 }
 
-/* The operators by their level, those first that begin with another one. */
-static const struct {
+/* An operator, by its level: those of the highest bind first. */
+typedef struct {
     const char *word;
     int level;
     operation operation;
-} operators[] = {
-    {"==", 0, EQUAL}, {"!=", 0, NOT_EQUAL},
-    {"<=", 1, LESS_OR_EQUAL}, {">=", 1, GREATER_OR_EQUAL}, {"<", 1, LESS}, {">", 1, GREATER},
-    {"+", 2, ADD}, {"-", 2, SUBTRACT},
-    {"*", 3, MULTIPLY}, {"/", 3, DIVIDE}, {"%", 3, REMAINDER},
-};
+} operator_word;
 
-enum { OPERATORS = sizeof operators / sizeof *operators, LEVELS = 4 };
+enum { LEVELS = 4 };
+
+/* The next operator of a level, over which it goes; null where there is none. */
+static const operator_word *take_operator(reader *reader, int level) {
+    static const operator_word operators[] = {
+        /* of two words of which one begins with the other, the longer stands first */
+        {"==", 0, EQUAL}, {"!=", 0, NOT_EQUAL},
+        {"<=", 1, LESS_OR_EQUAL}, {">=", 1, GREATER_OR_EQUAL}, {"<", 1, LESS}, {">", 1, GREATER},
+        {"+", 2, ADD}, {"-", 2, SUBTRACT},
+        {"*", 3, MULTIPLY}, {"/", 3, DIVIDE}, {"%", 3, REMAINDER},
+    };
+    for (size_t i = 0; i < sizeof operators / sizeof *operators; i++)
+        if (operators[i].level == level && takes(reader, operators[i].word)) return &operators[i];
+    return NULL;
+}
 
 static expression *read_expression(reader *reader, int level) {
     if (level == LEVELS) return read_operand(reader);
     expression *left = read_expression(reader, level + 1);
-    for (size_t i = 0; i < OPERATORS; i++) {
-        if (operators[i].level != level || !takes(reader, operators[i].word)) continue;
+    for (const operator_word *taken; (taken = take_operator(reader, level));) {
         expression *both = expression_of(reader, BINARY, 0);
-        both->operation = operators[i].operation;
+        both->operation = taken->operation;
         both->operands[0] = left;
         both->operands[1] = read_expression(reader, level + 1);
         left = both;
-        i = (size_t)-1; /* from the first operator on again */
     }
     return left;
 }
