@@ -1,7 +1,8 @@
 #!/usr/bin/env bash
 # Calls the library a64_c from C (bench/c_library.c) and from Python (bench/c_library.py) on each file of
 # examples/ and of its folders and on texts that are refused, by plain and by forced islands, and compares
-# with the program: the whole report, or the line of the refusal. Then each allocation is refused in turn.
+# with the program: the whole report, or the line of the refusal. Then each allocation is refused in turn. The
+# listings, lines of words and verdicts are compared by bench/c_words.py.
 # It installs gcc and python3 where they are missing, and builds the archive and the program. With
 # PROGRAM=FILE and ARCHIVE=FILE it asks that program and links that archive.
 # Usage: [PROGRAM=FILE] [ARCHIVE=FILE] bench/c_library.sh
@@ -91,5 +92,6 @@ for file in examples/*.txt examples/*/*.txt "$work/patchable.txt" "$work"/refuse
     compared "$file" force
     if [ -s "$work/fault" ]; then refusals=$((refusals + 1)); else files=$((files + 1)); fi
 done
+python3 bench/c_words.py "$work/liba64_c.so" "$program" examples/*.txt examples/*/*.txt "$work"/refused/[2-9]*.txt
 echo "$files files: C and Python get the program's reports; $refusals are refused as by the program"
 echo "$allocations allocations refused in turn: want of memory is told, and nothing is left"

@@ -1,6 +1,7 @@
 /* The assembler of A64 texts as a library for C: docs/LIBRARY.md, "From C".
  *
- * Link liba64_c.a, and c/liblibc_c.a of the kit, which takes memory by malloc, realloc and free.
+ * Link liba64_c.a as tools/c_archives makes it. One that `rt lib` has made wants heap.c beside it, or c/liblibc_c.a
+ * of the kit, for the functions that take memory by malloc, realloc and free.
  *
  * What the caller owes, and nothing else:
  * - Each pointer is valid for its length, aligned for its type, and not null, also where the length is 0.
@@ -41,14 +42,18 @@ enum {
     A64_TOO_LARGE = 9,         /* the code could reach 2^31 bytes */
     A64_OUT_OF_REACH = 10,     /* a use that can have no veneer may be too far from the label */
     A64_OUT_OF_MEMORY = 11,    /* subject: 1 where the text was read, and each item is right by itself */
-    A64_NO_ROOM = 12           /* of a64_assemble_text alone: `length` is the room that the code needs */
+    A64_NO_ROOM = 12,          /* of calls with one buffer: `length` is the room that is needed */
+    A64_BAD_RANGE = 13,        /* 13 to 16, of a64_audit_words; subject: the range, counted from 0 */
+    A64_UNKNOWN_WORD = 14,     /* 14 to 16, subject: the place, in bytes */
+    A64_BRANCH_OUT_OF_CODE = 15,
+    A64_BRANCH_INTO_DATA = 16
 };
 
-/* What a64_assemble_text answers. */
+/* What calls answer that make one thing, or find one. */
 typedef struct {
     int32_t status;   /* one of the above */
-    uint64_t subject; /* the line, the item or the label that is refused, as above, and else 0 */
-    size_t length;    /* the bytes of the code at A64_DONE and A64_NO_ROOM, and else 0 */
+    uint64_t subject; /* what is refused or found, as above, and else 0 */
+    size_t length;    /* the bytes of what was made at A64_DONE and A64_NO_ROOM, and else 0 */
 } a64_answer;
 
 /* Assembles a text, and puts its code at the front of a buffer: words, each with its least byte first.
@@ -149,6 +154,48 @@ a64_counts a64_assemble_records(const uint8_t *text, size_t text_length, bool fo
                                 uint32_t *calls, size_t calls_room,
                                 a64_patchable_call *patchable_calls, size_t patchable_calls_room,
                                 a64_stack_map *stack_maps, size_t stack_maps_room);
+
+/* Lists a text, and puts the lines at the front of a buffer: assembly text, a line for each item, as the program's
+ * `list` writes it. Registers of the text may be virtual.
+ *
+ * text, text_length, room, room_length: as of a64_assemble_text. Of the statuses A64_BAD_OPERAND and A64_BAD_MODE say
+ *     what is wrong with the first item that cannot be shown; A64_SCRATCH_CONFLICT, A64_UNKNOWN_CONSTANT, and those of
+ *     labels and of the code's size, do not come.
+ */
+a64_answer a64_list_text(const uint8_t *text, size_t text_length, uint8_t *room, size_t room_length);
+
+/* Puts the line of a word at the front of a buffer: the fields of its row, as the program's `dis` writes them, without
+ * a line feed and without a zero behind it. The status is A64_DONE, A64_NO_ROOM or A64_OUT_OF_MEMORY.
+ */
+a64_answer a64_show_word(uint32_t word, uint8_t *room, size_t room_length);
+
+/* What a64_read_word answers. */
+typedef struct {
+    int32_t status; /* A64_DONE, or A64_BAD_LINE where no word has the line */
+    uint32_t word;  /* the word, and else 0 */
+} a64_word_read;
+
+/* Reads the line of a word, as the program's `undis` does: the word whose line a64_show_word makes so. It takes no
+ * memory. */
+a64_word_read a64_read_word(const uint8_t *line, size_t line_length);
+
+/* A range of data among words. */
+typedef struct {
+    uint32_t begin; /* where it begins, in bytes from the first word */
+    uint32_t end;   /* the place behind its last byte */
+} a64_range;
+
+/* Tells what is wrong first with words, as the program's `audit` does: A64_DONE says that each word outside the ranges
+ * is an instruction, or the trap word at the place of a trap, and that each direct branch there stays among the words
+ * and outside the ranges. A64_TOO_LARGE says that there are 2^29 words or more.
+ *
+ * words, words_length: the words, of which the first is at place 0.
+ * traps, traps_length: the places at which a trap may stand, in bytes, in any order.
+ * ranges, ranges_length: the ranges of data, by place.
+ */
+a64_answer a64_audit_words(const uint32_t *words, size_t words_length,
+                           const uint32_t *traps, size_t traps_length,
+                           const a64_range *ranges, size_t ranges_length);
 
 #ifdef __cplusplus
 }

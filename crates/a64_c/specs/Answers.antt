@@ -42,15 +42,20 @@ pub record HasRightItems (text : List ℕ) : Type 0 where
   pub read : IsFile text file
   pub right : own_fault file.frame file.info file.constants file.items.items ≡ None
 
+-- why the text is not read; want of memory has no cause in it
+abbrev pub IsUnread : List ℕ → Refusal → Type 0
+IsUnread text TooLong = limit < length text
+IsUnread text (Line n) = (length text ≤ limit) × IsFirstBad text n
+IsUnread text Unread = length text ≤ limit
+IsUnread text (Assembly error) = ⊥
+
 -- the cause of each refusal; want of memory has none in the text, but it comes to code only where
 -- each item is right by itself
 abbrev pub IsCause : List ℕ → ForceVeneers → Refusal → Type 0
-IsCause text force TooLong = limit < length text
-IsCause text force (Line n) = (length text ≤ limit) × IsFirstBad text n
-IsCause text force Unread = length text ≤ limit
 IsCause text force (Assembly error) =
     (length text ≤ limit)
     × (IsFault text force error ⊎ ((error ≡ errors.OutOfMemory) × HasRightItems text))
+IsCause text force refusal = IsUnread text refusal
 
 -- the status and the subject of each refusal
 abbrev pub refused : ℕ → ℕ → Answer

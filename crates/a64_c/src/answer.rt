@@ -20,16 +20,16 @@ pub enum Refusal {
     Assembly(EmitError),
 }
 
-/// What a call answers of the code that it makes.
+/// What a call answers, of the code or the text that it makes or of what it finds.
 #[repr(C)]
 #[derive(Clone, Copy, Debug)]
 pub struct Answer {
-    /// 0 where the code stands in the caller's buffer; a64_c.h has a name for each status.
+    /// 0 where all is well, and what was made stands in the caller's buffer; a64_c.h has a name for each status.
     pub status: i32,
-    /// The line, the item or the label that is refused; at want of memory 1 where the text was read, and each
-    /// item is right by itself; and else 0.
+    /// The line, the item or the label that is refused, or the range or the place that an audit finds; at want
+    /// of memory 1 where the text was read, and each item is right by itself; and else 0.
     pub subject: u64,
-    /// How many bytes the code has, and 0 where there is none.
+    /// How many bytes the code or the text has, and 0 where there is none.
     pub length: usize,
 }
 

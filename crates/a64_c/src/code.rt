@@ -11,7 +11,7 @@ use a64_text::read_file;
 use std::alloc::Global;
 
 /// The most bytes that a text may have.
-const LIMIT: usize = 16_777_216;
+pub const LIMIT: usize = 16_777_216;
 
 /// Whether islands are forced, for a caller's word.
 pub fn force_veneers(force: bool) -> ForceVeneers

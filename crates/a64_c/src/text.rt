@@ -6,11 +6,11 @@ use crate::answer::Answer;
 use crate::code::{code_of, force_veneers};
 use std::alloc::Global;
 
-/// Puts code at the front of a buffer, where there is room for all of it.
-fn copied(code: &[u8], room: &mut [u8]) -> Answer
-    ensures { IsCopy code.now room.old room.new result }
+/// Puts bytes at the front of a buffer, where there is room for all of them.
+pub fn copied(bytes: &[u8], room: &mut [u8]) -> Answer
+    ensures { IsCopy bytes.now room.old room.new result }
 {
-    let length = code.len();
+    let length = bytes.len();
     if length > room.len() {
         return Answer {
             status: 12,
@@ -18,7 +18,7 @@ fn copied(code: &[u8], room: &mut [u8]) -> Answer
             length,
         };
     }
-    room[..length].copy_from_slice(code);
+    room[..length].copy_from_slice(bytes);
     Answer {
         status: 0,
         subject: 0,

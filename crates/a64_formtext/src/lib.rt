@@ -8,5 +8,5 @@ mod shown;
 
 pub use file::{ShownFile, ShownFileError};
 pub use form::{print_form, read_form};
-pub use reading::read_shown;
-pub use shown::shown_listing;
+pub use reading::{read_shown, read_shown_word};
+pub use shown::{show_word, shown_listing};

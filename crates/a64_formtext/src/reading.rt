@@ -27,8 +27,8 @@ fn read_data(digits: &[u8]) -> Option<u32>
     }
 }
 
-/// The word that is shown as this line.
-pub(crate) fn read_shown_word(line: &[u8]) -> Option<u32>
+/// The word that is shown as this line, where there is one. It takes no memory.
+pub fn read_shown_word(line: &[u8]) -> Option<u32>
     ensures some { IfSome result (λ word. IsShown word line.now) }
     ensures only { (word : ℕ) → IsU32 word → IsShown word line.now → result ≡ Some word }
 {

@@ -61,6 +61,20 @@ fn push_shown(text: &mut String, word: u32) -> Result<(), AllocError>
     }
 }
 
+/// The line of a word, without a line feed: the text of its form, or `Data` and the word in hexadecimal digits
+/// where it matches no row.
+///
+/// # Errors
+///
+/// Want of memory.
+pub fn show_word(alloc: Global, word: u32) -> Result<String, AllocError>
+    ensures { IfOk result (λ text. IsShown word (string_bytes text)) }
+{
+    let mut text = String::new(alloc);
+    push_shown(&mut text, word)?;
+    Ok(text)
+}
+
 /// The lines of words, one behind another: each is the text of the word's form, or `Data` and the word in
 /// hexadecimal digits where it matches no row.
 ///
