@@ -1,5 +1,6 @@
 -- How long code can become, and how far its uses reach: sums over the items.
-use Rattle.std.specs.Prelude.{ℕ, ◌≡◌, ◌+◌, ◌-◌, ◌*◌, ◌^◌, if◌then◌else◌, List, [], ◌∷◌, length, min, sum_by, Option, None, Some}
+use Rattle.std.specs.Prelude.{ℕ, ◌≡◌, ◌+◌, ◌-◌, ◌*◌, ◌^◌, if◌then◌else◌, List, [], ◌∷◌, length}
+use Rattle.std.specs.Prelude.{min, sum_by, Option, None, Some}
 use Rattle.std.specs.List.{filter_map}
 use Rattle.std.specs.Option.{option_map_or, unwrap_or}
 use Rattle.a64_inst.specs.declared.emission.EmitFlags.{EmitFlags}
@@ -64,7 +65,8 @@ module _ (frame : FrameLayout) (flags : EmitFlags) where
 
   -- what islands may add to the code because of an item
   abbrev pub item_charge : Item → ℕ
-  item_charge item = elim (asked item) [ None ↦ charge_of (cells_of frame flags item) | Some space ↦ 4 ]
+  item_charge item =
+      elim (asked item) [ None ↦ charge_of (cells_of frame flags item) | Some space ↦ 4 ]
 
   -- the most that an item adds to the code
   abbrev pub growth_of : Item → ℕ
@@ -82,14 +84,16 @@ module _ (frame : FrameLayout) (flags : EmitFlags) where
 abbrev pub saturated : ℕ → ℕ
 saturated n = min n (2 ^ 64 - 1)
 
--- what cells add to the sums, up to the greatest number of 64 bits, and the shortest range of their uses
+-- what cells add to the sums, up to the greatest number of 64 bits, and the shortest range of their
+-- uses
 pub record AreExtent (cells : List Cell) (size charge : ℕ) (range : Option ℕ) : Type 0 where
   pub size_is : size ≡ saturated (size_of cells)
   pub charge_is : charge ≡ saturated (charge_of cells)
   pub range_is : range ≡ least (ranges_in cells)
 
 -- what an item adds to the sums, up to the greatest number of 64 bits, and its shortest range
-pub record IsExtent (frame : FrameLayout) (flags : EmitFlags) (item : Item) (size charge : ℕ) (range : Option ℕ) : Type 0 where
+pub record IsExtent (frame : FrameLayout) (flags : EmitFlags) (item : Item) (size charge : ℕ)
+    (range : Option ℕ) : Type 0 where
   pub size_is : size ≡ saturated (item_size frame flags item)
   pub charge_is : charge ≡ saturated (item_charge frame flags item + unwrap_or (asked item) 0)
   pub range_is : range ≡ least (ranges_in (cells_of frame flags item))

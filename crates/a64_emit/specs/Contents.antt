@@ -1,9 +1,11 @@
 -- What islands and the pool of finished code hold.
-use Rattle.std.specs.Prelude.{ℕ, pos, ◌+ℤ◌, ◌≡◌, ◌≢◌, ◌+◌, ◌*◌, ◌^◌, ◌<◌, false, List, [], ◌∷◌, Contains, length, Some, IsSome}
+use Rattle.std.specs.Prelude.{ℕ, pos, ◌+ℤ◌, ◌≡◌, ◌≢◌, ◌+◌, ◌*◌, ◌^◌, ◌<◌, false, List, [], ◌∷◌}
+use Rattle.std.specs.Prelude.{Contains, length, Some, IsSome}
 use Rattle.std.specs.Ordering.{nat_cmp}
 use Rattle.std.specs.FinMap.{FinMap}
 use Rattle.a64_buffer.specs.declared.class.Class.{Class}
-use Rattle.a64_buffer.specs.declared.class.Class.TheVariants.{Near, Middle, Load, Trapping, Far, Direct}
+use Rattle.a64_buffer.specs.declared.class.Class.TheVariants.{Near, Middle, Load, Trapping, Far}
+use Rattle.a64_buffer.specs.declared.class.Class.TheVariants.{Direct}
 use Rattle.a64_buffer.specs.declared.site.Target.{Target}
 use Rattle.a64_buffer.specs.declared.site.Target.TheVariants.{Label, Constant, Trap, IslandEnd}
 use Rattle.a64_buffer.specs.Buffer.{is_within}

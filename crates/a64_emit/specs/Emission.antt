@@ -1,5 +1,7 @@
 -- What emission does to a buffer.
-use Rattle.std.specs.Prelude.{ℕ, pos, ◌≡◌, ◌⊎◌, ◌+◌, ◌*◌, ◌/◌, ◌%◌, ◌^◌, ◌<◌, ◌≤◌, true, List, [], ◌∷◌, ◌++◌, map, take, length, slice_index, slice_index_or, Option, None, Some, IsSome, MatchOption, Result, OnOk, OnErr}
+use Rattle.std.specs.Prelude.{ℕ, pos, ◌≡◌, ◌⊎◌, ◌+◌, ◌*◌, ◌/◌, ◌%◌, ◌^◌, ◌<◌, ◌≤◌, true, List, []}
+use Rattle.std.specs.Prelude.{◌∷◌, ◌++◌, map, take, length, slice_index, slice_index_or, Option}
+use Rattle.std.specs.Prelude.{None, Some, IsSome, MatchOption, Result, OnOk, OnErr}
 use Rattle.std.specs.Ordering.{nat_cmp}
 use Rattle.std.specs.FinMap.{FinMap, insert}
 use Rattle.a64_base.specs.declared.entity.MachLabel.{MachLabel}
@@ -25,7 +27,8 @@ use Rattle.a64_label_use.specs.LabelUses.{label_kinds}
 use Rattle.a64_cells.specs.Shapes.{Cell}
 use Rattle.a64_cells.specs.Cells.{cell_word, inst_cells, kept_cells}
 use Rattle.a64_emit.specs.Bounds.{asked_of}
-use Rattle.a64_emit.specs.Layout.{placed, relocs_in, calls_in, patchable_in, maps_in, traps_in, records_in, more_records}
+use Rattle.a64_emit.specs.Layout.{placed, relocs_in, calls_in, patchable_in, maps_in, traps_in}
+use Rattle.a64_emit.specs.Layout.{records_in, more_records}
 
 -- ---- what emitting an instruction does
 
@@ -126,8 +129,8 @@ abbrev pub Puts : Option ℕ → List Cell → Buffer LabelUse → Buffer LabelU
 Puts None cells b b' = b' ≡ appended b cells
 Puts (Some space) cells b b' = IslandsIfNeeded space b b'
 
--- an instruction was emitted: its cells stand at the end; or, where it is a place for an island, one
--- that is needed
+-- an instruction was emitted: its cells stand at the end; or, where it is a place for an island,
+-- one that is needed
 abbrev pub Emits : EmitFlags → State → Inst → Buffer LabelUse → Buffer LabelUse → Type 0
 Emits flags state inst b b' =
     Puts (asked_of inst) (kept_cells state.frame flags inst state.map) b b'
@@ -153,8 +156,10 @@ pub record CanPut (b : Buffer LabelUse) (cells : List Cell) : Type 0 where
   pub room : HasRoom b cells
   pub fits : CellsFit b cells
 
--- what a call leaves that puts cells: they stand at the end, or where it failed, a first part of them
-pub record PutsCells {T E : Type 0} (result : Result T E) (b b' : Buffer LabelUse) (cells : List Cell) : Type 0 where
+-- what a call leaves that puts cells: they stand at the end, or where it failed, a first part of
+-- them
+pub record PutsCells {T E : Type 0} (result : Result T E) (b b' : Buffer LabelUse)
+    (cells : List Cell) : Type 0 where
   pub ok : OnOk result (b' ≡ appended b cells)
   pub err : OnErr result (IsAppendedInPart b b' cells)
 
@@ -163,7 +168,8 @@ abbrev pub HasIslandRoom : Buffer LabelUse → Type 0
 HasIslandRoom b = end_of b + classes.owed label_kinds b + 4 < 2 ^ 31
 
 -- an instruction without a fault of its own, and room for its cells, or for its island
-pub record IsReady (b : Buffer LabelUse) (frame : FrameLayout) (flags : EmitFlags) (inst : Inst) : Type 0 where
+pub record IsReady (b : Buffer LabelUse) (frame : FrameLayout) (flags : EmitFlags) (inst : Inst) :
+    Type 0 where
   pub room : HasRoom b (inst_cells frame flags inst)
   pub island : IsSome (asked_of inst) → HasIslandRoom b
   pub fits : CellsFit b (inst_cells frame flags inst)

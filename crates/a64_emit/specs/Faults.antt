@@ -1,5 +1,6 @@
 -- Why a list of items is refused.
-use Rattle.std.specs.Prelude.{ℕ, ◌≡◌, ◌+◌, ◌^◌, Bool, not, ◌&&◌, ◌==◌, nat_le, if◌then◌else◌, List, [], ◌∷◌, ◌++◌, find, map, Option, None, Some, is_none, option_map}
+use Rattle.std.specs.Prelude.{ℕ, ◌≡◌, ◌+◌, ◌^◌, Bool, not, ◌&&◌, ◌==◌, nat_le, if◌then◌else◌, List}
+use Rattle.std.specs.Prelude.{[], ◌∷◌, ◌++◌, find, map, Option, None, Some, is_none, option_map}
 use Rattle.std.specs.List.{filter_map, list_any}
 use Rattle.std.specs.Ordering.{nat_cmp}
 use Rattle.std.specs.FinMap.{FinMap, contains_key}
@@ -16,7 +17,10 @@ use Rattle.a64_buffer.specs.declared.site.Target.TheVariants.{Label, Constant, T
 use Rattle.a64_inst.specs.declared.item.Item.{Item}
 use Rattle.a64_inst.specs.declared.item.Item.TheVariants.{Bind, Emit}
 use Rattle.a64_emit.specs.declared.error.EmitError.{EmitError}
-use Rattle.a64_emit.specs.declared.error.EmitError.TheVariants.{BadOperand, BadMode, ScratchConflict, UnknownConstant, LabelBoundTwice, UnboundLabel, TooLarge}
+use Rattle.a64_emit.specs.declared.error.EmitError.TheVariants.{BadOperand, BadMode}
+use Rattle.a64_emit.specs.declared.error.EmitError.TheVariants.{ScratchConflict, UnknownConstant}
+use Rattle.a64_emit.specs.declared.error.EmitError.TheVariants.{LabelBoundTwice, UnboundLabel}
+use Rattle.a64_emit.specs.declared.error.EmitError.TheVariants.{TooLarge}
 use Rattle.a64_cells.specs.declared.site.Site.{Site}
 use Rattle.a64_cells.specs.Cells.{sites_of, all_cells, inst_cells, is_lone_cells}
 use Rattle.a64_emit.specs.Bounds.{whole}
@@ -43,16 +47,19 @@ module _ (frame : FrameLayout) (flags : EmitFlags) (constants : FinMap nat_cmp (
   -- the first fault of an item by itself, where the first item has this number
   abbrev pub own_fault_from : ℕ → List Item → Option EmitError
   own_fault_from n [] = None
-  own_fault_from n (item ∷ items) = or_else (option_map (own_error n) (item_fault item)) (own_fault_from (n + 1) items)
+  own_fault_from n (item ∷ items) =
+      or_else (option_map (own_error n) (item_fault item)) (own_fault_from (n + 1) items)
 
   abbrev pub own_fault : List Item → Option EmitError
   own_fault items = own_fault_from 0 items
 
-  -- the frame can restore an instruction exactly where it has no fault by itself, and is one word, which is no use and no call
+  -- the frame can restore an instruction exactly where it has no fault by itself, and is one word,
+  -- which is no use and no call
   abbrev pub RestoresExactly : Type 0
   RestoresExactly =
       (inst : Inst) → can_restore frame flags Refused inst
-      ≡ (is_none (inst_fault frame flags constants Refused inst) && is_lone_cells (inst_cells frame flags inst))
+      ≡ (is_none (inst_fault frame flags constants Refused inst)
+      && is_lone_cells (inst_cells frame flags inst))
 
 -- the label that an item binds
 abbrev pub binding_of : Item → Option MachLabel
@@ -65,7 +72,13 @@ bindings items = filter_map binding_of items
 
 -- the label that a use leads to, where it leads to one
 abbrev pub used_label : Site → Option MachLabel
-used_label site = elim site.target [ Label label ↦ Some label | Constant constant ↦ None | Trap code ↦ None | IslandEnd ↦ None ]
+used_label site =
+    elim site.target [
+      | Label label ↦ Some label
+      | Constant constant ↦ None
+      | Trap code ↦ None
+      | IslandEnd ↦ None
+    ]
 
 -- a label is one of these
 abbrev pub is_among : List MachLabel → MachLabel → Bool
@@ -74,7 +87,8 @@ is_among labels label = list_any (λ (l : MachLabel). l.0 == label.0) labels
 -- the first of some labels that stands among those before it, or among `before`
 abbrev pub first_repeat : List MachLabel → List MachLabel → Option MachLabel
 first_repeat before [] = None
-first_repeat before (l ∷ ls) = if is_among before l then Some l else first_repeat (before ++ l ∷ []) ls
+first_repeat before (l ∷ ls) =
+    if is_among before l then Some l else first_repeat (before ++ l ∷ []) ls
 
 -- the map has the numbers of these labels
 abbrev pub HasLabels : {X : Type 0} → FinMap nat_cmp X → List MachLabel → Type 0
@@ -102,8 +116,10 @@ module _ (frame : FrameLayout) (flags : EmitFlags) (items : List Item) where
   too_large = if nat_le (2 ^ 31) (whole frame flags items) then Some TooLarge else None
 
 -- the first fault that applies
-abbrev pub fault_of : FrameLayout → EmitFlags → FinMap nat_cmp (List ℕ) → ForceVeneers → List Item → Option EmitError
+abbrev pub fault_of : FrameLayout → EmitFlags → FinMap nat_cmp (List ℕ) → ForceVeneers → List Item
+    → Option EmitError
 fault_of frame flags constants force items =
     or_else (own_fault frame flags constants items)
     (or_else (second_binding items)
-    (or_else (unbound_use frame flags items) (or_else (too_large frame flags items) (out_of_reach frame flags force items))))
+    (or_else (unbound_use frame flags items)
+    (or_else (too_large frame flags items) (out_of_reach frame flags force items))))

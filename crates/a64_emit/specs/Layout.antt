@@ -1,5 +1,8 @@
 -- Where the items of finished code stand.
-use Rattle.std.specs.Prelude.{ℕ, ℤ, ◌≡◌, ◌≢◌, ◌⊎◌, ◌↔◌, ◌+◌, ◌*◌, ◌%◌, ◌<◌, ◌≤◌, List, [], ◌∷◌, ◌++◌, All, Contains, true, map, length, if◌then◌else◌, slice_index, slice_index_or, slice_get, Option, None, Some, IsSome, option_map, option_and_then}
+use Rattle.std.specs.Prelude.{ℕ, ℤ, ◌≡◌, ◌≢◌, ◌⊎◌, ◌↔◌, ◌+◌, ◌*◌, ◌%◌, ◌<◌, ◌≤◌, List, [], ◌∷◌}
+use Rattle.std.specs.Prelude.{◌++◌, All, Contains, true, map, length, if◌then◌else◌, slice_index}
+use Rattle.std.specs.Prelude.{slice_index_or, slice_get, Option, None, Some, IsSome, option_map}
+use Rattle.std.specs.Prelude.{option_and_then}
 use Rattle.std.specs.List.{filter_map}
 use Rattle.std.specs.List.Sorted.{IsStrictlyIncreasing}
 use Rattle.a64_base.specs.declared.entity.ExternalName.{ExternalName}
@@ -56,7 +59,8 @@ call_at s = if s.1.marks.call then Some (s.0 + 4) else None
 abbrev pub calls_in : List (ℕ × Cell) → List ℕ
 calls_in cells = filter_map call_at cells
 
--- the place behind the words of a call that may be changed later, of which a cell is the first, and how many bytes they have
+-- the place behind the words of a call that may be changed later, of which a cell is the first, and
+-- how many bytes they have
 abbrev pub patchable_at : ℕ × Cell → Option (ℕ × ℕ)
 patchable_at s = option_map (λ len. (s.0 + len, len)) s.1.marks.patchable
 
@@ -74,7 +78,12 @@ maps_in cells = filter_map map_at cells
 
 -- what cells at their places record beside traps
 abbrev pub records_in : List (ℕ × Cell) → Records
-records_in cells = record { relocs = relocs_in cells; calls = calls_in cells; patchable = patchable_in cells; maps = maps_in cells }
+records_in cells = record {
+  relocs = relocs_in cells;
+  calls = calls_in cells;
+  patchable = patchable_in cells;
+  maps = maps_in cells;
+}
 
 -- records, and others behind them
 abbrev pub more_records : Records → Records → Records
@@ -92,11 +101,13 @@ site_mask (Some site) = mask_for site.kind
 
 -- at a cell's place stands its word, in all bits outside of the field of its use
 abbrev pub Stands : List ℕ → ℕ × Cell → Type 0
-Stands bytes s = outside (site_mask s.1.site) (word_at bytes s.0) ≡ outside (site_mask s.1.site) (cell_word s.1)
+Stands bytes s =
+    outside (site_mask s.1.site) (word_at bytes s.0) ≡ outside (site_mask s.1.site) (cell_word s.1)
 
 -- a `Bind` item of the label stands at the place
 abbrev pub IsBoundAt : List Item → List ℕ → MachLabel → ℕ → Type 0
-IsBoundAt items places label place = (i : ℕ) × (slice_get items i ≡ Some (Bind label)) × (slice_get places i ≡ Some place)
+IsBoundAt items places label place =
+    (i : ℕ) × (slice_get items i ≡ Some (Bind label)) × (slice_get places i ≡ Some place)
 
 module _ (frame : FrameLayout) (flags : EmitFlags) (items : List Item) (code : Code) where
   -- the cells of each item
@@ -111,14 +122,15 @@ module _ (frame : FrameLayout) (flags : EmitFlags) (items : List Item) (code : C
   abbrev pub end_of_item : ℕ → ℕ
   end_of_item i = slice_index stations i + 4 * length (slice_index_or item_cells i [])
 
-  -- a listed island stands behind item i, which has words or is a place for an island. Where the item falls, as a
-  -- place for an island does, the island begins with a jump to its end
+  -- a listed island stands behind item i, which has words or is a place for an island. Where the
+  -- item falls, as a place for an island does, the island begins with a jump to its end
   pub record IsIslandAfter (i : ℕ) (island : ℕ × ℕ) : Type 0 where
     pub listed : Contains code.islands.items island
     pub long : island.0 + 4 ≤ island.1
     pub begins : island.0 ≡ end_of_item i
     pub ends : island.1 ≡ slice_index stations (i + 1)
-    pub has_words : (slice_index_or item_cells i [] ≢ []) ⊎ IsSome (option_and_then asked (slice_get items i))
+    pub has_words : (slice_index_or item_cells i [] ≢ [])
+        ⊎ IsSome (option_and_then asked (slice_get items i))
     pub jumped : falls_at items i ≡ true → JumpsTo code island.0 island.1
 
   -- the next item, or the pool, stands at the end of item i, or behind an island there
@@ -134,8 +146,8 @@ module _ (frame : FrameLayout) (flags : EmitFlags) (items : List Item) (code : C
     pub stands : IsIslandAfter after island
     pub once : (i : ℕ) → i < length items → IsIslandAfter i island → i ≡ after
 
-  -- the items stand at their places, in order, with only islands between them that no item runs into, and one
-  -- pool behind them
+  -- the items stand at their places, in order, with only islands between them that no item runs
+  -- into, and one pool behind them
   pub record Laid : Type 0 where
     pub count : length code.places.items ≡ length items
     pub first : slice_index stations 0 ≡ 0
@@ -144,6 +156,7 @@ module _ (frame : FrameLayout) (flags : EmitFlags) (items : List Item) (code : C
     pub islands_ordered : IsStrictlyIncreasing (map (λ island. island.0) code.islands.items)
     pub cells : All (Stands code.bytes.items) (standing item_cells code.places.items)
     pub labels_ordered : IsStrictlyIncreasing (map (λ e. e.0.0) code.labels.items)
-    pub labels : (label : MachLabel) (place : ℕ) → Contains code.labels.items (label, place) ↔ IsBoundAt items code.places.items label place
+    pub labels : (label : MachLabel) (place : ℕ) → Contains code.labels.items (label, place)
+        ↔ IsBoundAt items code.places.items label place
     pub whole_words : length code.bytes.items % 4 ≡ 0
     pub pool : code.pool ≤ length code.bytes.items

@@ -1,5 +1,6 @@
 -- Where the uses of finished code lead.
-use Rattle.std.specs.Prelude.{ℕ, pos, ◌+ℤ◌, ◌≡◌, ◌⊎◌, ◌+◌, ◌%◌, List, [], ◌∷◌, ◌++◌, All, Contains, length, Option, None, Some, IfSome, IsSomeAnd}
+use Rattle.std.specs.Prelude.{ℕ, pos, ◌+ℤ◌, ◌≡◌, ◌⊎◌, ◌+◌, ◌%◌, List, [], ◌∷◌, ◌++◌, All, Contains}
+use Rattle.std.specs.Prelude.{length, Option, None, Some, IfSome, IsSomeAnd}
 use Rattle.std.specs.List.{AllPairs}
 use Rattle.std.specs.Ordering.{nat_cmp}
 use Rattle.std.specs.FinMap.{FinMap, get}
@@ -32,9 +33,11 @@ module _ (code : Code) where
   abbrev pub areas : List (ℕ × ℕ)
   areas = code.islands.items ++ (code.pool, length code.bytes.items) ∷ []
 
-  -- the word of a use, which was put as `put`, says the distance from its place to another, where the use stops
+  -- the word of a use, which was put as `put`, says the distance from its place to another, where
+  -- the use stops
   abbrev pub StopsAt : LabelUse → ℕ → ℕ → ℕ → Type 0
-  StopsAt kind put place stop = GoesTo label_kinds kind put (word_at code.bytes.items place) place stop
+  StopsAt kind put place stop =
+      GoesTo label_kinds kind put (word_at code.bytes.items place) place stop
 
   -- a jump stands at a place, and stops at the other
   abbrev pub JumpsTo : ℕ → ℕ → Type 0
@@ -42,10 +45,12 @@ module _ (code : Code) where
       (outside (mask_for uses.Branch26) (word_at code.bytes.items from) ≡ 0x14000000)
       × (pos from +ℤ distance_in uses.Branch26 (word_at code.bytes.items from) ≡ pos to)
 
-  -- from a place on stands a far veneer to the goal: five words, of which the last says the distance from there
+  -- from a place on stands a far veneer to the goal: five words, of which the last says the
+  -- distance from there
   pub record FarVeneerAt (place goal : ℕ) : Type 0 where
     pub area : InArea areas place 20
-    pub words : StandAt code.bytes.items place (0x98000090 ∷ 0x10000071 ∷ 0x8b110210 ∷ 0xd61f0200 ∷ [])
+    pub words : StandAt code.bytes.items place (0x98000090 ∷ 0x10000071 ∷ 0x8b110210 ∷ 0xd61f0200
+        ∷ [])
     pub last : StopsAt uses.PCRel32 0 (place + 16) goal
 
   -- a place is the goal, or a far veneer to it stands there
@@ -59,7 +64,8 @@ module _ (code : Code) where
     pub jumps : JumpsTo place next
     pub arrives : Arrives next goal
 
-  -- a use of a label that stops at a place leads to the goal. A branch may pass veneers, the shorter ones two of them.
+  -- a use of a label that stops at a place leads to the goal. A branch may pass veneers, the
+  -- shorter ones two of them.
   abbrev pub LeadsOn : LabelUse → ℕ → ℕ → Type 0
   LeadsOn uses.Branch14 stop goal = Arrives stop goal ⊎ JumpWordAt stop goal
   LeadsOn uses.Branch19 stop goal = Arrives stop goal ⊎ JumpWordAt stop goal
@@ -80,16 +86,20 @@ module _ (code : Code) where
     pub word : word_at code.bytes.items place ≡ 0xc11f
     pub recorded : Contains code.traps.items (place, trap)
 
-  -- what stands where the use of a target stops: what leads on to its label, a copy of its constant, or its trap word
+  -- what stands where the use of a target stops: what leads on to its label, a copy of its
+  -- constant, or its trap word
   abbrev pub TargetAt : FinMap nat_cmp (List ℕ) → LabelUse → Target → ℕ → Type 0
-  TargetAt constants kind (Label label) stop = (goal : ℕ) × Contains code.labels.items (label, goal) × LeadsOn kind stop goal
-  TargetAt constants kind (Constant constant) stop = IsSomeAnd (get constants constant.0) (λ content. CopyAt content stop)
+  TargetAt constants kind (Label label) stop =
+      (goal : ℕ) × Contains code.labels.items (label, goal) × LeadsOn kind stop goal
+  TargetAt constants kind (Constant constant) stop =
+      IsSomeAnd (get constants constant.0) (λ content. CopyAt content stop)
   TargetAt constants kind (Trap trap) stop = TrapWordAt stop trap
   TargetAt constants kind IslandEnd stop = ⊥
 
   -- the use of a word that was put at a place leads to its target
   abbrev pub SiteLeads : FinMap nat_cmp (List ℕ) → ℕ → ℕ → Site → Type 0
-  SiteLeads constants place put site = (stop : ℕ) × StopsAt site.kind put place stop × TargetAt constants site.kind site.target stop
+  SiteLeads constants place put site =
+      (stop : ℕ) × StopsAt site.kind put place stop × TargetAt constants site.kind site.target stop
 
   -- each use of cells at their places leads to its target
   abbrev pub Leads : FinMap nat_cmp (List ℕ) → List (ℕ × Cell) → Type 0

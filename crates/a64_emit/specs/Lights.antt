@@ -20,4 +20,7 @@ pub record IsLight (cells : List Cell) (growth : ℕ) (light : Light) : Type 0 w
 -- an access in a mode is one word, whatever its form
 pub record IsModeLight (mem : AMode) (light : Light) : Type 0 where
   pub held : (frame : FrameLayout) → base_offset_of frame mem ≡ None
-  pub word : (body : Body) (trap : Option TrapCode) → IsLight (last_cell body (mode_site mem) trap ∷ []) (size_of (last_cell body (mode_site mem) trap ∷ []) + charge_of (last_cell body (mode_site mem) trap ∷ [])) light
+  pub word : (body : Body) (trap : Option TrapCode)
+      → IsLight (last_cell body (mode_site mem) trap
+      ∷ []) (size_of (last_cell body (mode_site mem) trap
+      ∷ []) + charge_of (last_cell body (mode_site mem) trap ∷ [])) light

@@ -1,6 +1,8 @@
--- How far apart a use and its label may come: sums over the items between them, and over what may still
--- wait for an island there.
-use Rattle.std.specs.Prelude.{ℕ, ◌+◌, ◌-◌, ◌*◌, ◌^◌, ◌==◌, ◌&&◌, Bool, true, false, not, if◌then◌else◌, nat_lt, min, max, List, [], ◌∷◌, take, drop, sum_by, count_by, Option, None, Some, is_some, option_map, option_and_then}
+-- How far apart a use and its label may come: sums over the items between them, and over what may
+-- still wait for an island there.
+use Rattle.std.specs.Prelude.{ℕ, ◌+◌, ◌-◌, ◌*◌, ◌^◌, ◌==◌, ◌&&◌, Bool, true, false, not}
+use Rattle.std.specs.Prelude.{if◌then◌else◌, nat_lt, min, max, List, [], ◌∷◌, take, drop, sum_by}
+use Rattle.std.specs.Prelude.{count_by, Option, None, Some, is_some, option_map, option_and_then}
 use Rattle.std.specs.List.{list_any, position_from}
 use Rattle.std.specs.Option.{option_map_or, option_or}
 use Rattle.a64_base.specs.declared.entity.MachLabel.{MachLabel}
@@ -64,8 +66,8 @@ abbrev pub first_some : {X Y : Type 0} → (X → Option Y) → List X → Optio
 first_some f [] = None
 first_some f (x ∷ xs) = option_or (f x) (first_some f xs)
 
--- a use may want something of an island: a branch to a label that passes a test, and, where they count, a load
--- of a constant or a deferred trap
+-- a use may want something of an island: a branch to a label that passes a test, and, where they
+-- count, a load of a constant or a deferred trap
 abbrev pub may_want : (MachLabel → Bool) → Bool → Site → Bool
 may_want passes others site = elim site.target [
   | Label label ↦ has_veneer site.kind && passes label
@@ -83,13 +85,16 @@ module _ (frame : FrameLayout) (flags : EmitFlags) where
   abbrev pub charges : List Item → ℕ
   charges items = sum_by (item_charge frame flags) items
 
-  -- nothing can want an island: there is no branch to a label, no load of a constant and no deferred trap;
-  -- or islands are not forced, and the whole is below the range of each of these
+  -- nothing can want an island: there is no branch to a label, no load of a constant and no
+  -- deferred trap; or islands are not forced, and the whole is below the range of each of these
   abbrev pub is_quiet : ForceVeneers → List Item → Bool
-  is_quiet force items = option_map_or (λ range. is_unforced force && nat_lt (whole frame flags items) range) (shortest frame flags items) true
+  is_quiet force items =
+      option_map_or (λ range. is_unforced force
+      && nat_lt (whole frame flags items) range) (shortest frame flags items) true
 
-  -- a use may still want something of an island behind some items that stand between: a branch, unless one of
-  -- them binds its label; a load of a constant or a deferred trap, unless they have 2^20 bytes
+  -- a use may still want something of an island behind some items that stand between: a branch,
+  -- unless one of them binds its label; a load of a constant or a deferred trap, unless they have
+  -- 2^20 bytes
   abbrev pub is_loose : List Item → Site → Bool
   is_loose between =
       may_want (λ label. not (list_any (binds label) between)) (nat_lt (sizes between) (2 ^ 20))
@@ -97,29 +102,37 @@ module _ (frame : FrameLayout) (flags : EmitFlags) where
   -- how many uses of items may still want something behind the last of them
   abbrev pub loose : List Item → ℕ
   loose [] = 0
-  loose (item ∷ later) = count_by (is_loose later) (sites_of (cells_of frame flags item)) + loose later
+  loose (item ∷ later) =
+      count_by (is_loose later) (sites_of (cells_of frame flags item)) + loose later
 
   module _ (force : ForceVeneers) (items : List Item) where
     -- what islands may add between the first and the last of the items from one to a later one
     abbrev pub slack : ℕ → ℕ → ℕ
-    slack from to = if is_quiet force items then 0 else charges (span items from to) + 28 * loose (take from items)
+    slack from to =
+        if is_quiet force items then 0
+        else charges (span items from to) + 28 * loose (take from items)
 
-    -- how far the start of an item and the end of another may come apart, in whichever order they stand
+    -- how far the start of an item and the end of another may come apart, in whichever order they
+    -- stand
     abbrev pub reach : ℕ → ℕ → ℕ
     reach i j = sizes (span items (min i j) (max i j)) + slack (min i j) (max i j)
 
     -- the label may come too far from the item with this index
     abbrev pub is_far : ℕ → MachLabel → Bool
-    is_far i label = option_map_or (λ j. nat_lt (2 ^ 20 - 1) (reach i j)) (binding_index items label) false
+    is_far i label =
+        option_map_or (λ j. nat_lt (2 ^ 20 - 1) (reach i j)) (binding_index items label) false
 
     -- the label of a use of the item with this index, where the use may be too far from it
     abbrev pub far_label : ℕ → Site → Option MachLabel
-    far_label i site = option_and_then (λ label. if is_far i label then Some label else None) (near_label site)
+    far_label i site =
+        option_and_then (λ label. if is_far i label then Some label else None) (near_label site)
 
     -- the first such label of some of the items, the first of which has this index
     abbrev pub first_far_from : ℕ → List Item → Option MachLabel
     first_far_from n [] = None
-    first_far_from n (item ∷ later) = option_or (first_some (far_label n) (sites_of (cells_of frame flags item))) (first_far_from (n + 1) later)
+    first_far_from n (item ∷ later) =
+        option_or (first_some (far_label n) (sites_of (cells_of frame flags item)))
+        (first_far_from (n + 1) later)
 
     -- the first use that can have no veneer and may be too far from its label
     abbrev pub out_of_reach : Option EmitError

@@ -1,5 +1,6 @@
 -- What is recorded of finished code.
-use Rattle.std.specs.Prelude.{ℕ, ℤ, ◌≡◌, ◌⊎◌, ◌↔◌, ◌+◌, List, [], ◌∷◌, ◌++◌, Contains, map, length, slice_get, Some}
+use Rattle.std.specs.Prelude.{ℕ, ℤ, ◌≡◌, ◌⊎◌, ◌↔◌, ◌+◌, List, [], ◌∷◌, ◌++◌, Contains, map, length}
+use Rattle.std.specs.Prelude.{slice_get, Some}
 use Rattle.std.specs.List.Sorted.{IsStrictlyIncreasing}
 use Rattle.a64_base.specs.declared.entity.Reloc.{Reloc}
 use Rattle.a64_base.specs.declared.entity.ExternalName.{ExternalName}
@@ -16,7 +17,8 @@ use Rattle.a64_label_use.specs.declared.label_use.LabelUse.{LabelUse}
 use Rattle.a64_cells.specs.Shapes.{Cell}
 use Rattle.a64_cells.specs.Cells.{cell_word, cells_of}
 use Rattle.a64_emit.specs.Leads.{StopsAt}
-use Rattle.a64_emit.specs.Layout.{placed, standing, relocs_in, calls_in, patchable_in, maps_in, traps_in}
+use Rattle.a64_emit.specs.Layout.{placed, standing, relocs_in, calls_in, patchable_in, maps_in}
+use Rattle.a64_emit.specs.Layout.{traps_in}
 
 -- the records of an item, by their offsets from the item's place; those of deferred traps are where
 -- these stop
@@ -83,8 +85,8 @@ module _ (frame : FrameLayout) (flags : EmitFlags) (items : List Item) where
     pub site_is : cell.site ≡ Some (record { kind = kind; target = Trap trap })
     pub stops : StopsAt code kind (cell_word cell) from place
 
-  -- the code has the records of its items, and no others, by place: a deferred trap has its own at its
-  -- trap word
+  -- the code has the records of its items, and no others, by place: a deferred trap has its own at
+  -- its trap word
   pub record HasRecords (code : Code) : Type 0 where
     pub by_place : AreRecordedByPlace (length code.bytes.items) code.traps.items (records_with code)
     pub relocs :

@@ -1,5 +1,6 @@
 -- What is wrong with an instruction that is only shown.
-use Rattle.std.specs.Prelude.{ℕ, ◌+◌, Bool, true, false, ◌&&◌, List, [], ◌∷◌, Option, None, Some, option_map}
+use Rattle.std.specs.Prelude.{ℕ, ◌+◌, Bool, true, false, ◌&&◌, List, [], ◌∷◌, Option, None, Some}
+use Rattle.std.specs.Prelude.{option_map}
 use Rattle.std.specs.Ordering.{nat_cmp}
 use Rattle.std.specs.FinMap.{FinMap}
 use Rattle.a64_inst.specs.declared.emission.EmitFlags.{EmitFlags}
@@ -23,15 +24,17 @@ first_shown [] = None
 first_shown ((true, fault) ∷ tests) = first_shown tests
 first_shown ((false, fault) ∷ tests) = Some fault
 
--- what is wrong with an instruction that is only shown, whose registers may be virtual: its operands, among them that it loads no more
--- than its constant, where that has this size; and its mode
+-- what is wrong with an instruction that is only shown, whose registers may be virtual: its
+-- operands, among them that it loads no more than its constant, where that has this size; and its
+-- mode
 abbrev pub shown_with : FrameLayout → EmitFlags → Option ℕ → Inst → Option ShownFault
 shown_with frame flags size inst = first_shown (
     (has_operands frame flags Allowed inst && is_within_constant size inst, shown.BadOperand)
     ∷ (has_mode inst, shown.BadMode) ∷ [])
 
 -- the same, of an instruction that may load these constants
-abbrev pub shown_fault : FrameLayout → EmitFlags → FinMap nat_cmp (List ℕ) → Inst → Option ShownFault
+abbrev pub shown_fault : FrameLayout → EmitFlags → FinMap nat_cmp (List ℕ) → Inst
+    → Option ShownFault
 shown_fault frame flags constants inst = shown_with frame flags (constant_size constants inst) inst
 
 -- a fault of an instruction by itself, where it counts for one that is only shown
@@ -56,7 +59,8 @@ module _ (frame : FrameLayout) (flags : EmitFlags) (constants : FinMap nat_cmp (
   -- the first such fault of items, of which the first has this number
   abbrev pub shown_from : ℕ → List Item → Option EmitError
   shown_from n [] = None
-  shown_from n (item ∷ items) = or_else (option_map (shown_error n) (shown_item item)) (shown_from (n + 1) items)
+  shown_from n (item ∷ items) =
+      or_else (option_map (shown_error n) (shown_item item)) (shown_from (n + 1) items)
 
   abbrev pub first_shown_fault : List Item → Option EmitError
   first_shown_fault items = shown_from 0 items
