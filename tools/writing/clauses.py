@@ -14,7 +14,6 @@ from .repository import CRATES, sentence_of
 
 # Up to so many characters a promise is shown as it stands, and a longer one by the definitions that it names.
 SHOWN = 72
-SHOWN_FIELD = 110
 
 # A record of so many promises needs a sentence.
 MANY = 5
@@ -101,20 +100,20 @@ def said_of(field: Field, owner: Definition) -> str:
 
 
 def rows_of(one: Definition) -> Iterator[str]:
-    """The rows of a definition and of its fields, as far as something is said of them."""
-    if one.said or one.fields:
+    """The rows of a definition and of its fields, where something is said of them."""
+    if one.said:
         yield f"| `{one.name}` | {one.place} | {cell(sentence_of([one.said]))} |"
     for field in one.fields:
         said = sentence_of([said_of(field, one)])
-        if said or RELATION.search(field.type):
-            said = said or as_code(field.type, one.cites(field.type), SHOWN_FIELD)
+        if said:
             yield f"| `{one.name}`, {field.name} | | {cell(said)} |"
 
 
 def part_of(crate: str) -> list[str]:
     """The part of a crate: its calls, and the definitions."""
     calls = [row_of(call) for call in all_calls().get(crate, [])]
-    definitions = [row for key, one in named().items() if key[0].split(".")[0] == crate for row in rows_of(one)]
+    promises = (one for key, one in named().items() if key[0].split(".")[0] == crate and one.is_promise)
+    definitions = [row for one in promises for row in rows_of(one)]
     found = ["", f"## {crate}"] if calls or definitions else []
     if calls:
         found += ["", "| call | file | what it does | conditions | promises |", "|---|---|---|---|---|", *calls]
