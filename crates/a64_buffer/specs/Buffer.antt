@@ -166,7 +166,7 @@ module _ {K : Type 0} (r : Kinds K) where
     pub leads : label_of site.target ≡ Some label
     pub unreached : IsDirect labels site → ⊥
 
-  -- the label of that use
+  -- the label of the first such use, where there is one
   abbrev pub IsFirstUnreached : Buffer K → Option MachLabel → Type 0
   IsFirstUnreached b result =
       MatchOption result (All (IsDirect b.labels) b.uses)

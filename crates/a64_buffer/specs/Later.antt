@@ -59,7 +59,7 @@ abbrev pub IsLater : {K : Type 0} → Buffer K → Buffer K → Type 0
 IsLater b b' = IsLaterFrom (end_of b) b b'
 
 -- a use that has a stop leads below an end, to its label's place, or, where it is the jump over an
--- island, to the end of that
+-- island, has that as its target
 abbrev pub HasStopBelow : {K : Type 0} → ℕ → FinMap nat_cmp ℕ → Use K → Type 0
 HasStopBelow end labels u =
     IfSome u.stop

@@ -3,6 +3,10 @@
 ghost use Rattle.std.specs.Prelude.{◌≡◌, ◌==◌, ◌||◌, IsTrue, length};
 
 /// The bytes of a constant: 4, 8 or 16.
+///
+/// They stand in the table of constants itself, with their number. So a constant takes no memory of
+/// its own, and a load, which asks for the size alone, costs a step of the table. With a variant for
+/// each size, looking up the size takes five machine instructions more.
 #[derive(Clone, Copy)]
 pub struct Content {
     /// How many there are.

@@ -77,6 +77,10 @@ impl<'c, K: MachInstLabelUse> Parts<'c, K> {
 
     /// Gives the open use that comes first, which is of a class, what it waits for, and keeps what
     /// waits then.
+    ///
+    /// Only the queue of that class is settled: to settle all five takes some 300 machine instructions
+    /// for each piece. The code is compiled for each class and proved once; to derive the class in
+    /// each step takes some 90 machine instructions for a use that an island serves.
     #[inline(always)]
     fn serve_as(&mut self, index: usize, class: Class)
         requires ready { IsReady K.kinds self.old index }

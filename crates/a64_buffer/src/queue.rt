@@ -1,4 +1,9 @@
 //! The open uses of one rank, the one of the least limit first.
+//!
+//! A queue is the list of uses itself from an index on, and a heap of the uses at older words. An
+//! insertion into an ordered map may fail half-way through an island, where memory of a vector is taken
+//! before. A heap for all open uses takes some 200 machine instructions more for a pair of a jump and
+//! its label.
 
 ghost use Rattle.std.specs.Prelude.{true, ◌≡◌, ◌≢◌, ℕ, All, IfSome, MatchOption, ◌+◌, ◌-◌, ◌^◌, ◌<◌, ◌≤◌, [], ◌∷◌, ◌++◌, OnOk, None, Some, length, min, slice_index_or, IsPermutation};
 ghost use Rattle.std.specs.BinaryHeap.{IsHeap, heap_len, heap_capacity};

@@ -1,4 +1,8 @@
 //! Emission of single instructions.
+//!
+//! Branches are put out of line, each kind by a function of its own, with larger operands by reference: a
+//! function clears the room of its values and saves registers when it begins. In one function for all, each
+//! branch would pay for what the others need.
 
 ghost use Rattle.std.specs.Prelude.{◌≡◌, ◌≢◌, ◌⊎◌, ◌+◌, ◌*◌, ◌/◌, ◌%◌, ◌^◌, ◌<◌, ◌≤◌, Bool, List, [], ◌∷◌, ◌++◌, length, map, OnOk, OnErr, IfSome, IsSome, true, None, Some};
 ghost use Rattle.a64_inst.specs.declared.group.Group.TheVariants.{Call, Control, Memory};

@@ -438,6 +438,10 @@ fn memory_light(inst: &Inst, _frame: &FrameLayout, _info: &EmitInfo) -> Option<L
 /// What an instruction of this group adds, whatever map of the stack it has, where a look at it says that it is
 /// no place for an island and needs no label near. Code that names the group at the call has what that group
 /// needs alone.
+///
+/// One look tells all of an instruction of one word without a use, a branch to labels, or an access in a mode
+/// that an instruction holds. For others the words are counted and the uses told first: by that way a jump
+/// takes some 110 machine instructions more, since the machine code joins the answers of all arms.
 #[inline(always)]
 pub fn inst_light(inst: &Inst, group: Group, frame: &FrameLayout, info: &EmitInfo) -> Option<Light>
     requires { group ≡ group_of inst.now }

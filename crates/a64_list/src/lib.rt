@@ -9,8 +9,8 @@ use std::marker::Model;
 /// A vector that contracts see as the list of its items.
 ///
 /// A value that holds one, as an instruction with a list of labels, is then compared in
-/// contracts by its items, and not by its address and capacity. It takes 16 bytes, and no memory
-/// while it is empty: length and capacity stand beside the address, in a box.
+/// contracts by its items, and not by its address and capacity. It takes 16 bytes, and a new one no
+/// memory: address, length and capacity of the items stand in a box, which the first item makes.
 #[derive(Drop)]
 pub struct ListVec<T> {
     alloc: Global,

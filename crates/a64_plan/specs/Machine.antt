@@ -1,5 +1,7 @@
 -- The move machine: a register of 64 bits, and the steps that change it
 -- (Arm Architecture Reference Manual, C6.2: MOVZ, MOVN, MOVK and ORR with an immediate).
+-- The register may hold any number before the first step, and each result is cut to its size; so
+-- what is said of a plan and of shorter ones holds of more than contents of 64 bits.
 use Rattle.std.specs.Prelude.{ℕ, ◌+◌, ◌-◌, ◌*◌, ◌/◌, ◌%◌, ◌^◌, List, fold}
 use Rattle.a64_base.specs.declared.size.OperandSize.{OperandSize}
 use Rattle.a64_base.specs.OperandSizes.{operand_bits}

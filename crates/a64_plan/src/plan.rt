@@ -89,6 +89,9 @@ fn begins_negated(size: OperandSize, value: u64) -> bool
 }
 
 /// Makes of no steps the moves that give a value.
+///
+/// They are pushed into one list, by a function out of line: lists that join behind an `if` are
+/// copied, and a value of one step would pay for the room of the moves.
 #[inline(never)]
 #[tactic(auto, unfolding(crate::specs::Plans::moves_of))]
 fn push_moves(steps: &mut ArrayVec<ConstStep, 4>, value: u64)
@@ -104,7 +107,7 @@ fn push_moves(steps: &mut ArrayVec<ConstStep, 4>, value: u64)
 }
 
 /// Whether the moves of a value are two of 32 bits: its upper half is zero, and of the two other
-/// halfwords a first move gives neither.
+/// halfwords a first move gives neither. The halfwords tell it, so no move is made for that.
 fn has_two_moves(value: u64) -> bool
     ensures { result ≡ has_two_moves value }
 {
@@ -128,6 +131,9 @@ fn narrow_logic(value: u64) -> Option<ImmLogic>
 
 /// The step of a value that does alone, where its plan is not moves: it is of 64 bits, or one
 /// `orr` of 32 bits in the place of two moves.
+///
+/// The `orr` of 32 bits is looked for behind the steps of 64 bits, so a value that one of these loads
+/// keeps it, and a run is looked for a second time only where that saves a word.
 #[tactic(auto, unfolding(crate::specs::Plans::plan_of))]
 fn lone_step(value: u64) -> Option<ConstStep>
     ensures { plan_of value ≡ alone_or result (moves_of (moves_size value) value) }

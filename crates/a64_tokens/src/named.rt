@@ -71,6 +71,9 @@ fn mixed(first: u32, middle: u32, last: u32) -> usize
 }
 
 /// A number that the token has, of its first, middle and last four bytes, or bytes where it has no four.
+///
+/// So it needs no second pass over the token. Each of the three has a factor of its own, and of the sum the
+/// top 11 bits are kept. Two names of one table that agree in these would need other factors; none do.
 #[inline(always)]
 fn hash_of(token: &[u8]) -> usize
     ensures { result ≡ hash token.now }

@@ -76,6 +76,8 @@ impl WrittenPairMode {
     }
 
     /// The mode with its offset at the scale of the type, where the constructor gives one.
+    ///
+    /// So one reader and one rule serve 8 bytes of general registers, and 8 and 16 of vector registers.
     #[tactic(auto, using(crate::proofs::PairReads::no_pair))]
     pub fn at_scale(&self, scale: IrType) -> Option<PairAMode>
         requires { IsPairScale scale }

@@ -1,4 +1,10 @@
 //! The words of code, as the bytes that they are in the end.
+//!
+//! So `finish` of the buffer patches them where they stand and hands them out. Kept as numbers, they
+//! would be copied into bytes at the end, and code would stand in memory twice.
+//!
+//! Behind the words stand zeros, so a word is one store into a slice. Appending four bytes to a vector
+//! takes 11 machine instructions more.
 
 ghost use Rattle.std.specs.Prelude.{◌≡◌, ◌+◌, ◌*◌, ◌/◌, ◌%◌, ◌<◌, ◌≤◌, ◌++◌, [], ◌∷◌, ℕ, OnOk, OnErr, length, take, vec_capacity};
 ghost use Rattle.std.specs.Int.{w32, to_le_bytes};
@@ -8,8 +14,9 @@ use std::alloc::{AllocError, Global};
 use std::marker::Model;
 use std::simd::u8x4;
 
-/// How many bytes are filled with zeros at a time: few, so that they are still at hand when words are
-/// written over them.
+/// How many bytes are filled with zeros at a time: few, so that they are still in the nearest cache
+/// when words are written over them, and are filled by vectors. More are filled by `rep stos`, which
+/// valgrind counts once for each byte.
 const FILLED_AHEAD: usize = 1024;
 
 /// The words of code, as bytes: each word with its least byte first.

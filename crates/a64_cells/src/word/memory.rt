@@ -70,7 +70,9 @@ fn access_words(access: &AccessRef<'_>, frame: &FrameLayout) -> SeveralWords
 pub struct LastWord {
     /// The word.
     pub word: u32,
-    /// What it leads to, where it is a use: that of a literal.
+    /// What it leads to, where it is a use. The kind of that use is always a literal's, and not kept: so the
+    /// compiler knows it where the word is put, and what the buffer does for it is chosen when the program is
+    /// built.
     pub target: Option<Target>,
     /// The code of the trap that is recorded at it.
     pub trap: Option<TrapCode>,

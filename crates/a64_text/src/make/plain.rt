@@ -95,7 +95,9 @@ pub fn put_immediate(items: &mut Vec<Item>, name: ImmediateName, values: &[Value
     }
 }
 
-/// The operation on registers of this name.
+/// The operation on registers of this name, made by one match, behind which one call puts it. A whole entry,
+/// given by value by some sixty arms, would be taken apart and put together again, which takes some 190 machine
+/// instructions a line.
 #[inline(always)]
 fn register_inst(name: RegisterName, values: &[Value]) -> Inst
     ensures { result ≡ register_of name values.now }
