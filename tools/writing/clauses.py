@@ -19,7 +19,7 @@ SHOWN = 72
 MANY = 5
 
 # What stands in a promise that is more than a definition of some values.
-RELATION = re.compile("[≡≢→↔<≤¬]")
+RELATION = re.compile("[≡≢→↔<≤¬⊎×]")
 
 
 @cache
