@@ -41,7 +41,7 @@ enum {
     A64_UNBOUND_LABEL = 8,
     A64_TOO_LARGE = 9,         /* the code could reach 2^31 bytes */
     A64_OUT_OF_REACH = 10,     /* a use that can have no veneer may be too far from the label */
-    A64_OUT_OF_MEMORY = 11,    /* subject: 1 where the text was read, and each item is right by itself */
+    A64_OUT_OF_MEMORY = 11,    /* subject: 1 where the text was read, and each item is right by itself, or may be shown */
     A64_NO_ROOM = 12,          /* of calls with one buffer: `length` is the room that is needed */
     A64_BAD_RANGE = 13,        /* 13 to 16, of a64_audit_words; subject: the range, counted from 0 */
     A64_UNKNOWN_WORD = 14,     /* 14 to 16, subject: the place, in bytes */

@@ -9,6 +9,9 @@ use a64_inst::{EmitInfo, FrameLayout, Item};
 
 /// How far the next item with words may move open uses ahead, if there is one: its size, 28 bytes for
 /// each use of it that may want something of an island, and four for each place for an island before it.
+///
+/// It is found by a walk, and not in a table: each run of items without words is walked once, for the item
+/// before it, so all walks are one pass.
 pub fn next_room(items: &[Item], frame: &FrameLayout, info: &EmitInfo) -> Option<u32>
     requires { whole_in (elements_of frame.now info.now items.now) < 2 ^ 31 }
     ensures { result ≡ elements.next_room (elements_of frame.now info.now items.now) }

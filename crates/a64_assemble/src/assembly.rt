@@ -9,7 +9,7 @@ ghost use Rattle.a64_assemble.specs.Found.{IsFound};
 ghost use Rattle.a64_assemble.specs.Made.{IsMadeOf};
 
 use crate::checks::{Found, bound_labels, check_items};
-use crate::putting::put_items;
+use crate::putting::{Putting, put_items};
 use crate::reach::{check_reach, is_quiet};
 use a64_buffer::{Constants, Finished, ForceVeneers, MachBuffer};
 use a64_emit::{Code, EmitError, LabelUse, restores_halfwords};
@@ -61,17 +61,13 @@ fn placed(
 {
     let mut state = EmitState::new(frame.try_clone(alloc)?);
     let mut buffer = buffer_for(alloc, constants, items.len(), found.users)?;
-    let quiet = is_quiet(found, force);
-    let places = put_items(
-        alloc,
-        items,
-        &mut buffer,
+    let how = Putting {
         info,
-        &mut state,
         force,
-        quiet,
-        found.widest,
-    )?;
+        quiet: is_quiet(found, force),
+        widest: found.widest,
+    };
+    let places = put_items(alloc, items, &mut buffer, &mut state, &how)?;
     let finished = buffer.finish()?;
     let code = code_of(places, finished);
     are_bytes(&code.bytes);

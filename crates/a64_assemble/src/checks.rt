@@ -384,6 +384,11 @@ fn found_of(size: u64, totals: Totals) -> Result<Found, EmitError>
 /// bound on what the next words need behind any item, where each label that they use is `bound`, and the code can
 /// be addressed. Where it is not known which are bound, nothing is told of what is found. It takes no memory.
 ///
+/// One look-up of an instruction's group serves its faults and its size: three passes take some 28 machine
+/// instructions more for an item without a use. Labels that are bound are gathered before, which takes memory; so
+/// want of it is told only where no item is wrong by itself. Sums saturate at 2^64 - 1: what they are compared
+/// with is below 2^33, so no number of items has to be bounded first.
+///
 /// # Errors
 ///
 /// The fault of the first item that is not right by itself. Inside: the first label that is not bound, or else

@@ -1,4 +1,6 @@
 //! How far the ends of items may come apart, with what islands between them may add.
+//!
+//! Sums over the first items answer each use, and no walk; a bisection finds the loads that may still wait.
 
 ghost use Rattle.std.specs.Prelude.{◌≡◌, ◌+◌, ◌-◌, ◌*◌, ◌^◌, ◌<◌, ℕ, List, length, take, nat_le};
 ghost use Rattle.a64_assemble.specs.Tally.{AreSums, AreMarks, AreRising, IsFirstWaiting};

@@ -27,6 +27,23 @@ use a64_emit::{LabelUse, MachInstEmit, asked_space, falls};
 use a64_inst::{EmitInfo, EmitState, FrameLayout, Inst, Item};
 use std::alloc::{AllocError, Global};
 
+/// How items are put, which is one for all of them.
+#[derive(Clone, Copy)]
+pub struct Putting<'a> {
+    /// The settings of emission.
+    pub info: &'a EmitInfo,
+    /// Whether each island gives veneers to all far uses.
+    pub force: ForceVeneers,
+    /// Whether the items are quiet: behind none of them an island is asked for. They are where nothing can want
+    /// one, or where none is forced and the whole is below the shortest range; it is told once, from sums that the
+    /// checks have.
+    pub quiet: bool,
+    /// The most bytes that the next words need behind any item. Only where an open use does not reach past so
+    /// many is it looked at what comes next: a look at each next item takes some 24 machine instructions more for
+    /// an item of mixed code, and the bound costs nothing while it is found.
+    pub widest: u32,
+}
+
 /// Emits an instruction at the end of a buffer, which is its place; where it has words, an island comes behind them where the
 /// next words need one, and gives veneers to all far uses where islands are forced. In quiet code none
 /// comes. The next words need no more than `widest` bytes, so that the rest is
@@ -41,33 +58,33 @@ fn put_inst(
     rest: &[Item],
     place: u32,
     buffer: &mut MachBuffer<'_, LabelUse>,
-    info: &EmitInfo,
     state: &mut EmitState,
-    force: ForceVeneers,
-    quiet: bool,
-    widest: u32,
+    how: &Putting<'_>,
 ) -> Result<(), AllocError>
     requires place { place ≡ end_of buffer.old }
-    requires good { inst_fault state.old.frame info.now buffer.old.constants Refused inst.now
-        ≡ None }
-    requires may { MayMove (element_of state.old.frame info.now (Emit inst.now state.old.map))
-        (elements_of state.old.frame info.now rest.now) buffer.old }
+    requires good { inst_fault state.old.frame how.now.info.now buffer.old.constants Refused
+        inst.now ≡ None }
+    requires may { MayMove
+        (element_of state.old.frame how.now.info.now (Emit inst.now state.old.map))
+        (elements_of state.old.frame how.now.info.now rest.now) buffer.old }
     requires asked { bounds.asked_of inst.now ≡ None }
-    requires wide { room_of (elements_of state.old.frame info.now rest.now) ≤ widest }
-    requires quiet { quiet ≡ true → NeedsNone force
-        (element_of state.old.frame info.now (Emit inst.now state.old.map))
-        (elements_of state.old.frame info.now rest.now) buffer.old }
-    ensures buffer { OnOk result (Moves force
-        (element_of state.old.frame info.now (Emit inst.now state.old.map))
-        (elements_of state.old.frame info.now rest.now) buffer.old buffer.new) }
+    requires wide { room_of (elements_of state.old.frame how.now.info.now rest.now)
+        ≤ how.now.widest }
+    requires quiet { how.now.quiet ≡ true → NeedsNone how.now.force
+        (element_of state.old.frame how.now.info.now (Emit inst.now state.old.map))
+        (elements_of state.old.frame how.now.info.now rest.now) buffer.old }
+    ensures buffer { OnOk result (Moves how.now.force
+        (element_of state.old.frame how.now.info.now (Emit inst.now state.old.map))
+        (elements_of state.old.frame how.now.info.now rest.now) buffer.old buffer.new) }
     ensures frame { OnOk result (state.new.frame ≡ state.old.frame) }
 {
-    inst.emit(buffer, info, state)?;
+    inst.emit(buffer, how.info, state)?;
     let _end = buffer.cur_offset();
-    if quiet || !buffer.island_needed(widest) {
+    if how.quiet || !buffer.island_needed(how.widest) {
         return Ok(());
     }
-    ask_behind(inst, place, rest, buffer, info, state.frame_layout(), force)
+    let frame = state.frame_layout();
+    ask_behind(inst, place, rest, buffer, how.info, frame, how.force)
 }
 
 /// Writes an island behind the words of an instruction, which begin at `start`, a place in bytes from the
@@ -119,36 +136,34 @@ fn put_emitted(
     rest: &[Item],
     place: u32,
     buffer: &mut MachBuffer<'_, LabelUse>,
-    info: &EmitInfo,
     state: &mut EmitState,
-    force: ForceVeneers,
-    quiet: bool,
-    widest: u32,
+    how: &Putting<'_>,
 ) -> Result<(), AllocError>
     requires place { place ≡ end_of buffer.old }
-    requires good { inst_fault state.old.frame info.now buffer.old.constants Refused inst.now
-        ≡ None }
-    requires may { MayMove (element_of state.old.frame info.now (Emit inst.now map))
-        (elements_of state.old.frame info.now rest.now) buffer.old }
-    requires wide { room_of (elements_of state.old.frame info.now rest.now) ≤ widest }
-    requires quiet { quiet ≡ true → NeedsNone force
-        (element_of state.old.frame info.now (Emit inst.now map))
-        (elements_of state.old.frame info.now rest.now) buffer.old }
-    ensures buffer { OnOk result (Moves force
-        (element_of state.old.frame info.now (Emit inst.now map))
-        (elements_of state.old.frame info.now rest.now) buffer.old buffer.new) }
+    requires good { inst_fault state.old.frame how.now.info.now buffer.old.constants Refused
+        inst.now ≡ None }
+    requires may { MayMove (element_of state.old.frame how.now.info.now (Emit inst.now map))
+        (elements_of state.old.frame how.now.info.now rest.now) buffer.old }
+    requires wide { room_of (elements_of state.old.frame how.now.info.now rest.now)
+        ≤ how.now.widest }
+    requires quiet { how.now.quiet ≡ true → NeedsNone how.now.force
+        (element_of state.old.frame how.now.info.now (Emit inst.now map))
+        (elements_of state.old.frame how.now.info.now rest.now) buffer.old }
+    ensures buffer { OnOk result (Moves how.now.force
+        (element_of state.old.frame how.now.info.now (Emit inst.now map))
+        (elements_of state.old.frame how.now.info.now rest.now) buffer.old buffer.new) }
     ensures frame { OnOk result (state.new.frame ≡ state.old.frame) }
 {
     if let Some(space) = asked_space(inst) {
-        return ask(buffer, space, force, force, true);
+        return ask(buffer, space, how.force, how.force, true);
     }
     state.pre_safepoint(map);
-    put_inst(inst, rest, place, buffer, info, state, force, quiet, widest)
+    put_inst(inst, rest, place, buffer, state, how)
 }
 
 /// Puts items one after another into a buffer without code, with islands between them, and answers their
-/// places. Behind the words of items that are quiet no island is asked for. Behind no item do the next words need more
-/// than `widest` bytes.
+/// places. Labels are bound here, and instructions put by a call: with one way for both, each item of mixed code
+/// takes some 9 machine instructions more, since each arm has its own way out on want of memory.
 ///
 /// # Errors
 ///
@@ -157,11 +172,8 @@ pub fn put_items(
     alloc: Global,
     items: &[Item],
     buffer: &mut MachBuffer<'_, LabelUse>,
-    info: &EmitInfo,
     state: &mut EmitState,
-    force: ForceVeneers,
-    quiet: bool,
-    widest: u32,
+    how: &Putting<'_>,
 ) -> Result<Vec<u32>, AllocError>
     requires words { buffer.old.words ≡ [] }
     requires uses { buffer.old.uses ≡ [] }
@@ -169,14 +181,16 @@ pub fn put_items(
     requires islands { buffer.old.islands ≡ [] }
     requires traps { buffer.old.traps ≡ [] }
     requires records { buffer.old.records ≡ no_records }
-    requires good { own_fault state.old.frame info.now buffer.old.constants items.now ≡ None }
+    requires good { own_fault state.old.frame how.now.info.now buffer.old.constants items.now
+        ≡ None }
     requires once { second_binding items.now ≡ None }
-    requires short { whole state.old.frame info.now items.now < 2 ^ 31 }
-    requires wide { BoundsRooms widest (elements_of state.old.frame info.now items.now) }
-    requires quiet { quiet ≡ true → AreQuiet force
-        (elements_of state.old.frame info.now items.now) }
-    ensures put { IfOk result (λ places. HasPutAll force
-        (elements_of state.old.frame info.now items.now) places.items buffer.new) }
+    requires short { whole state.old.frame how.now.info.now items.now < 2 ^ 31 }
+    requires wide { BoundsRooms how.now.widest
+        (elements_of state.old.frame how.now.info.now items.now) }
+    requires quiet { how.now.quiet ≡ true → AreQuiet how.now.force
+        (elements_of state.old.frame how.now.info.now items.now) }
+    ensures put { IfOk result (λ places. HasPutAll how.now.force
+        (elements_of state.old.frame how.now.info.now items.now) places.items buffer.new) }
     ensures constants { OnOk result (buffer.new.constants ≡ buffer.old.constants) }
     ensures sized { OnOk result (AreConstants buffer.old.constants) }
 {
@@ -187,18 +201,9 @@ pub fn put_items(
         let item = &items[index];
         match item {
             Item::Bind(label) => buffer.bind_label(*label)?,
-            Item::Emit { inst, map } => put_emitted(
-                inst,
-                *map,
-                &items[index + 1..],
-                place,
-                buffer,
-                info,
-                state,
-                force,
-                quiet,
-                widest,
-            )?,
+            Item::Emit { inst, map } => {
+                put_emitted(inst, *map, &items[index + 1..], place, buffer, state, how)?
+            }
         }
         place = buffer.cur_offset();
     }

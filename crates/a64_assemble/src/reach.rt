@@ -1,4 +1,7 @@
 //! Whether the uses that can have no veneer reach their labels, with what islands between may add.
+//!
+//! These are `Ldr19` and `Adr21`: other kinds have veneers, or a range beyond all code. It is asked only of code
+//! that may have 2^20 bytes and has such a use.
 
 ghost use Rattle.std.specs.Prelude.{◌≡◌, ◌⊎◌, ◌+◌, ◌^◌, ◌<◌, None, Some, List, length, option_and_then, IfOk, IfErr, MatchResult};
 ghost use Rattle.a64_inst.specs.declared.emission.EmitFlags.{EmitFlags};

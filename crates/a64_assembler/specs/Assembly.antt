@@ -150,7 +150,8 @@ pub record IsPlainCall {T : Type 0} (to : T) (info : CallInfo T) : Type 0 where
   pub pop : info.callee_pop_size ≡ 0
   pub patchable : info.patchable ≡ false
 
--- an instruction is such a call: of a symbol by `Call`, of an address in a register by `CallInd`
+-- an instruction is a call that passes nothing and gets nothing back: of a symbol by `Call`, of an
+-- address in a register by `CallInd`
 abbrev pub IsPlain : {T : Type 0} → (CallInfo T → Inst) → T → Inst → Type 0
 IsPlain {T} call to inst = (info : CallInfo T) × IsPlainCall to info × (inst ≡ call info)
 

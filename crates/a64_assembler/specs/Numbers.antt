@@ -84,7 +84,7 @@ module _ (op inverse : ALUOp) (halves : Bool) (size : OperandSize) (rd rn : Reg)
       ⊎ ((halves ≡ true → 2 ^ 24 ≤ lacking size number) × IsOnScratch size rd rn op number it)))
 
   -- with any number: on an immediate where one has it; else the inverse on an immediate where one
-  -- has what it lacks to 0
+  -- has what it lacks to 0; else by two immediates, or over x16
   abbrev pub IsWithNumber : ℕ → WithNumber → Type 0
   IsWithNumber number it =
       IsOnImmediate size rd rn op (at_size size number) it

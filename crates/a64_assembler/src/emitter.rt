@@ -122,6 +122,11 @@ fn check_whole(buffer: &MachBuffer<'_, LabelUse>) -> Result<(), EmitterError>
 }
 
 /// Code to which instructions are emitted one after another, each behind an island where it has no room.
+///
+/// Calls test each instruction and make room for it: by an island, and where a long one still has none, by a second
+/// one for all uses that wait. So `TooLarge` means the size of the code alone, and a client needs no clause on bound
+/// labels, at the cost of a byte for each label, since the buffer does not tell which are bound. Want of memory may
+/// leave a first part of an instruction, so the emitter is to be dropped then.
 #[derive(Drop)]
 pub struct Emitter<'c> {
     buffer: MachBuffer<'c, LabelUse>,

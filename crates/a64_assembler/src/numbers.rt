@@ -1,4 +1,8 @@
 //! Operations on a register and a number of any size.
+//!
+//! Two immediates need no scratch register, and serve the stack pointer too; longer numbers go over x16, which then
+//! changes, and nothing tells a caller beforehand. A comparison has one immediate or x16, since the flags of two
+//! sums are not those of one.
 
 ghost use Rattle.std.specs.Prelude.{ℕ, ◌≡◌, ◌<◌, ◌^◌, true, false, map};
 ghost use Rattle.a64_base.specs.Registers.{integer_register};

@@ -67,10 +67,11 @@ module _ (file : Contents) where
       ((row : Row) × Matches row (word_at place))
       ⊎ ((word_at place ≡ trap_word) × Contains file.traps place)
 
-  -- a direct branch there stays inside the code, and outside the data
+  -- a direct branch there stays inside the code
   abbrev pub StaysInCode : ℕ → Type 0
   StaysInCode place = (target : ℤ) → BranchesTo (word_at place) place target → InCode target
 
+  -- and leads into no data
   abbrev pub StaysOutOfData : ℕ → Type 0
   StaysOutOfData place =
       (target : ℕ) → BranchesTo (word_at place) place (pos target) → InData target → ⊥

@@ -56,7 +56,8 @@ fn is_data(file: &AuditFile, place: u32) -> bool
     }
 }
 
-/// Whether a trap is named at a place.
+/// Whether a trap is named at a place. A file that was read has traps by place, and a bisection finds them; a
+/// client may hand in any, and where they do not ascend they are looked for one by one.
 fn is_trap(traps: &[u32], ascending: bool, place: u32) -> bool
     requires { IsTrue ascending → IsNonDecreasing traps.now }
     ensures { Decides result (Contains traps.now place) }

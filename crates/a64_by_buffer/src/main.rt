@@ -1,4 +1,4 @@
-//! The program `by_buffer`: makes a function by a buffer, one instruction at a time, and prints its words and its
+//! The program `by_buffer`: makes a function by an emitter, one instruction at a time, and prints its words and its
 //! relocations.
 //!
 //! The function sums words that stand 65,536 bytes behind where x3 points, as many as x1 says, onto a constant of 64

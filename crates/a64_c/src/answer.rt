@@ -16,7 +16,8 @@ pub enum Refusal {
     Line(u64),
     /// There was no memory to read the text.
     Unread,
-    /// The items are refused for this fault of theirs, or, where each is right by itself, want of memory.
+    /// The items are refused for this fault of theirs, or, where each is right by itself, or may be shown, want of
+    /// memory.
     Assembly(EmitError),
 }
 
@@ -27,7 +28,7 @@ pub struct Answer {
     /// 0 where all is well, and what was made stands in the caller's buffer; a64_c.h has a name for each status.
     pub status: i32,
     /// The line, the item or the label that is refused, or the range or the place that an audit finds; at want
-    /// of memory 1 where the text was read, and each item is right by itself; and else 0.
+    /// of memory 1 where the text was read, and each item is right by itself, or, to list it, may be shown; else 0.
     pub subject: u64,
     /// How many bytes the code or the text has, and 0 where there is none.
     pub length: usize,

@@ -11,7 +11,7 @@ ghost use Rattle.a64_link.specs.Linked.{IsLinked, IsRefusal, CallsArrive};
 
 use crate::error::LinkError;
 use crate::layout::{room_sums, starts_of};
-use crate::linking::link_words;
+use crate::linking::{Plan, link_words};
 use crate::lists::{list_symbols, list_thunks};
 use crate::refusals::checked_symbols;
 use crate::unit::{Linked, Symbol, Unit};
@@ -39,7 +39,14 @@ fn place_all(
 {
     let sums = room_sums(alloc, units)?;
     let (starts, end) = starts_of(alloc, units, &sums, symbols)?;
-    let words = link_words(alloc, units, base, &sums, symbols, &starts, end)?;
+    let plan = Plan {
+        units,
+        base,
+        sums: &sums,
+        symbols,
+        starts: &starts,
+    };
+    let words = link_words(alloc, &plan, end)?;
     let symbols_list = list_symbols(alloc, symbols, &starts)?;
     let thunks = list_thunks(alloc, units, &sums, symbols, &starts)?;
     Ok(Linked {

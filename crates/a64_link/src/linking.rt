@@ -18,6 +18,21 @@ use a64_label_map::LabelMap;
 use a64_label_use::LabelUse;
 use std::alloc::{AllocError, Global};
 
+/// What is known of units before their words are put.
+#[derive(Clone, Copy)]
+pub(crate) struct Plan<'a> {
+    /// The units, in order.
+    pub units: &'a [Unit],
+    /// The address of place 0, in bytes.
+    pub base: u64,
+    /// The room of the first units, for each number of them, in bytes.
+    pub sums: &'a [u32],
+    /// What each symbol names that a unit defines.
+    pub symbols: &'a LabelMap<Symbol>,
+    /// Where each unit starts, in bytes from the start of the code.
+    pub starts: &'a [u32],
+}
+
 /// The word of a branch at a place, made to lead to another place.
 fn led(word: u32, place: u32, goal: u32) -> u32
     requires aligned { goal % 4 ≡ place % 4 }
@@ -86,36 +101,34 @@ fn put_address(words: &mut [u32], at: usize, value: u64)
 /// Puts what a relocation of the unit of this number asks for.
 fn put_reloc(
     words: &mut Vec<u32>,
-    units: &[Unit],
-    base: u64,
-    sums: &[u32],
-    symbols: &LabelMap<Symbol>,
-    starts: &[u32],
+    plan: &Plan<'_>,
     i: usize,
     unit: &Unit,
     k: usize,
     reloc: &Relocation,
 ) -> Result<(), AllocError>
-    requires plan { IsPlan units.now sums.now symbols.now starts.now }
-    requires unit { IsUnit units.now i unit.now }
+    requires plan { IsPlan plan.now.units.now plan.now.sums.now plan.now.symbols.now
+        plan.now.starts.now }
+    requires unit { IsUnit plan.now.units.now i unit.now }
     requires reloc { IsReloc unit.now k reloc.now }
-    requires behind { 4 * length words.old.items ≡ thunk_of units.now starts.now i unit.now k }
-    ensures { OnOk result
-        (IsPut units.now base starts.now i reloc.now words.old.items words.new.items) }
+    requires behind { 4 * length words.old.items
+        ≡ thunk_of plan.now.units.now plan.now.starts.now i unit.now k }
+    ensures { OnOk result (IsPut plan.now.units.now plan.now.base plan.now.starts.now i reloc.now
+        words.old.items words.new.items) }
 {
     let _ = unit;
     let _ = k;
-    let Some(symbol) = symbols.get(reloc.2.0) else {
+    let Some(symbol) = plan.symbols.get(reloc.2.0) else {
         unreachable!()
     };
-    let goal = starts[symbol.unit] + symbol.place;
-    let place = starts[i] + reloc.0;
+    let goal = plan.starts[symbol.unit] + symbol.place;
+    let place = plan.starts[i] + reloc.0;
     let at = (place / 4) as usize;
     if !is_call(reloc.1) {
-        put_address(words, at, address(base, goal, reloc.3));
+        put_address(words, at, address(plan.base, goal, reloc.3));
         return Ok(());
     }
-    if is_far(units, sums, symbols, i, reloc) {
+    if is_far(plan.units, plan.sums, plan.symbols, i, reloc) {
         let thunk = 4 * words.len() as u32;
         put_thunk(words, goal)?;
         lead(words, at, place, thunk);
@@ -126,26 +139,19 @@ fn put_reloc(
 }
 
 /// Puts a unit behind those before it: zeros up to its start, its words, and its thunks.
-fn put_unit(
-    words: &mut Vec<u32>,
-    units: &[Unit],
-    base: u64,
-    sums: &[u32],
-    symbols: &LabelMap<Symbol>,
-    starts: &[u32],
-    i: usize,
-    unit: &Unit,
-) -> Result<(), AllocError>
-    requires plan { IsPlan units.now sums.now symbols.now starts.now }
-    requires unit { IsUnit units.now i unit.now }
-    requires behind { 4 * length words.old.items ≡ end_before units.now starts.now i }
-    ensures { OnOk result (IsUnitPut units.now base starts.now i unit.now words.old.items
-        words.new.items (length unit.now.relocs.items)) }
+fn put_unit(words: &mut Vec<u32>, plan: &Plan<'_>, i: usize, unit: &Unit) -> Result<(), AllocError>
+    requires plan { IsPlan plan.now.units.now plan.now.sums.now plan.now.symbols.now
+        plan.now.starts.now }
+    requires unit { IsUnit plan.now.units.now i unit.now }
+    requires behind { 4 * length words.old.items
+        ≡ end_before plan.now.units.now plan.now.starts.now i }
+    ensures { OnOk result (IsUnitPut plan.now.units.now plan.now.base plan.now.starts.now i
+        unit.now words.old.items words.new.items (length unit.now.relocs.items)) }
 {
-    words.resize((starts[i] / 4) as usize, 0)?;
+    words.resize((plan.starts[i] / 4) as usize, 0)?;
     words.extend_from_slice(&unit.words)?;
     for (k, reloc) in unit.relocs.iter().enumerate() {
-        put_reloc(words, units, base, sums, symbols, starts, i, unit, k, reloc)?;
+        put_reloc(words, plan, i, unit, k, reloc)?;
     }
     Ok(())
 }
@@ -156,22 +162,15 @@ fn put_unit(
 /// # Errors
 ///
 /// Want of memory.
-pub(crate) fn link_words(
-    alloc: Global,
-    units: &[Unit],
-    base: u64,
-    sums: &[u32],
-    symbols: &LabelMap<Symbol>,
-    starts: &[u32],
-    end: u32,
-) -> Result<Vec<u32>, AllocError>
-    requires { IsPlan units.now sums.now symbols.now starts.now }
-    ensures { IfOk result
-        (λ words. AreLinked units.now base starts.now words.items (length units.now)) }
+pub(crate) fn link_words(alloc: Global, plan: &Plan<'_>, end: u32) -> Result<Vec<u32>, AllocError>
+    requires { IsPlan plan.now.units.now plan.now.sums.now plan.now.symbols.now
+        plan.now.starts.now }
+    ensures { IfOk result (λ words. AreLinked plan.now.units.now plan.now.base
+        plan.now.starts.now words.items (length plan.now.units.now)) }
 {
     let mut words = Vec::with_capacity(alloc, (end / 4) as usize)?;
-    for (i, unit) in units.iter().enumerate() {
-        put_unit(&mut words, units, base, sums, symbols, starts, i, unit)?;
+    for (i, unit) in plan.units.iter().enumerate() {
+        put_unit(&mut words, plan, i, unit)?;
     }
     Ok(words)
 }

@@ -181,7 +181,8 @@ abbrev pub file_fault : Command → File → Option EmitError
 file_fault command file = contents_fault command (contents_of file)
 
 -- the fault that the command finds first in what the lines of a file say: in items that of the
--- assembler, in words what an audit finds first, in units what keeps them from being linked
+-- assembler, for `list` that of showing them, and for `roles` none; in words what an audit finds
+-- first, in units what keeps them from being linked
 abbrev pub FindsFault : Command → Said → Fault → Type 0
 FindsFault command (SaysItems file) (faults.Assembly error) =
     contents_fault command file ≡ Some error
@@ -255,7 +256,8 @@ pub record AreLinkedTo (units : List Unit) (base : ℕ) (linked : Linked) (outpu
         linked.words.items
 
 -- stubs to these addresses, and their lines. Each arrives at its address and changes x16 alone, and
--- none that does is shorter; its steps have the forms that they have in code
+-- no steps of a plan that do are shorter; its steps have the forms that they have in code, which is
+-- said here, so that a64_stubs stands on no emission
 pub record AreStubsTo (addresses : List ℕ) (stubs : Stubs) (output : List ℕ) : Type 0 where
   pub stand : AreStubs addresses stubs.words.items stubs.places.items
   pub arrive : All IsTrampoline addresses

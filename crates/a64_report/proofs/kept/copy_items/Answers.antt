@@ -8,19 +8,19 @@ use Rattle.a64_report.proofs.kept.copy_items.Goals as goal
 pub loop-i-preserved : goal.loop-i-preserved
 loop-i-preserved c =
     let line = c.loop-i.line in
-    let start = c.args.start in
-    let index_end = c.args.index_end in
+    let start = c.args.kept.start in
+    let index_end = c.args.kept.index_end in
     let index = c.args.index + c.loop-i.i in
     let place = c.from.result in
     let line' = c.write_last-in-loop-i.new.line in
     let offset = c.args.index - c.first.result + c.loop-i.i in
     let was = c.loop-i.invariant.kept in
     let p = c.in-Some.ensures in
-    let sum : index ≡ c.args.like.first + offset = omega (arith, c.requires.near, c.first.ensures) in
-    let near : offset < c.args.like.span = omega (arith, c.requires.near, c.first.ensures) in
+    let sum : index ≡ c.args.kept.index.first + offset = omega (arith, c.requires.near, c.first.ensures) in
+    let near : offset < c.args.kept.index.span = omega (arith, c.requires.near, c.first.ensures) in
     let kept : KeepsItem line' start index_end index place =
     rw (c.write_last-in-loop-i.ensures, c.write_last.ensures)
-    (item_again line start index_end was.0 was.1 c.args.like.first c.args.like.span c.args.hundred.first c.args.hundred.span index place offset c.in-Some.place c.loop-i.invariant.whole was.2 was.3 was.4 sum near p.0 p.1) in
+    (item_again line start index_end was.0 was.1 c.args.kept.index.first c.args.kept.index.span c.args.kept.place.first c.args.kept.place.span index place offset c.in-Some.place c.loop-i.invariant.whole was.2 was.3 was.4 sum near p.0 p.1) in
     record {
       whole = c.write_last-in-loop-i.array_long;
       kept = (index, place, kept, shares_again _ _ _ _ _ was.3 sum near, shares_again _ _ _ _ _ was.4 p.0 p.1);

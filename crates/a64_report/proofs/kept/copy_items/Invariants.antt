@@ -8,7 +8,7 @@ use Rattle.a64_report.proofs.kept.copy_items.Given as goal
 abbrev pub invariant-loop-i : goal.invariant-loop-i
 invariant-loop-i l = record {
   whole : length l.line ≡ 128;
-  kept : KeepsItemOf l.line l.start l.index_end l.fn.like l.hundred;
+  kept : KeepsItemOf l.line l.kept.start l.kept.index_end l.kept.index l.kept.place;
   few : l.at ≤ l.fn.at + 48 * l.i;
   copied : take l.at l.text ≡ take l.fn.at l.initial.text ++ flat_map item_line (enumerate_from l.index (take l.i l.places));
 }

@@ -8,7 +8,7 @@ use Rattle.a64_report.proofs.kept.copy_words.Goals.{then-next-word, else-next-wo
 
 pub loop-i-preserved : goal.loop-i-preserved
 loop-i-preserved c =
-    let start = c.args.start in
+    let start = c.args.kept.start in
     let i = c.loop-i.i in
     let place = c.args.place + 4 * i in
     let offset = c.args.place - c.first.result + 4 * i in
@@ -16,10 +16,10 @@ loop-i-preserved c =
     let next = c.from_le_bytes-next.result in
     let line = c.write_last.new.line in
     let line' = c.if-next-word.line in
-    let sum : place ≡ c.args.like.first + offset = omega (arith, c.requires.near, c.first.ensures) in
-    let near : offset < c.args.like.span = omega (arith, c.requires.near, c.first.ensures, c.loop-i-test.true) in
+    let sum : place ≡ c.args.kept.place.first + offset = omega (arith, c.requires.near, c.first.ensures) in
+    let near : offset < c.args.kept.place.span = omega (arith, c.requires.near, c.first.ensures, c.loop-i-test.true) in
     let placed : KeepsWord line start place c.loop-i.word =
-    word_again c.loop-i.line line start was.0 c.loop-i.word c.args.like.first c.args.like.span place offset c.loop-i.invariant.whole was.1 was.2 sum near c.write_last.ensures in
+    word_again c.loop-i.line line start was.0 c.loop-i.word c.args.kept.place.first c.args.kept.place.span place offset c.loop-i.invariant.whole was.1 was.2 sum near c.write_last.ensures in
     let kept : KeepsWord line' start place c.if-next-word.word =
     elim c.if-next-word.branch [
       | then-next-word w ↦
