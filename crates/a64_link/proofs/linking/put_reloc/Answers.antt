@@ -17,15 +17,15 @@ unreachable-requires c =
     let w = (p.linkable.sites c.args.i c.args.unit.now c.requires.unit).known c.args.k c.args.reloc.now c.requires.reloc in
     c.in_default.not-Some w.0 (c.get.ensures ∙ p.symbols_are c.args.reloc.now.2 ∙ w.1)
 
-pub bounds-starts-symbol : goal'.bounds-starts-symbol
-bounds-starts-symbol c =
+pub bounds-plan-symbol : goal'.bounds-plan-symbol
+bounds-plan-symbol c =
     let p = c.requires.plan in
     let e : symbol_of c.args.plan.now.units.now c.args.reloc.now.2 ≡ Some c.in-Some.symbol = sym (p.symbols_are c.args.reloc.now.2) ∙ sym c.get.ensures ∙ c.in-Some.is in
     let g = goal c.args.plan.now.units.now c.args.plan.now.base c.args.plan.now.sums.now c.args.plan.now.symbols.now c.args.plan.now.starts.now p c.args.reloc.now.2 c.in-Some.symbol e in
     omega (arith, g.is.within, p.starts_are.count)
 
-pub offset_bounds-starts-symbol : goal'.offset_bounds-starts-symbol
-offset_bounds-starts-symbol c =
+pub offset_bounds-plan-symbol : goal'.offset_bounds-plan-symbol
+offset_bounds-plan-symbol c =
     let p = c.requires.plan in
     let e : symbol_of c.args.plan.now.units.now c.args.reloc.now.2 ≡ Some c.in-Some.symbol = sym (p.symbols_are c.args.reloc.now.2) ∙ sym c.get.ensures ∙ c.in-Some.is in
     let g = goal c.args.plan.now.units.now c.args.plan.now.base c.args.plan.now.sums.now c.args.plan.now.symbols.now c.args.plan.now.starts.now p c.args.reloc.now.2 c.in-Some.symbol e in
