@@ -35,18 +35,19 @@ module _ (frame : FrameLayout) (flags : EmitFlags) (constants : FinMap nat_cmp (
     -- changed, or is the data that was put and is no use
     pub read_back : All (IsReadBack code.bytes.items)
         (standing (map (cells_of frame flags) items) code.places.items)
-    -- an island stands only where one is needed, or where one is forced and something is open; and
-    -- there one does stand
+    -- an island stands only where one is needed, or where one is forced and something is open
     pub islands : All (IsIslandByNeed frame flags items code force) code.islands.items
+    -- where one is forced and something is open, one does stand
     pub forced : force ≡ Yes → AreForced frame flags items code
     -- where nothing can want one there is none
     pub quiet : is_quiet frame flags force items ≡ true → code.islands.items ≡ []
-    -- islands and the pool hold what uses wait for there, and nothing else
+    -- islands hold what uses wait for there, and nothing else
     pub filled : All (IsFilledIsland frame flags items constants code) code.islands.items
+    -- so does the pool
     pub pool : IsFilledPool frame flags items constants code
-    -- each use leads ahead, or to its label; and each branch that passes veneers has a first one of
-    -- its own
+    -- each use leads ahead, or to its label
     pub ahead : StopAhead frame flags items code
+    -- each branch that passes veneers has a first one of its own
     pub own_veneers : HaveOwnVeneers frame flags items code
     pub short : IsShort frame flags items code
 

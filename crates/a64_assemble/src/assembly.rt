@@ -17,7 +17,9 @@ use a64_inst::{EmitInfo, EmitState, FrameLayout, Item};
 use std::alloc::{AllocError, Global};
 
 /// A buffer without code, with memory for so many words and uses, and for the two words more for which a
-/// buffer takes memory where its code is finished.
+/// buffer takes memory where its code is finished, and would else copy all words. As many uses are asked for
+/// as items may have, so that a label bound last stands in the table of labels too. No clause tells how many:
+/// a wrong number costs memory alone.
 fn buffer_for(
     alloc: Global,
     constants: &Constants,

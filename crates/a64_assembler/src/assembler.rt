@@ -530,8 +530,8 @@ impl Assembler {
         self.emit(insts::ret())
     }
 
-    /// Adds a jump to the target that the low 32 bits of `ridx` count, or to the default where there are not so many.
-    /// It changes the other two registers.
+    /// Adds a jump to the target that the low 32 bits of `ridx` count where `lo` holds by the flags, as behind a
+    /// comparison of the index with the number of targets, else to the default. It changes the other two registers.
     ///
     /// # Errors
     ///

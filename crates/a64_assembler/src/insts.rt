@@ -168,8 +168,8 @@ pub fn branch(kind: CondBrKind, taken: MachLabel, not_taken: MachLabel) -> Inst
     }
 }
 
-/// A jump to the target that the low 32 bits of `ridx` count, or to the default where there are not so many targets.
-/// It changes the other two registers.
+/// A jump to the target that the low 32 bits of `ridx` count where `lo` holds by the flags, as behind a comparison of
+/// the index with the number of targets, else to the default. It changes the other two registers.
 pub fn jump_table(
     default: MachLabel,
     targets: ListVec<MachLabel>,

@@ -18,7 +18,8 @@ use a64_io::{Failed, Sink, Source, write_all};
 use a64_report::Piece;
 use std::alloc::Global;
 
-/// Writes what was made. The memory for that is taken before the first write.
+/// Writes what was made. The memory for that is taken before the first write, and once all is made: what is refused
+/// asks for none, and want of it keeps nothing of what was made.
 fn write_made<K: Sink>(alloc: Global, sink: &mut K, input: Input, made: Made) -> Ended
     ensures input { result.input ≡ Some input }
     ensures ends { EndsWriting (K.taken sink.old) (K.taken sink.new) input made

@@ -1,4 +1,4 @@
-//! Texts of immediates, and the values of those that no instruction has yet.
+//! Texts of immediates, and the values of those of vectors and floats.
 
 use a64_base::{IrType, PrettyPrint, ScalarSize, Text};
 use a64_imms::{

@@ -1,5 +1,5 @@
-//! Tests of what no clause says and no file of cases reaches: texts of small values, words that no
-//! instruction has yet, a second machine's uses of labels, and refused memory.
+//! Tests of what no clause says and no file of cases reaches: texts of small values, words of
+//! encoders, a second machine's uses of labels, and refused memory.
 #![tactic(auto)]
 
 #[cfg(test)]
