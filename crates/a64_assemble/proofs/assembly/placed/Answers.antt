@@ -33,7 +33,7 @@ pub put_items-requires-clause-quiet : goal.put_items-requires-clause-quiet
 put_items-requires-clause-quiet c = λ quiet.
     let frame_is : c.new-state.result.frame ≡ c.args.frame.now = ap (λ s. s.frame) c.new-state.ensures ∙ c.in_ok-try_clone.ensures in
     subst (λ (frame : FrameLayout). AreQuiet c.args.force (elements_of frame c.args.info.now c.args.items.now)) (sym frame_is)
-    (quiet_elements c.args.frame.now c.args.info.now c.args.force c.args.items.now (sym (c.is_quiet-quiet.ensures c.args.frame.now c.args.info.now c.args.items.now c.requires.found) ∙ quiet))
+    (quiet_elements c.args.frame.now c.args.info.now c.args.force c.args.items.now (sym (c.is_quiet.ensures c.args.frame.now c.args.info.now c.args.items.now c.requires.found) ∙ quiet))
 
 pub finish-requires : goal.finish-requires
 finish-requires c =

@@ -13,5 +13,5 @@ invariant-loop-index l = record {
   place : l.place ≡ end_of l.buffer;
   count : vec_len l.places ≡ l.index;
   room : length l.items ≤ vec_capacity l.places;
-  first : HasPutFirst l.how.force (elements_of l.fn.state.frame l.how.info l.items) l.index l.places.items l.buffer;
+  first : HasPutFirst l.how.force (elements_of l.fn.state.frame l.how.info.now l.items) l.index l.places.items l.buffer;
 }
