@@ -1,6 +1,6 @@
 -- The islands and the pool of finished code hold what uses wait for, and nothing else.
 use Rattle.std.proofs.Common.{ℕ, ◌≡◌, ◌⊎◌, ◌+◌, ◌-◌, ◌*◌, ◌/◌, ◌<◌, ◌≤◌, true, false, List, [], ◌∷◌, ◌++◌, length, get_or, map, take, Option, None, Some, refl, sym, ap, ◌∙◌, subst, arith, inl, inr, Bool}
-use Rattle.std.specs.Prelude.{All, Contains, IfSome, IsSome, MatchOption, ◌&&◌, nat_le, slice_get}
+use Rattle.std.specs.Prelude.{All, Contains, IfSome, IsSome, ◌&&◌, nat_le, slice_get}
 use Rattle.std.specs.List.{flat_map}
 use Rattle.std.specs.FinMap.{get}
 use Rattle.std.proofs.lemmas.Bool.{cases_lt, false≢true, le-leb}
@@ -22,16 +22,14 @@ use Rattle.a64_buffer.specs.Constants.{AreConstants}
 use Rattle.a64_words.specs.Word.{outside, word_at}
 use Rattle.a64_buffer.specs.Buffer.{Buffer, end_of, label_of, goal_of, is_within, IsBound}
 use Rattle.a64_buffer.specs.Classes.{class, class_of, wants}
-use Rattle.a64_buffer.specs.Islands.{IsNewUse}
 use Rattle.a64_buffer.specs.Kinds.{IsWithin}
 use Rattle.a64_buffer.specs.Later.{IsLater}
-use Rattle.a64_buffer.specs.Chain.{constant_of}
 use Rattle.a64_buffer.specs.Pieces as pieces
-use Rattle.a64_buffer.specs.Pieces.{Serves, IsServed, front_size}
-use Rattle.a64_buffer.specs.Sound.{IsStop, IsRightlyOpen}
+use Rattle.a64_buffer.specs.Pieces.{IsServed, front_size}
 use Rattle.a64_buffer.specs.Finished.{IsFinished}
-use Rattle.a64_buffer.proofs.Emitting.{stops_below}
-use Rattle.a64_buffer.proofs.Laters.{later_none, later_trans}
+use Rattle.a64_buffer.specs.Held.{HoldsArea}
+use Rattle.a64_buffer.proofs.Growth.{stands_there}
+use Rattle.a64_buffer.proofs.Laters.{later_trans}
 use Rattle.a64_emit.specs.declared.code.Code.{Code}
 use Rattle.a64_label_use.specs.declared.label_use.LabelUse.{LabelUse}
 use Rattle.a64_label_use.specs.declared.label_use.LabelUse.TheVariants as uses
@@ -42,35 +40,26 @@ use Rattle.a64_cells.specs.Cells.{cells_of}
 use Rattle.a64_emit.specs.Layout.{standing}
 use Rattle.a64_emit.specs.Emission.{site_of}
 use Rattle.a64_emit.specs.Contents.{IsCellUse, IsFarOff}
-use Rattle.a64_emit.specs.Leads.{areas, StopsAt}
+use Rattle.a64_emit.specs.Leads.{areas}
 use Rattle.a64_assemble.proofs.Arrivals.{no_use, IsOutput, old_site, use_settled, end_is, pool_is}
 use Rattle.a64_assemble.specs.Elements.{Element, Binding, Asking, cells_in, element_of, elements_of, element_at, falls_in, is_bound_by}
 use Rattle.a64_assemble.specs.OpenUses.{WasAsked}
 use Rattle.a64_assemble.specs.Progress.{HasPut}
 use Rattle.a64_assemble.specs.Owners.{AreOwned}
-use Rattle.a64_assemble.specs.OwnStops.{AllStopAhead}
 use Rattle.a64_assemble.specs.Placement.{IsVeneerWord, IsWanting, IsOpenIn}
 use Rattle.a64_assemble.specs.Fillings.{IsLateOrFar, HoldsPieces, IsFilledIsland, IsFilledPool}
-use Rattle.a64_assemble.proofs.Areas.{stops_from, IsWritten, FinalServed, final_served, old_wanting, holds_pieces}
-use Rattle.a64_assemble.proofs.Answering.{island_answered, use_behind, answers}
+use Rattle.a64_assemble.proofs.Areas.{served_stops, use_is, use_says, old_wanting, holds_pieces}
 use Rattle.a64_assemble.proofs.BoundLabels.{bound_at}
 use Rattle.a64_assemble.proofs.Itemized.{all_cells_are, binding_item}
 use Rattle.a64_assemble.proofs.Islanded.{island_after}
 use Rattle.a64_assemble.proofs.Needing.{some_same}
 use Rattle.a64_assemble.proofs.Owners.{IsPieceJump, piece_jump, short_kind}
 use Rattle.a64_assemble.proofs.Placing.{label_is, says_stop}
-use Rattle.a64_assemble.proofs.Fronts.{given_use, falls_is}
+use Rattle.a64_assemble.proofs.Fronts.{falls_is}
 use Rattle.a64_assemble.proofs.Opens.{some_place}
-use Rattle.a64_buffer.proofs.Islands.{begun_end, begun_old, begun_new, begun_jumps}
 use Rattle.a64_emit.specs.Falls.{falls_at}
 
-pub no_constant : (t : Target) → IsSome (label_of t) → IsSome (constant_of t) → ⊥
-no_constant (Label l) s c = false≢true c
-no_constant (Constant n) s c = false≢true s
-no_constant (Trap x) s c = false≢true s
-no_constant IslandEnd s c = false≢true s
-
-module _ (frame : FrameLayout) (flags : EmitFlags) (items : List Item) (force : ForceVeneers) (b : Buffer LabelUse) (code : Finished) (f : IsFinished label_kinds b code) (out : Code) (o : IsOutput code out) (h : HasPut force (elements_of frame flags items) (length (elements_of frame flags items)) out.places.items b) (owned : AreOwned (elements_of frame flags items) (length (elements_of frame flags items)) out.places.items b) (are : AreConstants b.constants) (all_bound : All (IsBound b.labels) b.uses) (ahead : AllStopAhead b) where
+module _ (frame : FrameLayout) (flags : EmitFlags) (items : List Item) (force : ForceVeneers) (b : Buffer LabelUse) (code : Finished) (f : IsFinished label_kinds b code) (out : Code) (o : IsOutput code out) (h : HasPut force (elements_of frame flags items) (length (elements_of frame flags items)) out.places.items b) (owned : AreOwned (elements_of frame flags items) (length (elements_of frame flags items)) out.places.items b) (are : AreConstants b.constants) (all_bound : All (IsBound b.labels) b.uses) where
   abbrev xs : List Element
   xs = elements_of frame flags items
 
@@ -101,19 +90,8 @@ module _ (frame : FrameLayout) (flags : EmitFlags) (items : List Item) (force : 
 
   -- ---- the pool
 
-  pub pool_written : IsWritten b.constants b b f.final f.final f.served
-  pool_written = record {
-    serves = f.serves;
-    known = f.later;
-    later = later_none f.final;
-    sound = f.sound;
-    count = omega arith;
-    started = λ k d lt. refl;
-    low = λ k d lt. (f.sound.placed k d lt).inside;
-    new = λ k d ge lt c. no_constant (get_or f.final.uses k d).target (f.given k d ge lt).labelled c;
-    made = λ k d ge lt want. f.serves.new_answered k d ge lt;
-    behind = λ k stop ge lt want e. absurd (omega (arith, ge, lt));
-  }
+  pub pool_holds : HoldsArea label_kinds out.bytes.items b.constants f.final.uses b.labels b.labels (end_of b) (end_of b) (end_of f.final)
+  pool_holds = subst (λ bytes. HoldsArea label_kinds bytes b.constants f.final.uses b.labels b.labels (end_of b) (end_of b) (end_of f.final)) (sym o.bytes) f.pool_holds
 
   -- a use of one of the shorter urgencies is a cell's
   short_cell : (k : ℕ) → k < length f.final.uses → (class label_kinds (use_at k) ≡ Near) ⊎ (class label_kinds (use_at k) ≡ Middle) → IsCellUse cells (site_of (use_at k))
@@ -206,8 +184,7 @@ module _ (frame : FrameLayout) (flags : EmitFlags) (items : List Item) (force : 
               let tall : island.0 + 4 ≤ island.1 = subst (λ (i : ℕ × ℕ). i.0 + 4 ≤ i.1) known.2 (h.laid.once known.0 island known.1).stands.long in
               omega (arith, below, tall, begins, j.place_is);
           away = λ there.
-              let stops : IsStop label_kinds f.final (b.islands ++ (end_of b, end_of f.final) ∷ []) (use_at q.index).target (use_at q.index).kind (use_at q.index).offset (use_at k).offset =
-              subst (λ g. MatchOption g (IsRightlyOpen label_kinds f.final (b.islands ++ (end_of b, end_of f.final) ∷ []) (use_at q.index).target (use_at q.index).kind (use_at q.index).offset) (IsStop label_kinds f.final (b.islands ++ (end_of b, end_of f.final) ∷ []) (use_at q.index).target (use_at q.index).kind (use_at q.index).offset)) stop (f.final_sound.stops q.index no_use q.within) in
+              let stops = stands_there label_kinds f.final (b.islands ++ (end_of b, end_of f.final) ∷ []) f.final_sound.stops q.index (use_at k).offset no_use q.within stop in
               let goal : goal_of b.labels (use_at k).target ≡ Some (use_at k).offset = label_is frame flags items force b code f out o h owned ((use_at q.index).offset, record { kind = (use_at q.index).kind; target = (use_at k).target }) (use_at k).offset there in
               let far : is_within label_kinds (use_at q.index).kind (use_at q.index).offset (use_at k).offset ≡ false = subst (λ g. IfSome g (λ place. is_within label_kinds (use_at q.index).kind (use_at q.index).offset place ≡ false)) goal
               (subst (λ t. IfSome (goal_of b.labels t) (λ place. is_within label_kinds (use_at q.index).kind (use_at q.index).offset place ≡ false)) target
@@ -217,28 +194,32 @@ module _ (frame : FrameLayout) (flags : EmitFlags) (items : List Item) (force : 
       )
 
   -- what the pool serves is a cell's use or a veneer word
-  pool_wanting : (u : Use LabelUse) (q : IsServed label_kinds b.labels b f.final u) → IsWanting frame flags items out u.offset (site_of u).1
-  pool_wanting u q = elim (cases_lt q.index (length b.uses)) [
-    | inl old ↦ old_wanting frame flags items force b code f out o h owned are b b f.final f.served pool_written u q old
+  pool_wanting : (u : Use LabelUse) (c : Contains f.final.uses u) → wants (class label_kinds u) ≡ true → IsWanting frame flags items out u.offset (site_of u).1
+  pool_wanting u c want = elim (cases_lt c.0 (length b.uses)) [
+    | inl old ↦ old_wanting frame flags items force b code f out o h owned u c want old
     | inr new ↦
-        let want : wants (class label_kinds (use_at q.index)) ≡ true = ap (λ (v : Use LabelUse). wants (class label_kinds v)) (q.is no_use) ∙ q.wants_one in
-        subst (λ (v : Use LabelUse). IsWanting frame flags items out v.offset (site_of v).1) (q.is no_use)
-        (record { wanting = want; is = inr (pool_veneer q.index new q.within want) })
+        let is : use_at c.0 ≡ u = use_is frame flags items force b code f out o h owned u c in
+        let wanting : wants (class label_kinds (use_at c.0)) ≡ true = ap (λ (v : Use LabelUse). wants (class label_kinds v)) is ∙ want in
+        subst (λ (v : Use LabelUse). IsWanting frame flags items out v.offset (site_of v).1) is
+        (record { wanting = wanting; is = inr (pool_veneer c.0 new c.1 wanting) })
   ]
 
-  -- its label is out of its range
-  pool_far : (u : Use LabelUse) (q : IsServed label_kinds b.labels b f.final u) → IsFarOff b.constants out (site_of u)
-  pool_far u q = go u.target refl q.far_off q.wants_one
-    where
-      goal : (label : MachLabel) → u.target ≡ Label label → HasGoal label
-      goal label e = elim (cases_lt q.index (length b.uses)) [
-        | inl old ↦ has_goal label q.index old (sym (f.later.uses q.index no_use old).target ∙ (ap (λ (w : Use LabelUse). w.target) (q.is no_use) ∙ e))
-        | inr new ↦ (let v = f.given q.index no_use new q.within in has_goal label v.parent v.within (v.target no_use ∙ (ap (λ (w : Use LabelUse). w.target) (q.is no_use) ∙ e)))
+  -- the label of a use is bound
+  target_goal : (u : Use LabelUse) (c : Contains f.final.uses u) (label : MachLabel) → u.target ≡ Label label → HasGoal label
+  target_goal u c label e =
+      let target : (use_at c.0).target ≡ Label label = ap (λ (v : Use LabelUse). v.target) (use_is frame flags items force b code f out o h owned u c) ∙ e in
+      elim (cases_lt c.0 (length b.uses)) [
+        | inl old ↦ has_goal label c.0 old (sym (f.later.uses c.0 no_use old).target ∙ target)
+        | inr new ↦ (let v = f.given c.0 no_use new c.1 in has_goal label v.parent v.within (v.target no_use ∙ target))
       ]
 
+  -- its label is out of its range
+  pool_far : (u : Use LabelUse) → Contains f.final.uses u → IfSome (goal_of b.labels u.target) (λ place. is_within label_kinds u.kind u.offset place ≡ false) → wants (class label_kinds u) ≡ true → IsFarOff b.constants out (site_of u)
+  pool_far u c far want = go u.target refl far want
+    where
       go : (t : Target) → u.target ≡ t → IfSome (goal_of b.labels t) (λ place. is_within label_kinds u.kind u.offset place ≡ false) → wants (class_of label_kinds t u.kind) ≡ true → IsFarOff b.constants out (u.offset, record { kind = u.kind; target = t })
       go (Label label) e far w =
-          let g = goal label e in
+          let g = target_goal u c label e in
           (g.goal, g.listed, subst (λ (x : Option ℕ). IfSome x (λ place. is_within label_kinds u.kind u.offset place ≡ false)) g.bound far)
       go (Constant n) e far w = tt
       go (Trap x) e far w = tt
@@ -250,8 +231,9 @@ module _ (frame : FrameLayout) (flags : EmitFlags) (items : List Item) (force : 
       let pool = pool_is b code f out o in
       subst (λ n. HoldsPieces frame flags items b.constants out n n (length out.bytes.items) (IsFarOff b.constants out)) (sym pool)
       (subst (λ n. HoldsPieces frame flags items b.constants out (end_of b) (end_of b) n (IsFarOff b.constants out)) (sym (end_is b code f out o))
-      (holds_pieces frame flags items force b code f out o h owned are b b f.final f.served pool_written (IsFarOff b.constants out) pool_wanting (λ k l. pool_far (get_or f.served k no_use) (f.serves.waited k no_use l))
-      (answers frame flags items force b code f out o h owned are b b f.final f.served pool_written)))
+      (holds_pieces frame flags items force b code f out o h owned are b.labels (end_of b) (end_of b) (end_of f.final) pool_holds (IsFarOff b.constants out)
+      (λ k l. pool_wanting (get_or pool_holds.served k no_use) (pool_holds.among k no_use l) (pool_holds.wanting k no_use l))
+      (λ k l. pool_far (get_or pool_holds.served k no_use) (pool_holds.among k no_use l) (pool_holds.far_off k no_use l) (pool_holds.wanting k no_use l))))
 
   -- ---- an island
 
@@ -262,144 +244,113 @@ module _ (frame : FrameLayout) (flags : EmitFlags) (items : List Item) (force : 
     abbrev front : Bool
     front = falls_in (element_at (elements_of frame flags items) z.after)
 
-    abbrev begun_m : Buffer LabelUse
-    begun_m = pieces.begun label_kinds front z.moment
-
     since_moment : IsLater m b
     since_moment = later_trans m z.written b z.has.later z.since
 
-    new_use : (v : Use LabelUse) → IsNewUse label_kinds true m v → IsSome (constant_of v.target) → ⊥
-    new_use v new c = elim new [
-      | inl over ↦ false≢true (subst (λ t. IsSome (constant_of t)) over.0 c)
-      | inr veneer ↦ no_constant v.target veneer.labelled c
-    ]
+    abbrev start : ℕ
+    start = end_of z.moment + front_size front
 
-    begun_long : end_of begun_m ≡ end_of m + front_size front
-    begun_long = begun_end label_kinds front m
+    pub island_holds : HoldsArea label_kinds out.bytes.items b.constants f.final.uses z.moment.labels b.labels (end_of z.moment) start (end_of z.written)
+    island_holds =
+        subst (λ bytes. HoldsArea label_kinds bytes b.constants f.final.uses z.moment.labels b.labels (end_of z.moment) start (end_of z.written)) (sym o.bytes)
+        (f.islands_hold z.distance force front z.moment z.written z.whole z.has z.since)
 
-    pub island_written : IsWritten b.constants m begun_m z.written f.final z.has.served
-    island_written = record {
-      serves = subst (λ cs. Serves label_kinds m.labels cs z.has.served begun_m z.written) (sym since_moment.constants) z.has.serves;
-      known = later_trans m b f.final since_moment f.later;
-      later = later_trans z.written b f.final z.since f.later;
-      sound = z.whole.sound;
-      count = omega (arith, length-append m.uses (pieces.front_uses label_kinds front (end_of m)));
-      started = λ k d lt. begun_old label_kinds front m k d lt;
-      low = λ k d lt. elim (cases_lt k (length m.uses)) [
-        | inl old ↦ (let x = (z.whole.sound.placed k d old).inside in omega (arith, x, begun_long, ap (λ (u : Use LabelUse). u.offset) (begun_old label_kinds front m k d old)))
-        | inr new ↦ (let jumps = begun_jumps label_kinds front m k new lt in omega (arith, begun_long, ap front_size jumps, ap (λ (u : Use LabelUse). u.offset) (begun_new label_kinds front m k d new lt)))
-      ];
-      new = λ k d ge lt c. new_use (get_or z.written.uses k d) (given_use front m (get_or z.written.uses k d) (z.has.given k d ge lt)) c;
-      made = λ k d ge lt want. island_answered m z.written z.has k d ge lt want;
-      behind = λ k stop ge lt want e.
-          let fresh = (later_trans z.written b f.final z.since f.later).fresh k no_use ge lt in
-          elim (use_behind frame flags items force b code f out o h owned ahead island listed k stop lt want (omega (arith, fresh, z.ends)) e) [
-            | inl far ↦ inl (omega (arith, far, z.ends))
-            | inr goal ↦ inr (subst (λ labels. goal_of labels (use_at k).target ≡ Some stop) (sym f.labels_kept) goal)
-          ];
-    }
+    -- a use that the island serves
+    module _ (k : ℕ) (l : k < length island_holds.served) where
+      abbrev u : Use LabelUse
+      u = get_or island_holds.served k no_use
 
-    served_old : (u : Use LabelUse) (q : IsServed label_kinds m.labels begun_m z.written u) → q.index < length b.uses
-    served_old u q = omega (arith, q.within, z.since.count)
+      c : Contains f.final.uses u
+      c = island_holds.among k no_use l
 
-    -- its label is out of its range, or bound later
-    island_late : (u : Use LabelUse) (q : IsServed label_kinds m.labels begun_m z.written u) → IsLateOrFar frame flags items b.constants out z.after (site_of u)
-    island_late u q = go u.target refl q.far_off q.wants_one
-      where
-        go : (t : Target) → u.target ≡ t → IfSome (goal_of m.labels t) (λ place. is_within label_kinds u.kind u.offset place ≡ false) → wants (class_of label_kinds t u.kind) ≡ true → IsLateOrFar frame flags items b.constants out z.after (u.offset, record { kind = u.kind; target = t })
-        go (Constant n) e far w = tt
-        go (Trap x) e far w = tt
-        go IslandEnd e far w = absurd (false≢true w)
-        go (Label label) e far w = (g.goal, g.listed, where_bound (cases_lt z.after only.0))
-          where
-            g : HasGoal label
-            g = has_goal label q.index (served_old u q) ((z.since.uses q.index no_use q.within).target ∙ (ap (λ (v : Use LabelUse). v.target) (q.is no_use) ∙ e))
+      want : wants (class label_kinds u) ≡ true
+      want = island_holds.wanting k no_use l
 
-            only : (i : ℕ) × (i < length xs) × (element_at xs i ≡ Binding label.0) × (get_or out.places.items i 0 ≡ g.goal)
-            only = h.labels.only label.0 g.goal g.bound
+      far_off : IfSome (goal_of m.labels u.target) (λ place. is_within label_kinds u.kind u.offset place ≡ false)
+      far_off = island_holds.far_off k no_use l
 
-            bound_there : only.0 ≤ z.after → IsSome (get m.labels label.0)
-            bound_there le =
-                let inside : only.0 < length (take (z.after + 1) xs) = omega (arith, le, z.within, length-take-le (z.after + 1) xs (omega (arith, z.within))) in
-                z.bound label.0 (bound_at (take (z.after + 1) xs) only.0 label.0 inside (get_or-take (z.after + 1) xs only.0 (Asking 0) (omega (arith, le)) ∙ only.2))
+      is : use_at c.0 ≡ u
+      is = use_is frame flags items force b code f out o h owned u c
 
-            out_of_range : (p : Option ℕ) → get m.labels label.0 ≡ p → IsSome p → is_within label_kinds u.kind u.offset g.goal ≡ false
-            out_of_range None at s = absurd (false≢true s)
-            out_of_range (Some place) at s =
-                let same : place ≡ g.goal = some_same (sym (since_moment.labels label.0 place at) ∙ g.bound) in
-                subst (λ n. is_within label_kinds u.kind u.offset n ≡ false) same (subst (λ (x : Option ℕ). IfSome x (λ place. is_within label_kinds u.kind u.offset place ≡ false)) at far)
+      -- it was made before the buffer was finished
+      old : c.0 < length b.uses
+      old = elim (cases_lt c.0 (length b.uses)) [
+        | inl lt ↦ lt
+        | inr ge ↦ absurd (let x = f.later.fresh c.0 no_use ge c.1 in let y = island_holds.placed k no_use l in omega (arith, x, y, ap (λ (v : Use LabelUse). v.offset) is, z.since.end))
+      ]
 
-            where_bound : (z.after < only.0) ⊎ (only.0 ≤ z.after) → (is_within label_kinds u.kind u.offset g.goal ≡ false) ⊎ ((i : ℕ) × (z.after < i) × (slice_get items i ≡ Some (Bind label)))
-            where_bound (inl later) = inr (only.0, later, binding_item frame flags items only.0 label.0 (let x = only.1 in omega (arith, x, length-map items (element_of frame flags))) only.2)
-            where_bound (inr early) = inl (out_of_range (get m.labels label.0) refl (bound_there early))
+      -- its label is out of its range, or bound later
+      island_late : IsLateOrFar frame flags items b.constants out z.after (site_of u)
+      island_late = go u.target refl far_off want
+        where
+          go : (t : Target) → u.target ≡ t → IfSome (goal_of m.labels t) (λ place. is_within label_kinds u.kind u.offset place ≡ false) → wants (class_of label_kinds t u.kind) ≡ true → IsLateOrFar frame flags items b.constants out z.after (u.offset, record { kind = u.kind; target = t })
+          go (Constant n) e far w = tt
+          go (Trap x) e far w = tt
+          go IslandEnd e far w = absurd (false≢true w)
+          go (Label label) e far w = (g.goal, g.listed, where_bound (cases_lt z.after only.0))
+            where
+              g : HasGoal label
+              g = target_goal u c label e
 
-    -- and it is open there
-    island_open : (k : ℕ) → k < length z.has.served → IsOpenIn frame flags items out z.after island.0 island.1 (site_of (get_or z.has.served k no_use))
-    island_open k l = at u.stop refl q.stops
-      where
-        u : Use LabelUse
-        u = get_or z.has.served k no_use
+              only : (i : ℕ) × (i < length xs) × (element_at xs i ≡ Binding label.0) × (get_or out.places.items i 0 ≡ g.goal)
+              only = h.labels.only label.0 g.goal g.bound
 
-        q : IsServed label_kinds m.labels begun_m z.written u
-        q = z.has.serves.waited k no_use l
+              bound_there : only.0 ≤ z.after → IsSome (get m.labels label.0)
+              bound_there le =
+                  let inside : only.0 < length (take (z.after + 1) xs) = omega (arith, le, z.within, length-take-le (z.after + 1) xs (omega (arith, z.within))) in
+                  z.bound label.0 (bound_at (take (z.after + 1) xs) only.0 label.0 inside (get_or-take (z.after + 1) xs only.0 (Asking 0) (omega (arith, le)) ∙ only.2))
 
-        s : FinalServed frame flags items force b code f out o h owned are m begun_m z.written z.has.served island_written u
-        s = final_served frame flags items force b code f out o h owned are m begun_m z.written z.has.served island_written u q
+              out_of_range : (p : Option ℕ) → get m.labels label.0 ≡ p → IsSome p → is_within label_kinds u.kind u.offset g.goal ≡ false
+              out_of_range None at s = absurd (false≢true s)
+              out_of_range (Some place) at s =
+                  let same : place ≡ g.goal = some_same (sym (since_moment.labels label.0 place at) ∙ g.bound) in
+                  subst (λ n. is_within label_kinds u.kind u.offset n ≡ false) same (subst (λ (x : Option ℕ). IfSome x (λ place. is_within label_kinds u.kind u.offset place ≡ false)) at far)
 
-        want : wants (class label_kinds (use_at s.index)) ≡ true
-        want = ap (λ (t : ℕ × Site). wants (class_of label_kinds t.1.target t.1.kind)) s.is ∙ q.wants_one
+              where_bound : (z.after < only.0) ⊎ (only.0 ≤ z.after) → (is_within label_kinds u.kind u.offset g.goal ≡ false) ⊎ ((i : ℕ) × (z.after < i) × (slice_get items i ≡ Some (Bind label)))
+              where_bound (inl later) = inr (only.0, later, binding_item frame flags items only.0 label.0 (let x = only.1 in omega (arith, x, length-map items (element_of frame flags))) only.2)
+              where_bound (inr early) = inl (out_of_range (get m.labels label.0) refl (bound_there early))
 
-        low : (stop : ℕ) → u.stop ≡ Some stop → island.0 ≤ stop
-        low stop e = let x = stops_from m.constants (end_of begun_m) z.has.served z.has.serves.stops k no_use l stop e in omega (arith, x, begun_long, z.at)
+      -- it stops there or behind
+      stop_there : (stop : ℕ) × (u.stop ≡ Some stop) × (start ≤ stop)
+      stop_there = served_stops b.constants start island_holds.served island_holds.stops k no_use l
 
-        -- where its label was bound by then, it does not reach that
-        not_at_label : (stop : ℕ) → u.stop ≡ Some stop → goal_of m.labels u.target ≡ Some stop → ⊥
-        not_at_label stop e goal =
-            let stopped = subst (λ (v : Use LabelUse). MatchOption v.stop (IsRightlyOpen label_kinds z.written z.written.islands v.target v.kind v.offset) (IsStop label_kinds z.written z.written.islands v.target v.kind v.offset)) (q.is no_use) (z.has.whole.sound.stops q.index no_use q.within) in
-            let there : IsStop label_kinds z.written z.written.islands u.target u.kind u.offset stop = subst (λ g. MatchOption g (IsRightlyOpen label_kinds z.written z.written.islands u.target u.kind u.offset) (IsStop label_kinds z.written z.written.islands u.target u.kind u.offset)) e stopped in
-            let far : is_within label_kinds u.kind u.offset stop ≡ false = subst (λ g. IfSome g (λ place. is_within label_kinds u.kind u.offset place ≡ false)) goal q.far_off in
-            false≢true (sym far ∙ reaches u.kind u.offset stop there.within)
+      -- where its label was bound by then, it does not reach that
+      not_at_label : goal_of m.labels u.target ≡ Some stop_there.0 → ⊥
+      not_at_label goal =
+          let stops : (use_at c.0).stop ≡ Some stop_there.0 = ap (λ (v : Use LabelUse). v.stop) is ∙ stop_there.1 in
+          let reached : is_within label_kinds u.kind u.offset stop_there.0 ≡ true =
+          subst (λ (v : Use LabelUse). is_within label_kinds v.kind v.offset stop_there.0 ≡ true) is
+          (reaches (use_at c.0).kind (use_at c.0).offset stop_there.0 (stands_there label_kinds f.final (b.islands ++ (end_of b, end_of f.final) ∷ []) f.final_sound.stops c.0 stop_there.0 no_use c.1 stops).within) in
+          let far : is_within label_kinds u.kind u.offset stop_there.0 ≡ false = subst (λ g. IfSome g (λ place. is_within label_kinds u.kind u.offset place ≡ false)) goal far_off in
+          false≢true (sym far ∙ reached)
 
-        inside : (stop : ℕ) → u.stop ≡ Some stop → stop < island.1
-        inside stop e =
-            let settled = subst (λ (v : Use LabelUse). IfSome v.stop (λ x. (x < end_of z.written) ⊎ (goal_of z.written.labels v.target ≡ Some x) ⊎ (v.target ≡ IslandEnd))) (q.is no_use) (stops_below label_kinds z.written z.written.islands z.has.whole.sound q.index no_use q.within) in
-            elim (subst (λ g. IfSome g (λ x. (x < end_of z.written) ⊎ (goal_of z.written.labels u.target ≡ Some x) ⊎ (u.target ≡ IslandEnd))) e settled) [
-              | inl lt ↦ omega (arith, lt, z.ends)
-              | inr more ↦ elim more [
-                | inl goal ↦ absurd (not_at_label stop e (subst (λ labels. goal_of labels u.target ≡ Some stop) z.has.labels goal))
-                | inr end ↦ absurd (false≢true (sym (ap (λ t. wants (class_of label_kinds t u.kind)) end) ∙ q.wants_one))
-              ]
-            ]
+      -- nor does it stop at its label's place, if that was bound by then
+      bound_goal : (label : MachLabel) (i stop : ℕ) → u.target ≡ Label label → i ≤ z.after → slice_get items i ≡ Some (Bind label) → slice_get out.places.items i ≡ Some stop → goal_of m.labels u.target ≡ Some stop
+      bound_goal label i stop target early item place =
+          let d : Item = Bind label in
+          let within = slice_get_within items i (Bind label) item in
+          let there : get_or items i d ≡ Bind label = some_same (sym (slice_get-get_or items i d within) ∙ item) in
+          let element : element_at xs i ≡ Binding label.0 = get_or-map (element_of frame flags) items i d (Asking 0) within ∙ ap (element_of frame flags) there in
+          let inside : i < length xs = omega (arith, within, length-map items (element_of frame flags)) in
+          let by : is_bound_by (take (z.after + 1) xs) label.0 ≡ true =
+          bound_at (take (z.after + 1) xs) i label.0 (omega (arith, early, length-take-le (z.after + 1) xs (omega (arith, z.within))))
+          (get_or-take (z.after + 1) xs i (Asking 0) (omega (arith, early)) ∙ element) in
+          let placed = slice_get_within out.places.items i stop place in
+          let here : get_or out.places.items i 0 ≡ stop = some_same (sym (slice_get-get_or out.places.items i 0 placed) ∙ place) in
+          let g = some_place (get m.labels label.0) (z.bound label.0 by) in
+          let same : g.0 ≡ stop = some_same (sym (since_moment.labels label.0 g.0 g.1) ∙ h.labels.bound i label.0 inside element) ∙ here in
+          ap (goal_of m.labels) target ∙ (g.1 ∙ ap (λ n. Some n) same)
 
-        -- nor does it stop at its label's place, if that was bound by then
-        bound_goal : (label : MachLabel) (i stop : ℕ) → u.target ≡ Label label → i ≤ z.after → slice_get items i ≡ Some (Bind label) → slice_get out.places.items i ≡ Some stop → goal_of m.labels u.target ≡ Some stop
-        bound_goal label i stop target early item place =
-            let d : Item = Bind label in
-            let within = slice_get_within items i (Bind label) item in
-            let there : get_or items i d ≡ Bind label = some_same (sym (slice_get-get_or items i d within) ∙ item) in
-            let element : element_at xs i ≡ Binding label.0 = get_or-map (element_of frame flags) items i d (Asking 0) within ∙ ap (element_of frame flags) there in
-            let inside : i < length xs = omega (arith, within, length-map items (element_of frame flags)) in
-            let by : is_bound_by (take (z.after + 1) xs) label.0 ≡ true =
-            bound_at (take (z.after + 1) xs) i label.0 (omega (arith, early, length-take-le (z.after + 1) xs (omega (arith, z.within))))
-            (get_or-take (z.after + 1) xs i (Asking 0) (omega (arith, early)) ∙ element) in
-            let placed = slice_get_within out.places.items i stop place in
-            let here : get_or out.places.items i 0 ≡ stop = some_same (sym (slice_get-get_or out.places.items i 0 placed) ∙ place) in
-            let g = some_place (get m.labels label.0) (z.bound label.0 by) in
-            let same : g.0 ≡ stop = some_same (sym (since_moment.labels label.0 g.0 g.1) ∙ h.labels.bound i label.0 inside element) ∙ here in
-            ap (goal_of m.labels) target ∙ (g.1 ∙ ap (λ n. Some n) same)
-
-        at : (g : Option ℕ) → u.stop ≡ g → IsSome g → IsOpenIn frame flags items out z.after island.0 island.1 (site_of u)
-        at None e some = absurd (false≢true some)
-        at (Some stop) e some = record {
-          is = old_wanting frame flags items force b code f out o h owned are m begun_m z.written z.has.served island_written u q (served_old u q);
-          before =
-              let p = (z.has.whole.sound.placed q.index no_use q.within).inside in
-              omega (arith, p, ap (λ (v : Use LabelUse). v.offset) (q.is no_use), z.ends);
-          stop = stop;
-          stops = subst (λ (t : ℕ × Site). StopsAt out t.1.kind 0 t.0 stop) s.is (says_stop frame flags items force b code f out o h owned s.index s.within want stop (s.stop_kept stop e));
-          from = let x = low stop e in omega (arith, x);
-          away = λ label i target early item place. not_at_label stop e (bound_goal label i stop target early item place);
-        }
+      -- and it is open there
+      island_open : IsOpenIn frame flags items out z.after island.0 island.1 (site_of u)
+      island_open = record {
+        is = old_wanting frame flags items force b code f out o h owned u c want old;
+        before = let x = island_holds.placed k no_use l in omega (arith, x, z.ends);
+        stop = stop_there.0;
+        stops = use_says frame flags items force b code f out o h owned u c want stop_there.0 stop_there.1;
+        from = let x = stop_there.2 in omega (arith, x, z.at);
+        away = λ label i target early item place. not_at_label (bound_goal label i stop_there.0 target early item place);
+      }
 
     abbrev May : ℕ × Site → Type 0
     May u = IsOpenIn frame flags items out z.after island.0 island.1 u × IsLateOrFar frame flags items b.constants out z.after u
@@ -414,14 +365,13 @@ module _ (frame : FrameLayout) (flags : EmitFlags) (items : List Item) (force : 
           holds =
               let begin : end_of m ≡ island.0 = z.at in
               let falls : front ≡ falls_at items z.after = falls_is frame flags items z.after (omega (arith, inside, length-map items (element_of frame flags))) in
-              let start : end_of begun_m ≡ island.0 + front_size (falls_at items z.after) = omega (arith, begun_long, begin, ap front_size falls) in
+              let start_is : start ≡ island.0 + front_size (falls_at items z.after) = omega (arith, begin, ap front_size falls) in
               subst (λ n. HoldsPieces frame flags items b.constants out n (island.0 + front_size (falls_at items z.after)) island.1 May) begin
-              (subst (λ n. HoldsPieces frame flags items b.constants out (end_of m) n island.1 May) start
-              (subst (λ n. HoldsPieces frame flags items b.constants out (end_of m) (end_of begun_m) n May) z.ends
-              (holds_pieces frame flags items force b code f out o h owned are m begun_m z.written z.has.served island_written May
-              (λ u q. old_wanting frame flags items force b code f out o h owned are m begun_m z.written z.has.served island_written u q (served_old u q))
-              (λ k l. (island_open k l, island_late (get_or z.has.served k no_use) (z.has.serves.waited k no_use l)))
-              (answers frame flags items force b code f out o h owned are m begun_m z.written z.has.served island_written))));
+              (subst (λ n. HoldsPieces frame flags items b.constants out (end_of m) n island.1 May) start_is
+              (subst (λ n. HoldsPieces frame flags items b.constants out (end_of m) start n May) z.ends
+              (holds_pieces frame flags items force b code f out o h owned are m.labels (end_of m) start (end_of z.written) island_holds May
+              (λ k l. old_wanting frame flags items force b code f out o h owned (u k l) (c k l) (want k l) (old k l))
+              (λ k l. (island_open k l, island_late k l)))));
         }
 
   -- each island holds what uses waited for there, in the order of islands, and nothing else

@@ -24,7 +24,6 @@ use Rattle.a64_assemble.proofs.Moving.{move_later}
 use Rattle.a64_assemble.proofs.Owners.{owned_none, owned_step}
 use Rattle.a64_assemble.proofs.Progress.{put_none, put_step, next_may, next_quiet}
 use Rattle.a64_assemble.proofs.Recording.{recorded_none, recorded_step}
-use Rattle.a64_assemble.proofs.StopsAhead.{ahead_none, ahead_step}
 
 -- ---- elements
 
@@ -37,7 +36,6 @@ module _ (force : ForceVeneers) (xs : List Element) (good : AreGood xs) where
     distances = distances_none xs b words uses;
     owned = owned_none xs b uses;
     recorded = recorded_none xs b traps records;
-    ahead = ahead_none b uses;
   }
 
   module _ (k : ℕ) (places : List ℕ) (b b' : Buffer LabelUse) (within : k < length xs) (h : HasPutFirst force xs k places b) where
@@ -67,7 +65,6 @@ module _ (force : ForceVeneers) (xs : List Element) (good : AreGood xs) where
           distances = distances_step xs force k places b b' within h.whole is_whole put count h.distances p;
           owned = owned_step force xs k places b b' count within (first_later p) p h.owned;
           recorded = recorded_step force xs k places b b' count within (first_later p) p h.recorded;
-          ahead = ahead_step force (element_at xs k) (drop (k + 1) xs) b b' h.whole (first_later p) p h.ahead;
         }
 
   -- all

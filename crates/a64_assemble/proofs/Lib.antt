@@ -40,7 +40,6 @@ pub mod NextRooms
 pub mod Stepped
 pub mod Widths
 pub mod Owners
-pub mod StopsAhead
 pub mod Placing
 pub mod Needing
 pub mod Caused
@@ -50,7 +49,6 @@ pub mod Leading
 pub mod Recording
 pub mod CodeRecords
 pub mod Areas
-pub mod Answering
 pub mod Filling
 pub mod OwnVeneers
 pub mod Tallied

@@ -87,9 +87,9 @@ module _ (frame : FrameLayout) (flags : EmitFlags) (force : ForceVeneers) (items
         islands = islands_by_need frame flags items force m.buffer m.finished m.is_finished code output good m.put.put m.put.owned;
         forced = islands_forced frame flags items force m.buffer m.finished m.is_finished code output good m.put.put m.put.owned;
         quiet = λ quiet. m.handed_out.islands ∙ code_quiet force (elements_of frame flags items) good code.places.items m.buffer m.put.put m.finished m.is_finished (quiet_elements quiet);
-        filled = subst (λ (cs : FinMap nat_cmp (List ℕ)). All (IsFilledIsland frame flags items cs code) code.islands.items) m.constants_are (islands_filled frame flags items force m.buffer m.finished m.is_finished code output m.put.put m.put.owned m.sized m.bound m.put.ahead);
-        pool = subst (λ (cs : FinMap nat_cmp (List ℕ)). IsFilledPool frame flags items cs code) m.constants_are (pool_filled frame flags items force m.buffer m.finished m.is_finished code output m.put.put m.put.owned m.sized m.bound m.put.ahead);
-        ahead = code_ahead frame flags items force m.buffer m.finished m.is_finished code output m.put.put m.put.owned m.sized m.bound m.put.ahead;
-        own_veneers = own_veneers frame flags items force m.buffer m.finished m.is_finished code output m.put.put m.put.owned m.sized m.bound m.put.ahead;
+        filled = subst (λ (cs : FinMap nat_cmp (List ℕ)). All (IsFilledIsland frame flags items cs code) code.islands.items) m.constants_are (islands_filled frame flags items force m.buffer m.finished m.is_finished code output m.put.put m.put.owned m.sized m.bound);
+        pool = subst (λ (cs : FinMap nat_cmp (List ℕ)). IsFilledPool frame flags items cs code) m.constants_are (pool_filled frame flags items force m.buffer m.finished m.is_finished code output m.put.put m.put.owned m.sized m.bound);
+        ahead = code_ahead frame flags items force m.buffer m.finished m.is_finished code output m.put.put m.put.owned;
+        own_veneers = own_veneers frame flags items force m.buffer m.finished m.is_finished code output m.put.put m.put.owned;
         short = bytes_short frame flags items force m.buffer m.finished m.is_finished code output good m.put.put m.put.owned;
       }

@@ -18,8 +18,9 @@ use Rattle.a64_words.specs.Word.{outside, word_at}
 use Rattle.a64_buffer.specs.Kinds.{GoesTo}
 use Rattle.a64_buffer.specs.Buffer.{Buffer, end_of, label_of, goal_of, IsFree}
 use Rattle.a64_buffer.specs.Classes.{wants, class, class_of}
-use Rattle.a64_buffer.specs.Sound.{IsJump, IsFar, IsStop, IsRightlyOpen, LeadsOn, HasJump}
+use Rattle.a64_buffer.specs.Sound.{IsJump, IsFar, IsStop, LeadsOn, HasJump}
 use Rattle.a64_buffer.specs.Finished.{IsFinished}
+use Rattle.a64_buffer.proofs.Growth.{stands_there}
 use Rattle.a64_emit.specs.declared.code.Code.{Code}
 use Rattle.a64_label_use.specs.declared.label_use.LabelUse.{LabelUse}
 use Rattle.a64_label_use.specs.declared.label_use.LabelUse.TheVariants as uses
@@ -273,7 +274,7 @@ module _ (frame : FrameLayout) (flags : EmitFlags) (items : List Item) (force : 
     user_stops = stop_said user_known.index user_within user_wants place (subst (λ (s : ℕ × Site). StopsAt out s.1.kind 0 s.0 place) (sym user_known.is) v.stops)
 
     user_leads : IsStop label_kinds f.final (b.islands ++ (end_of b, end_of f.final) ∷ []) user.target user.kind user.offset place
-    user_leads = subst (λ g. MatchOption g (IsRightlyOpen label_kinds f.final (b.islands ++ (end_of b, end_of f.final) ∷ []) user.target user.kind user.offset) (IsStop label_kinds f.final (b.islands ++ (end_of b, end_of f.final) ∷ []) user.target user.kind user.offset)) user_stops (f.final_sound.stops user_known.index no_use user_within)
+    user_leads = stands_there label_kinds f.final (b.islands ++ (end_of b, end_of f.final) ∷ []) f.final_sound.stops user_known.index place no_use user_within user_stops
 
     -- no far veneer stands there
     no_far : IsFar label_kinds f.final (b.islands ++ (end_of b, end_of f.final) ∷ []) user.target place → ⊥

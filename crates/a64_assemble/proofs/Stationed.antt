@@ -1,5 +1,5 @@
 -- Where elements and islands stand, one behind another.
-use Rattle.std.proofs.Common.{ℕ, zero, suc, ◌≡◌, ◌⊎◌, ◌+◌, ◌-◌, ◌<◌, ◌≤◌, true, false, List, [], ◌∷◌, ◌++◌, get_or, sym, ap, ◌∙◌, subst, arith, inl, inr}
+use Rattle.std.proofs.Common.{ℕ, zero, suc, ◌≡◌, ◌+◌, ◌-◌, ◌<◌, ◌≤◌, true, false, List, [], ◌∷◌, ◌++◌, get_or, sym, ap, ◌∙◌, subst, arith, inl, inr}
 use Rattle.std.specs.Prelude.{Contains}
 use Rattle.std.proofs.lemmas.Bool.{cases_lt, cases_eq, false≢true}
 use Rattle.std.proofs.lemmas.List.{get_or_default}
@@ -42,18 +42,6 @@ module _ (xs : List Element) (count : ℕ) (places : List ℕ) (islands : List (
         | inr before ↦ (let a = rises i once.0 (omega (arith, before)) (let w = once.1 in omega (arith, w)) in omega (arith, a, once.2, low))
       ]
 
-  -- nor does a word of one
-  pub word_outside : (island : ℕ × ℕ) → Contains islands island → (i place : ℕ) → i < count → station i ≤ place → place < end_of_element xs (places ++ end ∷ []) i → (place < island.0) ⊎ (island.1 ≤ place)
-  word_outside island listed i place h low high =
-      let once = subst (λ (x : ℕ × ℕ). (after : ℕ) × (after < count) × (x.0 ≡ end_of_element xs (places ++ end ∷ []) after) × (x.1 ≡ station (after + 1))) listed.2 (let z = laid.once listed.0 island listed.1 in (z.after, z.within, z.stands.begins, z.stands.ends)) in
-      elim (cases_lt once.0 i) [
-        | inl behind ↦ inr (let a = rises (once.0 + 1) i (omega (arith, behind)) (omega (arith, h)) in omega (arith, a, once.3, low))
-        | inr before ↦ elim (cases_eq i once.0) [
-          | inl same ↦ inl (omega (arith, once.2, high, ap (end_of_element xs (places ++ end ∷ [])) same))
-          | inr ne ↦ inl (let a = rises (i + 1) once.0 (omega (arith, before, ne)) (let w = once.1 in omega (arith, w)) in let b = element_before i h in omega (arith, a, b, once.2, high))
-        ]
-      ]
-
   -- an island does not begin inside of another
   pub islands_apart : (x y : ℕ × ℕ) → Contains islands x → Contains islands y → x.0 < y.0 → y.0 < x.1 → ⊥
   islands_apart x y cx cy low high = elim (cases_lt cx.0 cy.0) [
@@ -61,16 +49,6 @@ module _ (xs : List Element) (count : ℕ) (places : List ℕ) (islands : List (
     | inr ge ↦ elim (cases_eq cx.0 cy.0) [
       | inl e ↦ (let same : x ≡ y = sym cx.2 ∙ (ap (λ n. get_or islands n x) e ∙ (get_or_default islands cy.0 x y cy.1 ∙ cy.2)) in omega (arith, ap (λ (i : ℕ × ℕ). i.0) same, low))
       | inr ne ↦ (let a = laid.apart cy.0 cx.0 x (omega (arith, ge, ne)) cx.1 in let long : y.0 ≤ y.1 = subst (λ (i : ℕ × ℕ). i.0 ≤ i.1) cy.2 (let z = (laid.once cy.0 y cy.1).stands.long in omega (arith, z)) in omega (arith, a, long, ap (λ (i : ℕ × ℕ). i.0) cx.2, ap (λ (i : ℕ × ℕ). i.1) (get_or_default islands cy.0 x y cy.1 ∙ cy.2), low))
-    ]
-  ]
-
-  -- an island that holds a place behind another stands behind that
-  pub whole_behind : (x y : ℕ × ℕ) → Contains islands x → Contains islands y → (place : ℕ) → x.1 ≤ place → place < y.1 → x.1 ≤ y.0
-  whole_behind x y cx cy place low high = elim (cases_lt cx.0 cy.0) [
-    | inl lt ↦ (let a = laid.apart cx.0 cy.0 x lt cy.1 in omega (arith, a, ap (λ (i : ℕ × ℕ). i.1) cx.2, ap (λ (i : ℕ × ℕ). i.0) (get_or_default islands cy.0 x y cy.1 ∙ cy.2)))
-    | inr ge ↦ elim (cases_eq cx.0 cy.0) [
-      | inl e ↦ absurd (let same : x ≡ y = sym cx.2 ∙ (ap (λ n. get_or islands n x) e ∙ (get_or_default islands cy.0 x y cy.1 ∙ cy.2)) in omega (arith, ap (λ (i : ℕ × ℕ). i.1) same, low, high))
-      | inr ne ↦ absurd (let a = laid.apart cy.0 cx.0 x (omega (arith, ge, ne)) cx.1 in let long : x.0 ≤ x.1 = subst (λ (i : ℕ × ℕ). i.0 ≤ i.1) cx.2 (let z = (laid.once cx.0 x cx.1).stands.long in omega (arith, z)) in omega (arith, a, long, ap (λ (i : ℕ × ℕ). i.0) cx.2, ap (λ (i : ℕ × ℕ). i.1) (get_or_default islands cy.0 x y cy.1 ∙ cy.2), low, high))
     ]
   ]
 

@@ -1,5 +1,5 @@
 -- Finished codes whose uses stop at pieces that are not theirs, which the pieces of an area refuse.
-use Rattle.std.proofs.Common.{ℕ, zero, suc, pos, ◌≡◌, ◌≢◌, ◌⊎◌, ◌+◌, ◌*◌, ◌/◌, ◌%◌, ◌<◌, ◌≤◌, true, List, [], ◌∷◌, ◌++◌, length, get_or, map, Option, None, Some, refl, sym, ap, ◌∙◌, subst, arith, inl, inr}
+use Rattle.std.proofs.Common.{ℕ, zero, suc, pos, ◌≡◌, ◌≢◌, ◌+◌, ◌*◌, ◌/◌, ◌%◌, ◌<◌, ◌≤◌, true, List, [], ◌∷◌, ◌++◌, length, get_or, map, Option, None, Some, refl, sym, ap, ◌∙◌, subst, arith, inl, inr}
 use Rattle.std.specs.Prelude.{Contains, IsSome}
 use Rattle.std.specs.Option.{unwrap_or}
 use Rattle.std.specs.Ordering.{nat_cmp}
@@ -25,6 +25,7 @@ use Rattle.a64_buffer.specs.Kinds.{GoesTo}
 use Rattle.a64_buffer.specs.Chain.{constant_of}
 use Rattle.a64_buffer.specs.Pieces.{front_size}
 use Rattle.a64_words.specs.Word.{outside, word_at}
+use Rattle.a64_buffer.proofs.Serving.{label_no_constant}
 use Rattle.a64_emit.specs.declared.code.Code.{Code}
 use Rattle.a64_cells.specs.declared.site.Site.{Site}
 use Rattle.a64_label_use.specs.declared.label_use.LabelUse.TheVariants as uses
@@ -38,7 +39,6 @@ use Rattle.a64_rows.specs.Control.{branch_reg}
 use Rattle.a64_assemble.specs.Placement.{IsLabelAt, IsWanting}
 use Rattle.a64_assemble.specs.Fillings.{StopsBetween, StopsBy, HoldsPieces, IsFilledIsland}
 use Rattle.a64_assemble.specs.Assembled.{IsAssembled}
-use Rattle.a64_assemble.proofs.Filling.{no_constant}
 use Rattle.a64_assemble.proofs.Needing.{some_same}
 use Rattle.a64_assemble.proofs.WrongPieces.{each_its_own, in_turn, none_at_jump, none_unserved}
 use Rattle.a64_emit.specs.Falls.{falls_at}
@@ -157,7 +157,7 @@ module _ (frame : FrameLayout) (flags : EmitFlags) (constants : FinMap nat_cmp (
     lone : (n : ℕ) (a : ℕ × Site) → IsWanting frame flags items code a.0 a.1 → a.1.target ≡ (load_of n).1.target → a ≡ load_of n
     lone n a w same = elim w.is [
       | inl e ↦ either (subst (λ cells. IsCellUse cells a) are (subst (λ ps. IsCellUse (standing (map (cells_of frame flags) items) ps) a) is.places_are e))
-      | inr veneer ↦ absurd (no_constant a.1.target veneer.1.labelled (subst (λ t. IsSome (constant_of t)) (sym same) refl))
+      | inr veneer ↦ absurd (label_no_constant a.1.target veneer.1.labelled (subst (λ t. IsSome (constant_of t)) (sym same) refl))
     ]
       where
         one : (m : ℕ) (s : ℕ × Cell) → s.0 ≡ (load_of m).0 → s.1.site ≡ Some (load_of m).1 → s.0 ≡ a.0 → s.1.site ≡ Some a.1 → a ≡ load_of n

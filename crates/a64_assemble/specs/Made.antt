@@ -18,7 +18,6 @@ use Rattle.a64_assemble.specs.Elements.{Element, elements_of}
 use Rattle.a64_assemble.specs.Progress.{HasPut, HasDistances}
 use Rattle.a64_assemble.specs.Owners.{AreOwned}
 use Rattle.a64_assemble.specs.CellRecords.{AreRecorded}
-use Rattle.a64_assemble.specs.OwnStops.{AllStopAhead}
 
 -- the first elements were put, and nothing but them
 pub record HasPutFirst (force : ForceVeneers) (xs : List Element) (count : ℕ) (places : List ℕ)
@@ -28,7 +27,6 @@ pub record HasPutFirst (force : ForceVeneers) (xs : List Element) (count : ℕ) 
   pub distances : HasDistances xs count places b
   pub owned : AreOwned xs count places b
   pub recorded : AreRecorded xs count places b
-  pub ahead : AllStopAhead b
 
 -- all elements were
 abbrev pub HasPutAll : ForceVeneers → List Element → List ℕ → Buffer LabelUse → Type 0

@@ -1,29 +1,14 @@
 -- Where the uses of cells stop: ahead of themselves, and branches at veneers of their own.
-use Rattle.std.specs.Prelude.{ℕ, ◌≡◌, ◌≢◌, ◌⊎◌, ◌<◌, true, List, All, Some, IfSome, IsSome}
+use Rattle.std.specs.Prelude.{ℕ, ◌≡◌, ◌≢◌, ◌⊎◌, ◌<◌, true, List, IsSome}
 use Rattle.a64_inst.specs.declared.emission.EmitFlags.{EmitFlags}
 use Rattle.a64_inst.specs.declared.frame.FrameLayout.{FrameLayout}
 use Rattle.a64_inst.specs.declared.item.Item.{Item}
-use Rattle.a64_buffer.specs.declared.site.Use.{Use}
-use Rattle.a64_buffer.specs.Buffer.{Buffer, label_of, goal_of, IsOutside}
+use Rattle.a64_buffer.specs.Buffer.{label_of}
 use Rattle.a64_buffer.specs.Classes.{wants}
 use Rattle.a64_emit.specs.declared.code.Code.{Code}
-use Rattle.a64_label_use.specs.declared.label_use.LabelUse.{LabelUse}
 use Rattle.a64_cells.specs.declared.site.Site.{Site}
 use Rattle.a64_emit.specs.Contents.{site_class, IsCellUse}
 use Rattle.a64_assemble.specs.Placement.{standing_cells, UseStopsAt, IsLabelAt}
-
--- ---- of a buffer
-
--- a use that no island holds stops ahead of itself, or at its label's place
-abbrev pub StopsAhead : Buffer LabelUse → Use LabelUse → Type 0
-StopsAhead b u =
-    IsOutside b.islands u.offset
-    → IfSome u.stop (λ stop. (u.offset < stop) ⊎ (goal_of b.labels u.target ≡ Some stop))
-
-abbrev pub AllStopAhead : Buffer LabelUse → Type 0
-AllStopAhead b = All (StopsAhead b) b.uses
-
--- ---- of finished code
 
 module _ (frame : FrameLayout) (flags : EmitFlags) (items : List Item) (code : Code) where
   -- a cell's use that may want something of an island stops at a place
