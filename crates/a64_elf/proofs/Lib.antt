@@ -1,0 +1,4 @@
+pub mod Laid
+pub mod Whole
+pub mod Faults
+pub mod Stands

@@ -1,0 +1,4 @@
+pub mod Fields
+pub mod Sections
+pub mod Symbols
+pub mod Objects
