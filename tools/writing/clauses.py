@@ -8,7 +8,7 @@ from functools import cache
 from typing import Iterable, Iterator
 
 from .calls import Call, Clause, calls_of
-from .crate_list import crates
+from .crate_list import crates, layers
 from .definitions import Definition, Field, Key, all_definitions
 from .repository import CRATES, sentence_of
 
@@ -125,8 +125,11 @@ def part_of(crate: str) -> list[str]:
 def page() -> list[str]:
     """The parts of all crates, the highest first."""
     parts = {crate.name: part_of(crate.name) for crate in reversed(crates())}
-    contents = ", ".join(f"[{name.removeprefix('a64_')}](#{name})" for name, lines in parts.items() if lines)
-    return [contents, *(line for lines in parts.values() for line in lines), ""]
+    rows = ["| layer | crates |", "|---|---|"]
+    for height, names in reversed([*enumerate(reversed(layers()), 1)]):
+        links = ", ".join(f"[{name}](#a64_{name})" for name in names if parts[f"a64_{name}"])
+        rows += [f"| {height} | {links} |"] if links else []
+    return [*rows, *(line for lines in parts.values() for line in lines), ""]
 
 
 def faults() -> Iterator[str]:
