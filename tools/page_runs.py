@@ -17,6 +17,7 @@ import shutil
 import subprocess
 import sys
 import tempfile
+import time
 
 ROOT = pathlib.Path(__file__).resolve().parent.parent
 PROGRAM = os.environ.get("PROGRAM") or str(ROOT / "crates/a64_cli/out/a64_cli")
@@ -207,7 +208,11 @@ def figures(browser):
     text = base64.b64encode(given).decode()
     took = browser.value(f"(() => {{ const bytes = bytesOf({json.dumps(text)}); const begin = performance.now();"
                          " state.engine.runBytes('asm', false, bytes); return performance.now() - begin; })()")
-    return f"first words after {first:.0f} ms; {100_000 / took * 1000:,.0f} words in a second"
+    begun = time.perf_counter()
+    subprocess.run([PROGRAM, "asm"], input=given, stdout=subprocess.DEVNULL, check=True)
+    ran = time.perf_counter() - begun
+    return (f"first words after {first:.0f} ms; words in a second: {100_000 / took * 1000:,.0f} by the page, "
+            f"{100_000 / ran:,.0f} by the program")
 
 
 def screenshots(browser, folder):
@@ -254,7 +259,7 @@ def main():
             if browser.failures:
                 raise Fault(f"a script of the page failed: {browser.failures[0]}")
             print(f"page_runs: {count} runs as by the program; {said}")
-        except (Fault, OSError) as fault:
+        except (Fault, OSError, subprocess.CalledProcessError) as fault:
             print(f"page_runs: {fault}", file=sys.stderr)
             return 1
         finally:
